@@ -1,0 +1,6 @@
+pub mod Row
+pub mod SectView
+pub mod Lines
+pub mod Lawful
+pub mod Spells
+pub mod Printed

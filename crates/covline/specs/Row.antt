@@ -1,0 +1,41 @@
+-- What an item, a section and a submission say, apart from where they lie in memory, and the rows of a submission.
+use Rattle.std.specs.Prelude.{ℕ, List, length, map}
+use Rattle.std.specs.List.{flat_map, sum_by}
+use Rattle.covline.specs.declared.item.Item.{Item}
+use Rattle.covline.specs.declared.item.Item.TheVariants as items
+
+-- one execution count of an instrumented line (geninfo(1), FILES: DA)
+pub data ItemData : Type 0 where
+  LineItem : (line count : ℕ) → ItemData
+
+-- what one test says about one source file
+pub record SectData : Type 0 where
+  pub test : List ℕ
+  pub file : List ℕ
+  pub items : List ItemData
+
+-- what one text says: its sections, and how many of its lines don't fit the rest
+pub record SubmissionData : Type 0 where
+  pub sects : List SectData
+  pub odd : ℕ
+
+-- an item with its test and its file
+pub record Row : Type 0 where
+  pub test : List ℕ
+  pub file : List ℕ
+  pub item : ItemData
+
+-- an item of the code, seen as plain data
+abbrev pub item_data : Item → ItemData
+item_data (items.Line line count) = LineItem line count
+
+-- the rows of a section and of a submission: the items in order, each with its section's test and file
+abbrev pub rows_of_sect : SectData → List Row
+rows_of_sect s = map (λ i. record { test = s.test; file = s.file; item = i }) s.items
+
+abbrev pub rows_of : SubmissionData → List Row
+rows_of s = flat_map rows_of_sect s.sects
+
+-- how many items sections have
+abbrev pub items_in : List SectData → ℕ
+items_in sects = sum_by (λ s. length s.items) sects

@@ -1,0 +1,100 @@
+-- What one line of a tracefile says (geninfo(1) of LCOV 1.x, FILES). A key stands at the very beginning of the line.
+use Rattle.std.specs.Prelude.{◌≡◌, ◌≢◌, ℕ, ◌+◌, ◌-◌, ◌*◌, ◌<◌, ◌≤◌, ◌^◌, ◌⊎◌, List, [], ◌∷◌, ◌++◌, length, All, codes, fold}
+use Rattle.covline.specs.declared.trace_line.TraceLine.{TraceLine}
+use Rattle.covline.specs.declared.trace_line.TraceLine.TheVariants as lines
+use Rattle.covline.specs.declared.trace_line.TotalKind.{TotalKind}
+use Rattle.covline.specs.declared.trace_line.TotalKind.TheVariants.{LineFound, LineHit}
+use Rattle.covline.specs.declared.trace_line.LineFault.{LineFault}
+use Rattle.covline.specs.declared.trace_line.LineFault.TheVariants.{BadLine, NumberTooLarge, EmptyPath}
+
+-- what a line says, apart from where it lies in memory
+pub data LineData : Type 0 where
+  Test : (name : List ℕ) → LineData
+  Path : (path : List ℕ) → LineData
+  Line : (line count : ℕ) → LineData
+  Total : (kind : TotalKind) (value : ℕ) → LineData
+  End : LineData
+  Skip : LineData
+
+abbrev pub line_data : TraceLine → LineData
+line_data (lines.Test name) = Test name.now
+line_data (lines.Path path) = Path path.now
+line_data (lines.Line line count) = Line line count
+line_data (lines.Total kind value) = Total kind value
+line_data lines.End = End
+line_data lines.Skip = Skip
+
+-- text begins with front
+abbrev pub Begins : List ℕ → List ℕ → Type 0
+Begins text front = (rest : List ℕ) × (text ≡ front ++ rest)
+
+abbrev pub comma : ℕ
+comma = 44
+
+abbrev pub minus : ℕ
+minus = 45
+
+-- the byte is one of 0 to 9
+abbrev pub IsDigit : ℕ → Type 0
+IsDigit b = (48 ≤ b) × (b ≤ 57)
+
+-- what digits say in decimal
+abbrev pub digits_value : List ℕ → ℕ
+digits_value digits = fold (λ n b. n * 10 + (b - 48)) 0 digits
+
+-- one or more digits, and the number that they say
+pub record IsNumeral (digits : List ℕ) (n : ℕ) : Type 0 where
+  pub some : 0 < length digits
+  pub each : All IsDigit digits
+  pub value : n ≡ digits_value digits
+
+-- an execution count: digits, or a minus and digits, which counts as 0
+abbrev pub IsCount : List ℕ → ℕ → Type 0
+IsCount text n = IsNumeral text n ⊎ ((digits : List ℕ) × (below : ℕ) × (text ≡ minus ∷ digits) × IsNumeral digits below × (n ≡ 0))
+
+-- the key of a total: lines found, lines hit
+abbrev pub key_of : TotalKind → List ℕ
+key_of LineFound = codes "LF:"
+key_of LineHit = codes "LH:"
+
+-- the twelve keys of version 1. Those of functions and branches have no form here yet, so such a line is malformed
+abbrev pub keys : List (List ℕ)
+keys = codes "TN:" ∷ codes "SF:" ∷ codes "FN:" ∷ codes "FNDA:" ∷ codes "FNF:" ∷ codes "FNH:" ∷ codes "BRDA:" ∷ codes "BRF:" ∷ codes "BRH:" ∷ codes "DA:" ∷ codes "LF:" ∷ codes "LH:" ∷ []
+
+-- the line begins with one of these
+abbrev pub BeginsWithOneOf : List (List ℕ) → List ℕ → Type 0
+BeginsWithOneOf [] line = ⊥
+BeginsWithOneOf (key ∷ others) line = Begins line key ⊎ BeginsWithOneOf others line
+
+abbrev pub HasKey : List ℕ → Type 0
+HasKey line = BeginsWithOneOf keys line
+
+-- the form of each record, whatever the size of its numbers
+abbrev pub HasForm : List ℕ → LineData → Type 0
+HasForm line (Test name) = line ≡ codes "TN:" ++ name
+HasForm line (Path path) = (line ≡ codes "SF:" ++ path) × (0 < length path)
+HasForm line (Line number count) =
+    (digits text : List ℕ) × (line ≡ codes "DA:" ++ digits ++ comma ∷ text) × IsNumeral digits number × IsCount text count
+HasForm line (Total kind value) = (digits : List ℕ) × (line ≡ key_of kind ++ digits) × IsNumeral digits value
+HasForm line End = Begins line (codes "end_of_record")
+HasForm line Skip = ¬ HasKey line × ¬ Begins line (codes "end_of_record")
+
+-- the numbers of a record are below 2^64
+abbrev pub HasSmallNumbers : LineData → Type 0
+HasSmallNumbers (Line number count) = (number < 2 ^ 64) × (count < 2 ^ 64)
+HasSmallNumbers (Total kind value) = value < 2 ^ 64
+HasSmallNumbers (Test name) = Unit {0}
+HasSmallNumbers (Path path) = Unit {0}
+HasSmallNumbers End = Unit {0}
+HasSmallNumbers Skip = Unit {0}
+
+-- the line says this
+pub record Spells (line : List ℕ) (says : LineData) : Type 0 where
+  pub form : HasForm line says
+  pub small : HasSmallNumbers says
+
+-- the one fault of a line that says nothing
+abbrev pub HasFault : List ℕ → LineFault → Type 0
+HasFault line EmptyPath = line ≡ codes "SF:"
+HasFault line NumberTooLarge = (says : LineData) × HasForm line says × ¬ HasSmallNumbers says
+HasFault line BadLine = HasKey line × (line ≢ codes "SF:") × ((says : LineData) → ¬ HasForm line says)

@@ -1,0 +1,53 @@
+ghost use Rattle.std.specs.Prelude.{◌≡◌, IfOk, OnOk, OnErr, ◌++◌, []};
+
+use crate::memory::Memory;
+use std::alloc::{Allocator, Global};
+use std::marker::Model;
+
+/// A text of bytes that owns its memory. Contracts see the list of its bytes.
+#[derive(Drop)]
+pub struct Bytes<A: Allocator = Global> {
+    text: Vec<u8, A>,
+}
+
+impl<A: Allocator> Model for Bytes<A> {
+    ghost use Rattle.std.specs.Prelude.{List, ℕ};
+
+    ghost Value = { List ℕ };
+
+    ghost view = { λ b. b.text.items };
+}
+
+impl<A: Allocator> Bytes<A> {
+    /// The empty text.
+    pub fn new(alloc: A) -> Bytes<A>
+        ensures { result ≡ [] }
+    {
+        Bytes {
+            text: Vec::new(alloc),
+        }
+    }
+
+    /// A copy of the slice.
+    pub fn of(alloc: A, text: &[u8]) -> Result<Bytes<A>, Memory>
+        ensures { IfOk result (λ b. b ≡ text.now) }
+    {
+        Ok(Bytes {
+            text: Vec::from_slice(alloc, text)?,
+        })
+    }
+
+    /// The bytes.
+    pub fn get(&self) -> &[u8]
+        ensures { result.now ≡ self.now }
+    {
+        self.text.as_slice()
+    }
+
+    /// An equal text, in memory of its own.
+    pub fn copy(&self, alloc: A) -> Result<Bytes<A>, Memory>
+        ensures { IfOk result (λ b. b ≡ self.now) }
+    {
+        Bytes::of(alloc, self.get())
+    }
+}

@@ -1,0 +1,65 @@
+//! Sections, and the list of them.
+
+use crate::bytes::Bytes;
+use crate::item::Items;
+use crate::memory::Memory;
+use std::alloc::{Allocator, Global};
+use std::marker::Model;
+
+/// What one test says about one source file.
+#[derive(Drop)]
+pub struct Sect<A: Allocator = Global> {
+    /// The test's name, which may be empty (`TN:`).
+    pub test: Bytes<A>,
+    /// The source file's path (`SF:`).
+    pub file: Bytes<A>,
+    /// The counts, in the order of their lines.
+    pub items: Items<A>,
+}
+
+/// A list of sections. Contracts see what the sections say.
+#[derive(Drop)]
+pub struct Sects<A: Allocator = Global> {
+    sects: Vec<Sect<A>, A>,
+}
+
+impl<A: Allocator> Model for Sects<A> {
+    ghost use Rattle.std.specs.Prelude.{List, map};
+    ghost use Rattle.covline.specs.Row.{SectData};
+    ghost use Rattle.covline.specs.SectView.{sect_data};
+
+    ghost Value = { List SectData };
+
+    ghost view = { λ a. map sect_data a.sects.items };
+}
+
+impl<A: Allocator> Sects<A> {
+    ghost use Rattle.std.specs.Prelude.{◌≡◌, ◌++◌, [], ◌∷◌, OnOk, OnErr, map};
+    ghost use Rattle.covline.specs.SectView.{sect_data};
+
+    /// The empty list.
+    pub fn new(alloc: A) -> Sects<A>
+        ensures { result ≡ [] }
+    {
+        Sects {
+            sects: Vec::new(alloc),
+        }
+    }
+
+    /// Appends a section. A refusal gives it up and leaves the list as it was.
+    pub fn push(&mut self, sect: Sect<A>) -> Result<(), Memory>
+        ensures ok { OnOk result (self.new ≡ self.old ++ sect_data sect ∷ []) }
+        ensures err { OnErr result (self.new ≡ self.old) }
+    {
+        self.sects.push(sect)?;
+        Ok(())
+    }
+
+    /// The sections in order.
+    pub fn get(&self) -> &[Sect<A>]
+        ensures { map sect_data result.now ≡ self.now }
+    {
+        self.sects.as_slice()
+    }
+}
+
