@@ -1,0 +1,6 @@
+pub mod Ascending
+pub mod Value
+pub mod Report
+pub mod Op
+pub mod Step
+pub mod View

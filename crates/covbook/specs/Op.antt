@@ -1,0 +1,17 @@
+-- Operations, answers and entries of a history, apart from where they lie in memory.
+use Rattle.std.specs.Prelude.{ℕ, List}
+use Rattle.covline.specs.Row.{SubmissionData}
+
+pub data OpData : Type 0 where
+  SubmitOp : (submission : SubmissionData) → OpData
+  ReportOp : OpData
+
+pub data AnswerData : Type 0 where
+  AcceptedAnswer : (number items odd : ℕ) → AnswerData
+  TextAnswer : (text : List ℕ) → AnswerData
+
+-- one operation of a job, and what it was answered
+pub record EntryData : Type 0 where
+  pub job : ℕ
+  pub op : OpData
+  pub answer : AnswerData

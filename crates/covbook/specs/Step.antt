@@ -1,0 +1,54 @@
+-- One step of the plain table of counts, and whole runs of steps.
+use Rattle.std.specs.Prelude.{◌≡◌, ℕ, ◌+◌, List, [], ◌∷◌, ◌++◌, length, map}
+use Rattle.std.specs.List.{flat_map}
+use Rattle.covline.specs.Row.{SubmissionData, Row, rows_of, items_in}
+use Rattle.covbook.specs.Op.{OpData, SubmitOp, ReportOp, AnswerData, AcceptedAnswer, TextAnswer, EntryData}
+use Rattle.covbook.specs.Report.{report_text}
+
+-- the rows of each accepted submission, in order of acceptance
+abbrev pub Table : Type 0
+Table = List (List Row)
+
+abbrev pub all_rows : Table → List Row
+all_rows table = flat_map (λ rows. rows) table
+
+-- the answer to an operation at a table
+abbrev pub answer_of : Table → OpData → AnswerData
+answer_of table (SubmitOp submission) = AcceptedAnswer (length table + 1) (items_in submission.sects) submission.odd
+answer_of table ReportOp = TextAnswer (report_text (all_rows table))
+
+-- the table that it leaves
+abbrev pub table_after : Table → OpData → Table
+table_after table (SubmitOp submission) = table ++ rows_of submission ∷ []
+table_after table ReportOp = table
+
+-- the answers to operations one after another, and the table that they leave
+abbrev pub answers_from : Table → List OpData → List AnswerData
+answers_from table [] = []
+answers_from table (op ∷ ops) = answer_of table op ∷ answers_from (table_after table op) ops
+
+abbrev pub table_from : Table → List OpData → Table
+table_from table [] = table
+table_from table (op ∷ ops) = table_from (table_after table op) ops
+
+-- a run begins with the empty table
+abbrev pub answers_to : List OpData → List AnswerData
+answers_to ops = answers_from [] ops
+
+abbrev pub table_of : List OpData → Table
+table_of ops = table_from [] ops
+
+-- the operations of a history
+abbrev pub ops_in : List EntryData → List OpData
+ops_in entries = map (λ e. e.op) entries
+
+abbrev pub answers_in : List EntryData → List AnswerData
+answers_in entries = map (λ e. e.answer) entries
+
+-- a history is legal: its answers are those of the run over its operations
+abbrev pub IsLegal : List EntryData → Type 0
+IsLegal entries = answers_in entries ≡ answers_to (ops_in entries)
+
+-- how many entries one history has at the most
+abbrev pub most_entries : ℕ
+most_entries = 1048576
