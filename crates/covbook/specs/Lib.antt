@@ -4,3 +4,5 @@ pub mod Report
 pub mod Op
 pub mod Step
 pub mod View
+pub mod EntryView
+pub mod Held

@@ -1,10 +1,9 @@
--- Operations, answers and entries of the code, seen as plain data.
+-- Operations and answers of the code, seen as plain data.
 use Rattle.covbook.specs.declared.op.Op.{Op}
 use Rattle.covbook.specs.declared.op.Op.TheVariants as ops
 use Rattle.covbook.specs.declared.op.Answer.{Answer}
 use Rattle.covbook.specs.declared.op.Answer.TheVariants as answers
-use Rattle.covbook.specs.declared.entry.Entry.{Entry}
-use Rattle.covbook.specs.Op.{OpData, SubmitOp, ReportOp, AnswerData, AcceptedAnswer, TextAnswer, EntryData}
+use Rattle.covbook.specs.Op.{OpData, SubmitOp, ReportOp, AnswerData, AcceptedAnswer, TextAnswer}
 
 abbrev pub op_data : {A : Type 0} → Op A → OpData
 op_data (ops.Submit submission) = SubmitOp submission
@@ -13,6 +12,3 @@ op_data ops.Report = ReportOp
 abbrev pub answer_data : {A : Type 0} → Answer A → AnswerData
 answer_data (answers.Accepted number items odd) = AcceptedAnswer number items odd
 answer_data (answers.Text text) = TextAnswer text
-
-abbrev pub entry_data : {A : Type 0} → Entry A → EntryData
-entry_data e = record { job = e.job; op = op_data e.op; answer = answer_data e.answer }

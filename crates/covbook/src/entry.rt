@@ -1,7 +1,9 @@
 //! The history of a book.
 
 use crate::op::{Answer, Op};
+use covline::Memory;
 use std::alloc::{Allocator, Global};
+use std::marker::Model;
 
 /// One operation that a book was asked, by which job, and what it answered.
 #[derive(Drop)]
@@ -17,4 +19,50 @@ pub struct Receipt<A: Allocator = Global> {
     pub place: u64,
     pub op: Op<A>,
     pub answer: Answer<A>,
+}
+
+/// A list of entries. Contracts see what they say.
+#[derive(Drop)]
+pub struct Entries<A: Allocator = Global> {
+    entries: Vec<Entry<A>, A>,
+}
+
+impl<A: Allocator> Model for Entries<A> {
+    ghost use Rattle.std.specs.Prelude.{List, map};
+    ghost use Rattle.covbook.specs.Op.{EntryData};
+    ghost use Rattle.covbook.specs.EntryView.{entry_data};
+
+    ghost Value = { List EntryData };
+
+    ghost view = { λ a. map entry_data a.entries.items };
+}
+
+impl<A: Allocator> Entries<A> {
+    ghost use Rattle.std.specs.Prelude.{◌≡◌, ◌++◌, [], ◌∷◌, OnOk, OnErr, map};
+    ghost use Rattle.covbook.specs.EntryView.{entry_data};
+
+    /// The empty list.
+    pub fn new(alloc: A) -> Entries<A>
+        ensures { result ≡ [] }
+    {
+        Entries {
+            entries: Vec::new(alloc),
+        }
+    }
+
+    /// Appends an entry. A refusal gives it up and leaves the list as it was.
+    pub fn push(&mut self, entry: Entry<A>) -> Result<(), Memory>
+        ensures ok { OnOk result (self.new ≡ self.old ++ entry_data entry ∷ []) }
+        ensures err { OnErr result (self.new ≡ self.old) }
+    {
+        self.entries.push(entry)?;
+        Ok(())
+    }
+
+    /// The entries in order.
+    pub fn get(&self) -> &[Entry<A>]
+        ensures { map entry_data result.now ≡ self.now }
+    {
+        self.entries.as_slice()
+    }
 }

@@ -1,10 +1,12 @@
 //! The book: one step of the table of counts at a time, and the history of all steps.
 #![tactic(auto)]
 
+pub mod book;
 pub mod entry;
 pub mod op;
 pub mod shared;
 
-pub use entry::{Entry, Receipt};
+pub use book::{Book, BookFault};
+pub use entry::{Entries, Entry, Receipt};
 pub use op::{Answer, Op};
 pub use shared::{SubRef, TextRef};

@@ -15,4 +15,4 @@ pub use memory::Memory;
 pub use names::good_test;
 pub use sect::{Sect, Sects};
 pub use submission::{BadSubmission, Submission};
-pub use trace_line::{LineFault, TotalKind, TraceLine};
+pub use trace_line::{LineFault, TotalKind, TraceLine, put_line};

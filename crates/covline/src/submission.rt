@@ -37,3 +37,33 @@ impl<A: Allocator> Model for Submission<A> {
     ghost invariant = { λ a. IsLawful (record { sects = a.sects; odd = a.odd }) × (a.items ≡ items_in a.sects) };
 }
 
+
+impl<A: Allocator> Submission<A> {
+    ghost use Rattle.std.specs.Prelude.{◌≡◌, map};
+    ghost use Rattle.covline.specs.Row.{items_in};
+    ghost use Rattle.covline.specs.SectView.{sect_data};
+    ghost use Rattle.covline.specs.Lawful.{IsLawful};
+
+    /// The sections, in the order of the text.
+    pub fn sects(&self) -> &[Sect<A>]
+        ensures sects { map sect_data result.now ≡ self.now.sects }
+        ensures lawful { IsLawful self.now }
+    {
+        self.sects.get()
+    }
+
+    /// How many items the sections have: at most 67,108,864.
+    pub fn items(&self) -> u64
+        ensures count { result ≡ items_in self.now.sects }
+        ensures lawful { IsLawful self.now }
+    {
+        self.items
+    }
+
+    /// How many lines of the text don't fit the others: totals that differ from the section's own.
+    pub fn odd(&self) -> u64
+        ensures { result ≡ self.now.odd }
+    {
+        self.odd
+    }
+}

@@ -1,0 +1,7 @@
+-- An entry of the code, seen as plain data.
+use Rattle.covbook.specs.declared.entry.Entry.{Entry}
+use Rattle.covbook.specs.Op.{EntryData}
+use Rattle.covbook.specs.View.{op_data, answer_data}
+
+abbrev pub entry_data : {A : Type 0} → Entry A → EntryData
+entry_data e = record { job = e.job; op = op_data e.op; answer = answer_data e.answer }

@@ -1,0 +1,4 @@
+//! A session: commands in, answers out.
+#![tactic(auto)]
+
+pub mod trace;

@@ -1,0 +1,27 @@
+//! Why a text is refused.
+
+use covline::LineFault;
+use thiserror::Error;
+
+/// Why a text was not read. The first fault of a text is told, with the number of its line, counted from 1.
+#[derive(Clone, Copy, Debug, PartialEq, Eq, Error)]
+pub enum ReadFault {
+    /// Fault 1: the text has more than 67,108,864 bytes. This is tested first.
+    #[error("TooLong")]
+    TooLong,
+    /// Fault 2: the line itself is faulty.
+    #[error("{fault} at {at}")]
+    Line { at: u64, fault: LineFault },
+    /// Fault 3: a count, a total or `end_of_record` where no section is open.
+    #[error("Outside at {at}")]
+    Outside { at: u64 },
+    /// Fault 4: a test name or a path in an open section.
+    #[error("Inside at {at}")]
+    Inside { at: u64 },
+    /// Fault 5: the text ends in an open section.
+    #[error("OpenEnd")]
+    OpenEnd,
+    /// Fault 13: a growth was refused.
+    #[error("out of memory")]
+    Memory,
+}
