@@ -1,0 +1,35 @@
+# covcollect: build, run the stored session, test, install.
+# Everything is done by the Rattle toolchain's command rt; nothing else is needed.
+
+PREFIX ?= /usr/local
+PROGRAM = crates/covcollect
+
+.PHONY: all run test install clean toolchain
+
+all: build/covcollect
+
+# One line says what is missing, and no target goes on without it.
+toolchain:
+	@command -v rt >/dev/null 2>&1 || { echo "covcollect: the Rattle toolchain's command 'rt' isn't on PATH (rattle-kit-13b is wanted)" >&2; exit 1; }
+
+# Proves every crate and builds the program. rt keeps what it did, so a second call is quick.
+build/covcollect: toolchain
+	@mkdir -p build
+	cd $(PROGRAM) && rt run >/dev/null <stdin
+	@cmp -s $(PROGRAM)/out/covcollect $@ || cp $(PROGRAM)/out/covcollect $@
+
+# The stored session: its input, and what the program answers.
+run: build/covcollect
+	@echo '--- input'; cat $(PROGRAM)/stdin
+	@echo '--- answers'; ./build/covcollect <$(PROGRAM)/stdin
+
+# The gate: every proof from nothing, the edits that must fail, the tests and the stored run.
+test: toolchain
+	rt ci
+
+install: build/covcollect
+	install -d $(DESTDIR)$(PREFIX)/bin
+	install -m 755 build/covcollect $(DESTDIR)$(PREFIX)/bin/covcollect
+
+clean:
+	rm -rf build crates/*/out
