@@ -5,6 +5,7 @@ pub mod bytes;
 pub mod item;
 pub mod memory;
 pub mod names;
+pub mod read_line;
 pub mod sect;
 pub mod submission;
 pub mod trace_line;

@@ -1,0 +1,2 @@
+pub mod ReadKeys
+pub mod ReadNumbers

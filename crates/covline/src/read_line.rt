@@ -1,0 +1,111 @@
+//! Reading one line of a tracefile.
+
+ghost use Rattle.std.specs.Prelude.{◌≡◌, ◌≤◌, ◌++◌, ℕ, Some, option_map, MatchOption, MatchResult, IfOk, IfErr};
+ghost use Rattle.covline.specs.Spells.{LineData, line_data, Spells, HasFault, Begins};
+ghost use Rattle.covline.specs.Reading.{Gives, with_digit, digits_from, number_at, number_of, count_of, line_fields, total_fields, path_fields, behind_key, read_of};
+
+use crate::trace_line::{LineFault, TotalKind, TraceLine};
+
+/// The number with one more digit behind it. `None` stands for a number of 2^64 or more.
+fn push_digit(value: Option<u64>, digit: u8) -> Option<u64>
+    requires { 48 ≤ digit }
+    ensures { result ≡ with_digit value digit }
+{
+    value?
+        .checked_mul(10)?
+        .checked_add(u64::from(digit - b'0'))
+}
+
+/// The digits at the front of the text, and what follows them.
+fn read_digits(text: &[u8]) -> (Option<u64>, &[u8])
+    ensures value { result.0 ≡ (digits_from (Some 0) text.now).0 }
+    ensures rest { result.1.now ≡ (digits_from (Some 0) text.now).1 }
+{
+    let mut value = Some(0);
+    let mut rest = text;
+    while let [digit, after @ ..] = rest {
+        if !digit.is_ascii_digit() {
+            break;
+        }
+        value = push_digit(value, *digit);
+        rest = after;
+    }
+    (value, rest)
+}
+
+/// The number at the front of the text, of one digit at least, and what follows it.
+fn read_number(text: &[u8]) -> Option<(Option<u64>, &[u8])>
+    ensures { option_map (λ front. (front.0, front.1.now)) result ≡ number_at text.now }
+{
+    match text {
+        [digit, ..] if digit.is_ascii_digit() => Some(read_digits(text)),
+        _ => None,
+    }
+}
+
+/// The text as a number.
+fn read_whole(text: &[u8]) -> Option<Option<u64>>
+    ensures { result ≡ number_of text.now }
+{
+    match read_number(text)? {
+        (value, []) => Some(value),
+        _ => None,
+    }
+}
+
+/// The text as an execution count. One with a minus counts as 0, whatever its digits are.
+fn read_count(text: &[u8]) -> Option<Option<u64>>
+    ensures { result ≡ count_of text.now }
+{
+    match text {
+        [b'-', digits @ ..] => match read_whole(digits) {
+            Some(_) => Some(Some(0)),
+            None => None,
+        },
+        _ => read_whole(text),
+    }
+}
+
+/// The fields of `DA:`.
+fn line_record(fields: &[u8]) -> Result<TraceLine<'_>, LineFault>
+    ensures { Gives result (line_fields fields.now) }
+{
+    let Some((line, rest)) = read_number(fields) else {
+        return Err(LineFault::BadLine);
+    };
+    let [b',', count @ ..] = rest else {
+        return Err(LineFault::BadLine);
+    };
+    match (line, read_count(count)) {
+        (_, None) => Err(LineFault::BadLine),
+        (Some(line), Some(Some(count))) => Ok(TraceLine::Line { line, count: u128::from(count) }),
+        _ => Err(LineFault::NumberTooLarge),
+    }
+}
+
+/// The field of a total.
+fn total_record(kind: TotalKind, field: &[u8]) -> Result<TraceLine<'_>, LineFault>
+    ensures { Gives result (total_fields kind field.now) }
+{
+    match read_whole(field) {
+        None => Err(LineFault::BadLine),
+        Some(None) => Err(LineFault::NumberTooLarge),
+        Some(Some(value)) => Ok(TraceLine::Total { kind, value }),
+    }
+}
+
+/// The field of `SF:`.
+fn path_record(path: &[u8]) -> Result<TraceLine<'_>, LineFault>
+    ensures { Gives result (path_fields path.now) }
+{
+    if path.is_empty() {
+        return Err(LineFault::EmptyPath);
+    }
+    Ok(TraceLine::Path(path))
+}
+
+fn behind<'a>(line: &'a [u8], key: &[u8]) -> Option<&'a [u8]>
+    ensures { option_map (λ rest. rest.now) result ≡ behind_key key.now line.now }
+{
+    line.strip_prefix(key)
+}
