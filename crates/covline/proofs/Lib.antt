@@ -1,2 +1,4 @@
 pub mod ReadKeys
 pub mod ReadNumbers
+pub mod ReadForms
+pub mod ReadLaws

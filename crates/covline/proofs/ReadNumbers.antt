@@ -1,5 +1,5 @@
 -- Reading a number and a count: what a numeral is read as, and that each text begins with a numeral or isn't read.
-use Rattle.std.proofs.Common.{◌≡◌, ◌≢◌, ℕ, ◌+◌, ◌-◌, ◌*◌, ◌^◌, ◌<◌, ◌≤◌, ◌⊎◌, inl, inr, Bool, true, false, ◌&&◌, cond, eqb, ltb, leb, List, [], ◌∷◌, ◌++◌, length, All, Option, Some, None, refl, sym, ap, ◌∙◌, arith, fold, option_map}
+use Rattle.std.proofs.Common.{◌≡◌, ◌≢◌, ℕ, ◌+◌, ◌-◌, ◌*◌, ◌^◌, ◌<◌, ◌≤◌, ◌⊎◌, inl, inr, Bool, true, false, ◌&&◌, cond, eqb, ltb, leb, List, [], ◌∷◌, ◌++◌, length, All, Option, Some, None, refl, sym, ap, subst, ◌∙◌, arith, fold, option_map}
 use Rattle.std.proofs.lemmas.Bool.{lt-ltb, le-ltb, le-leb, and_from, and_parts, and_cases, leb-true, leb-false, cases_lt, cases_eq, cases_Bool, eq-eqb, ne_eqb}
 use Rattle.std.proofs.lemmas.List.{append-nil}
 use Rattle.std.proofs.lemmas.List.Elements.{All-cons, All-nil, All-head, All-tail}
@@ -48,6 +48,9 @@ digits_are (d ∷ ds) rest value each stops =
     let test : is_digit d ≡ true = digit_is d (All-head IsDigit d ds each) in
     rw test (digits_are ds rest (with_digit value d) (All-tail IsDigit d ds each) stops)
 
+number_at-digit : (d : ℕ) (ds : List ℕ) → is_digit d ≡ true → number_at (d ∷ ds) ≡ Some (digits_from (Some 0) (d ∷ ds))
+number_at-digit d ds test = ap (λ (t : Bool). cond t (Some (digits_from (Some 0) (d ∷ ds))) None) test
+
 -- a numeral is read as its number
 pub number_is : (digits rest : List ℕ) (n : ℕ) → IsNumeral digits n → Stops rest → number_at (digits ++ rest) ≡ Some (capped n, rest)
 number_is [] rest n numeral stops = absurd (omega (arith, numeral.some))
@@ -55,7 +58,8 @@ number_is (d ∷ ds) rest n numeral stops =
     let test : is_digit d ≡ true = digit_is d (All-head IsDigit d ds numeral.each) in
     let value : fold with_digit (capped 0) (d ∷ ds) ≡ capped n = fold-capped (d ∷ ds) 0 ∙ ap capped (sym numeral.value) in
     let all : digits_from (Some 0) (d ∷ ds ++ rest) ≡ (fold with_digit (Some 0) (d ∷ ds), rest) = digits_are (d ∷ ds) rest (Some 0) numeral.each stops in
-    rw test (ap Some all ∙ ap (λ (v : Option ℕ). Some (v, rest)) value)
+    let same : Some (digits_from (Some 0) (d ∷ ds ++ rest)) ≡ Some (capped n, rest) = ap (λ (p : Option ℕ × List ℕ). Some p) all ∙ ap (λ (v : Option ℕ). Some (v, rest)) value in
+    number_at-digit d (ds ++ rest) test ∙ same
 
 -- the digits at the front
 record Front (text : List ℕ) : Type 0 where
@@ -69,9 +73,9 @@ front_of : (text : List ℕ) → Front text
 front_of [] = record { digits = []; rest = []; parts = refl; each = All-nil IsDigit; stops = tt }
 front_of (b ∷ bs) =
     elim (cases_Bool (is_digit b)) [
-      | inl yes ↦ let others = front_of bs in
-          record { digits = b ∷ others.digits; rest = others.rest; parts = ap (λ (t : List ℕ). b ∷ t) others.parts; each = All-cons IsDigit b others.digits (digit_from b yes) others.each; stops = others.stops }
-      | inr no_digit ↦ record { digits = []; rest = b ∷ bs; parts = refl; each = All-nil IsDigit; stops = no_digit }
+      | inl digit ↦ let others = front_of bs in
+          record { digits = b ∷ others.digits; rest = others.rest; parts = ap (λ (t : List ℕ). b ∷ t) others.parts; each = All-cons IsDigit b others.digits (digit_from b digit) others.each; stops = others.stops }
+      | inr other ↦ record { digits = []; rest = b ∷ bs; parts = refl; each = All-nil IsDigit; stops = other }
     ]
 
 -- the text begins with a numeral
