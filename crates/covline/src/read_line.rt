@@ -1,7 +1,7 @@
 //! Reading one line of a tracefile.
 
 ghost use Rattle.std.specs.Prelude.{◌≡◌, ◌≤◌, ◌++◌, ℕ, Some, option_map, MatchOption, MatchResult, IfOk, IfErr};
-ghost use Rattle.covline.specs.Spells.{LineData, line_data, Spells, HasFault, Begins};
+ghost use Rattle.covline.specs.Spells.{LineData, line_data, Spells, HasFault, Begins, HasKey};
 ghost use Rattle.covline.specs.Reading.{Gives, with_digit, digits_from, number_at, number_of, count_of, line_fields, total_fields, path_fields, behind_key, read_of};
 
 use crate::trace_line::{LineFault, TotalKind, TraceLine};
@@ -108,4 +108,26 @@ fn behind<'a>(line: &'a [u8], key: &[u8]) -> Option<&'a [u8]>
     ensures { option_map (λ rest. rest.now) result ≡ behind_key key.now line.now }
 {
     line.strip_prefix(key)
+}
+
+/// What the line says: the records with a form first, by how often they stand in a tracefile.
+fn read_keyed(line: &[u8]) -> Option<Result<TraceLine<'_>, LineFault>>
+    ensures { MatchOption result (¬ HasKey line.now) (λ read. Gives read (read_of line.now)) }
+{
+    if let Some(fields) = behind(line, b"DA:") {
+        return Some(line_record(fields));
+    }
+    if let Some(path) = behind(line, b"SF:") {
+        return Some(path_record(path));
+    }
+    if let Some(name) = behind(line, b"TN:") {
+        return Some(Ok(TraceLine::Test(name)));
+    }
+    if let Some(field) = behind(line, b"LF:") {
+        return Some(total_record(TotalKind::LineFound, field));
+    }
+    if let Some(field) = behind(line, b"LH:") {
+        return Some(total_record(TotalKind::LineHit, field));
+    }
+    None
 }
