@@ -46,10 +46,10 @@ behind_key-none (k ∷ ks) (b ∷ bs) other =
       | inr differ ↦ let test : eqb k b ≡ false = ne_eqb k b differ in rw test refl
     ]
 
-stripped_cases : (key line : List ℕ) (r : Option (Bor (List ℕ))) → MatchOption r ((rest : List ℕ) → line ≢ key ++ rest) (λ x. line ≡ key ++ x.now) → option_map (λ rest. rest.now) r ≡ behind_key key line
-stripped_cases key line None other = sym (behind_key-none key line (λ begins. other begins.0 begins.1))
-stripped_cases key line (Some x) same = sym (ap (behind_key key) same ∙ behind_key-same key x.now)
+stripped_cases : (key line : List ℕ) (r : Option (Bor (List ℕ))) → MatchOption r ((rest : List ℕ) → line ≢ key ++ rest) (λ x. line ≡ key ++ x.now) → MatchOption r (¬ Begins line key) (λ rest. line ≡ key ++ rest.now)
+stripped_cases key line None other = λ begins. other begins.0 begins.1
+stripped_cases key line (Some x) same = same
 
 -- what std's `strip_prefix` gives
-pub stripped_is : (key line : List ℕ) (r : Option (Bor (List ℕ))) → MatchOption r (pointwise eqb (take (length key) line) key ≡ false) (λ x. (pointwise eqb (take (length key) line) key ≡ true) × (x.now ≡ drop (length key) line) × (length x.now + length key ≡ length line)) → option_map (λ rest. rest.now) r ≡ behind_key key line
+pub stripped_is : (key line : List ℕ) (r : Option (Bor (List ℕ))) → MatchOption r (pointwise eqb (take (length key) line) key ≡ false) (λ x. (pointwise eqb (take (length key) line) key ≡ true) × (x.now ≡ drop (length key) line) × (length x.now + length key ≡ length line)) → MatchOption r (¬ Begins line key) (λ rest. line ≡ key ++ rest.now)
 stripped_is key line r cases = stripped_cases key line r (strip_prefix_is Decides-eqb line key r cases)

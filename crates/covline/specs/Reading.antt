@@ -6,7 +6,7 @@ use Rattle.covline.specs.declared.trace_line.TotalKind.{TotalKind}
 use Rattle.covline.specs.declared.trace_line.TotalKind.TheVariants.{LineFound, LineHit}
 use Rattle.covline.specs.declared.trace_line.LineFault.{LineFault}
 use Rattle.covline.specs.declared.trace_line.LineFault.TheVariants.{BadLine, NumberTooLarge, EmptyPath}
-use Rattle.covline.specs.Spells.{LineData, Test, Path, Line, Total, End, Skip, line_data, comma, minus, key_of}
+use Rattle.covline.specs.Spells.{LineData, Test, Path, Line, Total, End, Skip, line_data, comma, minus, BeginsWithOneOf}
 
 -- what a function returned is what reading gives
 abbrev pub Gives : Result TraceLine LineFault → Result LineData LineFault → Type 0
@@ -93,6 +93,20 @@ path_fields (b ∷ bs) = Ok (Path (b ∷ bs))
 -- no form is known for this key
 abbrev pub no_fields : Fields
 no_fields fields = Err BadLine
+
+-- the keys by what they tell of: tests, files and lines, then functions and branches, whose forms aren't read
+abbrev pub line_keys : List (List ℕ)
+line_keys = codes "DA:" ∷ codes "SF:" ∷ codes "TN:" ∷ codes "LF:" ∷ codes "LH:" ∷ []
+
+abbrev pub function_keys : List (List ℕ)
+function_keys = codes "FNDA:" ∷ codes "FN:" ∷ codes "FNF:" ∷ codes "FNH:" ∷ []
+
+abbrev pub branch_keys : List (List ℕ)
+branch_keys = codes "BRDA:" ∷ codes "BRF:" ∷ codes "BRH:" ∷ []
+
+-- the line begins with none of the keys
+pub record Lacks (keys : List (List ℕ)) (line : List ℕ) : Type 0 where
+  pub none : ¬ BeginsWithOneOf keys line
 
 -- what follows the key
 abbrev pub behind_key : List ℕ → List ℕ → Option (List ℕ)

@@ -3,6 +3,7 @@
 
 pub mod bytes;
 pub mod item;
+pub mod laws_of_lines;
 pub mod memory;
 pub mod names;
 pub mod read_line;

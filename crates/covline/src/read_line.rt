@@ -1,8 +1,9 @@
 //! Reading one line of a tracefile.
 
-ghost use Rattle.std.specs.Prelude.{◌≡◌, ◌≤◌, ◌++◌, ℕ, Some, option_map, MatchOption, MatchResult, IfOk, IfErr};
-ghost use Rattle.covline.specs.Spells.{LineData, line_data, Spells, HasFault, Begins, HasKey};
-ghost use Rattle.covline.specs.Reading.{Gives, with_digit, digits_from, number_at, number_of, count_of, line_fields, total_fields, path_fields, behind_key, read_of};
+ghost use Rattle.std.specs.Prelude.{◌≡◌, ◌≤◌, ◌++◌, ℕ, Some, option_map, Err, MatchOption, MatchResult, IfOk, IfErr};
+ghost use Rattle.covline.specs.declared.trace_line.LineFault.{LineFault};
+ghost use Rattle.covline.specs.Spells.{LineData, line_data, Spells, HasFault, Begins};
+ghost use Rattle.covline.specs.Reading.{Gives, with_digit, digits_from, number_at, number_of, count_of, line_fields, total_fields, path_fields, Lacks, line_keys, function_keys, branch_keys, read_of};
 
 use crate::trace_line::{LineFault, TotalKind, TraceLine};
 
@@ -104,15 +105,16 @@ fn path_record(path: &[u8]) -> Result<TraceLine<'_>, LineFault>
     Ok(TraceLine::Path(path))
 }
 
+/// What follows the key, where the line begins with it.
 fn behind<'a>(line: &'a [u8], key: &[u8]) -> Option<&'a [u8]>
-    ensures { option_map (λ rest. rest.now) result ≡ behind_key key.now line.now }
+    ensures { MatchOption result (¬ Begins line.now key.now) (λ rest. line.now ≡ key.now ++ rest.now) }
 {
     line.strip_prefix(key)
 }
 
-/// What the line says: the records with a form first, by how often they stand in a tracefile.
-fn read_keyed(line: &[u8]) -> Option<Result<TraceLine<'_>, LineFault>>
-    ensures { MatchOption result (¬ HasKey line.now) (λ read. Gives read (read_of line.now)) }
+/// A line with a key of tests, files and lines, the most frequent key first.
+fn read_line_key(line: &[u8]) -> Option<Result<TraceLine<'_>, LineFault>>
+    ensures { MatchOption result (Lacks line_keys line.now) (λ read. Gives read (read_of line.now)) }
 {
     if let Some(fields) = behind(line, b"DA:") {
         return Some(line_record(fields));
@@ -123,11 +125,77 @@ fn read_keyed(line: &[u8]) -> Option<Result<TraceLine<'_>, LineFault>>
     if let Some(name) = behind(line, b"TN:") {
         return Some(Ok(TraceLine::Test(name)));
     }
-    if let Some(field) = behind(line, b"LF:") {
-        return Some(total_record(TotalKind::LineFound, field));
+    if let Some(found) = behind(line, b"LF:") {
+        return Some(total_record(TotalKind::LineFound, found));
     }
-    if let Some(field) = behind(line, b"LH:") {
-        return Some(total_record(TotalKind::LineHit, field));
+    if let Some(hit) = behind(line, b"LH:") {
+        return Some(total_record(TotalKind::LineHit, hit));
     }
     None
+}
+
+/// A line with a key of functions. Their forms aren't read.
+fn read_function_key(line: &[u8]) -> Option<Result<TraceLine<'_>, LineFault>>
+    ensures { MatchOption result (Lacks function_keys line.now) (λ read. Gives read (read_of line.now)) }
+{
+    if let Some(_) = behind(line, b"FNDA:") {
+        return Some(Err(LineFault::BadLine));
+    }
+    if let Some(_) = behind(line, b"FN:") {
+        return Some(Err(LineFault::BadLine));
+    }
+    if let Some(_) = behind(line, b"FNF:") {
+        return Some(Err(LineFault::BadLine));
+    }
+    if let Some(_) = behind(line, b"FNH:") {
+        return Some(Err(LineFault::BadLine));
+    }
+    None
+}
+
+/// A line with a key of branches. Their forms aren't read.
+fn read_branch_key(line: &[u8]) -> Option<Result<TraceLine<'_>, LineFault>>
+    ensures { MatchOption result (Lacks branch_keys line.now) (λ read. Gives read (read_of line.now)) }
+{
+    if let Some(_) = behind(line, b"BRDA:") {
+        return Some(Err(LineFault::BadLine));
+    }
+    if let Some(_) = behind(line, b"BRF:") {
+        return Some(Err(LineFault::BadLine));
+    }
+    if let Some(_) = behind(line, b"BRH:") {
+        return Some(Err(LineFault::BadLine));
+    }
+    None
+}
+
+/// What the line says.
+fn read_any(line: &[u8]) -> Result<TraceLine<'_>, LineFault>
+    ensures { Gives result (read_of line.now) }
+{
+    if let Some(read) = read_line_key(line) {
+        return read;
+    }
+    if let Some(read) = read_branch_key(line) {
+        return read;
+    }
+    if let Some(read) = read_function_key(line) {
+        return read;
+    }
+    match behind(line, b"end_of_record") {
+        Some(_) => Ok(TraceLine::End),
+        None => Ok(TraceLine::Skip),
+    }
+}
+
+/// What one line of a tracefile says (geninfo(1), FILES). The line has lost its line feed and the carriage returns
+/// at its end. A line with a known key has the key's form, its numbers are below 2^64 and its path isn't empty;
+/// otherwise that is its fault, and the form comes before the size. Texts are slices of the line.
+pub fn read_line(line: &[u8]) -> Result<TraceLine<'_>, LineFault>
+    ensures ok { IfOk result (λ t. Spells line.now (line_data t)) }
+    ensures err { IfErr result (λ f. HasFault line.now f) }
+    ensures only { (says : LineData) → Spells line.now says → MatchResult result (λ t. line_data t ≡ says) (λ f. ⊥) }
+    ensures only_fault { (fault : LineFault) → HasFault line.now fault → result ≡ Err fault }
+{
+    read_any(line)
 }
