@@ -1,5 +1,5 @@
 use Rattle.covline.proofs.ReadLaws.{ok_spells, err_has_fault, only_spelled, only_fault}
-use Rattle.covline.proofs.read_line.read_line.Goals as goal
+use Rattle.covline.proofs.reader.read_line.Goals as goal
 
 pub returns : goal.returns
 returns c = record {

@@ -3,7 +3,7 @@ use Rattle.std.specs.Prelude.{codes}
 use Rattle.covline.specs.declared.trace_line.TotalKind.TheVariants.{LineFound, LineHit}
 use Rattle.covline.specs.Reading.{line_fields, path_fields, total_fields, read_of}
 use Rattle.covline.proofs.ReadDispatch.{gives_by}
-use Rattle.covline.proofs.read_line.read_line_key.Goals as goal
+use Rattle.covline.proofs.reader.read_line_key.Goals as goal
 
 pub returns-in-Some : goal.returns-in-Some
 unfolding read_of

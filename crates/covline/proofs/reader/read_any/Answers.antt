@@ -1,7 +1,7 @@
 use Rattle.std.proofs.Common.{ap}
 use Rattle.covline.specs.Reading.{read_of}
 use Rattle.covline.proofs.ReadDispatch.{skipped}
-use Rattle.covline.proofs.read_line.read_any.Goals as goal
+use Rattle.covline.proofs.reader.read_any.Goals as goal
 
 pub returns-in-Some-behind : goal.returns-in-Some-behind
 unfolding read_of

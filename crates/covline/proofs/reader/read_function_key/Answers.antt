@@ -1,6 +1,6 @@
 use Rattle.std.proofs.Common.{ap}
 use Rattle.covline.specs.Reading.{read_of}
-use Rattle.covline.proofs.read_line.read_function_key.Goals as goal
+use Rattle.covline.proofs.reader.read_function_key.Goals as goal
 
 pub returns-in-Some : goal.returns-in-Some
 unfolding read_of
