@@ -40,9 +40,9 @@ small_or_large (Path path) = inl tt
 small_or_large (Line number count) =
     elim (cases_lt number (2 ^ 64)) [
       | inl line_lt ↦ elim (cases_lt count (2 ^ 64)) [
-          | inl lt ↦ inl (line_lt, lt)
-          | inr le ↦ inr (λ small. omega (arith, small.1), rw (capped_large count le) (large_line (capped number)))
-        ]
+        | inl lt ↦ inl (line_lt, lt)
+        | inr le ↦ inr (λ small. omega (arith, small.1), rw (capped_large count le) (large_line (capped number)))
+      ]
       | inr le ↦ inr (λ small. omega (arith, small.0), rw (capped_large number le) refl)
     ]
 small_or_large (Total kind value) =
@@ -74,9 +74,9 @@ behind_line-or_bad fields digits [] number parts numeral = inr refl
 behind_line-or_bad fields digits (b ∷ bs) number parts numeral =
     elim (cases_eq b comma) [
       | inl same ↦ elim (count_or_none bs) [
-          | inl found ↦ inl (record { digits = digits; text = bs; number = number; count = found.0; parts = parts ∙ ap (λ (c : ℕ). digits ++ c ∷ bs) same; numeral = numeral; counts = found.1 })
-          | inr none ↦ let test : eqb b comma ≡ true = eq-eqb b comma same in inr (rw (test, none) refl)
-        ]
+        | inl found ↦ inl (record { digits = digits; text = bs; number = number; count = found.0; parts = parts ∙ ap (λ (c : ℕ). digits ++ c ∷ bs) same; numeral = numeral; counts = found.1 })
+        | inr none ↦ let test : eqb b comma ≡ true = eq-eqb b comma same in inr (rw (test, none) refl)
+      ]
       | inr differ ↦ let test : eqb b comma ≡ false = ne_eqb b comma differ in inr (rw test refl)
     ]
 

@@ -30,9 +30,9 @@ begins_or_not (k ∷ ks) [] = inr (λ begins. nil_isnt_cons k (ks ++ begins.0) b
 begins_or_not (k ∷ ks) (b ∷ bs) =
     elim (cases_eq k b) [
       | inl same ↦ elim (begins_or_not ks bs) [
-          | inl begins ↦ inl (begins.0, joined k b bs (ks ++ begins.0) same begins.1)
-          | inr other ↦ inr (λ begins. other (begins.0, same_tail b k bs (ks ++ begins.0) begins.1))
-        ]
+        | inl begins ↦ inl (begins.0, joined k b bs (ks ++ begins.0) same begins.1)
+        | inr other ↦ inr (λ begins. other (begins.0, same_tail b k bs (ks ++ begins.0) begins.1))
+      ]
       | inr other ↦ inr (λ begins. other (sym (same_head b k bs (ks ++ begins.0) begins.1)))
     ]
 

@@ -115,19 +115,40 @@ total_judged kind rest other =
     ]
 
 forms_judge : AllByRecursion Judges forms
-forms_judge =
-    (λ rest. inl (Test rest, refl),
-    (path_judged,
-    (λ rest. inr (inl (refl, not_path (codes "FN:" ++ rest) refl)),
-    (λ rest. inr (inl (refl, not_path (codes "FNDA:" ++ rest) refl)),
-    (λ rest. inr (inl (refl, not_path (codes "FNF:" ++ rest) refl)),
-    (λ rest. inr (inl (refl, not_path (codes "FNH:" ++ rest) refl)),
-    (λ rest. inr (inl (refl, not_path (codes "BRDA:" ++ rest) refl)),
-    (λ rest. inr (inl (refl, not_path (codes "BRF:" ++ rest) refl)),
-    (λ rest. inr (inl (refl, not_path (codes "BRH:" ++ rest) refl)),
-    (line_judged,
-    (λ rest. total_judged LineFound rest refl,
-    (λ rest. total_judged LineHit rest refl, tt))))))))))))
+forms_judge = (
+  λ rest. inl (Test rest, refl),
+  (
+    path_judged,
+    (
+      λ rest. inr (inl (refl, not_path (codes "FN:" ++ rest) refl)),
+      (
+        λ rest. inr (inl (refl, not_path (codes "FNDA:" ++ rest) refl)),
+        (
+          λ rest. inr (inl (refl, not_path (codes "FNF:" ++ rest) refl)),
+          (
+            λ rest. inr (inl (refl, not_path (codes "FNH:" ++ rest) refl)),
+            (
+              λ rest. inr (inl (refl, not_path (codes "BRDA:" ++ rest) refl)),
+              (
+                λ rest. inr (inl (refl, not_path (codes "BRF:" ++ rest) refl)),
+                (
+                  λ rest. inr (inl (refl, not_path (codes "BRH:" ++ rest) refl)),
+                  (
+                    line_judged,
+                    (
+                      λ rest. total_judged LineFound rest refl,
+                      (λ rest. total_judged LineHit rest refl, tt),
+                    ),
+                  ),
+                ),
+              ),
+            ),
+          ),
+        ),
+      ),
+    ),
+  ),
+)
 
 -- each line has a form, or is malformed, or lacks its path
 pub form_or_fault : (line : List ℕ) → SaysSomething line ⊎ (((read_of line ≡ Err BadLine) × (line ≢ codes "SF:") × HasKey line) ⊎ (line ≡ codes "SF:"))

@@ -144,11 +144,11 @@ count_or_none [] = inr refl
 count_or_none (b ∷ bs) =
     elim (cases_eq b minus) [
       | inl same ↦ elim (whole_or_none bs) [
-          | inl found ↦ inl (0, inr (bs, found.0, ap (λ (c : ℕ). c ∷ bs) same, found.1, refl))
-          | inr none ↦ inr (count_of-minus b bs same ∙ ap (option_map (λ (v : Option ℕ). Some 0)) none)
-        ]
+        | inl found ↦ inl (0, inr (bs, found.0, ap (λ (c : ℕ). c ∷ bs) same, found.1, refl))
+        | inr none ↦ inr (count_of-minus b bs same ∙ ap (option_map (λ (v : Option ℕ). Some 0)) none)
+      ]
       | inr differ ↦ elim (whole_or_none (b ∷ bs)) [
-          | inl found ↦ inl (found.0, inl found.1)
-          | inr none ↦ inr (count_of-plain b bs differ ∙ none)
-        ]
+        | inl found ↦ inl (found.0, inl found.1)
+        | inr none ↦ inr (count_of-plain b bs differ ∙ none)
+      ]
     ]

@@ -10,5 +10,4 @@ pub fn each_line_has_one_meaning()
     ensures no_fault_beside { (line : List ℕ) (says : LineData) (fault : LineFault) → Spells line says → ¬ HasFault line fault }
     ensures one_fault { (line : List ℕ) (x y : LineFault) → HasFault line x → HasFault line y → x ≡ y }
     ensures some { (line : List ℕ) → ((says : LineData) × Spells line says) ⊎ ((fault : LineFault) × HasFault line fault) }
-{
-}
+{}

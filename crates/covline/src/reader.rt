@@ -3,7 +3,7 @@
 ghost use Rattle.std.specs.Prelude.{◌≡◌, ◌≤◌, ◌++◌, ℕ, Some, option_map, Err, MatchOption, MatchResult, IfOk, IfErr};
 ghost use Rattle.covline.specs.declared.trace_line.LineFault.{LineFault};
 ghost use Rattle.covline.specs.Spells.{LineData, line_data, Spells, HasFault, Begins};
-ghost use Rattle.covline.specs.Reading.{Gives, with_digit, digits_from, number_at, number_of, count_of, line_fields, total_fields, path_fields, Lacks, line_keys, function_keys, branch_keys, read_of};
+ghost use Rattle.covline.specs.Reading.{Gives, with_digit, digits_from, number_at, number_of, count_of, line_fields, total_fields, path_fields, no_fields, Lacks, line_keys, function_keys, branch_keys, read_of};
 
 use crate::trace_line::{LineFault, TotalKind, TraceLine};
 
@@ -12,9 +12,7 @@ fn push_digit(value: Option<u64>, digit: u8) -> Option<u64>
     requires { 48 ≤ digit }
     ensures { result ≡ with_digit value digit }
 {
-    value?
-        .checked_mul(10)?
-        .checked_add(u64::from(digit - b'0'))
+    value?.checked_mul(10)?.checked_add(u64::from(digit - b'0'))
 }
 
 /// The digits at the front of the text, and what follows them.
@@ -79,7 +77,10 @@ fn line_record(fields: &[u8]) -> Result<TraceLine<'_>, LineFault>
     };
     match (line, read_count(count)) {
         (_, None) => Err(LineFault::BadLine),
-        (Some(line), Some(Some(count))) => Ok(TraceLine::Line { line, count: u128::from(count) }),
+        (Some(line), Some(Some(count))) => Ok(TraceLine::Line {
+            line,
+            count: u128::from(count),
+        }),
         _ => Err(LineFault::NumberTooLarge),
     }
 }
@@ -103,6 +104,13 @@ fn path_record(path: &[u8]) -> Result<TraceLine<'_>, LineFault>
         return Err(LineFault::EmptyPath);
     }
     Ok(TraceLine::Path(path))
+}
+
+/// The fields of a key whose form isn't read.
+fn unread_record(_fields: &[u8]) -> Result<TraceLine<'_>, LineFault>
+    ensures { Gives result (no_fields _fields.now) }
+{
+    Err(LineFault::BadLine)
 }
 
 /// What follows the key, where the line begins with it.
@@ -138,17 +146,17 @@ fn read_line_key(line: &[u8]) -> Option<Result<TraceLine<'_>, LineFault>>
 fn read_function_key(line: &[u8]) -> Option<Result<TraceLine<'_>, LineFault>>
     ensures { MatchOption result (Lacks function_keys line.now) (λ read. Gives read (read_of line.now)) }
 {
-    if let Some(_) = behind(line, b"FNDA:") {
-        return Some(Err(LineFault::BadLine));
+    if let Some(fields) = behind(line, b"FNDA:") {
+        return Some(unread_record(fields));
     }
-    if let Some(_) = behind(line, b"FN:") {
-        return Some(Err(LineFault::BadLine));
+    if let Some(fields) = behind(line, b"FN:") {
+        return Some(unread_record(fields));
     }
-    if let Some(_) = behind(line, b"FNF:") {
-        return Some(Err(LineFault::BadLine));
+    if let Some(fields) = behind(line, b"FNF:") {
+        return Some(unread_record(fields));
     }
-    if let Some(_) = behind(line, b"FNH:") {
-        return Some(Err(LineFault::BadLine));
+    if let Some(fields) = behind(line, b"FNH:") {
+        return Some(unread_record(fields));
     }
     None
 }
@@ -157,14 +165,14 @@ fn read_function_key(line: &[u8]) -> Option<Result<TraceLine<'_>, LineFault>>
 fn read_branch_key(line: &[u8]) -> Option<Result<TraceLine<'_>, LineFault>>
     ensures { MatchOption result (Lacks branch_keys line.now) (λ read. Gives read (read_of line.now)) }
 {
-    if let Some(_) = behind(line, b"BRDA:") {
-        return Some(Err(LineFault::BadLine));
+    if let Some(fields) = behind(line, b"BRDA:") {
+        return Some(unread_record(fields));
     }
-    if let Some(_) = behind(line, b"BRF:") {
-        return Some(Err(LineFault::BadLine));
+    if let Some(fields) = behind(line, b"BRF:") {
+        return Some(unread_record(fields));
     }
-    if let Some(_) = behind(line, b"BRH:") {
-        return Some(Err(LineFault::BadLine));
+    if let Some(fields) = behind(line, b"BRH:") {
+        return Some(unread_record(fields));
     }
     None
 }

@@ -30,6 +30,7 @@ fn is_wanted(read: Result<TraceLine<'_>, LineFault>, wanted: Wanted) -> bool {
 }
 
 const BAD: Wanted = Wanted::Fault(LineFault::BadLine);
+
 const LARGE: Wanted = Wanted::Fault(LineFault::NumberTooLarge);
 
 #[test]
@@ -68,7 +69,11 @@ fn counts(rt: HostRuntime) {
         ("a line too large", b"DA:18446744073709551616,1", LARGE),
         ("a count too large", b"DA:1,18446744073709551616", LARGE),
         ("below 0", b"DA:1,-5", Wanted::Line(1, 0)),
-        ("far below 0", b"DA:1,-99999999999999999999", Wanted::Line(1, 0)),
+        (
+            "far below 0",
+            b"DA:1,-99999999999999999999",
+            Wanted::Line(1, 0),
+        ),
         ("a minus alone", b"DA:1,-", BAD),
         ("two minus signs", b"DA:1,--1", BAD),
         ("a line below 0", b"DA:-1,1", BAD),
@@ -80,7 +85,11 @@ fn counts(rt: HostRuntime) {
         ("form before size", b"DA:99999999999999999999,x", BAD),
         ("an empty third field", b"DA:1,2,", BAD),
         ("a third field", b"DA:1,2,abc", BAD),
-        ("a large number and a third field", b"DA:99999999999999999999,1,abc", BAD),
+        (
+            "a large number and a third field",
+            b"DA:99999999999999999999,1,abc",
+            BAD,
+        ),
     ];
     for (name, line, wanted) in lines {
         assert!(rt; is_wanted(read_line(line), wanted), "{name}");
@@ -90,7 +99,11 @@ fn counts(rt: HostRuntime) {
 #[test]
 fn totals_and_later_keys(rt: HostRuntime) {
     let lines: [(&str, &[u8], Wanted); 17] = [
-        ("lines found", b"LF:3", Wanted::Total(TotalKind::LineFound, 3)),
+        (
+            "lines found",
+            b"LF:3",
+            Wanted::Total(TotalKind::LineFound, 3),
+        ),
         ("lines hit", b"LH:02", Wanted::Total(TotalKind::LineHit, 2)),
         ("a large total", b"LF:18446744073709551616", LARGE),
         ("a large total hit", b"LH:18446744073709551616", LARGE),
