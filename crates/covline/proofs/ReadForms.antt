@@ -4,6 +4,8 @@ use Rattle.std.proofs.Common.{◌≡◌, ◌≢◌, ℕ, ◌^◌, ◌<◌, ◌�
 use Rattle.std.specs.Prelude.{codes}
 use Rattle.std.proofs.lemmas.Bool.{cases_lt, cases_eq, ne_eqb, eq-eqb}
 use Rattle.std.proofs.lemmas.List.{append-nil}
+use Rattle.covline.specs.declared.reader.Number.{Number}
+use Rattle.covline.specs.declared.reader.Number.TheVariants.{Value, TooLarge}
 use Rattle.covline.specs.declared.trace_line.TotalKind.{TotalKind}
 use Rattle.covline.specs.declared.trace_line.TotalKind.TheVariants.{LineFound, LineHit}
 use Rattle.covline.specs.declared.trace_line.LineFault.{LineFault}
@@ -29,9 +31,9 @@ sized_small (Total kind value) small = rw (capped_small value small) refl
 sized_small End small = refl
 sized_small Skip small = refl
 
-large_line : (number : Option ℕ) → line_and_count number (Some None) ≡ Err NumberTooLarge
-large_line None = refl
-large_line (Some number) = refl
+large_line : (number : Number) → line_and_count number (Some TooLarge) ≡ Err NumberTooLarge
+large_line TooLarge = refl
+large_line (Value number) = refl
 
 -- the numbers are small, or the record is read as too large
 pub small_or_large : (says : LineData) → HasSmallNumbers says ⊎ ((¬ HasSmallNumbers says) × (sized says ≡ Err NumberTooLarge))
