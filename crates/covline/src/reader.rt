@@ -1,4 +1,5 @@
-//! Reading one line of a tracefile.
+//! Reading one line of a tracefile: its key, then the key's fields from left to right, each key by a function of
+//! its own. Nothing is copied, and each byte is looked at once behind the key.
 
 ghost use Rattle.std.specs.Prelude.{◌≡◌, ◌≤◌, ◌++◌, ℕ, Some, option_map, Err, MatchOption, MatchResult, IfOk, IfErr};
 ghost use Rattle.covline.specs.declared.trace_line.LineFault.{LineFault};
@@ -73,10 +74,7 @@ fn read_count(text: &[u8]) -> Option<Number>
     ensures { result ≡ count_of text.now }
 {
     match text {
-        [b'-', digits @ ..] => match read_whole(digits) {
-            Some(_) => Some(Number::Value(0)),
-            None => None,
-        },
+        [b'-', digits @ ..] => read_whole(digits).map(|_| Number::Value(0)),
         _ => read_whole(text),
     }
 }
