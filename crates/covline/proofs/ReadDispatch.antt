@@ -1,9 +1,9 @@
 -- One key after the other: what is given for a line with the key, and what is known of a line without it.
-use Rattle.std.proofs.Common.{◌≡◌, ℕ, ◌⊎◌, inl, inr, List, [], ◌∷◌, ◌++◌, Result, Ok, Err, refl, sym, ap, subst, ◌∙◌}
+use Rattle.std.proofs.Common.{◌≡◌, ℕ, inl, inr, List, [], ◌∷◌, ◌++◌, Result, Ok, sym, ap, subst, ◌∙◌}
 use Rattle.std.specs.Prelude.{codes}
 use Rattle.covline.specs.declared.trace_line.TraceLine.{TraceLine}
 use Rattle.covline.specs.declared.trace_line.LineFault.{LineFault}
-use Rattle.covline.specs.Spells.{LineData, Begins, BeginsWithOneOf, HasKey, Skip}
+use Rattle.covline.specs.Spells.{LineData, Begins, HasKey, Skip}
 use Rattle.covline.specs.Reading.{Gives, Fields, Lacks, line_keys, function_keys, branch_keys, read_of}
 use Rattle.covline.proofs.ReadLaws.{skip_of}
 

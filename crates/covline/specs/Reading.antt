@@ -1,6 +1,6 @@
 -- How a line is read: its key, and then the key's fields from left to right. The laws above it say that this is what
 -- the definitions of a spelled line and of its fault ask for.
-use Rattle.std.specs.Prelude.{ℕ, zero, suc, ◌+◌, ◌-◌, ◌*◌, ◌^◌, ◌≡◌, Bool, ◌&&◌, ◌==◌, nat_lt, nat_le, if◌then◌else◌, List, [], ◌∷◌, Option, Some, None, Result, Ok, Err, codes, option_map}
+use Rattle.std.specs.Prelude.{ℕ, ◌+◌, ◌-◌, ◌*◌, ◌^◌, ◌≡◌, Bool, ◌&&◌, ◌==◌, nat_lt, nat_le, if◌then◌else◌, List, [], ◌∷◌, Option, Some, None, Result, Ok, Err, codes, option_map}
 use Rattle.covline.specs.declared.reader.Number.{Number}
 use Rattle.covline.specs.declared.reader.Number.TheVariants.{Value, TooLarge}
 use Rattle.covline.specs.declared.trace_line.TraceLine.{TraceLine}
