@@ -3,8 +3,10 @@
 
 pub mod bytes;
 pub mod item;
+pub mod laws_of_lines;
 pub mod memory;
 pub mod names;
+pub mod reader;
 pub mod sect;
 pub mod submission;
 pub mod trace_line;
@@ -13,6 +15,10 @@ pub use bytes::Bytes;
 pub use item::{Item, Items};
 pub use memory::Memory;
 pub use names::good_test;
+pub use reader::read_line;
 pub use sect::{Sect, Sects};
 pub use submission::{BadSubmission, Submission};
 pub use trace_line::{LineFault, TotalKind, TraceLine, put_line};
+
+#[cfg(test)]
+mod tests;

@@ -1,0 +1,5 @@
+pub mod ReadKeys
+pub mod ReadNumbers
+pub mod ReadForms
+pub mod ReadLaws
+pub mod ReadDispatch
