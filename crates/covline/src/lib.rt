@@ -8,6 +8,7 @@ pub mod names;
 pub mod print;
 pub mod sect;
 pub mod submission;
+pub mod text_lines;
 pub mod trace_line;
 
 pub use bytes::Bytes;
@@ -17,4 +18,5 @@ pub use names::good_test;
 pub use print::put_line;
 pub use sect::{Sect, Sects};
 pub use submission::{BadSubmission, Submission};
+pub use text_lines::{TextLines, lines};
 pub use trace_line::{LineFault, TotalKind, TraceLine};

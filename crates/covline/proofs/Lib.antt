@@ -1,0 +1,2 @@
+pub mod GoodTexts
+pub mod Cut
