@@ -3,7 +3,7 @@ use Rattle.std.proofs.Common.{◌≡◌, ◌≢◌, ℕ, suc, ◌+◌, ◌-◌, 
 use Rattle.std.specs.Prelude.{All}
 use Rattle.std.specs.List.{concat, sum_by}
 use Rattle.std.proofs.lemmas.Bool.{ne_eqb, eq-eqb, eqb-true, eqb-false}
-use Rattle.std.proofs.lemmas.List.{drop_more, take-append-drop, get_or-take, length-take, length-map, length-append}
+use Rattle.std.proofs.lemmas.List.{drop_more, take-append-drop, get_or-take, same_from_push, length-take, length-map, length-append}
 use Rattle.std.proofs.lemmas.List.Elements.{All-nil, All-cons, All-head, All-tail, All-from_get_or, All-map}
 use Rattle.std.proofs.lemmas.List.Sums.{sum_by-cons}
 use Rattle.memchr.specs.Find.{NoneBefore, Nowhere, Passes, is_byte}
@@ -111,6 +111,16 @@ pub strip-return : (text : List ℕ) → strip (text ++ carriage_return ∷ []) 
 strip-return [] = refl
 strip-return (b ∷ bs) = ap (λ (t : List ℕ). before_stripped b t) (strip-return bs)
 
+pub strip_returns : (text front : List ℕ) (last : ℕ) → text ≡ front ++ last ∷ [] → last ≡ carriage_return → strip front ≡ strip text
+strip_returns text front last e same = rw (e, same) (sym (strip-return front))
+
+pub strip_other : (text front : List ℕ) (last : ℕ) → text ≡ front ++ last ∷ [] → last ≢ carriage_return → strip text ≡ text
+strip_other text front last e other = strip-none text (λ before at. other (same_from_push front before last carriage_return (sym e ∙ at)).1)
+
+pub strip_empty : (text : List ℕ) → length text ≡ 0 → strip text ≡ text
+strip_empty [] empty = refl
+strip_empty (b ∷ bs) empty = absurd (omega arith)
+
 NoReturn-nil : NoReturn []
 NoReturn-nil [] e = absurd cc
 NoReturn-nil (f ∷ front) e = absurd cc
@@ -210,3 +220,11 @@ lines_cut text i first here =
 pub lines_whole : (text : List ℕ) → 0 < length text → Nowhere (Passes (is_byte line_feed) text) 0 (length text) → lines_of text ≡ strip text ∷ []
 lines_whole [] some none = absurd (omega arith)
 lines_whole (b ∷ bs) some none = lines_last b bs (HasNoFeed-from (b ∷ bs) none)
+
+-- the first line, where the search found a line feed behind it and where it found none
+pub first_line_at : (text line rest : List ℕ) (i : ℕ) → NoneBefore (Passes (is_byte line_feed) text) 0 (length text) i × Passes (is_byte line_feed) text i → line ≡ strip (take i text) → rest ≡ drop (i + 1) text → lines_of text ≡ line ∷ lines_of rest
+first_line_at text line rest i found line-is rest-is = rw (line-is, rest-is) (lines_cut text i found.0 found.1)
+
+pub first_line_whole : (text line rest : List ℕ) → 0 < length text → Nowhere (Passes (is_byte line_feed) text) 0 (length text) → line ≡ strip text → length rest ≡ 0 → lines_of text ≡ line ∷ lines_of rest
+first_line_whole text line [] some none line-is empty = rw line-is (lines_whole text some none)
+first_line_whole text line (b ∷ bs) some none line-is empty = absurd (omega arith)

@@ -65,7 +65,10 @@ fn without_returns(text: &[u8]) -> &[u8]
     ensures { result.now ≡ strip text.now }
 {
     let mut line = text;
-    while let [front @ .., b'\r'] = line {
+    while let Some((last, front)) = line.split_last() {
+        if *last != b'\r' {
+            break;
+        }
         line = front;
     }
     line
