@@ -208,8 +208,8 @@ HasNoFeed-from text none =
 HasNoFeed-take : (text : List ℕ) (i : ℕ) → Nowhere (Passes (is_byte line_feed) text) 0 i → HasNoFeed (take i text)
 HasNoFeed-take text i none =
     All-from_get_or (λ b. b ≢ line_feed) (take i text) 0 (λ k lt e.
-        let below : k < i = omega (arith, length-take i text) in
-        none k (omega arith) below (eq-eqb (get_or text k 0) line_feed (sym (get_or-take i text k 0 below) ∙ e)))
+    let below : k < i = omega (arith, length-take i text) in
+    none k (omega arith) below (eq-eqb (get_or text k 0) line_feed (sym (get_or-take i text k 0 below) ∙ e)))
 
 pub lines_cut : (text : List ℕ) (i : ℕ) → NoneBefore (Passes (is_byte line_feed) text) 0 (length text) i → Passes (is_byte line_feed) text i → lines_of text ≡ strip (take i text) ∷ lines_of (drop (i + 1) text)
 lines_cut text i first here =

@@ -15,13 +15,13 @@ last_of_part (x ∷ front) b bs (w ∷ whole) c e =
     let rest : front ++ b ∷ bs ≡ whole ++ c ∷ [] = cc in
     last_of_part front b bs whole c rest
 
-pub All-behind : (P : ℕ → Type 0) (front rest : List ℕ) → All P (front ++ rest) → All P rest
-All-behind P front rest all = All-same P rest (drop (length front) (front ++ rest)) (sym (drop_at front rest (length front) refl)) (All-drop P (length front) (front ++ rest) all)
+pub All-part : {X : Type 0} (P : X → Type 0) (front rest : List X) → All P (front ++ rest) → All P rest
+All-part P front rest all = All-same P rest (drop (length front) (front ++ rest)) (sym (drop_at front rest (length front) refl)) (All-drop P (length front) (front ++ rest) all)
 
 -- what stands behind the front of a good text is a good text
 pub IsGoodTest-behind : (front rest : List ℕ) → IsGoodTest (front ++ rest) → IsGoodTest rest
 IsGoodTest-behind front rest good = record {
-  one_line = All-behind (λ b. b ≢ line_feed) front rest good.one_line;
+  one_line = All-part (λ b. b ≢ line_feed) front rest good.one_line;
   no_return = λ before e. good.no_return (front ++ before) (ap (λ (t : List ℕ). front ++ t) e ∙ sym (append_assoc front before (carriage_return ∷ [])));
 }
 
@@ -48,6 +48,6 @@ pub IsGoodTest-plain : (text : List ℕ) → All IsPlain text → IsGoodTest tex
 IsGoodTest-plain text plain = record {
   one_line = All-weaker IsPlain (λ b. b ≢ line_feed) ne_feed text plain;
   no_return = λ before e.
-      let last = All-head IsPlain carriage_return [] (All-behind IsPlain before (carriage_return ∷ []) (All-same IsPlain (before ++ carriage_return ∷ []) text (sym e) plain)) in
+      let last = All-head IsPlain carriage_return [] (All-part IsPlain before (carriage_return ∷ []) (All-same IsPlain (before ++ carriage_return ∷ []) text (sym e) plain)) in
       omega (arith, last);
 }

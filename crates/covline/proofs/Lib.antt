@@ -1,2 +1,4 @@
 pub mod GoodTexts
 pub mod Cut
+pub mod SectLaws
+pub mod PrintedLaws

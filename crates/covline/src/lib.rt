@@ -2,6 +2,7 @@
 #![tactic(auto)]
 
 pub mod bytes;
+mod checks;
 pub mod item;
 pub mod memory;
 pub mod names;
