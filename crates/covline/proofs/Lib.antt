@@ -2,3 +2,4 @@ pub mod GoodTexts
 pub mod Cut
 pub mod SectLaws
 pub mod PrintedLaws
+pub mod LineLaws

@@ -1,15 +1,15 @@
 -- A printed record reads back: its text is one line, and that line spells the record.
-use Rattle.std.proofs.Common.{◌≡◌, ℕ, ◌+◌, ◌-◌, ◌*◌, ◌/◌, ◌%◌, ◌^◌, ◌<◌, ◌≤◌, List, [], ◌∷◌, ◌++◌, length, refl, sym, ap, ◌∙◌, lit<, arith, inl}
-use Rattle.std.specs.Prelude.{All, codes, decimal, fold}
+use Rattle.std.proofs.Common.{◌≡◌, ℕ, ◌+◌, ◌-◌, ◌*◌, ◌/◌, ◌%◌, ◌^◌, ◌<◌, ◌≤◌, List, [], ◌∷◌, ◌++◌, refl, sym, ap, ◌∙◌, lit<, arith, inl}
+use Rattle.std.specs.Prelude.{All, codes, decimal}
 use Rattle.std.proofs.lemmas.Fmt.{decimal_by_steps}
 use Rattle.std.proofs.lemmas.List.{append-nil, length_push}
 use Rattle.std.proofs.lemmas.List.Elements.{All-nil, All-cons, All-append, All-push, All-weaker, All-from_recursion}
 use Rattle.std.proofs.lemmas.List.Sums.{fold_push}
-use Rattle.covline.specs.Lines.{line_feed, lines_of, strip}
+use Rattle.covline.specs.Lines.{line_feed, lines_of}
 use Rattle.covline.specs.Lawful.{IsGoodTest}
 use Rattle.covline.specs.declared.trace_line.TotalKind.{TotalKind}
 use Rattle.covline.specs.declared.trace_line.TotalKind.TheVariants.{LineFound, LineHit}
-use Rattle.covline.specs.Spells.{LineData, Test, Path, Line, Total, End, Skip, comma, key_of, IsDigit, IsNumeral, digits_value, Spells}
+use Rattle.covline.specs.Spells.{LineData, Test, Path, Line, Total, End, Skip, comma, key_of, IsDigit, IsNumeral, Spells}
 use Rattle.covline.specs.Printed.{line_text, printed, IsReadable}
 use Rattle.covline.proofs.GoodTexts.{IsPlain, IsGoodTest-append, IsGoodTest-plain}
 use Rattle.covline.proofs.Cut.{lines_at, strip-none}
@@ -50,7 +50,7 @@ plain_total LineFound = plain_key 76 70 (lit< tt) (lit< tt)
 plain_total LineHit = plain_key 76 72 (lit< tt) (lit< tt)
 
 plain_end : All IsPlain (codes "end_of_record")
-plain_end = All-from_recursion IsPlain (codes "end_of_record") ?
+plain_end = All-from_recursion IsPlain (codes "end_of_record") (lit< tt, (lit< tt, (lit< tt, (lit< tt, (lit< tt, (lit< tt, (lit< tt, (lit< tt, (lit< tt, (lit< tt, (lit< tt, (lit< tt, (lit< tt, tt)))))))))))))
 
 -- ---- lines
 

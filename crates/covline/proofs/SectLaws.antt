@@ -1,9 +1,9 @@
 -- Steps of a walk over sections, seen as plain data: how many items there are so far, and the first unlawful text.
-use Rattle.std.proofs.Common.{◌≡◌, ℕ, ◌+◌, ◌^◌, ◌<◌, ◌≤◌, List, [], ◌∷◌, ◌++◌, length, get_or, take, drop, map, sym, ap, subst, ◌∙◌, arith}
+use Rattle.std.proofs.Common.{◌≡◌, ℕ, ◌+◌, ◌^◌, ◌<◌, ◌≤◌, List, ◌∷◌, ◌++◌, length, get_or, take, drop, map, sym, ap, subst, ◌∙◌, arith}
 use Rattle.std.specs.Prelude.{All}
-use Rattle.std.specs.List.{sum_by, AllByRecursion}
+use Rattle.std.specs.List.{AllByRecursion}
 use Rattle.std.proofs.lemmas.List.{get_or-map, length-map, length-take, take-append-drop, drop_more, take_all}
-use Rattle.std.proofs.lemmas.List.Elements.{All-head, All-drop, All-more, All-same, recursion_from_All}
+use Rattle.std.proofs.lemmas.List.Elements.{All-head, All-more, All-same, recursion_from_All}
 use Rattle.std.proofs.lemmas.List.Sums.{sum_by_more, sum_by_more_le}
 use Rattle.covline.specs.declared.sect.Sect.{Sect}
 use Rattle.covline.specs.Row.{SectData, SubmissionData, items_in}

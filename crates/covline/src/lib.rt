@@ -4,6 +4,7 @@
 pub mod bytes;
 mod checks;
 pub mod item;
+pub mod laws;
 pub mod memory;
 pub mod names;
 pub mod print;

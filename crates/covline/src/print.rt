@@ -18,7 +18,7 @@ pub fn put_line<A: Allocator>(line: &TraceLine<'_>, text: &mut Bytes<A>) -> Resu
     ensures err { OnErr result (text.new ≡ text.old) }
     ensures spells { IsReadable (line_data line.now)
         → (lines_of (printed (line_data line.now)) ≡ line_text (line_data line.now) ∷ [])
-            × Spells (line_text (line_data line.now)) (line_data line.now) }
+        × Spells (line_text (line_data line.now)) (line_data line.now) }
 {
     let before = text.len();
     let put = append_line(line, text);
