@@ -22,3 +22,6 @@ pub use sect::{Sect, Sects};
 pub use submission::{BadSubmission, Submission};
 pub use text_lines::{TextLines, lines};
 pub use trace_line::{LineFault, TotalKind, TraceLine};
+
+#[cfg(test)]
+mod tests;
