@@ -1,3 +1,8 @@
+pub mod GoodTexts
+pub mod Cut
+pub mod SectLaws
+pub mod PrintedLaws
+pub mod LineLaws
 pub mod ReadKeys
 pub mod ReadNumbers
 pub mod ReadForms

@@ -4,4 +4,5 @@ pub mod Lines
 pub mod Lawful
 pub mod Spells
 pub mod Printed
+pub mod LineLaws
 pub mod Reading
