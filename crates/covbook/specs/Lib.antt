@@ -1,4 +1,5 @@
 pub mod Ascending
+pub mod Next
 pub mod Value
 pub mod Report
 pub mod Op

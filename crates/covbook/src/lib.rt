@@ -3,6 +3,7 @@
 
 pub mod book;
 pub mod entry;
+pub mod laws;
 pub mod op;
 pub mod shared;
 

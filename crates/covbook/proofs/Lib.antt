@@ -1,0 +1,4 @@
+pub mod Members
+pub mod Ascend
+pub mod Nearest
+pub mod Orders
