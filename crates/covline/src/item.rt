@@ -58,4 +58,3 @@ impl<A: Allocator> Items<A> {
         self.items.as_slice()
     }
 }
-

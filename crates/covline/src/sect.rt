@@ -62,4 +62,3 @@ impl<A: Allocator> Sects<A> {
         self.sects.as_slice()
     }
 }
-

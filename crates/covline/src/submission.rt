@@ -37,7 +37,6 @@ impl<A: Allocator> Model for Submission<A> {
     ghost invariant = { λ a. IsLawful (record { sects = a.sects; odd = a.odd }) × (a.items ≡ items_in a.sects) };
 }
 
-
 impl<A: Allocator> Submission<A> {
     ghost use Rattle.std.specs.Prelude.{◌≡◌, map};
     ghost use Rattle.covline.specs.Row.{items_in};
