@@ -7,3 +7,4 @@ pub mod Step
 pub mod View
 pub mod EntryView
 pub mod Held
+pub mod KeyView

@@ -5,6 +5,7 @@ pub mod book;
 pub mod entry;
 pub mod laws;
 pub mod op;
+mod sections;
 pub mod shared;
 
 pub use book::{Book, BookFault};
