@@ -76,7 +76,7 @@ pub length-items_at : (key : Key) (rows : List Row) → length (items_at key row
 length-items_at key rows =
     omega (arith, length-map (filter (has_key key) rows) (λ (row : Row). row.item), length-filter (has_key key) rows, count_by-le-length (has_key key) rows)
 
-pub items_fit : (key : Key) (held : List SubmissionData) → IsHeld held → length (items_in_table key (map rows_of held)) < 2 ^ 64
+pub items_fit : (key : Key) (held : List SubmissionData) → IsHeld held → length (items_in_table key (map rows_of held)) < 2 ^ 63
 items_fit key held h =
     let few : length held ≤ 1048576 = h.few in
     omega (arith, length-table held h.lawful, length-items_at key (all_rows (map rows_of held)))

@@ -5,3 +5,4 @@ pub mod Orders
 pub mod Rows
 pub mod Passes
 pub mod Bounds
+pub mod Texts

@@ -7,6 +7,7 @@ pub mod laws;
 pub mod op;
 mod sections;
 pub mod shared;
+mod trace_text;
 
 pub use book::{Book, BookFault};
 pub use entry::{Entries, Entry, Receipt};
