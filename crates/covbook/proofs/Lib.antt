@@ -6,3 +6,4 @@ pub mod Rows
 pub mod Passes
 pub mod Bounds
 pub mod Texts
+pub mod Runs
