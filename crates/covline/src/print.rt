@@ -1,9 +1,9 @@
 //! Printing one line of a tracefile.
 
 ghost use Rattle.std.specs.Prelude.{◌≡◌, ◌++◌, ◌∷◌, [], OnOk, OnErr, ℕ, List, length, codes, decimal};
-ghost use Rattle.covline.specs.Lines.{line_feed};
-ghost use Rattle.covline.specs.Spells.{line_data, comma, key_of};
-ghost use Rattle.covline.specs.Printed.{printed};
+ghost use Rattle.covline.specs.Lines.{line_feed, lines_of};
+ghost use Rattle.covline.specs.Spells.{line_data, comma, key_of, Spells};
+ghost use Rattle.covline.specs.Printed.{line_text, printed, IsReadable};
 
 use crate::bytes::Bytes;
 use crate::memory::Memory;
@@ -16,6 +16,9 @@ use std::alloc::Allocator;
 pub fn put_line<A: Allocator>(line: &TraceLine<'_>, text: &mut Bytes<A>) -> Result<(), Memory>
     ensures ok { OnOk result (text.new ≡ text.old ++ printed (line_data line.now)) }
     ensures err { OnErr result (text.new ≡ text.old) }
+    ensures spells { IsReadable (line_data line.now)
+        → (lines_of (printed (line_data line.now)) ≡ line_text (line_data line.now) ∷ [])
+        × Spells (line_text (line_data line.now)) (line_data line.now) }
 {
     let before = text.len();
     let put = append_line(line, text);
