@@ -13,3 +13,6 @@ pub use book::{Book, BookFault};
 pub use entry::{Entries, Entry, Receipt};
 pub use op::{Answer, Op};
 pub use shared::{SubRef, TextRef};
+
+#[cfg(test)]
+mod tests;
