@@ -7,50 +7,33 @@ const S1: &str = "TN:t\nSF:/a.c\nDA:1,2\nDA:2,0\nLF:2\nLH:1\nend_of_record\n";
 
 /// A submission of one section.
 #[derive(Clone, Copy)]
-struct Given {
-    test: &'static str,
-    file: &'static str,
-    counts: &'static [(u64, u64)],
+enum Given {
+    /// That of `S1`.
+    First,
+    /// Its lines in another order.
+    Backwards,
+    /// Another test of the same file.
+    Other,
+    /// Counts whose sum is past 64 bits.
+    Large,
+    /// A section without items.
+    Empty,
 }
 
-/// The submission of `S1`.
-const FIRST: Given = Given {
-    test: "t",
-    file: "/a.c",
-    counts: &[(1, 2), (2, 0)],
-};
+fn shared(alloc: Global, given: Given) -> Result<SubRef, Fail> {
+    match given {
+        Given::First => made(alloc, "t", &[(1, 2), (2, 0)]),
+        Given::Backwards => made(alloc, "t", &[(2, 0), (1, 2)]),
+        Given::Other => made(alloc, "u", &[(2, 3)]),
+        Given::Large => made(alloc, "", &[(1, u64::MAX), (1, u64::MAX)]),
+        Given::Empty => made(alloc, "t", &[]),
+    }
+}
 
-/// Another test of the same file.
-const OTHER: Given = Given {
-    test: "u",
-    file: "/a.c",
-    counts: &[(2, 3)],
-};
-
-/// Counts whose sum is past 64 bits.
-const LARGE: Given = Given {
-    test: "",
-    file: "/a.c",
-    counts: &[(1, u64::MAX), (1, u64::MAX)],
-};
-
-/// A section without items.
-const EMPTY: Given = Given {
-    test: "t",
-    file: "/a.c",
-    counts: &[],
-};
-
-/// Lines that stand in another order.
-const BACKWARDS: Given = Given {
-    test: "t",
-    file: "/a.c",
-    counts: &[(2, 0), (1, 2)],
-};
-
-fn shared(alloc: Global, given: &Given) -> Result<SubRef, Fail> {
+/// A submission of one section of `/a.c`, with three lines that don't fit.
+fn made(alloc: Global, test: &str, counts: &[(u64, u64)]) -> Result<SubRef, Fail> {
     let mut items = Items::new(alloc);
-    for (line, count) in given.counts {
+    for (line, count) in counts {
         items.push(Item::Line {
             line: *line,
             count: *count,
@@ -58,8 +41,8 @@ fn shared(alloc: Global, given: &Given) -> Result<SubRef, Fail> {
     }
     let mut sects = Sects::new(alloc);
     sects.push(Sect {
-        test: Bytes::of(alloc, given.test.as_bytes())?,
-        file: Bytes::of(alloc, given.file.as_bytes())?,
+        test: Bytes::of(alloc, test.as_bytes())?,
+        file: Bytes::of(alloc, b"/a.c")?,
         items,
     })?;
     match Submission::of(sects, 3) {
@@ -72,7 +55,7 @@ fn shared(alloc: Global, given: &Given) -> Result<SubRef, Fail> {
 fn report_of(alloc: Global, given: &[Given]) -> Result<Receipt, Fail> {
     let mut book = Book::new(alloc);
     for one in given {
-        book.step(alloc, 0, &Op::Submit(shared(alloc, one)?))?;
+        book.step(alloc, 0, &Op::Submit(shared(alloc, *one)?))?;
     }
     Ok(book.step(alloc, 0, &Op::Report)?)
 }
@@ -85,13 +68,13 @@ fn reports(rt: HostRuntime) -> Result<(), Fail> {
     let large = "TN:\nSF:/a.c\nDA:1,36893488147419103230\nLF:1\nLH:1\nend_of_record\n";
     let cases: [(&str, &[Given], &str); 8] = [
         ("no submission", &[], ""),
-        ("one submission", &[FIRST], S1),
-        ("lines in another order", &[BACKWARDS], S1),
-        ("the same submission twice", &[FIRST, FIRST], twice),
-        ("two tests of a file", &[FIRST, OTHER], both),
-        ("the later test first", &[OTHER, FIRST], both),
-        ("a sum past 64 bits", &[LARGE], large),
-        ("a section without items", &[EMPTY], ""),
+        ("one submission", &[Given::First], S1),
+        ("lines in another order", &[Given::Backwards], S1),
+        ("the same submission twice", &[Given::First, Given::First], twice),
+        ("two tests of a file", &[Given::First, Given::Other], both),
+        ("the later test first", &[Given::Other, Given::First], both),
+        ("a sum past 64 bits", &[Given::Large], large),
+        ("a section without items", &[Given::Empty], ""),
     ];
     for (name, given, wanted) in &cases {
         let receipt = report_of(rt.alloc(), given)?;
@@ -107,7 +90,7 @@ fn reports(rt: HostRuntime) -> Result<(), Fail> {
 #[test]
 fn a_history(rt: HostRuntime) -> Result<(), Fail> {
     let mut book = Book::new(rt.alloc());
-    let submission = shared(rt.alloc(), &FIRST)?;
+    let submission = shared(rt.alloc(), Given::First)?;
     assert_eq!(rt; submission.get().items(), 2);
     let submit = Op::Submit(submission.copy()?);
     book.step(rt.alloc(), 1, &submit.copy()?)?;

@@ -14,7 +14,7 @@ loop-sect-preserved g c =
     let last = option_map key_data c.args.last in
     let best = option_map key_data c.args.best in
     let before = option_map key_data c.loop-sect.nearest in
-    let size : eqb (length c.sect-item.result.items) 0 ≡ eqb (length c.get.result.now) 0 = ap (λ (items : List ItemData). eqb (length items) 0) (sym c.get.ensures) ∙ ap (λ (n : ℕ). eqb n 0) (length-map c.get.result.now item_data) in
+    let size : eqb (length c.sect-item.result.items) 0 ≡ eqb (length c.get.result.now) 0 = ap (λ (items : List ItemData). eqb (length items) 0) (sym c.get.ensures.items) ∙ ap (λ (n : ℕ). eqb n 0) (length-map c.get.result.now item_data) in
     elim c.if-not-is_empty.branch [
       | then-not-is_empty w ↦ ap (option_map key_data) w.nearest-is ∙ w.nearer_key-nearest.ensures
         ∙ ap (λ (file : List ℕ). nearer key_cmp last before (record { file = file; test = w.get-then-not-is_empty-2.result.now })) w.get-then-not-is_empty.ensures
