@@ -140,12 +140,12 @@ impl<A: Allocator + Copy> Book<A> {
     {
         let place = self.entries.get().len() as u64;
         let text = TextRef::of(alloc, trace_text(alloc, self.held.as_slice())?)?;
-        let entry = Entry {
+        let reported = Entry {
             job,
             op: Op::Report,
             answer: Answer::Text(text.copy()?),
         };
-        self.entries.push(entry)?;
+        self.entries.push(reported)?;
         Ok(Receipt {
             place,
             op: Op::Report,
