@@ -1,17 +1,16 @@
 -- An ascending list: each place is right, it has the members and no others, and there is one such list.
-use Rattle.std.proofs.Common.{◌≡◌, ℕ, suc, ◌+◌, ◌<◌, ◌≤◌, Bool, true, false, cond, List, [], ◌∷◌, ◌++◌, length, filter, Option, Some, None, refl, sym, ap, ◌∙◌, subst, inl, inr, ⊎_elim, arith}
-use Rattle.std.specs.Prelude.{◌⊎◌, ◌↔◌, Contains}
+use Rattle.std.proofs.Common.{◌≡◌, ◌+◌, ◌≤◌, List, [], ◌∷◌, length, refl, sym, ap, ◌∙◌, subst, inl, inr, arith}
+use Rattle.std.specs.Prelude.{◌⊎◌}
 use Rattle.std.specs.Cmp.{IsTotalOrder}
 use Rattle.std.specs.declared.cmp.Ordering.{Ordering}
 use Rattle.std.specs.declared.cmp.Ordering.TheVariants.{Less, Equal, Greater}
-use Rattle.std.specs.Ordering.{is_lt, match_ordering, ordering_reverse}
+use Rattle.std.specs.Ordering.{match_ordering, ordering_reverse}
 use Rattle.std.specs.List.{AllByRecursion}
 use Rattle.std.specs.List.Sorted.{IsStrictlySortedBy}
 use Rattle.std.proofs.lemmas.Cmp.{tied_itself}
 use Rattle.std.proofs.lemmas.Map.Lookups.{CmpEqualImpliesEq}
 use Rattle.covbook.specs.Ascending.{placed, ascending, IsAscendingOf}
-use Rattle.covbook.specs.Next.{is_after, IsNext, IsLeastAfter}
-use Rattle.covbook.proofs.Members.{In, In-from, Contains-from, All-in, All-from_in}
+use Rattle.covbook.proofs.Members.{In, In-from, Contains-from, All-in}
 
 -- an order that tells all things apart
 pub record IsExactOrder {X : Type 0} (cmp : X → X → Ordering) : Type 0 where
@@ -120,8 +119,8 @@ one_sorted t (x ∷ xs) [] s r f g = absurd (f x (inl refl))
 one_sorted {X} {cmp} t (x ∷ xs) (y ∷ ys) s r f g =
     let e : x ≡ y = same_head t x y xs ys s.0 r.0 (f x (inl refl)) (g y (inl refl)) in
     let others : xs ≡ ys = one_sorted t xs ys s.1 r.1
-        (λ z i. not_head t x z xs ys s.0 i (subst (λ (w : X). In z (w ∷ ys)) (sym e) (f z (inr i))))
-        (λ z i. not_head t y z ys xs r.0 i (subst (λ (w : X). In z (w ∷ xs)) e (g z (inr i)))) in
+    (λ z i. not_head t x z xs ys s.0 i (subst (λ (w : X). In z (w ∷ ys)) (sym e) (f z (inr i))))
+    (λ z i. not_head t y z ys xs r.0 i (subst (λ (w : X). In z (w ∷ xs)) e (g z (inr i)))) in
     cc
 
 pub one_ascending : {X : Type 0} {cmp : X → X → Ordering} → IsExactOrder cmp → (xs ys zs : List X) → IsAscendingOf cmp xs ys → IsAscendingOf cmp xs zs → ys ≡ zs

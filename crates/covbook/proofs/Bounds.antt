@@ -1,15 +1,15 @@
 -- How large a sum and how long a list of rows can get.
-use Rattle.std.proofs.Common.{◌≡◌, ℕ, suc, ◌+◌, ◌*◌, ◌^◌, ◌<◌, ◌≤◌, Bool, true, false, cond, eqb, List, [], ◌∷◌, ◌++◌, length, map, filter, refl, sym, ap, ◌∙◌, subst, ⊎_elim, arith}
+use Rattle.std.proofs.Common.{◌≡◌, ℕ, ◌+◌, ◌*◌, ◌^◌, ◌<◌, ◌≤◌, eqb, List, [], ◌∷◌, length, map, filter, refl, sym, ap, ◌∙◌, subst, ⊎_elim, arith}
 use Rattle.std.specs.List.{sum_by, flat_map, AllByRecursion}
-use Rattle.std.proofs.lemmas.Bool.{cases_Bool, cond-true, cond-false, cond_both}
+use Rattle.std.proofs.lemmas.Bool.{cases_Bool, cond-true, cond-false}
 use Rattle.std.proofs.lemmas.List.{length-append, length-map}
 use Rattle.std.proofs.lemmas.List.Sums.{sum_by-cons, length-filter, count_by-le-length}
 use Rattle.covline.specs.Row.{ItemData, LineItem, SectData, SubmissionData, Row, rows_of, rows_of_sect, items_in}
-use Rattle.covline.specs.Lawful.{IsLawful, AllFit64, Fits64, most_items}
+use Rattle.covline.specs.Lawful.{IsLawful, AllFit64}
 use Rattle.covbook.specs.Held.{IsHeld}
 use Rattle.covbook.specs.KeyView.{is_sect_of}
-use Rattle.covbook.specs.Step.{all_rows, most_entries}
-use Rattle.covbook.specs.Value.{Key, has_key, items_at, line_number, line_count, line_value}
+use Rattle.covbook.specs.Step.{all_rows}
+use Rattle.covbook.specs.Value.{Key, has_key, items_at, line_count, line_value}
 use Rattle.covbook.proofs.Rows.{items_in_sects, items_in_table, items_in_sects_join, items_in_table_join, items_of_one, items_of_member, line_value-append}
 
 one_value : (line : ℕ) (at count : ℕ) → line_value line (LineItem at count ∷ []) ≤ count
@@ -29,16 +29,16 @@ sect_value_le : (line : ℕ) (key : Key) (s : SectData) → AllFit64 s.items →
 sect_value_le line key s fit =
     ⊎_elim
     (λ e. let is : items_in_sects key (s ∷ []) ≡ s.items = items_of_one key s ∙ cond-true (is_sect_of key s) s.items [] e in
-      subst (λ (items : List ItemData). line_value line items ≤ length s.items * 2 ^ 64) (sym is) (value_le line s.items fit))
+    subst (λ (items : List ItemData). line_value line items ≤ length s.items * 2 ^ 64) (sym is) (value_le line s.items fit))
     (λ e. let is : items_in_sects key (s ∷ []) ≡ [] = items_of_one key s ∙ cond-false (is_sect_of key s) s.items [] e in
-      subst (λ (items : List ItemData). line_value line items ≤ length s.items * 2 ^ 64) (sym is) (omega arith))
+    subst (λ (items : List ItemData). line_value line items ≤ length s.items * 2 ^ 64) (sym is) (omega arith))
     (cases_Bool (is_sect_of key s))
 
 sects_value_le : (line : ℕ) (key : Key) (sects : List SectData) → AllByRecursion (λ s. AllFit64 s.items) sects → line_value line (items_in_sects key sects) ≤ items_in sects * 2 ^ 64
 sects_value_le line key [] fit = omega arith
 sects_value_le line key (s ∷ sects) fit =
     let joined : line_value line (items_in_sects key (s ∷ sects)) ≡ line_value line (items_in_sects key (s ∷ [])) + line_value line (items_in_sects key sects) =
-        ap (line_value line) (items_in_sects_join key (s ∷ []) sects) ∙ line_value-append line (items_in_sects key (s ∷ [])) (items_in_sects key sects) in
+    ap (line_value line) (items_in_sects_join key (s ∷ []) sects) ∙ line_value-append line (items_in_sects key (s ∷ [])) (items_in_sects key sects) in
     let size : items_in (s ∷ sects) ≡ length s.items + items_in sects = sum_by-cons (λ (t : SectData). length t.items) s sects in
     omega (arith, sect_value_le line key s fit.0, sects_value_le line key sects fit.1)
 
@@ -49,8 +49,8 @@ table_value_le line key (s ∷ held) lawful =
     let own : line_value line (items_at key (rows_of s)) ≤ items_in s.sects * 2 ^ 64 = sects_value_le line key s.sects lawful.0.fit in
     let few : items_in s.sects ≤ 67108864 = lawful.0.few in
     let joined : line_value line (items_in_table key (map rows_of (s ∷ held))) ≡ line_value line (items_at key (rows_of s)) + line_value line (items_in_table key (map rows_of held)) =
-        ap (line_value line) (items_in_table_join key (rows_of s ∷ []) (map rows_of held)) ∙ line_value-append line (items_in_table key (rows_of s ∷ [])) (items_in_table key (map rows_of held))
-        ∙ ap (λ (items : List ItemData). line_value line items + line_value line (items_in_table key (map rows_of held))) (items_of_member key (rows_of s)) in
+    ap (line_value line) (items_in_table_join key (rows_of s ∷ []) (map rows_of held)) ∙ line_value-append line (items_in_table key (rows_of s ∷ [])) (items_in_table key (map rows_of held))
+    ∙ ap (λ (items : List ItemData). line_value line items + line_value line (items_in_table key (map rows_of held))) (items_of_member key (rows_of s)) in
     omega (arith, table_value_le line key held lawful.1)
 
 pub value_fits : (line : ℕ) (key : Key) (held : List SubmissionData) → IsHeld held → line_value line (items_in_table key (map rows_of held)) < 2 ^ 128

@@ -1,6 +1,5 @@
 -- What comes next in an ascending list, and a pass that finds it.
-use Rattle.std.proofs.Common.{◌≡◌, ℕ, Bool, true, false, cond, ◌&&◌, List, [], ◌∷◌, ◌++◌, length, filter, fold, Option, Some, None, refl, sym, ap, ◌∙◌, subst, inl, inr, ⊎_elim, append_assoc, arith}
-use Rattle.std.specs.Prelude.{◌⊎◌, ◌↔◌, Contains}
+use Rattle.std.proofs.Common.{◌≡◌, Bool, true, false, ◌&&◌, List, [], ◌∷◌, ◌++◌, filter, Option, Some, None, refl, sym, ap, ◌∙◌, subst, inl, inr, ⊎_elim, append_assoc, arith}
 use Rattle.std.specs.Cmp.{IsTotalOrder}
 use Rattle.std.specs.declared.cmp.Ordering.{Ordering}
 use Rattle.std.specs.declared.cmp.Ordering.TheVariants.{Less, Equal, Greater}
@@ -11,8 +10,8 @@ use Rattle.std.proofs.lemmas.Bool.{false≢true, cases_Bool, and_parts, and_case
 use Rattle.std.proofs.lemmas.Cmp.{tied_itself}
 use Rattle.std.proofs.lemmas.List.Elements.{Contains-push, Contains-push_cases, Contains-append_left}
 use Rattle.std.proofs.lemmas.List.{append-nil}
-use Rattle.covbook.specs.Ascending.{ascending, IsAscendingOf}
-use Rattle.covbook.specs.Next.{is_after, is_before, nearer, nearest, IsNext, IsLeastAfter}
+use Rattle.covbook.specs.Ascending.{ascending}
+use Rattle.covbook.specs.Next.{is_after, is_before, nearer, nearest, IsNext}
 use Rattle.covbook.proofs.Members.{In, In-from, Contains-from, All-in}
 use Rattle.covbook.proofs.Ascend.{IsExactOrder, ascending_is}
 
@@ -67,20 +66,20 @@ unfolding IsStrictlySortedBy
 lead_is t last [] next s l = absurd l.present
 lead_is {X} {cmp} t last (y ∷ ys) next s l =
     let yes : is_after cmp last y ≡ true → rest_after cmp last (y ∷ ys) ≡ next ∷ rest_after cmp (Some next) (y ∷ ys) = λ e.
-        let is : y ≡ next = ⊎_elim (λ (p : y ≡ next). p) (λ (i : In next ys). absurd (false≢true (sym (l.least y (inl refl) e) ∙ lt_from_less (cmp y next) (All-in (λ z. cmp y z ≡ Less) ys next s.0 i)))) l.present in
-        let all : AllByRecursion (λ z. is_after cmp last z ≡ true) ys = All-mapped (λ z. cmp y z ≡ Less) (λ z. is_after cmp last z ≡ true) ys (λ z h. after_later t last y z e h) s.0 in
-        let behind : AllByRecursion (λ z. is_lt (cmp next z) ≡ true) ys = All-mapped (λ z. cmp y z ≡ Less) (λ z. is_lt (cmp next z) ≡ true) ys (λ z h. subst (λ (w : X). is_lt (cmp w z) ≡ true) is (lt_from_less (cmp y z) h)) s.0 in
-        let own : is_lt (cmp next y) ≡ false = subst (λ (w : X). is_lt (cmp next w) ≡ false) (sym is) (not_lt_itself t next) in
-        let left : rest_after cmp last (y ∷ ys) ≡ y ∷ ys = cond-true (is_after cmp last y) (y ∷ rest_after cmp last ys) (rest_after cmp last ys) e ∙ ap (λ (zs : List X). y ∷ zs) (filter_all (is_after cmp last) ys all) in
-        let right : rest_after cmp (Some next) (y ∷ ys) ≡ ys = cond-false (is_lt (cmp next y)) (y ∷ rest_after cmp (Some next) ys) (rest_after cmp (Some next) ys) own ∙ filter_all (λ z. is_lt (cmp next z)) ys behind in
-        left ∙ ap (λ (w : X). w ∷ ys) is ∙ ap (λ (zs : List X). next ∷ zs) (sym right) in
+    let is : y ≡ next = ⊎_elim (λ (p : y ≡ next). p) (λ (i : In next ys). absurd (false≢true (sym (l.least y (inl refl) e) ∙ lt_from_less (cmp y next) (All-in (λ z. cmp y z ≡ Less) ys next s.0 i)))) l.present in
+    let all : AllByRecursion (λ z. is_after cmp last z ≡ true) ys = All-mapped (λ z. cmp y z ≡ Less) (λ z. is_after cmp last z ≡ true) ys (λ z h. after_later t last y z e h) s.0 in
+    let behind : AllByRecursion (λ z. is_lt (cmp next z) ≡ true) ys = All-mapped (λ z. cmp y z ≡ Less) (λ z. is_lt (cmp next z) ≡ true) ys (λ z h. subst (λ (w : X). is_lt (cmp w z) ≡ true) is (lt_from_less (cmp y z) h)) s.0 in
+    let own : is_lt (cmp next y) ≡ false = subst (λ (w : X). is_lt (cmp next w) ≡ false) (sym is) (not_lt_itself t next) in
+    let left : rest_after cmp last (y ∷ ys) ≡ y ∷ ys = cond-true (is_after cmp last y) (y ∷ rest_after cmp last ys) (rest_after cmp last ys) e ∙ ap (λ (zs : List X). y ∷ zs) (filter_all (is_after cmp last) ys all) in
+    let right : rest_after cmp (Some next) (y ∷ ys) ≡ ys = cond-false (is_lt (cmp next y)) (y ∷ rest_after cmp (Some next) ys) (rest_after cmp (Some next) ys) own ∙ filter_all (λ z. is_lt (cmp next z)) ys behind in
+    left ∙ ap (λ (w : X). w ∷ ys) is ∙ ap (λ (zs : List X). next ∷ zs) (sym right) in
     let not_yet : is_after cmp last y ≡ false → rest_after cmp last (y ∷ ys) ≡ next ∷ rest_after cmp (Some next) (y ∷ ys) = λ e.
-        let there : In next ys = ⊎_elim (λ (p : y ≡ next). absurd (false≢true (sym e ∙ subst (λ (w : X). is_after cmp last w ≡ true) (sym p) l.after))) (λ (i : In next ys). i) l.present in
-        let own : is_lt (cmp next y) ≡ false = not_lt_back t y next (All-in (λ z. cmp y z ≡ Less) ys next s.0 there) in
-        let here : Leads cmp last ys next = record { present = there; after = l.after; least = λ x i h. l.least x (inr i) h } in
-        let left : rest_after cmp last (y ∷ ys) ≡ rest_after cmp last ys = cond-false (is_after cmp last y) (y ∷ rest_after cmp last ys) (rest_after cmp last ys) e in
-        let right : rest_after cmp (Some next) (y ∷ ys) ≡ rest_after cmp (Some next) ys = cond-false (is_lt (cmp next y)) (y ∷ rest_after cmp (Some next) ys) (rest_after cmp (Some next) ys) own in
-        left ∙ lead_is t last ys next s.1 here ∙ ap (λ (zs : List X). next ∷ zs) (sym right) in
+    let there : In next ys = ⊎_elim (λ (p : y ≡ next). absurd (false≢true (sym e ∙ subst (λ (w : X). is_after cmp last w ≡ true) (sym p) l.after))) (λ (i : In next ys). i) l.present in
+    let own : is_lt (cmp next y) ≡ false = not_lt_back t y next (All-in (λ z. cmp y z ≡ Less) ys next s.0 there) in
+    let here : Leads cmp last ys next = record { present = there; after = l.after; least = λ x i h. l.least x (inr i) h } in
+    let left : rest_after cmp last (y ∷ ys) ≡ rest_after cmp last ys = cond-false (is_after cmp last y) (y ∷ rest_after cmp last ys) (rest_after cmp last ys) e in
+    let right : rest_after cmp (Some next) (y ∷ ys) ≡ rest_after cmp (Some next) ys = cond-false (is_lt (cmp next y)) (y ∷ rest_after cmp (Some next) ys) (rest_after cmp (Some next) ys) own in
+    left ∙ lead_is t last ys next s.1 here ∙ ap (λ (zs : List X). next ∷ zs) (sym right) in
     ⊎_elim yes not_yet (cases_Bool (is_after cmp last y))
 
 -- one step along an ascending list
@@ -144,7 +143,7 @@ IsNext-push : {X : Type 0} {cmp : X → X → Ordering} → IsTotalOrder cmp →
 IsNext-push {X} {cmp} t last best done x h =
     ⊎_elim
     (λ e. let p = and_parts (is_after cmp last x) (is_before cmp x best) e in
-      subst (IsNext cmp last (done ++ x ∷ [])) (sym (cond-true (is_after cmp last x && is_before cmp x best) (Some x) best e)) (IsNext-take t last best done x h p.0 p.1))
+    subst (IsNext cmp last (done ++ x ∷ [])) (sym (cond-true (is_after cmp last x && is_before cmp x best) (Some x) best e)) (IsNext-take t last best done x h p.0 p.1))
     (λ e. subst (IsNext cmp last (done ++ x ∷ [])) (sym (cond-false (is_after cmp last x && is_before cmp x best) (Some x) best e)) (IsNext-stay cmp last best done x h e))
     (cases_Bool (is_after cmp last x && is_before cmp x best))
 

@@ -1,14 +1,14 @@
 -- One step of each pass over sections, and of each sum.
-use Rattle.std.proofs.Common.{◌≡◌, ℕ, ◌+◌, ◌<◌, ◌≤◌, Bool, true, false, cond, eqb, List, [], ◌∷◌, ◌++◌, length, get_or, take, drop, map, Option, Some, refl, sym, ap, ◌∙◌, subst, arith}
+use Rattle.std.proofs.Common.{◌≡◌, ℕ, ◌+◌, ◌<◌, ◌≤◌, true, false, cond, eqb, List, [], ◌∷◌, length, get_or, take, map, Option, sym, ap, ◌∙◌, arith}
 use Rattle.std.specs.Ordering.{nat_cmp}
 use Rattle.std.proofs.lemmas.Bool.{cond-true, cond-false}
 use Rattle.std.proofs.lemmas.List.{get_or_default}
 use Rattle.covline.specs.declared.item.Item.{Item}
-use Rattle.covline.specs.Row.{ItemData, item_data, SectData, SubmissionData, Row, rows_of, rows_of_sect}
+use Rattle.covline.specs.Row.{ItemData, item_data, SectData, SubmissionData, rows_of}
 use Rattle.covbook.specs.KeyView.{is_sect_of}
 use Rattle.covbook.specs.Next.{nearer, nearest}
-use Rattle.covbook.specs.Value.{Key, key_cmp, key_of_row, items_at, line_number, line_value}
-use Rattle.covbook.proofs.Rows.{Joins, nearest_more, keys_in_sects, items_in_sects, items_in_table, keys_in_sects_join, items_in_sects_join, items_in_table_join, items_join, lines_join, key_of_sect, keys_of_one, items_of_one, items_of_member, value_more, value_within}
+use Rattle.covbook.specs.Value.{Key, key_cmp, items_at, line_number, line_value}
+use Rattle.covbook.proofs.Rows.{nearest_more, keys_in_sects, items_in_sects, items_in_table, keys_in_sects_join, items_in_sects_join, items_in_table_join, items_join, lines_join, key_of_sect, keys_of_one, items_of_one, items_of_member, value_more, value_within}
 
 module _ {S : Type 0} (f : S → SectData) (ss : List S) (i : ℕ) (e : S) (lt : i < length ss) (is : e ≡ get_or ss i e) where
   key_more : (last best : Option Key) → nearest key_cmp last best (keys_in_sects (map f (take (i + 1) ss)))
@@ -77,9 +77,9 @@ pub table_within : (held : List SubmissionData) (i : ℕ) (e : SubmissionData) (
     → before ≡ line_value line (items_in_table key (map rows_of (take i held))) → before + line_value line (items_at key (rows_of e)) ≤ line_value line (items_in_table key (map rows_of held))
 table_within held i e key line before lt is so_far =
     let more : line_value line (items_in_table key (map rows_of (take (i + 1) held))) ≡ line_value line (items_in_table key (map rows_of (take i held))) + line_value line (items_at key (rows_of e)) =
-        value_more line (items_in_table key) (items_in_table_join key) rows_of held i e lt
-        ∙ ap (λ (s : SubmissionData). line_value line (items_in_table key (map rows_of (take i held))) + line_value line (items_in_table key (rows_of s ∷ []))) (sym is)
-        ∙ ap (λ (items : List ItemData). line_value line (items_in_table key (map rows_of (take i held))) + line_value line items) (items_of_member key (rows_of e)) in
+    value_more line (items_in_table key) (items_in_table_join key) rows_of held i e lt
+    ∙ ap (λ (s : SubmissionData). line_value line (items_in_table key (map rows_of (take i held))) + line_value line (items_in_table key (rows_of s ∷ []))) (sym is)
+    ∙ ap (λ (items : List ItemData). line_value line (items_in_table key (map rows_of (take i held))) + line_value line items) (items_of_member key (rows_of e)) in
     omega (arith, value_within line (items_in_table key) (items_in_table_join key) rows_of held (i + 1))
 
 -- the sum with this item is within the whole sum
@@ -87,8 +87,8 @@ pub item_within : (items : List Item) (i : ℕ) (e : Item) (line : ℕ) → i < 
     → line_value line (map item_data (take i items)) + line_value line (item_data e ∷ []) ≤ line_value line (map item_data items)
 item_within items i e line lt is =
     let more : line_value line (map item_data (take (i + 1) items)) ≡ line_value line (map item_data (take i items)) + line_value line (item_data e ∷ []) =
-        value_more line (λ (xs : List ItemData). xs) items_join item_data items i e lt
-        ∙ ap (λ (s : Item). line_value line (map item_data (take i items)) + line_value line (item_data s ∷ [])) (sym is) in
+    value_more line (λ (xs : List ItemData). xs) items_join item_data items i e lt
+    ∙ ap (λ (s : Item). line_value line (map item_data (take i items)) + line_value line (item_data s ∷ [])) (sym is) in
     omega (arith, value_within line (λ (xs : List ItemData). xs) items_join item_data items (i + 1))
 
 -- the same, of what a call answered

@@ -1,16 +1,14 @@
 -- Keys, lines and counts of rows: of lists joined, and of one section.
-use Rattle.std.proofs.Common.{◌≡◌, ℕ, ◌+◌, ◌*◌, ◌^◌, ◌<◌, ◌≤◌, Bool, true, false, cond, eqb, ◌&&◌, List, [], ◌∷◌, ◌++◌, length, get_or, take, drop, map, filter, Option, Some, refl, sym, ap, ◌∙◌, subst, ⊎_elim, arith}
-use Rattle.std.specs.Ordering.{nat_cmp}
+use Rattle.std.proofs.Common.{◌≡◌, ℕ, ◌+◌, ◌<◌, ◌≤◌, Bool, true, false, cond, eqb, ◌&&◌, List, [], ◌∷◌, ◌++◌, length, get_or, take, drop, map, filter, Option, Some, refl, sym, ap, ◌∙◌, ⊎_elim, arith}
 use Rattle.std.specs.declared.cmp.Ordering.{Ordering}
 use Rattle.std.specs.Str.{bytes_eq}
-use Rattle.std.specs.List.{flat_map, sum_by, AllByRecursion}
+use Rattle.std.specs.List.{flat_map, sum_by}
 use Rattle.std.proofs.lemmas.Bool.{cases_Bool, cond-true, cond-false, ne_eqb}
-use Rattle.std.proofs.lemmas.List.{map-append, map_more, append-nil, take-append-drop, length-append, length-map}
+use Rattle.std.proofs.lemmas.List.{map-append, map_more, append-nil, take-append-drop}
 use Rattle.std.proofs.lemmas.List.Concat.{flat_map-append}
 use Rattle.std.proofs.lemmas.List.Elements.{filter-append}
-use Rattle.std.proofs.lemmas.List.Sums.{fold-append, sum_by-append, sum_by-cons}
-use Rattle.covline.specs.Row.{ItemData, LineItem, SectData, SubmissionData, Row, rows_of, rows_of_sect, items_in}
-use Rattle.covline.specs.Lawful.{IsLawful, AllFit64, Fits64, most_items}
+use Rattle.std.proofs.lemmas.List.Sums.{fold-append, sum_by-append}
+use Rattle.covline.specs.Row.{ItemData, SectData, Row, rows_of_sect}
 use Rattle.covbook.specs.KeyView.{is_sect_of}
 use Rattle.covbook.specs.Next.{nearer, nearest, is_after, is_before}
 use Rattle.covbook.specs.Step.{all_rows}
@@ -72,9 +70,9 @@ nearer_again : {K : Type 0} (cmp : K → K → Ordering) (last best : Option K) 
 nearer_again {K} cmp last best k =
     ⊎_elim
     (λ e. let once : nearer cmp last best k ≡ Some k = cond-true (is_after cmp last k && is_before cmp k best) (Some k) best e in
-      ap (λ (b : Option K). nearer cmp last b k) once ∙ same_both (is_after cmp last k && is_before cmp k (Some k)) (Some k) ∙ sym once)
+    ap (λ (b : Option K). nearer cmp last b k) once ∙ same_both (is_after cmp last k && is_before cmp k (Some k)) (Some k) ∙ sym once)
     (λ e. let once : nearer cmp last best k ≡ best = cond-false (is_after cmp last k && is_before cmp k best) (Some k) best e in
-      ap (λ (b : Option K). nearer cmp last b k) once)
+    ap (λ (b : Option K). nearer cmp last b k) once)
     (cases_Bool (is_after cmp last k && is_before cmp k best))
 
 abbrev pub key_of_sect : SectData → Key
@@ -135,8 +133,8 @@ value_more {S} {D} line g joins f ss i d lt =
 pub value_within : {S D : Type 0} (line : ℕ) (g : List D → List ItemData) → Joins g → (f : S → D) (ss : List S) (i : ℕ) → line_value line (g (map f (take i ss))) ≤ line_value line (g (map f ss))
 value_within {S} {D} line g joins f ss i =
     let whole : line_value line (g (map f ss)) ≡ line_value line (g (map f (take i ss))) + line_value line (g (map f (drop i ss))) =
-        ap (λ (xs : List S). line_value line (g (map f xs))) (sym (take-append-drop i ss))
-        ∙ ap (λ (xs : List D). line_value line (g xs)) (map-append f (take i ss) (drop i ss))
-        ∙ ap (line_value line) (joins (map f (take i ss)) (map f (drop i ss)))
-        ∙ line_value-append line (g (map f (take i ss))) (g (map f (drop i ss))) in
+    ap (λ (xs : List S). line_value line (g (map f xs))) (sym (take-append-drop i ss))
+    ∙ ap (λ (xs : List D). line_value line (g xs)) (map-append f (take i ss) (drop i ss))
+    ∙ ap (line_value line) (joins (map f (take i ss)) (map f (drop i ss)))
+    ∙ line_value-append line (g (map f (take i ss))) (g (map f (drop i ss))) in
     omega arith

@@ -1,13 +1,13 @@
 -- A run with one operation more, and a history with one entry more.
-use Rattle.std.proofs.Common.{◌≡◌, ℕ, ◌+◌, ◌<◌, ◌≤◌, List, [], ◌∷◌, ◌++◌, length, map, refl, sym, ap, ◌∙◌, subst, arith}
+use Rattle.std.proofs.Common.{◌≡◌, ℕ, ◌+◌, ◌<◌, List, [], ◌∷◌, ◌++◌, length, map, refl, sym, ap, ◌∙◌, subst, arith}
 use Rattle.std.specs.List.{AllByRecursion}
-use Rattle.std.proofs.lemmas.List.{map-append, map_push, length-map, length_push}
-use Rattle.covline.specs.Row.{SubmissionData, Row, rows_of, items_in}
+use Rattle.std.proofs.lemmas.List.{map_push, length-map, length_push}
+use Rattle.covline.specs.Row.{SubmissionData, rows_of, items_in}
 use Rattle.covline.specs.Lawful.{IsLawful}
 use Rattle.covbook.specs.Held.{IsBook, IsHeld}
 use Rattle.covbook.specs.Op.{OpData, SubmitOp, ReportOp, AnswerData, AcceptedAnswer, TextAnswer, EntryData}
 use Rattle.covbook.specs.Report.{report_text}
-use Rattle.covbook.specs.Step.{Table, all_rows, answer_of, table_after, answers_from, table_from, answers_to, table_of, ops_in, answers_in, IsLegal, most_entries}
+use Rattle.covbook.specs.Step.{Table, all_rows, answer_of, table_after, answers_from, table_from, answers_to, table_of, ops_in, IsLegal, most_entries}
 
 pub answers_from-push : (table : Table) (ops : List OpData) (op : OpData) → answers_from table (ops ++ op ∷ []) ≡ answers_from table ops ++ answer_of (table_from table ops) op ∷ []
 answers_from-push table [] op = refl

@@ -1,9 +1,9 @@
 -- The printed text, one section and one line at a time.
-use Rattle.std.proofs.Common.{◌≡◌, ℕ, ◌+◌, ◌^◌, ◌<◌, ◌≤◌, Bool, true, false, cond, ltb, List, [], ◌∷◌, ◌++◌, length, map, count_by, Option, Some, None, refl, sym, ap, ◌∙◌, subst, append_assoc, arith}
+use Rattle.std.proofs.Common.{◌≡◌, ℕ, ◌+◌, ◌^◌, ◌<◌, ◌≤◌, Bool, cond, List, [], ◌∷◌, ◌++◌, length, map, count_by, Option, Some, None, sym, ap, ◌∙◌, append_assoc, arith}
 use Rattle.std.specs.Prelude.{nat_lt}
 use Rattle.std.specs.List.{flat_map}
 use Rattle.std.specs.Ordering.{nat_cmp}
-use Rattle.std.proofs.lemmas.Bool.{cond-true, cond-false, lt-ltb, le-ltb}
+use Rattle.std.proofs.lemmas.Bool.{lt-ltb, le-ltb}
 use Rattle.std.proofs.lemmas.List.{append-nil, length-map}
 use Rattle.std.proofs.lemmas.List.Concat.{flat_map-append}
 use Rattle.std.proofs.lemmas.List.Sums.{sum_by-cons, count_by-le-length}
@@ -97,13 +97,13 @@ counted_more items last before text new found hit line count now next value so_f
     let rest : lines_after last items ≡ line ∷ lines_after (Some line) items = next_is lines_order last (map line_number items) line next in
     let one : printed (Line line count) ≡ printed (record_of items line) = ap (λ (n : ℕ). printed (Line line n)) value in
     let counted : count_by (is_hit items) (line ∷ lines_after (Some line) items) ≡ cond (is_hit items line) 1 0 + count_by (is_hit items) (lines_after (Some line) items) =
-        sum_by-cons (λ (l : ℕ). cond (is_hit items l) 1 0) line (lines_after (Some line) items) in
+    sum_by-cons (λ (l : ℕ). cond (is_hit items l) 1 0) line (lines_after (Some line) items) in
     let same : hit_of count ≡ hit_of (line_value line items) = ap hit_of value in
     record {
       written = ap (λ (t : List ℕ). t ++ counts_after (Some line) items) (is ∙ ap (λ (t : List ℕ). text ++ t) one)
-        ∙ append_assoc text (printed (record_of items line)) (counts_after (Some line) items)
-        ∙ ap (λ (lines : List ℕ). text ++ flat_map printed (map (record_of items) lines)) (sym rest)
-        ∙ so_far.written;
+          ∙ append_assoc text (printed (record_of items line)) (counts_after (Some line) items)
+          ∙ ap (λ (lines : List ℕ). text ++ flat_map printed (map (record_of items) lines)) (sym rest)
+          ∙ so_far.written;
       lines = omega (arith, ap length rest, so_far.lines);
       hits = omega (arith, ap (count_by (is_hit items)) rest, counted, same, so_far.hits, one_more);
     }
@@ -142,7 +142,7 @@ section_is rows key t t1 t2 t3 t4 t5 t6 found hit e1 e2 e3 e4 f e5 h e6 =
     let lf : printed (Total LineFound found) ≡ printed (Total LineFound (lines_found items)) = ap (λ (n : ℕ). printed (Total LineFound n)) f in
     let lh : printed (Total LineHit hit) ≡ printed (Total LineHit (lines_hit items)) = ap (λ (n : ℕ). printed (Total LineHit n)) h in
     let whole : section_text rows key ≡ printed (Test key.test) ++ (printed (Path key.file) ++ (flat_map printed (line_records items) ++ flat_map printed tail)) =
-        ap (λ (x : List ℕ). printed (Test key.test) ++ (printed (Path key.file) ++ x)) (flat_map-append printed (line_records items) tail) in
+    ap (λ (x : List ℕ). printed (Test key.test) ++ (printed (Path key.file) ++ x)) (flat_map-append printed (line_records items) tail) in
     joined t t1 t2 t3 t4 t5 t6 (printed (Test key.test)) (printed (Path key.file)) (flat_map printed (line_records items)) (printed (Total LineFound (lines_found items))) (printed (Total LineHit (lines_hit items))) (printed End)
-        e1 e2 e3 (e4 ∙ ap (λ (x : List ℕ). t3 ++ x) lf) (e5 ∙ ap (λ (x : List ℕ). t4 ++ x) lh) e6
+    e1 e2 e3 (e4 ∙ ap (λ (x : List ℕ). t3 ++ x) lf) (e5 ∙ ap (λ (x : List ℕ). t4 ++ x) lh) e6
     ∙ ap (λ (x : List ℕ). t ++ x) (sym whole)

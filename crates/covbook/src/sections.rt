@@ -28,7 +28,10 @@ impl SectKey<'_> {
     fn comes_before(&self, other: &SectKey<'_>) -> bool
         ensures { result ≡ is_lt (key_cmp (key_data self.now) (key_data other.now)) }
     {
-        self.file.cmp(other.file).then(self.test.cmp(other.test)).is_lt()
+        self.file
+            .cmp(other.file)
+            .then(self.test.cmp(other.test))
+            .is_lt()
     }
 
     /// Whether the section is of this file and this test.
@@ -40,7 +43,10 @@ impl SectKey<'_> {
 }
 
 /// The least file and test behind the last one that have a row.
-pub(crate) fn next_key<'a, A: Allocator>(held: &'a [SubRef<A>], last: Option<SectKey<'a>>) -> Option<SectKey<'a>>
+pub(crate) fn next_key<'a, A: Allocator>(
+    held: &'a [SubRef<A>],
+    last: Option<SectKey<'a>>,
+) -> Option<SectKey<'a>>
     ensures { IsNext key_cmp (option_map key_data last.entry) (map key_of_row (all_rows (map rows_of held.now))) (option_map key_data result) }
 {
     let mut best = None;
@@ -51,7 +57,11 @@ pub(crate) fn next_key<'a, A: Allocator>(held: &'a [SubRef<A>], last: Option<Sec
 }
 
 /// The best key so far, after the sections with an item.
-fn nearest_key<'a, A: Allocator>(sects: &'a [Sect<A>], last: Option<SectKey<'a>>, best: Option<SectKey<'a>>) -> Option<SectKey<'a>>
+fn nearest_key<'a, A: Allocator>(
+    sects: &'a [Sect<A>],
+    last: Option<SectKey<'a>>,
+    best: Option<SectKey<'a>>,
+) -> Option<SectKey<'a>>
     ensures { option_map key_data result ≡ nearest key_cmp (option_map key_data last.entry) (option_map key_data best.entry) (map key_of_row (flat_map rows_of_sect (map sect_data sects.now))) }
 {
     let mut nearest = best;
@@ -68,7 +78,11 @@ fn nearest_key<'a, A: Allocator>(sects: &'a [Sect<A>], last: Option<SectKey<'a>>
 }
 
 /// The key, where it comes behind the last one and before the best so far; else the best so far.
-fn nearer_key<'a>(key: SectKey<'a>, last: Option<SectKey<'a>>, best: Option<SectKey<'a>>) -> Option<SectKey<'a>>
+fn nearer_key<'a>(
+    key: SectKey<'a>,
+    last: Option<SectKey<'a>>,
+    best: Option<SectKey<'a>>,
+) -> Option<SectKey<'a>>
     ensures { option_map key_data result ≡ nearer key_cmp (option_map key_data last.entry) (option_map key_data best.entry) (key_data key.entry) }
 {
     let is_behind = match last {
@@ -79,11 +93,19 @@ fn nearer_key<'a>(key: SectKey<'a>, last: Option<SectKey<'a>>, best: Option<Sect
         None => true,
         Some(found) => key.comes_before(&found),
     };
-    if is_behind && is_nearer { Some(key) } else { best }
+    if is_behind && is_nearer {
+        Some(key)
+    } else {
+        best
+    }
 }
 
 /// The least line behind the last one of which the rows of this file and test speak.
-pub(crate) fn next_line<A: Allocator>(held: &[SubRef<A>], key: SectKey<'_>, last: Option<u64>) -> Option<u64>
+pub(crate) fn next_line<A: Allocator>(
+    held: &[SubRef<A>],
+    key: SectKey<'_>,
+    last: Option<u64>,
+) -> Option<u64>
     ensures { IsNext nat_cmp last (map line_number (items_at (key_data key.entry) (all_rows (map rows_of held.now)))) result }
 {
     let mut best = None;
@@ -94,7 +116,12 @@ pub(crate) fn next_line<A: Allocator>(held: &[SubRef<A>], key: SectKey<'_>, last
 }
 
 /// The best line so far, after the sections of this file and test.
-fn nearest_line<A: Allocator>(sects: &[Sect<A>], key: SectKey<'_>, last: Option<u64>, best: Option<u64>) -> Option<u64>
+fn nearest_line<A: Allocator>(
+    sects: &[Sect<A>],
+    key: SectKey<'_>,
+    last: Option<u64>,
+    best: Option<u64>,
+) -> Option<u64>
     ensures { result ≡ nearest nat_cmp last best (map line_number (items_at (key_data key.entry) (flat_map rows_of_sect (map sect_data sects.now)))) }
 {
     let mut nearest = best;
@@ -130,7 +157,11 @@ fn nearer_line(line: u64, last: Option<u64>, best: Option<u64>) -> Option<u64>
         None => true,
         Some(found) => line < found,
     };
-    if is_behind && is_nearer { Some(line) } else { best }
+    if is_behind && is_nearer {
+        Some(line)
+    } else {
+        best
+    }
 }
 
 /// The execution count of a line: the sum over the rows of this file and test.

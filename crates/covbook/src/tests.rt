@@ -70,7 +70,11 @@ fn reports(rt: HostRuntime) -> Result<(), Fail> {
         ("no submission", &[], ""),
         ("one submission", &[Given::First], S1),
         ("lines in another order", &[Given::Backwards], S1),
-        ("the same submission twice", &[Given::First, Given::First], twice),
+        (
+            "the same submission twice",
+            &[Given::First, Given::First],
+            twice,
+        ),
         ("two tests of a file", &[Given::First, Given::Other], both),
         ("the later test first", &[Given::Other, Given::First], both),
         ("a sum past 64 bits", &[Given::Large], large),

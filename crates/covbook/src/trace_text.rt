@@ -37,7 +37,11 @@ pub(crate) fn trace_text<A: Allocator>(alloc: A, held: &[SubRef<A>]) -> Result<B
 }
 
 /// Appends a section. A refusal leaves what was appended before it came.
-fn put_section<A: Allocator>(held: &[SubRef<A>], key: SectKey<'_>, text: &mut Bytes<A>) -> Result<(), Memory>
+fn put_section<A: Allocator>(
+    held: &[SubRef<A>],
+    key: SectKey<'_>,
+    text: &mut Bytes<A>,
+) -> Result<(), Memory>
     requires { IsHeld held.now }
     ensures { OnOk result (text.new ≡ text.old ++ section_text (all_rows (map rows_of held.now)) (key_data key.entry)) }
 {
@@ -58,7 +62,11 @@ fn put_section<A: Allocator>(held: &[SubRef<A>], key: SectKey<'_>, text: &mut By
 }
 
 /// Appends the lines of a section, and counts them. A refusal leaves what was appended before it came.
-fn put_counts<A: Allocator>(held: &[SubRef<A>], key: SectKey<'_>, text: &mut Bytes<A>) -> Result<LineTotals, Memory>
+fn put_counts<A: Allocator>(
+    held: &[SubRef<A>],
+    key: SectKey<'_>,
+    text: &mut Bytes<A>,
+) -> Result<LineTotals, Memory>
     requires { IsHeld held.now }
     ensures text { OnOk result (text.new ≡ text.old ++ flat_map printed (line_records (items_at (key_data key.entry) (all_rows (map rows_of held.now))))) }
     ensures found { IfOk result (λ t. t.found ≡ lines_found (items_at (key_data key.entry) (all_rows (map rows_of held.now)))) }

@@ -1,5 +1,4 @@
-use Rattle.std.proofs.Common.{◌≡◌, ℕ, ◌+◌, ◌<◌, ◌≤◌, map, sym, ap, ◌∙◌, subst, List, arith}
-use Rattle.covline.specs.Row.{ItemData}
+use Rattle.std.proofs.Common.{ℕ, ◌+◌, sym, ap, ◌∙◌, arith}
 use Rattle.covline.specs.SectView.{sect_data}
 use Rattle.covbook.specs.KeyView.{key_data}
 use Rattle.covbook.specs.Value.{line_value}
@@ -25,7 +24,7 @@ loop-sect-preserved g c =
     let before = c.loop-sect.sum in
     elim c.if-is_of.branch [
       | then-is_of w ↦ w.sum-is ∙ ap (λ (n : ℕ). before + n) (w.count_in_items-sum.ensures ∙ ap (line_value c.args.line) w.get.ensures.items)
-        ∙ count_step sect_data c.args.sects.now c.loop-sect.sect-index c.sect-item.result c.loop-sect-test.true c.sect-item.is key c.args.line before c.loop-sect.invariant (sym w.if-is_of.ensures)
+          ∙ count_step sect_data c.args.sects.now c.loop-sect.sect-index c.sect-item.result c.loop-sect-test.true c.sect-item.is key c.args.line before c.loop-sect.invariant (sym w.if-is_of.ensures)
       | else-is_of w ↦ w.sum-is
-        ∙ count_stay sect_data c.args.sects.now c.loop-sect.sect-index c.sect-item.result c.loop-sect-test.true c.sect-item.is key c.args.line before c.loop-sect.invariant (sym w.if-is_of.ensures)
+          ∙ count_stay sect_data c.args.sects.now c.loop-sect.sect-index c.sect-item.result c.loop-sect-test.true c.sect-item.is key c.args.line before c.loop-sect.invariant (sym w.if-is_of.ensures)
     ]

@@ -1,4 +1,4 @@
-use Rattle.std.proofs.Common.{◌≡◌, ℕ, ◌+◌, ◌<◌, ◌≤◌, map, sym, ap, ◌∙◌, subst, List, arith}
+use Rattle.std.proofs.Common.{ap, ◌∙◌, List, arith}
 use Rattle.std.specs.List.{flat_map}
 use Rattle.covline.specs.Row.{SectData, SubmissionData, rows_of_sect}
 use Rattle.covbook.specs.KeyView.{key_data}

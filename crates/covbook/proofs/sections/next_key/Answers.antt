@@ -1,4 +1,4 @@
-use Rattle.std.proofs.Common.{◌≡◌, None, length, map, take, option_map, sym, ap, ◌∙◌, subst, Option, List, arith}
+use Rattle.std.proofs.Common.{◌≡◌, None, map, take, option_map, sym, ap, ◌∙◌, subst, Option, List, arith}
 use Rattle.std.proofs.lemmas.List.{take_all}
 use Rattle.covline.specs.Row.{SubmissionData, rows_of}
 use Rattle.covbook.specs.KeyView.{key_data}

@@ -1,4 +1,4 @@
-use Rattle.std.proofs.Common.{None, map, arith}
+use Rattle.std.proofs.Common.{map, arith}
 use Rattle.covline.specs.Row.{rows_of}
 use Rattle.covbook.specs.KeyView.{key_data}
 use Rattle.covbook.specs.Step.{all_rows}

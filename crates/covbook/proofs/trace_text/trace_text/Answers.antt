@@ -1,4 +1,4 @@
-use Rattle.std.proofs.Common.{Some, None, map, option_map, ap, ◌∙◌, ◌++◌, List, ℕ}
+use Rattle.std.proofs.Common.{None, map, option_map, ap, ◌∙◌, ◌++◌, List, ℕ}
 use Rattle.covline.specs.Row.{rows_of}
 use Rattle.covbook.specs.KeyView.{key_data}
 use Rattle.covbook.specs.Step.{all_rows}

@@ -1,4 +1,4 @@
-use Rattle.std.proofs.Common.{◌≡◌, ℕ, ◌+◌, length, ap, ◌∙◌, sym, subst, arith}
+use Rattle.std.proofs.Common.{◌≡◌, ◌+◌, length, ap, ◌∙◌, subst, arith}
 use Rattle.covline.specs.Row.{SubmissionData, items_in}
 use Rattle.covline.specs.Lawful.{IsLawful}
 use Rattle.covbook.specs.Op.{SubmitOp}
