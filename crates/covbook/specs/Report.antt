@@ -1,5 +1,5 @@
 -- The printed tracefile of rows (geninfo(1), FILES): a section for each file and test with a row.
-use Rattle.std.specs.Prelude.{ℕ, ◌<◌, List, [], ◌∷◌, ◌++◌, length, map, nat_lt, count_by}
+use Rattle.std.specs.Prelude.{ℕ, List, [], ◌∷◌, ◌++◌, length, map, nat_lt, count_by}
 use Rattle.std.specs.List.{flat_map}
 use Rattle.covline.specs.declared.trace_line.TotalKind.TheVariants.{LineFound, LineHit}
 use Rattle.covline.specs.Row.{ItemData, Row}

@@ -1,7 +1,7 @@
 -- One step of the plain table of counts, and whole runs of steps.
 use Rattle.std.specs.Prelude.{◌≡◌, ℕ, ◌+◌, List, [], ◌∷◌, ◌++◌, length, map}
 use Rattle.std.specs.List.{flat_map}
-use Rattle.covline.specs.Row.{SubmissionData, Row, rows_of, items_in}
+use Rattle.covline.specs.Row.{Row, rows_of, items_in}
 use Rattle.covbook.specs.Op.{OpData, SubmitOp, ReportOp, AnswerData, AcceptedAnswer, TextAnswer, EntryData}
 use Rattle.covbook.specs.Report.{report_text}
 
