@@ -1,0 +1,2 @@
+pub mod TraceGrammar
+pub mod TraceStands
