@@ -1,2 +1,3 @@
 pub mod TraceGrammar
 pub mod TraceStands
+pub mod TraceOutcome
