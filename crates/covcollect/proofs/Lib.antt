@@ -1,3 +1,4 @@
 pub mod TraceGrammar
 pub mod TraceStands
 pub mod TraceOutcome
+pub mod TraceDistinct
