@@ -2,3 +2,4 @@ pub mod TraceGrammar
 pub mod TraceStands
 pub mod TraceOutcome
 pub mod TraceDistinct
+pub mod TraceLaw
