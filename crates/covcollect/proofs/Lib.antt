@@ -3,3 +3,4 @@ pub mod TraceStands
 pub mod TraceOutcome
 pub mod TraceDistinct
 pub mod TraceLaw
+pub mod TraceRun

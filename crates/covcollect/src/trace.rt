@@ -1,6 +1,7 @@
 //! Reads a tracefile (geninfo(1) of LCOV 1.x, section FILES).
 
 pub mod fault;
+pub mod laws;
 pub mod misplaced;
 pub mod read;
 pub mod reader;
