@@ -4,3 +4,5 @@ pub mod TraceOutcome
 pub mod TraceDistinct
 pub mod TraceLaw
 pub mod TraceRun
+pub mod TraceLawful
+pub mod TraceLoop

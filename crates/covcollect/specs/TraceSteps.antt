@@ -1,8 +1,9 @@
 -- What the reader of a tracefile holds between two lines, and what a line makes of it. The contracts of its private
 -- steps speak of it; what a text is read as is said in Reads and Outcome.
 use Rattle.std.specs.Prelude.{◌≡◌, ℕ, ◌+◌, List, [], ◌∷◌, ◌++◌, Option, Some, None, Result, Ok, Err, option_map}
-use Rattle.covline.specs.Row.{ItemData, LineItem, SectData}
-use Rattle.covline.specs.Spells.{LineData, Test, Path, Line, Total, End, Skip}
+use Rattle.covline.specs.Row.{ItemData, LineItem, SectData, SubmissionData}
+use Rattle.covline.specs.Spells.{LineData, Test, Path, Line, Total, End, Skip, Spells, HasFault}
+use Rattle.covline.specs.Lawful.{IsLawful}
 use Rattle.covline.specs.declared.item.Item.{Item}
 use Rattle.covline.specs.declared.item.Item.TheVariants as items
 use Rattle.covcollect.specs.declared.trace.tally.Stated.{Stated}
@@ -10,6 +11,9 @@ use Rattle.covcollect.specs.declared.trace.reader.OpenSection.{OpenSection}
 use Rattle.covcollect.specs.declared.trace.reader.Reader.{Reader}
 use Rattle.covcollect.specs.declared.trace.misplaced.Misplaced.{Misplaced}
 use Rattle.covcollect.specs.declared.trace.misplaced.Misplaced.TheVariants as misplaced
+use Rattle.covcollect.specs.declared.trace.fault.ReadFault.{ReadFault}
+use Rattle.covcollect.specs.declared.trace.fault.ReadFault.TheVariants as faults
+use Rattle.covcollect.specs.Outcome.{Answers}
 use Rattle.covcollect.specs.TraceTally.{odd_among}
 
 -- an open section: its path, and what its lines said so far
@@ -76,3 +80,36 @@ Steps (Err misplaced.Memory) before after says = Unit {0}
 abbrev pub stated_in : Option SectionData → List Stated
 stated_in None = []
 stated_in (Some s) = s.stated
+
+-- what a reader takes of a line, or its fault; lines are counted from 1
+abbrev pub TakesLine : {T : Type 0} → Result T ReadFault → HeldData → HeldData → List ℕ → ℕ → Type 0
+TakesLine (Ok done) before after line at = (says : LineData) × Spells line says × (step before says ≡ Ok after)
+TakesLine (Err (faults.Line n fault)) before after line at = (n ≡ at) × HasFault line fault
+TakesLine (Err (faults.Outside n)) before after line at = (n ≡ at) × (says : LineData) × Spells line says × (step before says ≡ Err misplaced.Outside)
+TakesLine (Err (faults.Inside n)) before after line at = (n ≡ at) × (says : LineData) × Spells line says × (step before says ≡ Err misplaced.Inside)
+TakesLine (Err faults.Memory) before after line at = Unit {0}
+TakesLine (Err faults.OpenEnd) before after line at = ⊥
+TakesLine (Err faults.TooLong) before after line at = ⊥
+
+-- what is held behind the last line makes a submission, unless a section is open
+abbrev pub submission_held : HeldData → SubmissionData
+submission_held held = record { sects = held.sects; odd = held.odd }
+
+abbrev pub ends_at : Option SectionData → HeldData → Result SubmissionData ReadFault
+ends_at None held = Ok (submission_held held)
+ends_at (Some s) held = Err faults.OpenEnd
+
+abbrev pub ends : HeldData → Result SubmissionData ReadFault
+ends held = ends_at held.section held
+
+abbrev pub IsLawfulAt : Option SectionData → HeldData → Type 0
+IsLawfulAt None held = IsLawful (submission_held held)
+IsLawfulAt (Some s) held = Unit {0}
+
+abbrev pub EndsLawfully : HeldData → Type 0
+EndsLawfully held = IsLawfulAt held.section held
+
+-- what all lines of a text lead to
+abbrev pub ReadsTo : {A : Type 0} → List ℕ → Result (Reader A) ReadFault → Type 0
+ReadsTo text (Ok reader) = Answers text (ends (held_data reader)) × EndsLawfully (held_data reader)
+ReadsTo text (Err fault) = Answers text (Err fault)

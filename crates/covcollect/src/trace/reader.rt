@@ -3,11 +3,12 @@
 ghost use Rattle.std.specs.Prelude.{◌≡◌, ◌+◌, ◌<◌, ◌^◌, length};
 ghost use Rattle.covline.specs.Spells.{line_data, HasSmallNumbers, Test, Path, Line, Total, End};
 ghost use Rattle.covline.specs.Row.{item_data};
-ghost use Rattle.covcollect.specs.TraceSteps.{held_data, empty, item_line, stated_in, Steps};
+ghost use Rattle.covcollect.specs.TraceSteps.{held_data, empty, item_line, stated_in, Steps, ends, EndsLawfully};
 
+use crate::trace::fault::ReadFault;
 use crate::trace::misplaced::Misplaced;
 use crate::trace::tally::{Stated, odd_totals};
-use covline::{Bytes, Item, Items, Sect, Sects, TotalKind, TraceLine};
+use covline::{Bytes, Item, Items, Sect, Sects, Submission, TraceLine};
 use std::alloc::Allocator;
 
 /// A section whose end didn't come yet.
@@ -103,13 +104,11 @@ impl<'a, A: Allocator + Copy> Reader<'a, A> {
     fn state(&mut self, total: Stated) -> Result<(), Misplaced>
         ensures { Steps result (held_data self.old) (held_data self.new) (Total total.kind total.value) }
     {
-        match self.section.as_mut() {
-            None => Err(Misplaced::Outside),
-            Some(section) => {
-                section.stated.push(total)?;
-                Ok(())
-            }
+        if let Some(section) = &mut self.section {
+            section.stated.push(total)?;
+            return Ok(());
         }
+        Err(Misplaced::Outside)
     }
 
     fn end(&mut self, alloc: A) -> Result<(), Misplaced>
@@ -119,10 +118,36 @@ impl<'a, A: Allocator + Copy> Reader<'a, A> {
         let Some(section) = self.section.take() else {
             return Err(Misplaced::Outside);
         };
-        let OpenSection { file, items, stated } = section;
+        let OpenSection {
+            file,
+            mut items,
+            stated,
+        } = section;
         self.odd += odd_totals(alloc, items.get(), &stated)?;
+        items.shrink();
         let test = Bytes::of(alloc, self.test)?;
         self.sects.push(Sect { test, file, items })?;
         Ok(())
+    }
+
+    /// What was read, behind the last line. The room that the lists don't use is given back.
+    pub fn finish(self) -> Result<Submission<A>, ReadFault>
+        requires { EndsLawfully (held_data self) }
+        ensures { result ≡ ends (held_data self.entry) }
+    {
+        let Reader {
+            section,
+            mut sects,
+            odd,
+            ..
+        } = self;
+        if section.is_some() {
+            return Err(ReadFault::OpenEnd);
+        }
+        sects.shrink();
+        match Submission::of(sects, odd) {
+            Ok(submission) => Ok(submission),
+            Err(_) => unreachable!(),
+        }
     }
 }
