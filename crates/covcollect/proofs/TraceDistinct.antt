@@ -41,9 +41,9 @@ distinct_push (x ∷ xs) y =
     let others = distinct_push xs y in
     let flips = eqb_flips x y in
     ap (λ (b : Bool). cond b (distinct (xs ++ y ∷ [])) (distinct (xs ++ y ∷ []) + 1)) any
-      ∙ ap (λ (n : ℕ). cond (list_any (eqb x) xs || eqb x y) n (n + 1)) others
-      ∙ distinct_step (distinct xs) (list_any (eqb x) xs) (list_any (eqb y) xs) (eqb x y) same
-      ∙ ap (λ (b : Bool). cond (list_any (eqb x) xs) (distinct xs) (distinct xs + 1) + cond (b || list_any (eqb y) xs) 0 1) flips
+    ∙ ap (λ (n : ℕ). cond (list_any (eqb x) xs || eqb x y) n (n + 1)) others
+    ∙ distinct_step (distinct xs) (list_any (eqb x) xs) (list_any (eqb y) xs) (eqb x y) same
+    ∙ ap (λ (b : Bool). cond (list_any (eqb x) xs) (distinct xs) (distinct xs + 1) + cond (b || list_any (eqb y) xs) 0 1) flips
 
 -- ---- a set
 
@@ -70,10 +70,10 @@ pub collects_more : (old new : BTreeSet ℕ) (n : ℕ) (added : Bool) (seen : Li
     → btree_set_len new ≡ btree_set_len old + cond added 1 0 → Collects new (seen ++ n ∷ [])
 collects_more old new n added seen h was updates len = record {
   len =
-    let e : cond added 1 0 ≡ cond (list_any (eqb n) seen) 0 1 = ap one_if (was ∙ ap not (h.members n)) ∙ added_is (list_any (eqb n) seen) in
-    omega (arith, len, h.len, e, distinct_push seen n);
+      let e : cond added 1 0 ≡ cond (list_any (eqb n) seen) 0 1 = ap one_if (was ∙ ap not (h.members n)) ∙ added_is (list_any (eqb n) seen) in
+      omega (arith, len, h.len, e, distinct_push seen n);
   members = λ q.
-    updates.0 q ∙ ap (λ (b : Bool). cond b true (contains nat_cmp old q)) (at_is n q) ∙ ap (λ (b : Bool). cond (eqb q n) true b) (h.members q)
+      updates.0 q ∙ ap (λ (b : Bool). cond b true (contains nat_cmp old q)) (at_is n q) ∙ ap (λ (b : Bool). cond (eqb q n) true b) (h.members q)
       ∙ or_flips (eqb q n) (list_any (eqb q) seen) ∙ sym (list_any_push (eqb q) seen n);
 }
 
@@ -105,8 +105,8 @@ pub ascends_more : (seen : List ℕ) (last count line : ℕ) → Ascends seen la
 ascends_more seen last count line h (inl lt) = record {
   each = omega (arith, h.each, distinct_push seen line, ap none_if (h.below line lt));
   below = λ q more.
-    let ne : eqb q line ≡ false = ne_eqb q line (omega arith) in
-    list_any_push (eqb q) seen line ∙ ap (λ (b : Bool). b || eqb q line) (h.below q (omega (arith, lt, more))) ∙ ne;
+      let ne : eqb q line ≡ false = ne_eqb q line (omega arith) in
+      list_any_push (eqb q) seen line ∙ ap (λ (b : Bool). b || eqb q line) (h.below q (omega (arith, lt, more))) ∙ ne;
 }
 ascends_more seen last count line h (inr none) =
     let start : Ascends [] last count = subst (λ (x : List ℕ). Ascends x last count) none h in

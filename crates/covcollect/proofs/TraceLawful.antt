@@ -90,9 +90,10 @@ sects_fit test (Outside (Line line count) ∷ parts) h = sects_fit test parts h.
 sects_fit test (Outside (Total kind value) ∷ parts) h = sects_fit test parts h.1
 sects_fit test (Outside End ∷ parts) h = sects_fit test parts h.1
 sects_fit test (Outside Skip ∷ parts) h = sects_fit test parts h.1
-sects_fit test (Section path inside ∷ parts) h =
-    (items_fit inside (all_front GoodSays inside (End ∷ []) (all_front GoodSays (inside ++ End ∷ []) (flat_map records_of parts) h.1)),
-      sects_fit test parts (all_back GoodSays (inside ++ End ∷ []) (flat_map records_of parts) h.1))
+sects_fit test (Section path inside ∷ parts) h = (
+  items_fit inside (all_front GoodSays inside (End ∷ []) (all_front GoodSays (inside ++ End ∷ []) (flat_map records_of parts) h.1)),
+  sects_fit test parts (all_back GoodSays (inside ++ End ∷ []) (flat_map records_of parts) h.1),
+)
 
 -- ---- how many
 

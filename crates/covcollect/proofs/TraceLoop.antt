@@ -59,15 +59,21 @@ number_is n at lines e f = omega (arith, e, f)
 -- a fault of the next line is the first fault of the text
 pub reading_stop : (text rest line left : List ℕ) (before after : HeldData) (at : ℕ) (fault : ReadFault) → length text ≤ most_bytes → Reading text rest before at
     → lines_of rest ≡ line ∷ lines_of left → TakesLine {T = Unit {0}} (Err fault) before after line (at + 1) → Answers text (Err fault)
-reading_stop text rest line left before after at (faults.Line n f) short r e takes =
-    (short, subst (λ (k : ℕ). IsFirstFault (lines_of text) (faults.Line k f)) (number_is n at r.before takes.0 r.number)
-        (stop_by_fault line_law r.holds.place line r.before r.holds.parts (lines_of left) (lines_of text) r.holds.stands (place_is text rest line left before at r e) f takes.1))
-reading_stop text rest line left before after at (faults.Outside n) short r e takes =
-    (short, subst (λ (k : ℕ). IsFirstFault (lines_of text) (faults.Outside k)) (number_is n at r.before takes.0 r.number)
-        (holds_outside r.before line (lines_of left) (lines_of text) before takes.1 r.holds (place_is text rest line left before at r e) takes.2 takes.3))
-reading_stop text rest line left before after at (faults.Inside n) short r e takes =
-    (short, subst (λ (k : ℕ). IsFirstFault (lines_of text) (faults.Inside k)) (number_is n at r.before takes.0 r.number)
-        (holds_inside r.before line (lines_of left) (lines_of text) before takes.1 r.holds (place_is text rest line left before at r e) takes.2 takes.3))
+reading_stop text rest line left before after at (faults.Line n f) short r e takes = (
+  short,
+  subst (λ (k : ℕ). IsFirstFault (lines_of text) (faults.Line k f)) (number_is n at r.before takes.0 r.number)
+      (stop_by_fault line_law r.holds.place line r.before r.holds.parts (lines_of left) (lines_of text) r.holds.stands (place_is text rest line left before at r e) f takes.1),
+)
+reading_stop text rest line left before after at (faults.Outside n) short r e takes = (
+  short,
+  subst (λ (k : ℕ). IsFirstFault (lines_of text) (faults.Outside k)) (number_is n at r.before takes.0 r.number)
+      (holds_outside r.before line (lines_of left) (lines_of text) before takes.1 r.holds (place_is text rest line left before at r e) takes.2 takes.3),
+)
+reading_stop text rest line left before after at (faults.Inside n) short r e takes = (
+  short,
+  subst (λ (k : ℕ). IsFirstFault (lines_of text) (faults.Inside k)) (number_is n at r.before takes.0 r.number)
+      (holds_inside r.before line (lines_of left) (lines_of text) before takes.1 r.holds (place_is text rest line left before at r e) takes.2 takes.3),
+)
 reading_stop text rest line left before after at faults.Memory short r e takes = short
 reading_stop text rest line left before after at faults.OpenEnd short r e takes = absurd takes
 reading_stop text rest line left before after at faults.TooLong short r e takes = absurd takes

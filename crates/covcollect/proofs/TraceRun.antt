@@ -87,8 +87,8 @@ pub odd_same : (items : List ItemData) (inside : List LineData) → count_by (is
 odd_same items [] = refl
 odd_same items (Total kind value ∷ inside) =
     sum_by-cons (λ (x : LineData). cond (is_odd items x) 1 0) (Total kind value) inside
-      ∙ ap (λ (n : ℕ). cond (is_odd items (Total kind value)) 1 0 + n) (odd_same items inside)
-      ∙ sym (sum_by-cons (λ (x : Stated). cond (is_other items x) 1 0) (record { kind = kind; value = value }) (stated_of inside))
+    ∙ ap (λ (n : ℕ). cond (is_odd items (Total kind value)) 1 0 + n) (odd_same items inside)
+    ∙ sym (sum_by-cons (λ (x : Stated). cond (is_other items x) 1 0) (record { kind = kind; value = value }) (stated_of inside))
 odd_same items (Test name ∷ inside) = odd_same items inside
 odd_same items (Path path ∷ inside) = odd_same items inside
 odd_same items (Line line count ∷ inside) = odd_same items inside
@@ -98,8 +98,8 @@ odd_same items (Skip ∷ inside) = odd_same items inside
 same_held : (test test2 : List ℕ) (section section2 : Option SectionData) (sects sects2 : List SectData) (odd odd2 : ℕ)
     → test ≡ test2 → section ≡ section2 → sects ≡ sects2 → odd ≡ odd2
     → let x : HeldData = record { test = test; section = section; sects = sects; odd = odd } in
-      let y : HeldData = record { test = test2; section = section2; sects = sects2; odd = odd2 } in
-      x ≡ y
+    let y : HeldData = record { test = test2; section = section2; sects = sects2; odd = odd2 } in
+    x ≡ y
 same_held test test2 section section2 sects sects2 odd odd2 a b c d =
     let e1 = ap (λ (v : List ℕ). let h : HeldData = record { test = v; section = section; sects = sects; odd = odd } in h) a in
     let e2 = ap (λ (v : Option SectionData). let h : HeldData = record { test = test2; section = v; sects = sects; odd = odd } in h) b in
@@ -114,17 +114,17 @@ ok_is x y e = cc
 
 outside_held : (parts : List Part) (says : LineData) (test : List ℕ) → test ≡ test_after (test_after [] parts) (Outside says ∷ []) → sects_from (test_after [] parts) (Outside says ∷ []) ≡ []
     → let h : HeldData = record { test = test; section = None; sects = sects_from [] parts; odd = sum_by odd_in parts } in
-      h ≡ held_of (parts ++ Outside says ∷ []) Between
+    h ≡ held_of (parts ++ Outside says ∷ []) Between
 outside_held parts says test t none =
     same_held test (test_after [] (parts ++ Outside says ∷ [])) None None (sects_from [] parts) (sects_from [] (parts ++ Outside says ∷ [])) (sum_by odd_in parts) (sum_by odd_in (parts ++ Outside says ∷ []))
-      (t ∙ sym (test_push [] parts (Outside says))) refl
-      (sym (sects_push [] parts (Outside says) ∙ ap (λ (x : List SectData). sects_from [] parts ++ x) none ∙ append-nil (sects_from [] parts)))
-      (let k = sum_by_push odd_in parts (Outside says) in omega (arith, k))
+    (t ∙ sym (test_push [] parts (Outside says))) refl
+    (sym (sects_push [] parts (Outside says) ∙ ap (λ (x : List SectData). sects_from [] parts ++ x) none ∙ append-nil (sects_from [] parts)))
+    (let k = sum_by_push odd_in parts (Outside says) in omega (arith, k))
 
 inside_held : (parts : List Part) (path : List ℕ) (inside : List LineData) (says : LineData) (items : List ItemData) (stated : List Stated)
     → items ≡ items_of inside ++ items_said says → stated ≡ stated_of inside ++ totals_said says
     → let h : HeldData = record { test = test_after [] parts; section = Some (record { file = path; items = items; stated = stated }); sects = sects_from [] parts; odd = sum_by odd_in parts } in
-      h ≡ held_of parts (Within path (inside ++ says ∷ []))
+    h ≡ held_of parts (Within path (inside ++ says ∷ []))
 inside_held parts path inside says items stated i s =
     let items_are : items ≡ items_of (inside ++ says ∷ []) = i ∙ sym (flat_map-append items_said inside (says ∷ []) ∙ ap (λ (x : List ItemData). items_of inside ++ x) (append-nil (items_said says))) in
     let stated_are : stated ≡ stated_of (inside ++ says ∷ []) = s ∙ sym (flat_map-append totals_said inside (says ∷ []) ∙ ap (λ (x : List Stated). stated_of inside ++ x) (append-nil (totals_said says))) in
@@ -134,13 +134,13 @@ inside_held parts path inside says items stated i s =
 
 end_held : (parts : List Part) (path : List ℕ) (inside : List LineData)
     → let h : HeldData = record { test = test_after [] parts; section = None; sects = sects_from [] parts ++ record { test = test_after [] parts; file = path; items = items_of inside } ∷ []; odd = sum_by odd_in parts + odd_among (items_of inside) (stated_of inside) } in
-      h ≡ held_of (parts ++ Section path inside ∷ []) Between
+    h ≡ held_of (parts ++ Section path inside ∷ []) Between
 end_held parts path inside =
     same_held (test_after [] parts) (test_after [] (parts ++ Section path inside ∷ [])) None None
-      (sects_from [] parts ++ record { test = test_after [] parts; file = path; items = items_of inside } ∷ []) (sects_from [] (parts ++ Section path inside ∷ []))
-      (sum_by odd_in parts + odd_among (items_of inside) (stated_of inside)) (sum_by odd_in (parts ++ Section path inside ∷ []))
-      (sym (test_push [] parts (Section path inside))) refl (sym (sects_push [] parts (Section path inside)))
-      (let k = sum_by_push odd_in parts (Section path inside) in let e = odd_same (items_of inside) inside in omega (arith, k, e))
+    (sects_from [] parts ++ record { test = test_after [] parts; file = path; items = items_of inside } ∷ []) (sects_from [] (parts ++ Section path inside ∷ []))
+    (sum_by odd_in parts + odd_among (items_of inside) (stated_of inside)) (sum_by odd_in (parts ++ Section path inside ∷ []))
+    (sym (test_push [] parts (Section path inside))) refl (sym (sects_push [] parts (Section path inside)))
+    (let k = sum_by_push odd_in parts (Section path inside) in let e = odd_same (items_of inside) inside in omega (arith, k, e))
 
 step_on : (lines : List (List ℕ)) (line : List ℕ) (parts : List Part) (place : Place) (says : LineData) (held : HeldData)
     → Stands lines parts place → Spells line says → step (held_of parts place) says ≡ Ok held → Holds (lines ++ line ∷ []) held
@@ -156,14 +156,26 @@ step_on lines line parts Between End held s spells e = absurd cc
 step_on lines line parts (Within path inside) (Test name) held s spells e = absurd cc
 step_on lines line parts (Within path inside) (Path other) held s spells e = absurd cc
 step_on lines line parts (Within path inside) (Line number count) held s spells e =
-    record { parts = parts; place = Within path (inside ++ Line number count ∷ []); stands = stands_inside lines parts line path inside (Line number count) s tt spells;
-      is = sym (ok_is _ held e) ∙ inside_held parts path inside (Line number count) (items_of inside ++ LineItem number count ∷ []) (stated_of inside) refl (sym (append-nil (stated_of inside))) }
+    record {
+      parts = parts;
+      place = Within path (inside ++ Line number count ∷ []);
+      stands = stands_inside lines parts line path inside (Line number count) s tt spells;
+      is = sym (ok_is _ held e) ∙ inside_held parts path inside (Line number count) (items_of inside ++ LineItem number count ∷ []) (stated_of inside) refl (sym (append-nil (stated_of inside)));
+    }
 step_on lines line parts (Within path inside) (Total kind value) held s spells e =
-    record { parts = parts; place = Within path (inside ++ Total kind value ∷ []); stands = stands_inside lines parts line path inside (Total kind value) s tt spells;
-      is = sym (ok_is _ held e) ∙ inside_held parts path inside (Total kind value) (items_of inside) (stated_of inside ++ record { kind = kind; value = value } ∷ []) (sym (append-nil (items_of inside))) refl }
+    record {
+      parts = parts;
+      place = Within path (inside ++ Total kind value ∷ []);
+      stands = stands_inside lines parts line path inside (Total kind value) s tt spells;
+      is = sym (ok_is _ held e) ∙ inside_held parts path inside (Total kind value) (items_of inside) (stated_of inside ++ record { kind = kind; value = value } ∷ []) (sym (append-nil (items_of inside))) refl;
+    }
 step_on lines line parts (Within path inside) Skip held s spells e =
-    record { parts = parts; place = Within path (inside ++ Skip ∷ []); stands = stands_inside lines parts line path inside Skip s tt spells;
-      is = sym (ok_is _ held e) ∙ inside_held parts path inside Skip (items_of inside) (stated_of inside) (sym (append-nil (items_of inside))) (sym (append-nil (stated_of inside))) }
+    record {
+      parts = parts;
+      place = Within path (inside ++ Skip ∷ []);
+      stands = stands_inside lines parts line path inside Skip s tt spells;
+      is = sym (ok_is _ held e) ∙ inside_held parts path inside Skip (items_of inside) (stated_of inside) (sym (append-nil (items_of inside))) (sym (append-nil (stated_of inside)));
+    }
 step_on lines line parts (Within path inside) End held s spells e =
     record { parts = parts ++ Section path inside ∷ []; place = Between; stands = stands_end lines parts line path inside s spells; is = sym (ok_is _ held e) ∙ end_held parts path inside }
 

@@ -81,9 +81,9 @@ stands_outside lines parts line says s out spells = record {
   lawful = all_push IsLawfulPart parts (Outside says) s.lawful out;
   inside = tt;
   spelled =
-    let e : flat_map records_of (parts ++ Outside says ∷ []) ++ [] ≡ (flat_map records_of parts ++ []) ++ says ∷ [] =
+      let e : flat_map records_of (parts ++ Outside says ∷ []) ++ [] ≡ (flat_map records_of parts ++ []) ++ says ∷ [] =
       append-nil (flat_map records_of (parts ++ Outside says ∷ [])) ∙ flat_push parts (Outside says) ∙ ap (λ (x : List LineData). x ++ says ∷ []) (sym (append-nil (flat_map records_of parts))) in
-    subst (λ (x : List LineData). AllSpell (lines ++ line ∷ []) x) (sym e) (AllSpell-append lines (line ∷ []) (flat_map records_of parts ++ []) (says ∷ []) s.spelled (spells, tt));
+      subst (λ (x : List LineData). AllSpell (lines ++ line ∷ []) x) (sym e) (AllSpell-append lines (line ∷ []) (flat_map records_of parts ++ []) (says ∷ []) s.spelled (spells, tt));
 }
 
 pub stands_path : (lines : List (List ℕ)) (parts : List Part) (line path : List ℕ) → Stands lines parts Between → Spells line (Path path)
@@ -92,9 +92,9 @@ stands_path lines parts line path s spells = record {
   lawful = s.lawful;
   inside = tt;
   spelled =
-    let e : (flat_map records_of parts ++ []) ++ Path path ∷ [] ≡ flat_map records_of parts ++ Path path ∷ [] =
+      let e : (flat_map records_of parts ++ []) ++ Path path ∷ [] ≡ flat_map records_of parts ++ Path path ∷ [] =
       ap (λ (x : List LineData). x ++ Path path ∷ []) (append-nil (flat_map records_of parts)) in
-    subst (λ (x : List LineData). AllSpell (lines ++ line ∷ []) x) e (AllSpell-append lines (line ∷ []) (flat_map records_of parts ++ []) (Path path ∷ []) s.spelled (spells, tt));
+      subst (λ (x : List LineData). AllSpell (lines ++ line ∷ []) x) e (AllSpell-append lines (line ∷ []) (flat_map records_of parts ++ []) (Path path ∷ []) s.spelled (spells, tt));
 }
 
 pub stands_inside : (lines : List (List ℕ)) (parts : List Part) (line path : List ℕ) (inside : List LineData) (says : LineData)
@@ -103,7 +103,7 @@ stands_inside lines parts line path inside says s within spells = record {
   lawful = s.lawful;
   inside = all_push IsInside inside says s.inside within;
   spelled =
-    subst (λ (x : List LineData). AllSpell (lines ++ line ∷ []) x) (append_assoc (flat_map records_of parts) (Path path ∷ inside) (says ∷ []))
+      subst (λ (x : List LineData). AllSpell (lines ++ line ∷ []) x) (append_assoc (flat_map records_of parts) (Path path ∷ inside) (says ∷ []))
       (AllSpell-append lines (line ∷ []) (flat_map records_of parts ++ Path path ∷ inside) (says ∷ []) s.spelled (spells, tt));
 }
 
@@ -113,9 +113,9 @@ stands_end lines parts line path inside s spells = record {
   lawful = all_push IsLawfulPart parts (Section path inside) s.lawful s.inside;
   inside = tt;
   spelled =
-    let e : flat_map records_of (parts ++ Section path inside ∷ []) ++ [] ≡ (flat_map records_of parts ++ Path path ∷ inside) ++ End ∷ [] =
+      let e : flat_map records_of (parts ++ Section path inside ∷ []) ++ [] ≡ (flat_map records_of parts ++ Path path ∷ inside) ++ End ∷ [] =
       append-nil (flat_map records_of (parts ++ Section path inside ∷ [])) ∙ flat_push parts (Section path inside) ∙ sym (append_assoc (flat_map records_of parts) (Path path ∷ inside) (End ∷ [])) in
-    subst (λ (x : List LineData). AllSpell (lines ++ line ∷ []) x) (sym e) (AllSpell-append lines (line ∷ []) (flat_map records_of parts ++ Path path ∷ inside) (End ∷ []) s.spelled (spells, tt));
+      subst (λ (x : List LineData). AllSpell (lines ++ line ∷ []) x) (sym e) (AllSpell-append lines (line ∷ []) (flat_map records_of parts ++ Path path ∷ inside) (End ∷ []) s.spelled (spells, tt));
 }
 
 -- ---- what that says of the text
@@ -152,7 +152,7 @@ stands_then law lines parts place more s text =
     let k = AllSpell-split lines more (flat_map records_of reads.parts) reads.spelled in
     let same : k.0 ≡ flat_map records_of parts ++ begun place = AllSpell-one law lines k.0 (flat_map records_of parts ++ begun place) k.3 s.spelled in
     let whole : flat_map records_of reads.parts ≡ flat_map records_of parts ++ (begun place ++ k.1) =
-      k.2 ∙ ap (λ (x : List LineData). x ++ k.1) same ∙ append_assoc (flat_map records_of parts) (begun place) k.1 in
+    k.2 ∙ ap (λ (x : List LineData). x ++ k.1) same ∙ append_assoc (flat_map records_of parts) (begun place) k.1 in
     let all : Accepts Between (flat_map records_of parts ++ (begun place ++ k.1)) = subst (λ (x : List LineData). Accepts Between x) whole (accepts_parts reads.parts reads.lawful) in
     (k.1, k.4, accepts_place place k.1 s.inside (accepts_after_parts parts (begun place ++ k.1) s.lawful all))
 
@@ -206,16 +206,26 @@ in_section Skip path inside more n a = n
 -- a line that needs a section, where none is open
 pub stop_outside : LineLaw → (lines : List (List ℕ)) (parts : List Part) (line : List ℕ) (after all : List (List ℕ)) (says : LineData)
     → Stands lines parts Between → all ≡ lines ++ line ∷ after → Spells line says → NeedsSection says → IsFirstFault all (faults.Outside (length lines + 1))
-stop_outside law lines parts line after all says s e spells needs =
-    (line, says, first_faulty law lines parts Between line after all s
-        (λ t more spells_t a. no_section t more (subst (λ (x : LineData). NeedsSection x) (law.meaning line says t spells spells_t) needs) a) e, spells, needs)
+stop_outside law lines parts line after all says s e spells needs = (
+  line,
+  says,
+  first_faulty law lines parts Between line after all s
+      (λ t more spells_t a. no_section t more (subst (λ (x : LineData). NeedsSection x) (law.meaning line says t spells spells_t) needs) a) e,
+  spells,
+  needs,
+)
 
 -- a line that stands outside of sections alone, in an open one
 pub stop_inside : LineLaw → (lines : List (List ℕ)) (parts : List Part) (path : List ℕ) (inside : List LineData) (line : List ℕ) (after all : List (List ℕ)) (says : LineData)
     → Stands lines parts (Within path inside) → all ≡ lines ++ line ∷ after → Spells line says → NeedsOutside says → IsFirstFault all (faults.Inside (length lines + 1))
-stop_inside law lines parts path inside line after all says s e spells needs =
-    (line, says, first_faulty law lines parts (Within path inside) line after all s
-        (λ t more spells_t a. in_section t path inside more (subst (λ (x : LineData). NeedsOutside x) (law.meaning line says t spells spells_t) needs) a) e, spells, needs)
+stop_inside law lines parts path inside line after all says s e spells needs = (
+  line,
+  says,
+  first_faulty law lines parts (Within path inside) line after all s
+      (λ t more spells_t a. in_section t path inside more (subst (λ (x : LineData). NeedsOutside x) (law.meaning line says t spells spells_t) needs) a) e,
+  spells,
+  needs,
+)
 
 nothing_left : (rest : List LineData) (path : List ℕ) (inside : List LineData) → AllSpell [] rest → Accepts (Within path inside) rest → ⊥
 nothing_left [] path inside h a = a
@@ -224,7 +234,8 @@ nothing_left (says ∷ rest) path inside h a = h
 -- a section that is open at the end
 pub stop_open : LineLaw → (lines : List (List ℕ)) (parts : List Part) (path : List ℕ) (inside : List LineData)
     → Stands lines parts (Within path inside) → IsFirstFault lines faults.OpenEnd
-stop_open law lines parts path inside s =
-    (stands_goes_on lines parts (Within path inside) s,
-      λ text. let k = stands_then law lines parts (Within path inside) [] s (subst (λ (x : List (List ℕ)). IsLawfulText x) (sym (append-nil lines)) text) in
-        nothing_left k.0 path inside k.1 k.2)
+stop_open law lines parts path inside s = (
+  stands_goes_on lines parts (Within path inside) s,
+  λ text. let k = stands_then law lines parts (Within path inside) [] s (subst (λ (x : List (List ℕ)). IsLawfulText x) (sym (append-nil lines)) text) in
+      nothing_left k.0 path inside k.1 k.2,
+)

@@ -9,3 +9,6 @@ pub mod tally;
 
 pub use fault::ReadFault;
 pub use read::read_trace;
+
+#[cfg(test)]
+mod tests;

@@ -43,7 +43,12 @@ fn read_lines<'a, A: Allocator + Copy>(alloc: A, text: &'a [u8]) -> Result<Reade
 }
 
 /// Takes the line with this number.
-fn take_line<'a, A: Allocator + Copy>(reader: &mut Reader<'a, A>, alloc: A, at: u64, line: &'a [u8]) -> Result<(), ReadFault>
+fn take_line<'a, A: Allocator + Copy>(
+    reader: &mut Reader<'a, A>,
+    alloc: A,
+    at: u64,
+    line: &'a [u8],
+) -> Result<(), ReadFault>
     requires { reader.old.odd + length (stated_in (held_data reader.old).section) < 2 ^ 64 }
     ensures { TakesLine result (held_data reader.old) (held_data reader.new) line.now at }
 {

@@ -36,7 +36,11 @@ struct Ascent {
 }
 
 /// How many of the stated totals differ from the section's own.
-pub fn odd_totals<A: Allocator + Copy>(alloc: A, items: &[Item], stated: &[Stated]) -> Result<u64, Memory>
+pub fn odd_totals<A: Allocator + Copy>(
+    alloc: A,
+    items: &[Item],
+    stated: &[Stated],
+) -> Result<u64, Memory>
     ensures { IfOk result (λ odd. odd ≡ odd_among (map item_data items.now) stated.now) }
 {
     if stated.is_empty() {
