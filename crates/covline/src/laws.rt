@@ -1,5 +1,8 @@
 //! Laws of the definitions that the contracts cite. Their functions do nothing.
 
+ghost use Rattle.std.specs.Prelude.{◌≡◌, ◌⊎◌, ℕ, List};
+ghost use Rattle.covline.specs.declared.trace_line.LineFault.{LineFault};
+ghost use Rattle.covline.specs.Spells.{LineData, Spells, HasFault};
 ghost use Rattle.covline.specs.LineLaws.{JoinedAgain, GoodLines, GoodRest, FewLines, FewBytes, OnlyReturnsOff, OneBehindOther, MadeOfLines};
 
 /// The lines of a text are the text: cut into pieces and joined again it is the same, and a line is its piece
@@ -16,4 +19,12 @@ pub fn lines_are_the_text()
     ensures only_returns_off { OnlyReturnsOff }
     ensures one_behind_other { OneBehindOther }
     ensures made_of_lines { MadeOfLines }
+{}
+
+/// Each line says exactly one thing, or has exactly one fault.
+pub fn each_line_has_one_meaning()
+    ensures one_meaning { (line : List ℕ) (x y : LineData) → Spells line x → Spells line y → x ≡ y }
+    ensures no_fault_beside { (line : List ℕ) (says : LineData) (fault : LineFault) → Spells line says → ¬ HasFault line fault }
+    ensures one_fault { (line : List ℕ) (x y : LineFault) → HasFault line x → HasFault line y → x ≡ y }
+    ensures some { (line : List ℕ) → ((says : LineData) × Spells line says) ⊎ ((fault : LineFault) × HasFault line fault) }
 {}

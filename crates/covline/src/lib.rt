@@ -5,7 +5,6 @@ pub mod bytes;
 mod checks;
 pub mod item;
 pub mod laws;
-pub mod laws_of_lines;
 pub mod memory;
 pub mod names;
 pub mod print;
@@ -17,6 +16,7 @@ pub mod trace_line;
 
 pub use bytes::Bytes;
 pub use item::{Item, Items};
+pub use laws::{each_line_has_one_meaning, lines_are_the_text};
 pub use memory::Memory;
 pub use names::good_test;
 pub use print::put_line;

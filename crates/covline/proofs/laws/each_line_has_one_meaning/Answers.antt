@@ -1,5 +1,5 @@
 use Rattle.covline.proofs.ReadLaws as laws
-use Rattle.covline.proofs.laws_of_lines.each_line_has_one_meaning.Goals as goal
+use Rattle.covline.proofs.laws.each_line_has_one_meaning.Goals as goal
 
 pub returns : goal.returns
 returns c = record {
