@@ -1,12 +1,11 @@
 -- Lawful texts as a grammar of records, read from left to right: what may follow, and that a text has one reading.
-use Rattle.std.proofs.Common.{◌≡◌, ℕ, ◌+◌, ◌<◌, ◌≤◌, Bool, true, false, List, [], ◌∷◌, ◌++◌, length, refl, sym, ap, subst, ◌∙◌, append_assoc, arith, inl, inr}
+use Rattle.std.proofs.Common.{◌≡◌, ℕ, Bool, true, false, List, [], ◌∷◌, ◌++◌, refl, sym, ap, subst, ◌∙◌, append_assoc}
 use Rattle.std.specs.Prelude.{◌⊎◌}
 use Rattle.std.specs.List.{flat_map, AllByRecursion}
 use Rattle.std.proofs.lemmas.List.{append-nil}
-use Rattle.std.proofs.lemmas.List.Concat.{flat_map-append}
 use Rattle.covline.specs.Spells.{LineData, Test, Path, Line, Total, End, Skip, Spells, HasFault}
 use Rattle.covline.specs.declared.trace_line.LineFault.{LineFault}
-use Rattle.covcollect.specs.Reads.{AllSpell, Part, Outside, Section, IsOutside, IsInside, IsLawfulPart, records_of}
+use Rattle.covcollect.specs.Reads.{Part, Outside, Section, IsInside, IsLawfulPart, records_of}
 
 -- what is known of single lines
 pub record LineLaw : Type 0 where

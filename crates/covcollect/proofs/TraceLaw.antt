@@ -1,16 +1,14 @@
 -- What is known of single lines, and the one outcome that each text has.
-use Rattle.std.proofs.Common.{◌≡◌, ℕ, ◌+◌, ◌<◌, ◌≤◌, List, [], ◌∷◌, ◌++◌, length, Result, Ok, Err, refl, sym, ap, subst, ◌∙◌, append_assoc, arith, inl, inr}
-use Rattle.std.specs.Prelude.{◌⊎◌}
+use Rattle.std.proofs.Common.{◌≡◌, ℕ, ◌+◌, ◌≤◌, List, [], ◌∷◌, ◌++◌, length, Result, Ok, Err, refl, sym, subst, ◌∙◌, append_assoc, inl, inr}
 use Rattle.std.proofs.lemmas.Bool.{cases_lt}
 use Rattle.std.proofs.lemmas.List.{append-nil}
 use Rattle.covline.specs.Row.{SubmissionData}
 use Rattle.covline.specs.Lines.{lines_of}
-use Rattle.covline.specs.Spells.{LineData, Test, Path, Line, Total, End, Skip, Spells, HasFault}
-use Rattle.covline.specs.declared.trace_line.LineFault.{LineFault}
+use Rattle.covline.specs.Spells.{LineData, Test, Path, Line, Total, End, Skip, Spells}
 use Rattle.covline.proofs.ReadLaws.{one_meaning, no_fault_beside, one_fault, some_meaning}
 use Rattle.covcollect.specs.declared.trace.fault.ReadFault.{ReadFault}
 use Rattle.covcollect.specs.declared.trace.fault.ReadFault.TheVariants as faults
-use Rattle.covcollect.specs.Reads.{Part, Outside, Section}
+use Rattle.covcollect.specs.Reads.{Part}
 use Rattle.covcollect.specs.Outcome.{most_bytes, IsFirstFault, IsOutcome, Answers, IsOrMemory}
 use Rattle.covcollect.proofs.TraceGrammar.{LineLaw, Place, Between, Within}
 use Rattle.covcollect.proofs.TraceStands.{Stands, stands_at_first, stands_outside, stands_path, stands_inside, stands_end, stands_reads, stop_by_fault, stop_outside, stop_inside, stop_open}

@@ -1,22 +1,21 @@
 -- What was read makes a submission, and its numbers fit 64 bits.
-use Rattle.std.proofs.Common.{◌≡◌, ◌≢◌, ℕ, ◌+◌, ◌<◌, ◌≤◌, ◌^◌, List, [], ◌∷◌, ◌++◌, length, Option, Some, None, refl, sym, ap, subst, ◌∙◌, arith}
-use Rattle.std.specs.Prelude.{codes, All, count_by}
+use Rattle.std.proofs.Common.{◌≡◌, ◌≢◌, ℕ, ◌+◌, ◌<◌, ◌≤◌, ◌^◌, List, [], ◌∷◌, ◌++◌, length, sym, subst, arith}
+use Rattle.std.specs.Prelude.{codes, All}
 use Rattle.std.specs.List.{flat_map, sum_by, AllByRecursion}
 use Rattle.std.proofs.lemmas.List.{append-nil, length-append}
 use Rattle.std.proofs.lemmas.List.Elements.{All-from_recursion, recursion_from_All, All-nil}
 use Rattle.std.proofs.lemmas.List.Sums.{sum_by-cons, count_by-le-length}
 use Rattle.covline.specs.Lines.{line_feed, carriage_return}
-use Rattle.covline.specs.Row.{ItemData, LineItem, SectData, SubmissionData, items_in}
-use Rattle.covline.specs.Lawful.{IsGoodTest, IsLawfulSect, AllFit64, Fits64, IsLawful}
+use Rattle.covline.specs.Row.{SectData, items_in}
+use Rattle.covline.specs.Lawful.{IsGoodTest, IsLawfulSect, AllFit64, IsLawful}
 use Rattle.covline.specs.Spells.{LineData, Test, Path, Line, Total, End, Skip, Spells}
 use Rattle.covline.proofs.LineLaws.{good_rest}
-use Rattle.covcollect.specs.declared.trace.tally.Stated.{Stated}
-use Rattle.covcollect.specs.Reads.{AllSpell, Part, Outside, Section, records_of, items_said, items_of, is_odd, odd_in, sects_from}
+use Rattle.covcollect.specs.Reads.{AllSpell, Part, Outside, Section, records_of, items_of, is_odd, odd_in, sects_from}
 use Rattle.covcollect.specs.Outcome.{most_bytes}
-use Rattle.covcollect.specs.TraceSteps.{SectionData, HeldData, stated_in}
+use Rattle.covcollect.specs.TraceSteps.{HeldData, stated_in}
 use Rattle.covcollect.proofs.TraceGrammar.{Place, Between, Within}
 use Rattle.covcollect.proofs.TraceStands.{Stands, AllSpell-length, begun}
-use Rattle.covcollect.proofs.TraceRun.{Holds, held_of, section_of, stated_of, totals_said}
+use Rattle.covcollect.proofs.TraceRun.{Holds, section_of, stated_of}
 
 -- ---- what a lawful line says
 

@@ -1,11 +1,10 @@
 -- Reading line after line, as the loop does.
-use Rattle.std.proofs.Common.{◌≡◌, ℕ, ◌+◌, ◌<◌, ◌≤◌, ◌^◌, Bool, true, false, List, [], ◌∷◌, ◌++◌, length, Option, Some, None, Result, Ok, Err, refl, sym, ap, subst, ◌∙◌, append_assoc, arith}
+use Rattle.std.proofs.Common.{◌≡◌, ℕ, ◌+◌, ◌<◌, ◌≤◌, ◌^◌, false, List, [], ◌∷◌, ◌++◌, length, Option, Some, None, Ok, Err, refl, sym, ap, subst, ◌∙◌, append_assoc, arith}
 use Rattle.std.specs.Prelude.{option_map, is_some}
 use Rattle.std.proofs.lemmas.List.{append-nil, length-append}
-use Rattle.covline.specs.Row.{SubmissionData}
 use Rattle.covline.specs.Lines.{lines_of}
 use Rattle.covline.specs.Lawful.{IsLawful}
-use Rattle.covline.specs.Spells.{LineData, Spells, HasFault}
+use Rattle.covline.specs.Spells.{LineData, Spells}
 use Rattle.covline.proofs.LineLaws.{few_lines, good_lines}
 use Rattle.covcollect.specs.declared.trace.fault.ReadFault.{ReadFault}
 use Rattle.covcollect.specs.declared.trace.fault.ReadFault.TheVariants as faults

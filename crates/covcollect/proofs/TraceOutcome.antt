@@ -1,19 +1,16 @@
 -- Each text has exactly one outcome.
-use Rattle.std.proofs.Common.{◌≡◌, ℕ, ◌+◌, ◌<◌, ◌≤◌, List, [], ◌∷◌, ◌++◌, length, Result, Ok, Err, refl, sym, ap, subst, ◌∙◌, append_assoc, arith, inl, inr}
-use Rattle.std.specs.Prelude.{◌⊎◌}
+use Rattle.std.proofs.Common.{◌≡◌, ℕ, ◌<◌, ◌≤◌, List, [], ◌∷◌, ◌++◌, length, Result, Ok, Err, refl, sym, ap, subst, ◌∙◌, append_assoc, arith}
 use Rattle.std.specs.List.{flat_map, sum_by}
-use Rattle.std.proofs.lemmas.Bool.{cases_lt}
-use Rattle.std.proofs.lemmas.List.{append-nil, length-append}
+use Rattle.std.proofs.lemmas.List.{append-nil}
 use Rattle.covline.specs.Row.{SectData, SubmissionData}
 use Rattle.covline.specs.Lines.{lines_of}
 use Rattle.covline.specs.Spells.{LineData, Test, Path, Line, Total, End, Skip, Spells, HasFault}
-use Rattle.covline.specs.declared.trace_line.LineFault.{LineFault}
 use Rattle.covcollect.specs.declared.trace.fault.ReadFault.{ReadFault}
 use Rattle.covcollect.specs.declared.trace.fault.ReadFault.TheVariants as faults
-use Rattle.covcollect.specs.Reads.{Part, odd_in, records_of, sects_from, Reads}
-use Rattle.covcollect.specs.Outcome.{most_bytes, IsLawfulText, MayGoOn, IsFirstFaulty, NeedsSection, NeedsOutside, IsFirstFault, IsOutcome, Answers, IsOrMemory}
-use Rattle.covcollect.proofs.TraceGrammar.{LineLaw, Place, Between, Within, one_parts}
-use Rattle.covcollect.proofs.TraceStands.{AllSpell-one, Stands, stands_at_first, stands_outside, stands_path, stands_inside, stands_end, stands_reads, stop_by_fault, stop_outside, stop_inside, stop_open}
+use Rattle.covcollect.specs.Reads.{odd_in, records_of, sects_from, Reads}
+use Rattle.covcollect.specs.Outcome.{most_bytes, IsLawfulText, MayGoOn, IsFirstFaulty, NeedsSection, NeedsOutside, IsFirstFault, IsOutcome}
+use Rattle.covcollect.proofs.TraceGrammar.{LineLaw, one_parts}
+use Rattle.covcollect.proofs.TraceStands.{AllSpell-one}
 
 -- ---- one at the most
 

@@ -1,8 +1,8 @@
 -- What the reader holds, against where it stands in the text.
-use Rattle.std.proofs.Common.{◌≡◌, ℕ, ◌+◌, ◌<◌, ◌≤◌, ◌^◌, Bool, true, false, cond, not, eqb, List, [], ◌∷◌, ◌++◌, length, Option, Some, None, Result, Ok, Err, refl, sym, ap, subst, ◌∙◌, append_assoc, arith}
+use Rattle.std.proofs.Common.{◌≡◌, ℕ, ◌+◌, cond, List, [], ◌∷◌, ◌++◌, length, Option, Some, None, Result, Ok, Err, refl, sym, ap, subst, ◌∙◌, arith}
 use Rattle.std.specs.Prelude.{count_by}
-use Rattle.std.specs.List.{flat_map, sum_by, AllByRecursion}
-use Rattle.std.proofs.lemmas.List.{append-nil, length-append}
+use Rattle.std.specs.List.{flat_map, sum_by}
+use Rattle.std.proofs.lemmas.List.{append-nil}
 use Rattle.std.proofs.lemmas.List.Concat.{flat_map-append}
 use Rattle.std.proofs.lemmas.List.Sums.{sum_by-cons, sum_by_push}
 use Rattle.covline.specs.Row.{ItemData, LineItem, SectData}
@@ -11,7 +11,7 @@ use Rattle.covcollect.specs.declared.trace.fault.ReadFault.TheVariants as faults
 use Rattle.covcollect.specs.declared.trace.misplaced.Misplaced.{Misplaced}
 use Rattle.covcollect.specs.declared.trace.misplaced.Misplaced.TheVariants as misplaced
 use Rattle.covcollect.specs.declared.trace.tally.Stated.{Stated}
-use Rattle.covcollect.specs.Reads.{Part, Outside, Section, IsOutside, IsInside, records_of, items_said, items_of, is_odd, odd_in, sects_from}
+use Rattle.covcollect.specs.Reads.{Part, Outside, Section, items_said, items_of, is_odd, odd_in, sects_from}
 use Rattle.covcollect.specs.Outcome.{IsFirstFault}
 use Rattle.covcollect.specs.TraceTally.{is_other, odd_among}
 use Rattle.covcollect.specs.TraceSteps.{SectionData, HeldData, empty, step}

@@ -1,10 +1,9 @@
 -- Where a reader stands after some lines, what the next line makes of it, and why it stops.
-use Rattle.std.proofs.Common.{◌≡◌, ℕ, ◌+◌, ◌<◌, ◌≤◌, List, [], ◌∷◌, ◌++◌, length, refl, sym, ap, subst, ◌∙◌, append_assoc, arith}
+use Rattle.std.proofs.Common.{◌≡◌, ℕ, ◌+◌, List, [], ◌∷◌, ◌++◌, length, refl, sym, ap, subst, ◌∙◌, append_assoc}
 use Rattle.std.specs.Prelude.{codes}
 use Rattle.std.specs.List.{flat_map, sum_by, AllByRecursion}
-use Rattle.std.proofs.lemmas.List.{append-nil, length-append}
+use Rattle.std.proofs.lemmas.List.{append-nil}
 use Rattle.std.proofs.lemmas.List.Concat.{flat_map-append}
-use Rattle.covline.specs.Row.{SubmissionData}
 use Rattle.covline.specs.Spells.{LineData, Test, Path, Line, Total, End, Skip, Spells, HasFault}
 use Rattle.covline.specs.declared.trace_line.LineFault.{LineFault}
 use Rattle.covcollect.specs.declared.trace.fault.ReadFault.TheVariants as faults

@@ -1,6 +1,6 @@
 -- What the lines of a tracefile say together (geninfo(1) of LCOV 1.x, FILES): lines outside of sections and closed
 -- sections, in turn.
-use Rattle.std.specs.Prelude.{◌≡◌, ℕ, ◌+◌, Bool, true, false, ◌==◌, nat_lt, nat_eq, not, List, [], ◌∷◌, ◌++◌, length, map, filter, count_by, if◌then◌else◌}
+use Rattle.std.specs.Prelude.{◌≡◌, ℕ, ◌+◌, Bool, false, ◌==◌, nat_lt, nat_eq, not, List, [], ◌∷◌, ◌++◌, map, filter, count_by, if◌then◌else◌}
 use Rattle.std.specs.List.{flat_map, sum_by, list_any, AllByRecursion}
 use Rattle.covline.specs.declared.trace_line.TotalKind.{TotalKind}
 use Rattle.covline.specs.declared.trace_line.TotalKind.TheVariants.{LineFound, LineHit}

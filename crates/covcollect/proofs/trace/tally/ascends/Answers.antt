@@ -1,4 +1,4 @@
-use Rattle.std.proofs.Common.{◌≡◌, ◌<◌, ◌≤◌, inl, inr, arith}
+use Rattle.std.proofs.Common.{◌≡◌, ◌<◌, inl, inr, arith}
 use Rattle.std.specs.Prelude.{◌⊎◌}
 use Rattle.covcollect.proofs.TraceDistinct.{ascend_hit, ascend_missed}
 use Rattle.covcollect.proofs.trace.tally.ascends.Goals as goal

@@ -1,6 +1,5 @@
 use Rattle.std.proofs.Common.{map, take}
 use Rattle.covline.specs.Row.{item_data}
-use Rattle.covcollect.specs.TraceTally.{Collects}
 use Rattle.covcollect.proofs.TraceDistinct.{CollectsBoth}
 use Rattle.covcollect.proofs.trace.tally.collected_totals.Given as goal
 
