@@ -1,9 +1,9 @@
 -- How a text is cut into lines, from its beginning and at its first line feed.
-use Rattle.std.proofs.Common.{◌≡◌, ◌≢◌, ℕ, suc, ◌+◌, ◌<◌, ◌≤◌, Bool, true, false, cond, eqb, List, [], ◌∷◌, ◌++◌, length, get_or, take, drop, map, refl, sym, ap, ◌∙◌, arith}
+use Rattle.std.proofs.Common.{◌≡◌, ◌≢◌, ℕ, suc, ◌+◌, ◌<◌, ◌≤◌, Bool, true, false, cond, eqb, List, [], ◌∷◌, ◌++◌, length, get_or, take, drop, map, refl, sym, ap, ◌∙◌, arith, append_assoc, replicate, lit<}
 use Rattle.std.specs.Prelude.{All}
-use Rattle.std.specs.List.{concat, sum_by}
+use Rattle.std.specs.List.{concat, sum_by, flat_map}
 use Rattle.std.proofs.lemmas.Bool.{ne_eqb, eq-eqb, eqb-true, eqb-false}
-use Rattle.std.proofs.lemmas.List.{drop_more, take-append-drop, get_or-take, same_from_push, length-take, length-map, length-append}
+use Rattle.std.proofs.lemmas.List.{drop_more, take-append-drop, get_or-take, same_from_push, length-take, length-map, length-append, map-append}
 use Rattle.std.proofs.lemmas.List.Elements.{All-nil, All-cons, All-head, All-tail, All-from_get_or}
 use Rattle.std.proofs.lemmas.List.Sums.{sum_by-cons}
 use Rattle.memchr.specs.Find.{NoneBefore, Nowhere, Passes, is_byte}
@@ -228,3 +228,60 @@ first_line_at text line rest i found line-is rest-is = rw (line-is, rest-is) (li
 pub first_line_whole : (text line rest : List ℕ) → 0 < length text → Nowhere (Passes (is_byte line_feed) text) 0 (length text) → line ≡ strip text → length rest ≡ 0 → lines_of text ≡ line ∷ lines_of rest
 first_line_whole text line [] some none line-is empty = rw line-is (lines_whole text some none)
 first_line_whole text line (b ∷ bs) some none line-is empty = absurd (omega arith)
+
+-- ---- texts one behind the other
+
+concat_first : (b : ℕ) (front rest : List (List ℕ)) → 0 < length front → onto_first b (front ++ rest) ≡ onto_first b front ++ rest
+concat_first b [] rest some = absurd (omega arith)
+concat_first b (piece ∷ front) rest some = refl
+
+some_onto : (b : ℕ) (pieces : List (List ℕ)) → 0 < length (onto_first b pieces)
+some_onto b [] = omega arith
+some_onto b (piece ∷ pieces) = omega arith
+
+some_cut : (b : ℕ) (pieces : List (List ℕ)) (test : Bool) → 0 < length (cond test ((b ∷ []) ∷ pieces) (onto_first b pieces))
+some_cut b pieces true = omega arith
+some_cut b pieces false = some_onto b pieces
+
+-- a text that ends in a line feed has a piece
+some_pieces : (front : List ℕ) → 0 < length (pieces_of (front ++ line_feed ∷ []))
+some_pieces [] = lit< tt
+some_pieces (b ∷ bs) = some_cut b (pieces_of (bs ++ line_feed ∷ [])) (eqb b line_feed)
+
+cut_first : (b : ℕ) (front rest : List (List ℕ)) (test : Bool) → 0 < length front → cond test ((b ∷ []) ∷ (front ++ rest)) (onto_first b (front ++ rest)) ≡ cond test ((b ∷ []) ∷ front) (onto_first b front) ++ rest
+cut_first b front rest true some = refl
+cut_first b front rest false some = concat_first b front rest some
+
+pieces-append : (front rest : List ℕ) → pieces_of (front ++ line_feed ∷ rest) ≡ pieces_of (front ++ line_feed ∷ []) ++ pieces_of rest
+pieces-append [] rest = refl
+pieces-append (b ∷ bs) rest =
+    let test = eqb b line_feed in
+    ap (λ (ps : List (List ℕ)). cond test ((b ∷ []) ∷ ps) (onto_first b ps)) (pieces-append bs rest) ∙ cut_first b (pieces_of (bs ++ line_feed ∷ [])) (pieces_of rest) test (some_pieces bs)
+
+-- behind a line feed the lines of the rest follow
+pub lines-append : (front rest : List ℕ) → lines_of (front ++ line_feed ∷ rest) ≡ lines_of (front ++ line_feed ∷ []) ++ lines_of rest
+lines-append front rest = ap (λ (ps : List (List ℕ)). map line_of ps) (pieces-append front rest) ∙ map-append line_of (pieces_of (front ++ line_feed ∷ [])) (pieces_of rest)
+
+-- good lines with a line feed behind each are the lines of that text
+pub lines-joined : (lines : List (List ℕ)) → All IsGoodTest lines → lines_of (flat_map (λ line. line ++ line_feed ∷ []) lines) ≡ lines
+lines-joined [] good = refl
+lines-joined (line ∷ lines) good =
+    let first = All-head IsGoodTest line lines good in
+    let rest = flat_map (λ l. l ++ line_feed ∷ []) lines in
+    ap lines_of (append_assoc line (line_feed ∷ []) rest) ∙ (lines_at line rest first.one_line ∙ (ap (λ (l : List ℕ). l ∷ lines_of rest) (strip-none line first.no_return) ∙ ap (λ (ls : List (List ℕ)). line ∷ ls) (lines-joined lines (All-tail IsGoodTest line lines good))))
+
+parts_one : (b n : ℕ) (test : Bool) → eqb b carriage_return ≡ test → (m : ℕ) × (b ∷ replicate n carriage_return ≡ cond test [] (b ∷ []) ++ replicate m carriage_return)
+parts_one b n true e = (suc n, ap (λ (x : ℕ). x ∷ replicate n carriage_return) (eqb-true b carriage_return e))
+parts_one b n false e = (n, refl)
+
+parts_stripped : (b : ℕ) (bs : List ℕ) (n : ℕ) → (m : ℕ) × (b ∷ (bs ++ replicate n carriage_return) ≡ before_stripped b bs ++ replicate m carriage_return)
+parts_stripped b [] n = parts_one b n (eqb b carriage_return) refl
+parts_stripped b (c ∷ cs) n = (n, refl)
+
+-- only carriage returns were taken off
+pub strip-parts : (text : List ℕ) → (n : ℕ) × (text ≡ strip text ++ replicate n carriage_return)
+strip-parts [] = (0, refl)
+strip-parts (b ∷ bs) =
+    let rest = strip-parts bs in
+    let parts = parts_stripped b (strip bs) rest.0 in
+    (parts.0, ap (λ (t : List ℕ). b ∷ t) rest.1 ∙ parts.1)

@@ -1,7 +1,7 @@
 -- The laws of the lines of a text, in the words of the definitions.
-use Rattle.covline.specs.LineLaws.{JoinedAgain, GoodLines, GoodRest, FewLines, FewBytes}
+use Rattle.covline.specs.LineLaws.{JoinedAgain, GoodLines, GoodRest, FewLines, FewBytes, OnlyReturnsOff, OneBehindOther, MadeOfLines}
 use Rattle.covline.proofs.GoodTexts.{IsGoodTest-behind}
-use Rattle.covline.proofs.Cut.{concat-pieces, IsGoodTest-lines, length-lines, bytes-lines}
+use Rattle.covline.proofs.Cut.{concat-pieces, IsGoodTest-lines, length-lines, bytes-lines, strip-parts, lines-append, lines-joined}
 
 pub joined_again : JoinedAgain
 joined_again = concat-pieces
@@ -17,3 +17,12 @@ few_lines = length-lines
 
 pub few_bytes : FewBytes
 few_bytes = bytes-lines
+
+pub only_returns_off : OnlyReturnsOff
+only_returns_off = strip-parts
+
+pub one_behind_other : OneBehindOther
+one_behind_other = lines-append
+
+pub made_of_lines : MadeOfLines
+made_of_lines = lines-joined

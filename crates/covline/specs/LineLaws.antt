@@ -1,7 +1,7 @@
 -- What holds of the lines of each text.
-use Rattle.std.specs.Prelude.{◌≡◌, ℕ, ◌≤◌, List, ◌++◌, length, All}
-use Rattle.std.specs.List.{concat, sum_by}
-use Rattle.covline.specs.Lines.{pieces_of, lines_of}
+use Rattle.std.specs.Prelude.{◌≡◌, ℕ, ◌≤◌, List, [], ◌∷◌, ◌++◌, length, replicate, All}
+use Rattle.std.specs.List.{concat, flat_map, sum_by}
+use Rattle.covline.specs.Lines.{line_feed, carriage_return, pieces_of, strip, lines_of}
 use Rattle.covline.specs.Lawful.{IsGoodTest}
 
 -- joined again, the pieces of a text are the text
@@ -23,3 +23,15 @@ FewLines = (text : List ℕ) → length (lines_of text) ≤ length text
 -- the lines of a text have together at most its bytes
 abbrev pub FewBytes : Type 0
 FewBytes = (text : List ℕ) → sum_by length (lines_of text) ≤ length text
+
+-- only carriage returns are taken off a line's end
+abbrev pub OnlyReturnsOff : Type 0
+OnlyReturnsOff = (text : List ℕ) → (n : ℕ) × (text ≡ strip text ++ replicate n carriage_return)
+
+-- the lines of two texts, of which the first ends in a line feed, are those of the first and then those of the second
+abbrev pub OneBehindOther : Type 0
+OneBehindOther = (front rest : List ℕ) → lines_of (front ++ line_feed ∷ rest) ≡ lines_of (front ++ line_feed ∷ []) ++ lines_of rest
+
+-- a text that is made of such lines, with a line feed behind each, has these lines
+abbrev pub MadeOfLines : Type 0
+MadeOfLines = (lines : List (List ℕ)) → All IsGoodTest lines → lines_of (flat_map (λ line. line ++ line_feed ∷ []) lines) ≡ lines

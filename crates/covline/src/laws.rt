@@ -1,15 +1,19 @@
 //! Laws of the definitions that the contracts cite. Their functions do nothing.
 
-ghost use Rattle.covline.specs.LineLaws.{JoinedAgain, GoodLines, GoodRest, FewLines, FewBytes};
+ghost use Rattle.covline.specs.LineLaws.{JoinedAgain, GoodLines, GoodRest, FewLines, FewBytes, OnlyReturnsOff, OneBehindOther, MadeOfLines};
 
 /// The lines of a text are the text: cut into pieces and joined again it is the same, and a line is its piece
 /// without the line feed and the carriage returns at the end. Neither a line nor what stands behind a key in it
 /// has a line feed or ends in a carriage return. There are at most as many lines as bytes, and the lines have
-/// at most the bytes of the text.
+/// at most the bytes of the text. Texts one behind the other have the lines of both, and a text that is made of
+/// such lines has these lines.
 pub fn lines_are_the_text()
     ensures joined { JoinedAgain }
     ensures good_lines { GoodLines }
     ensures good_rest { GoodRest }
     ensures few_lines { FewLines }
     ensures few_bytes { FewBytes }
+    ensures only_returns_off { OnlyReturnsOff }
+    ensures one_behind_other { OneBehindOther }
+    ensures made_of_lines { MadeOfLines }
 {}

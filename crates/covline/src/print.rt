@@ -1,6 +1,6 @@
 //! Printing one line of a tracefile.
 
-ghost use Rattle.std.specs.Prelude.{◌≡◌, ◌++◌, ◌∷◌, [], OnOk, OnErr, ℕ, List, length, codes, decimal};
+ghost use Rattle.std.specs.Prelude.{◌≡◌, ◌++◌, ◌∷◌, [], OnOk, OnErr, ℕ, List, codes, decimal};
 ghost use Rattle.covline.specs.Lines.{line_feed, lines_of};
 ghost use Rattle.covline.specs.Spells.{line_data, comma, key_of, Spells};
 ghost use Rattle.covline.specs.Printed.{line_text, printed, IsReadable};

@@ -1,6 +1,6 @@
 //! The lines of a text.
 
-ghost use Rattle.std.specs.Prelude.{◌≡◌, ◌∷◌, ◌<◌, length};
+ghost use Rattle.std.specs.Prelude.{◌≡◌, ◌∷◌, ◌<◌, ◌≤◌, length};
 ghost use Rattle.covline.specs.Lines.{lines_of, strip};
 
 use memchr::memchr;
@@ -23,7 +23,8 @@ impl<'a> Model for TextLines<'a> {
 /// The lines of the text in order, blank ones too, without their line feeds and without the carriage returns
 /// before these. The last line feed may be missing.
 pub fn lines(text: &[u8]) -> TextLines<'_>
-    ensures { result ≡ text.now }
+    ensures value { result ≡ text.now }
+    ensures few { length (lines_of text.now) ≤ length text.now }
 {
     TextLines { rest: text }
 }
