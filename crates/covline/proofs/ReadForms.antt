@@ -1,16 +1,14 @@
 -- The fields of each key: what has the key's form is read as what it says, its numbers' size considered, and what
 -- has not is refused.
-use Rattle.std.proofs.Common.{◌≡◌, ◌≢◌, ℕ, ◌^◌, ◌<◌, ◌≤◌, ◌⊎◌, inl, inr, Bool, true, false, eqb, List, [], ◌∷◌, ◌++◌, length, Option, Some, None, Result, Ok, Err, refl, sym, ap, subst, ◌∙◌, arith, append_assoc}
-use Rattle.std.specs.Prelude.{codes}
+use Rattle.std.proofs.Common.{◌≡◌, ℕ, ◌^◌, ◌⊎◌, inl, inr, true, false, eqb, List, [], ◌∷◌, ◌++◌, Some, Result, Ok, Err, refl, ap, ◌∙◌, arith}
 use Rattle.std.proofs.lemmas.Bool.{cases_lt, cases_eq, ne_eqb, eq-eqb}
-use Rattle.std.proofs.lemmas.List.{append-nil}
-use Rattle.covline.specs.declared.trace_line.TotalKind.{TotalKind}
-use Rattle.covline.specs.declared.trace_line.TotalKind.TheVariants.{LineFound, LineHit}
+use Rattle.covline.specs.declared.reader.Number.{Number}
+use Rattle.covline.specs.declared.reader.Number.TheVariants.{Value, TooLarge}
 use Rattle.covline.specs.declared.trace_line.LineFault.{LineFault}
-use Rattle.covline.specs.declared.trace_line.LineFault.TheVariants.{BadLine, NumberTooLarge, EmptyPath}
-use Rattle.covline.specs.Spells.{LineData, Test, Path, Line, Total, End, Skip, comma, key_of, digits_value, IsNumeral, IsCount, HasForm, HasSmallNumbers}
-use Rattle.covline.specs.Reading.{capped, number_at, number_of, count_of, Fields, line_and_count, behind_line, from_line, line_fields, total_with, total_fields, test_fields, path_fields, no_fields}
-use Rattle.covline.proofs.ReadNumbers.{capped_small, capped_large, number_is, numeral_or_none, BeginsWithNumeral, whole_is, whole_or_none, count_is, count_or_none}
+use Rattle.covline.specs.declared.trace_line.LineFault.TheVariants.{BadLine, NumberTooLarge}
+use Rattle.covline.specs.Spells.{LineData, Test, Path, Line, Total, End, Skip, comma, digits_value, IsNumeral, IsCount, HasSmallNumbers}
+use Rattle.covline.specs.Reading.{capped, number_at, line_and_count, behind_line, from_line, line_fields, total_with}
+use Rattle.covline.proofs.ReadNumbers.{capped_small, capped_large, number_is, numeral_or_none, BeginsWithNumeral, count_is, count_or_none}
 
 -- what a record of this form is read as, by the size of its numbers
 abbrev pub sized : LineData → Result LineData LineFault
@@ -29,9 +27,9 @@ sized_small (Total kind value) small = rw (capped_small value small) refl
 sized_small End small = refl
 sized_small Skip small = refl
 
-large_line : (number : Option ℕ) → line_and_count number (Some None) ≡ Err NumberTooLarge
-large_line None = refl
-large_line (Some number) = refl
+large_line : (number : Number) → line_and_count number (Some TooLarge) ≡ Err NumberTooLarge
+large_line TooLarge = refl
+large_line (Value number) = refl
 
 -- the numbers are small, or the record is read as too large
 pub small_or_large : (says : LineData) → HasSmallNumbers says ⊎ ((¬ HasSmallNumbers says) × (sized says ≡ Err NumberTooLarge))

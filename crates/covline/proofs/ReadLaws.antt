@@ -1,6 +1,6 @@
 -- The laws of reading a line: a line of some form is read as what the form says, its numbers' size considered, and a
 -- line without a form is refused as the definitions ask. So each line has one meaning or one fault.
-use Rattle.std.proofs.Common.{◌≡◌, ◌≢◌, ℕ, ◌<◌, ◌⊎◌, inl, inr, Bool, true, false, eqb, List, [], ◌∷◌, ◌++◌, length, Option, Some, None, Result, Ok, Err, refl, sym, ap, subst, ◌∙◌, arith, append_assoc}
+use Rattle.std.proofs.Common.{◌≡◌, ◌≢◌, ℕ, ◌<◌, ◌⊎◌, inl, inr, Bool, true, false, List, [], ◌∷◌, ◌++◌, length, Option, None, Result, Ok, Err, refl, sym, ap, subst, ◌∙◌, arith}
 use Rattle.std.proofs.lemmas.Option.{none-some}
 use Rattle.std.specs.Prelude.{codes, map, MatchResult, IfOk, IfErr}
 use Rattle.std.specs.List.{AllByRecursion}
@@ -10,8 +10,8 @@ use Rattle.covline.specs.declared.trace_line.TotalKind.{TotalKind}
 use Rattle.covline.specs.declared.trace_line.TotalKind.TheVariants.{LineFound, LineHit}
 use Rattle.covline.specs.declared.trace_line.LineFault.{LineFault}
 use Rattle.covline.specs.declared.trace_line.LineFault.TheVariants.{BadLine, NumberTooLarge, EmptyPath}
-use Rattle.covline.specs.Spells.{LineData, Test, Path, Line, Total, End, Skip, line_data, Begins, BeginsWithOneOf, HasKey, comma, key_of, IsNumeral, HasForm, HasSmallNumbers, Spells, HasFault}
-use Rattle.covline.specs.Reading.{Gives, Fields, behind_key, keyed, read_by, forms, read_of, line_fields, total_with, total_fields, test_fields, path_fields, no_fields}
+use Rattle.covline.specs.Spells.{LineData, Test, Path, Line, Total, End, Skip, line_data, Begins, BeginsWithOneOf, HasKey, key_of, IsNumeral, HasForm, HasSmallNumbers, Spells, HasFault}
+use Rattle.covline.specs.Reading.{Gives, Fields, behind_key, keyed, read_by, forms, read_of, line_fields, total_with, total_fields, path_fields}
 use Rattle.covline.proofs.ReadKeys.{begins_or_not, behind_key-none, behind_key-same}
 use Rattle.covline.proofs.ReadNumbers.{whole_is, whole_or_none}
 use Rattle.covline.proofs.ReadForms.{sized, sized_small, small_or_large, line_fields-is, line_fields-or_bad}

@@ -1,10 +1,12 @@
 -- Reading a number and a count: what a numeral is read as, and that each text begins with a numeral or isn't read.
-use Rattle.std.proofs.Common.{◌≡◌, ◌≢◌, ℕ, ◌+◌, ◌-◌, ◌*◌, ◌^◌, ◌<◌, ◌≤◌, ◌⊎◌, inl, inr, Bool, true, false, ◌&&◌, cond, eqb, ltb, leb, List, [], ◌∷◌, ◌++◌, length, All, Option, Some, None, refl, sym, ap, subst, ◌∙◌, arith, fold, option_map}
-use Rattle.std.proofs.lemmas.Bool.{lt-ltb, le-ltb, le-leb, and_from, and_parts, and_cases, leb-true, leb-false, cases_lt, cases_eq, cases_Bool, eq-eqb, ne_eqb}
+use Rattle.std.proofs.Common.{◌≡◌, ◌≢◌, ℕ, ◌+◌, ◌-◌, ◌*◌, ◌^◌, ◌<◌, ◌≤◌, ◌⊎◌, inl, inr, Bool, true, false, cond, eqb, ltb, leb, List, [], ◌∷◌, ◌++◌, All, Some, None, refl, sym, ap, subst, ◌∙◌, arith, fold, option_map}
+use Rattle.std.proofs.lemmas.Bool.{lt-ltb, le-ltb, le-leb, and_from, and_parts, leb-true, cases_lt, cases_eq, cases_Bool, eq-eqb, ne_eqb}
 use Rattle.std.proofs.lemmas.List.{append-nil}
 use Rattle.std.proofs.lemmas.List.Elements.{All-cons, All-nil, All-head, All-tail}
+use Rattle.covline.specs.declared.reader.Number.{Number}
+use Rattle.covline.specs.declared.reader.Number.TheVariants.{Value, TooLarge}
 use Rattle.covline.specs.Spells.{IsDigit, IsNumeral, IsCount, digits_value, minus}
-use Rattle.covline.specs.Reading.{is_digit, capped, with_digit, digits_from, number_at, number_of, count_of, whole, if_last}
+use Rattle.covline.specs.Reading.{is_digit, capped, with_digit, digits_from, number_at, number_of, count_of, whole}
 
 pub digit_is : (b : ℕ) → IsDigit b → is_digit b ≡ true
 digit_is b d = and_from (leb 48 b) (leb b 57) (le-leb 48 b d.0) (le-leb b 57 d.1)
@@ -19,10 +21,10 @@ Stops (b ∷ bs) = is_digit b ≡ false
 
 -- ---- the value
 
-pub capped_small : (n : ℕ) → n < 2 ^ 64 → capped n ≡ Some n
+pub capped_small : (n : ℕ) → n < 2 ^ 64 → capped n ≡ Value n
 capped_small n lt = let test : ltb n (2 ^ 64) ≡ true = lt-ltb n (2 ^ 64) lt in rw test refl
 
-pub capped_large : (n : ℕ) → 2 ^ 64 ≤ n → capped n ≡ None
+pub capped_large : (n : ℕ) → 2 ^ 64 ≤ n → capped n ≡ TooLarge
 capped_large n le = let test : ltb n (2 ^ 64) ≡ false = le-ltb n (2 ^ 64) le in rw test refl
 
 with_digit-capped : (n b : ℕ) → with_digit (capped n) b ≡ capped (n * 10 + (b - 48))
@@ -34,22 +36,22 @@ with_digit-capped n b =
 
 fold-capped : (digits : List ℕ) (n : ℕ) → fold with_digit (capped n) digits ≡ capped (fold (λ m b. m * 10 + (b - 48)) n digits)
 fold-capped [] n = refl
-fold-capped (b ∷ bs) n = ap (λ (v : Option ℕ). fold with_digit v bs) (with_digit-capped n b) ∙ fold-capped bs (n * 10 + (b - 48))
+fold-capped (b ∷ bs) n = ap (λ (v : Number). fold with_digit v bs) (with_digit-capped n b) ∙ fold-capped bs (n * 10 + (b - 48))
 
 -- ---- a number at the front
 
-stops_at : (value : Option ℕ) (rest : List ℕ) → Stops rest → digits_from value rest ≡ (value, rest)
+stops_at : (value : Number) (rest : List ℕ) → Stops rest → digits_from value rest ≡ (value, rest)
 stops_at value [] stops = refl
 stops_at value (b ∷ bs) stops = rw stops refl
 
-digits_are : (digits rest : List ℕ) (value : Option ℕ) → All IsDigit digits → Stops rest → digits_from value (digits ++ rest) ≡ (fold with_digit value digits, rest)
+digits_are : (digits rest : List ℕ) (value : Number) → All IsDigit digits → Stops rest → digits_from value (digits ++ rest) ≡ (fold with_digit value digits, rest)
 digits_are [] rest value each stops = stops_at value rest stops
 digits_are (d ∷ ds) rest value each stops =
     let test : is_digit d ≡ true = digit_is d (All-head IsDigit d ds each) in
     rw test (digits_are ds rest (with_digit value d) (All-tail IsDigit d ds each) stops)
 
-number_at-digit : (d : ℕ) (ds : List ℕ) → is_digit d ≡ true → number_at (d ∷ ds) ≡ Some (digits_from (Some 0) (d ∷ ds))
-number_at-digit d ds test = ap (λ (t : Bool). cond t (Some (digits_from (Some 0) (d ∷ ds))) None) test
+number_at-digit : (d : ℕ) (ds : List ℕ) → is_digit d ≡ true → number_at (d ∷ ds) ≡ Some (digits_from (Value 0) (d ∷ ds))
+number_at-digit d ds test = ap (λ (t : Bool). cond t (Some (digits_from (Value 0) (d ∷ ds))) None) test
 
 -- a numeral is read as its number
 pub number_is : (digits rest : List ℕ) (n : ℕ) → IsNumeral digits n → Stops rest → number_at (digits ++ rest) ≡ Some (capped n, rest)
@@ -57,8 +59,8 @@ number_is [] rest n numeral stops = absurd (omega (arith, numeral.some))
 number_is (d ∷ ds) rest n numeral stops =
     let test : is_digit d ≡ true = digit_is d (All-head IsDigit d ds numeral.each) in
     let value : fold with_digit (capped 0) (d ∷ ds) ≡ capped n = fold-capped (d ∷ ds) 0 ∙ ap capped (sym numeral.value) in
-    let all : digits_from (Some 0) (d ∷ ds ++ rest) ≡ (fold with_digit (Some 0) (d ∷ ds), rest) = digits_are (d ∷ ds) rest (Some 0) numeral.each stops in
-    let same : Some (digits_from (Some 0) (d ∷ ds ++ rest)) ≡ Some (capped n, rest) = ap (λ (p : Option ℕ × List ℕ). Some p) all ∙ ap (λ (v : Option ℕ). Some (v, rest)) value in
+    let all : digits_from (Value 0) (d ∷ ds ++ rest) ≡ (fold with_digit (Value 0) (d ∷ ds), rest) = digits_are (d ∷ ds) rest (Value 0) numeral.each stops in
+    let same : Some (digits_from (Value 0) (d ∷ ds ++ rest)) ≡ Some (capped n, rest) = ap (λ (p : Number × List ℕ). Some p) all ∙ ap (λ (v : Number). Some (v, rest)) value in
     number_at-digit d (ds ++ rest) test ∙ same
 
 -- the digits at the front
@@ -122,7 +124,7 @@ whole_or_none text =
 count_of-plain : (b : ℕ) (bs : List ℕ) → b ≢ minus → count_of (b ∷ bs) ≡ number_of (b ∷ bs)
 count_of-plain b bs differ = let test : eqb b minus ≡ false = ne_eqb b minus differ in rw test refl
 
-count_of-minus : (b : ℕ) (bs : List ℕ) → b ≡ minus → count_of (b ∷ bs) ≡ option_map (λ (v : Option ℕ). Some 0) (number_of bs)
+count_of-minus : (b : ℕ) (bs : List ℕ) → b ≡ minus → count_of (b ∷ bs) ≡ option_map (λ (v : Number). Value 0) (number_of bs)
 count_of-minus b bs same = let test : eqb b minus ≡ true = eq-eqb b minus same in rw test refl
 
 numeral_count : (text : List ℕ) (n : ℕ) → IsNumeral text n → count_of text ≡ Some (capped n)
@@ -136,8 +138,8 @@ numeral_count (d ∷ ds) n numeral =
 pub count_is : (text : List ℕ) (n : ℕ) → IsCount text n → count_of text ≡ Some (capped n)
 count_is text n (inl numeral) = numeral_count text n numeral
 count_is text n (inr below) =
-    let zero_is : Some 0 ≡ capped n = ap capped (sym below.4) in
-    ap count_of below.2 ∙ ap (option_map (λ (v : Option ℕ). Some 0)) (whole_is below.0 below.1 below.3) ∙ ap Some zero_is
+    let zero_is : Value 0 ≡ capped n = ap capped (sym below.4) in
+    ap count_of below.2 ∙ ap (option_map (λ (v : Number). Value 0)) (whole_is below.0 below.1 below.3) ∙ ap Some zero_is
 
 pub count_or_none : (text : List ℕ) → ((n : ℕ) × IsCount text n) ⊎ (count_of text ≡ None)
 count_or_none [] = inr refl
@@ -145,7 +147,7 @@ count_or_none (b ∷ bs) =
     elim (cases_eq b minus) [
       | inl same ↦ elim (whole_or_none bs) [
         | inl found ↦ inl (0, inr (bs, found.0, ap (λ (c : ℕ). c ∷ bs) same, found.1, refl))
-        | inr none ↦ inr (count_of-minus b bs same ∙ ap (option_map (λ (v : Option ℕ). Some 0)) none)
+        | inr none ↦ inr (count_of-minus b bs same ∙ ap (option_map (λ (v : Number). Value 0)) none)
       ]
       | inr differ ↦ elim (whole_or_none (b ∷ bs)) [
         | inl found ↦ inl (found.0, inl found.1)

@@ -1,6 +1,8 @@
 -- How a line is read: its key, and then the key's fields from left to right. The laws above it say that this is what
 -- the definitions of a spelled line and of its fault ask for.
-use Rattle.std.specs.Prelude.{ℕ, zero, suc, ◌+◌, ◌-◌, ◌*◌, ◌^◌, ◌≡◌, Bool, ◌&&◌, ◌==◌, nat_lt, nat_le, if◌then◌else◌, List, [], ◌∷◌, Option, Some, None, Result, Ok, Err, codes, option_map}
+use Rattle.std.specs.Prelude.{ℕ, ◌+◌, ◌-◌, ◌*◌, ◌^◌, ◌≡◌, Bool, ◌&&◌, ◌==◌, nat_lt, nat_le, if◌then◌else◌, List, [], ◌∷◌, Option, Some, None, Result, Ok, Err, codes, option_map}
+use Rattle.covline.specs.declared.reader.Number.{Number}
+use Rattle.covline.specs.declared.reader.Number.TheVariants.{Value, TooLarge}
 use Rattle.covline.specs.declared.trace_line.TraceLine.{TraceLine}
 use Rattle.covline.specs.declared.trace_line.TotalKind.{TotalKind}
 use Rattle.covline.specs.declared.trace_line.TotalKind.TheVariants.{LineFound, LineHit}
@@ -17,68 +19,68 @@ Gives (Err fault) read = read ≡ Err fault
 abbrev pub is_digit : ℕ → Bool
 is_digit b = nat_le 48 b && nat_le b 57
 
--- a number of 64 bits; None for a larger one
-abbrev pub capped : ℕ → Option ℕ
-capped n = if nat_lt n (2 ^ 64) then Some n else None
+-- a number of 64 bits, or a larger one
+abbrev pub capped : ℕ → Number
+capped n = if nat_lt n (2 ^ 64) then Value n else TooLarge
 
 -- one digit more behind a number
-abbrev pub with_digit : Option ℕ → ℕ → Option ℕ
-with_digit None b = None
-with_digit (Some n) b = capped (n * 10 + (b - 48))
+abbrev pub with_digit : Number → ℕ → Number
+with_digit TooLarge b = TooLarge
+with_digit (Value n) b = capped (n * 10 + (b - 48))
 
 -- the digits at the front, read behind a number, and what follows them
-abbrev pub digits_from : Option ℕ → List ℕ → Option ℕ × List ℕ
+abbrev pub digits_from : Number → List ℕ → Number × List ℕ
 digits_from value [] = (value, [])
 digits_from value (b ∷ bs) = if is_digit b then digits_from (with_digit value b) bs else (value, b ∷ bs)
 
 -- the number at the front, of one digit at least, and what follows it
-abbrev pub number_at : List ℕ → Option (Option ℕ × List ℕ)
+abbrev pub number_at : List ℕ → Option (Number × List ℕ)
 number_at [] = None
-number_at (b ∷ bs) = if is_digit b then Some (digits_from (Some 0) (b ∷ bs)) else None
+number_at (b ∷ bs) = if is_digit b then Some (digits_from (Value 0) (b ∷ bs)) else None
 
 -- the number, where nothing follows it
-abbrev pub if_last : Option ℕ → List ℕ → Option (Option ℕ)
+abbrev pub if_last : Number → List ℕ → Option Number
 if_last value [] = Some value
 if_last value (b ∷ bs) = None
 
-abbrev pub whole : Option (Option ℕ × List ℕ) → Option (Option ℕ)
+abbrev pub whole : Option (Number × List ℕ) → Option Number
 whole None = None
 whole (Some front) = if_last front.0 front.1
 
 -- the text as a number
-abbrev pub number_of : List ℕ → Option (Option ℕ)
+abbrev pub number_of : List ℕ → Option Number
 number_of text = whole (number_at text)
 
 -- the text as an execution count
-abbrev pub count_of : List ℕ → Option (Option ℕ)
+abbrev pub count_of : List ℕ → Option Number
 count_of [] = None
-count_of (b ∷ bs) = if b == minus then option_map (λ value. Some 0) (number_of bs) else number_of (b ∷ bs)
+count_of (b ∷ bs) = if b == minus then option_map (λ value. Value 0) (number_of bs) else number_of (b ∷ bs)
 
 -- what the fields behind a key say
 abbrev pub Fields : Type 0
 Fields = List ℕ → Result LineData LineFault
 
-abbrev pub line_and_count : Option ℕ → Option (Option ℕ) → Result LineData LineFault
+abbrev pub line_and_count : Number → Option Number → Result LineData LineFault
 line_and_count line None = Err BadLine
-line_and_count None (Some count) = Err NumberTooLarge
-line_and_count (Some line) (Some None) = Err NumberTooLarge
-line_and_count (Some line) (Some (Some count)) = Ok (Line line count)
+line_and_count TooLarge (Some count) = Err NumberTooLarge
+line_and_count (Value line) (Some TooLarge) = Err NumberTooLarge
+line_and_count (Value line) (Some (Value count)) = Ok (Line line count)
 
-abbrev pub behind_line : Option ℕ → List ℕ → Result LineData LineFault
+abbrev pub behind_line : Number → List ℕ → Result LineData LineFault
 behind_line line [] = Err BadLine
 behind_line line (b ∷ bs) = if b == comma then line_and_count line (count_of bs) else Err BadLine
 
-abbrev pub from_line : Option (Option ℕ × List ℕ) → Result LineData LineFault
+abbrev pub from_line : Option (Number × List ℕ) → Result LineData LineFault
 from_line None = Err BadLine
 from_line (Some front) = behind_line front.0 front.1
 
 abbrev pub line_fields : Fields
 line_fields fields = from_line (number_at fields)
 
-abbrev pub total_with : TotalKind → Option (Option ℕ) → Result LineData LineFault
+abbrev pub total_with : TotalKind → Option Number → Result LineData LineFault
 total_with kind None = Err BadLine
-total_with kind (Some None) = Err NumberTooLarge
-total_with kind (Some (Some value)) = Ok (Total kind value)
+total_with kind (Some TooLarge) = Err NumberTooLarge
+total_with kind (Some (Value value)) = Ok (Total kind value)
 
 abbrev pub total_fields : TotalKind → Fields
 total_fields kind fields = total_with kind (number_of fields)

@@ -1,4 +1,5 @@
-//! Reading one line of a tracefile.
+//! Reading one line of a tracefile: its key, then the key's fields from left to right, each key by a function of
+//! its own. Nothing is copied, and each byte is looked at once behind the key.
 
 ghost use Rattle.std.specs.Prelude.{◌≡◌, ◌≤◌, ◌++◌, ℕ, Some, option_map, Err, MatchOption, MatchResult, IfOk, IfErr};
 ghost use Rattle.covline.specs.declared.trace_line.LineFault.{LineFault};
@@ -7,33 +8,49 @@ ghost use Rattle.covline.specs.Reading.{Gives, with_digit, digits_from, number_a
 
 use crate::trace_line::{LineFault, TotalKind, TraceLine};
 
-/// The number with one more digit behind it. `None` stands for a number of 2^64 or more.
-fn push_digit(value: Option<u64>, digit: u8) -> Option<u64>
+/// What digits say.
+#[derive(Clone, Copy)]
+enum Number {
+    /// A number of 64 bits.
+    Value(u64),
+    /// 2^64 or more.
+    TooLarge,
+}
+
+/// The number with one more digit behind it.
+fn push_digit(number: Number, digit: u8) -> Number
     requires { 48 ≤ digit }
-    ensures { result ≡ with_digit value digit }
+    ensures { result ≡ with_digit number digit }
 {
-    value?.checked_mul(10)?.checked_add(u64::from(digit - b'0'))
+    let Number::Value(value) = number else {
+        return Number::TooLarge;
+    };
+    let tens = value.checked_mul(10);
+    match tens.and_then(|tens| tens.checked_add(u64::from(digit - b'0'))) {
+        Some(value) => Number::Value(value),
+        None => Number::TooLarge,
+    }
 }
 
 /// The digits at the front of the text, and what follows them.
-fn read_digits(text: &[u8]) -> (Option<u64>, &[u8])
-    ensures value { result.0 ≡ (digits_from (Some 0) text.now).0 }
-    ensures rest { result.1.now ≡ (digits_from (Some 0) text.now).1 }
+fn read_digits(text: &[u8]) -> (Number, &[u8])
+    ensures value { result.0 ≡ (digits_from (Number.Value 0) text.now).0 }
+    ensures rest { result.1.now ≡ (digits_from (Number.Value 0) text.now).1 }
 {
-    let mut value = Some(0);
+    let mut number = Number::Value(0);
     let mut rest = text;
     while let [digit, after @ ..] = rest {
         if !digit.is_ascii_digit() {
             break;
         }
-        value = push_digit(value, *digit);
+        number = push_digit(number, *digit);
         rest = after;
     }
-    (value, rest)
+    (number, rest)
 }
 
 /// The number at the front of the text, of one digit at least, and what follows it.
-fn read_number(text: &[u8]) -> Option<(Option<u64>, &[u8])>
+fn read_number(text: &[u8]) -> Option<(Number, &[u8])>
     ensures { option_map (λ front. (front.0, front.1.now)) result ≡ number_at text.now }
 {
     match text {
@@ -43,24 +60,21 @@ fn read_number(text: &[u8]) -> Option<(Option<u64>, &[u8])>
 }
 
 /// The text as a number.
-fn read_whole(text: &[u8]) -> Option<Option<u64>>
+fn read_whole(text: &[u8]) -> Option<Number>
     ensures { result ≡ number_of text.now }
 {
     match read_number(text)? {
-        (value, []) => Some(value),
+        (number, []) => Some(number),
         _ => None,
     }
 }
 
 /// The text as an execution count. One with a minus counts as 0, whatever its digits are.
-fn read_count(text: &[u8]) -> Option<Option<u64>>
+fn read_count(text: &[u8]) -> Option<Number>
     ensures { result ≡ count_of text.now }
 {
     match text {
-        [b'-', digits @ ..] => match read_whole(digits) {
-            Some(_) => Some(Some(0)),
-            None => None,
-        },
+        [b'-', digits @ ..] => read_whole(digits).map(|_| Number::Value(0)),
         _ => read_whole(text),
     }
 }
@@ -77,7 +91,7 @@ fn line_record(fields: &[u8]) -> Result<TraceLine<'_>, LineFault>
     };
     match (line, read_count(count)) {
         (_, None) => Err(LineFault::BadLine),
-        (Some(line), Some(Some(count))) => Ok(TraceLine::Line {
+        (Number::Value(line), Some(Number::Value(count))) => Ok(TraceLine::Line {
             line,
             count: u128::from(count),
         }),
@@ -91,8 +105,8 @@ fn total_record(kind: TotalKind, field: &[u8]) -> Result<TraceLine<'_>, LineFaul
 {
     match read_whole(field) {
         None => Err(LineFault::BadLine),
-        Some(None) => Err(LineFault::NumberTooLarge),
-        Some(Some(value)) => Ok(TraceLine::Total { kind, value }),
+        Some(Number::TooLarge) => Err(LineFault::NumberTooLarge),
+        Some(Number::Value(value)) => Ok(TraceLine::Total { kind, value }),
     }
 }
 

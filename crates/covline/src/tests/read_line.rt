@@ -125,3 +125,14 @@ fn totals_and_later_keys(rt: HostRuntime) {
         assert!(rt; is_wanted(read_line(line), wanted), "{name}");
     }
 }
+
+#[test]
+fn a_million_leading_zeros(rt: HostRuntime) -> Result<(), Fail> {
+    let mut line = Vec::from_slice(rt.alloc(), b"DA:")?;
+    for _ in 0..1_000_000 {
+        line.push(b'0')?;
+    }
+    line.extend_from_slice(b"7,1")?;
+    assert!(rt; is_wanted(read_line(line.as_slice()), Wanted::Line(7, 1)));
+    Ok(())
+}

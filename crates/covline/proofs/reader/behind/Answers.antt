@@ -1,4 +1,3 @@
-use Rattle.std.proofs.Common.{◌≡◌}
 use Rattle.covline.proofs.ReadKeys.{stripped_is}
 use Rattle.covline.proofs.reader.behind.Goals as goal
 
