@@ -5,7 +5,7 @@ use Rattle.covcollect.proofs.TraceLoop.{reading_begins, reading_more, reading_nu
 use Rattle.covcollect.proofs.trace.read.read_lines.Goals as goal
 
 pub loop-line-init : goal.loop-line-init
-loop-line-init g c = reading_begins c.args.text.now c.into_iter-line-iterator.result (held_data c.new-reader.result) c.new-reader.ensures (c.into_iter-line-iterator.ensures.into_iter_gives ∙ c.lines-line-items.ensures)
+loop-line-init g c = reading_begins c.args.text.now c.into_iter-line-iterator.result (held_data c.new-reader.result) c.new-reader.ensures (c.into_iter-line-iterator.ensures.into_iter_gives ∙ c.lines-line-items.ensures.value)
 
 pub overflow_add-at : goal.overflow_add-at
 overflow_add-at g c = omega (arith, reading_number c.args.text.now c.loop-line.line-iterator c.in-Some.line.now c.next.new.self (held_data c.loop-line.reader) c.loop-line.at c.requires c.loop-line.invariant c.in-Some.ensures.steps)
