@@ -2,10 +2,10 @@
 
 pub mod fault;
 pub mod laws;
-pub mod misplaced;
+mod misplaced;
 pub mod read;
-pub mod reader;
-pub mod tally;
+mod reader;
+mod tally;
 
 pub use fault::ReadFault;
 pub use read::read_trace;

@@ -67,6 +67,7 @@ impl<'a, A: Allocator + Copy> Reader<'a, A> {
         }
     }
 
+    /// The test name of the sections that follow.
     fn name_test(&mut self, name: &'a [u8]) -> Result<(), Misplaced>
         ensures { Steps result (held_data self.old) (held_data self.new) (Test name.now) }
     {
@@ -77,6 +78,7 @@ impl<'a, A: Allocator + Copy> Reader<'a, A> {
         Ok(())
     }
 
+    /// A section begins.
     fn begin(&mut self, alloc: A, path: &[u8]) -> Result<(), Misplaced>
         ensures { Steps result (held_data self.old) (held_data self.new) (Path path.now) }
     {
@@ -91,6 +93,7 @@ impl<'a, A: Allocator + Copy> Reader<'a, A> {
         Ok(())
     }
 
+    /// A count of the open section.
     fn count(&mut self, item: Item) -> Result<(), Misplaced>
         ensures { Steps result (held_data self.old) (held_data self.new) (item_line item) }
     {
@@ -101,6 +104,7 @@ impl<'a, A: Allocator + Copy> Reader<'a, A> {
         Err(Misplaced::Outside)
     }
 
+    /// A total that the open section states.
     fn state(&mut self, total: Stated) -> Result<(), Misplaced>
         ensures { Steps result (held_data self.old) (held_data self.new) (Total total.kind total.value) }
     {
@@ -111,6 +115,7 @@ impl<'a, A: Allocator + Copy> Reader<'a, A> {
         Err(Misplaced::Outside)
     }
 
+    /// The open section ends: its totals are compared, and it is kept with the test's name.
     fn end(&mut self, alloc: A) -> Result<(), Misplaced>
         requires { self.old.odd + length (stated_in (held_data self.old).section) < 2 ^ 64 }
         ensures { Steps result (held_data self.old) (held_data self.new) End }

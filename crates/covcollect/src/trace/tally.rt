@@ -20,11 +20,11 @@ pub struct Stated {
 
 /// A section's own totals.
 #[derive(Clone, Copy, Debug, PartialEq, Eq)]
-pub struct Totals {
+struct Totals {
     /// Its different lines.
-    pub found: u64,
+    found: u64,
     /// Those of them that have an execution count above 0 somewhere in the section.
-    pub hit: u64,
+    hit: u64,
 }
 
 /// The totals of lines that ascend, and the last of them.
@@ -67,7 +67,7 @@ fn differs(own: &Totals, total: &Stated) -> bool
 }
 
 /// The totals of a section. The line numbers of most tracefiles ascend, and then nothing is allocated.
-pub fn own_totals<A: Allocator + Copy>(alloc: A, items: &[Item]) -> Result<Totals, Memory>
+fn own_totals<A: Allocator + Copy>(alloc: A, items: &[Item]) -> Result<Totals, Memory>
     ensures { IfOk result (λ own. AreOwn own (map item_data items.now)) }
 {
     match ascending_totals(items) {
