@@ -1,3 +1,4 @@
 pub mod Reads
 pub mod Outcome
 pub mod Session
+pub mod Streams

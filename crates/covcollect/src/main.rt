@@ -1,6 +1,7 @@
 //! covcollect, a coverage collector for lcov tracefiles: a session on standard input and output.
 #![tactic(auto)]
 
+pub mod session;
 pub mod stream;
 pub mod trace;
 
