@@ -1,1 +1,2 @@
 pub mod SessionBytes
+pub mod SessionMoves

@@ -126,13 +126,12 @@ part_line p q part k e e2 h =
     let all : part ≡ before_feed p = e2 ∙ ap (λ (u : List ℕ). take k u) e ∙ sym h in
     ap (λ (u : List ℕ). before_feed u) all ∙ before_feed-twice p ∙ sym all
 
-pub part_whole : (p q part n1 n2 : List ℕ) (k : ℕ) → q ≡ p → part ≡ take k q → drop k p ≡ line_feed ∷ drop (k + 1) p
-    → n1 ≡ drop k p → n2 ≡ drop 1 n1 → p ≡ part ++ line_feed ∷ n2
-part_whole p q part n1 n2 k e e2 h e3 e4 =
-    let rest : n2 ≡ drop (k + 1) p = e4 ∙ ap (λ (u : List ℕ). drop 1 u) (e3 ∙ h) in
+pub part_whole : (p q part rest : List ℕ) (k : ℕ) → q ≡ p → part ≡ take k q → drop k p ≡ line_feed ∷ drop (k + 1) p
+    → rest ≡ drop (k + 1) p → p ≡ part ++ line_feed ∷ rest
+part_whole p q part rest k e e2 h e3 =
     let front : part ≡ take k p = e2 ∙ ap (λ (u : List ℕ). take k u) e in
-    sym (take-append-drop k p) ∙ ap (λ (u : List ℕ). take k p ++ u) (h ∙ ap (λ (u : List ℕ). line_feed ∷ u) (sym rest))
-    ∙ ap (λ (u : List ℕ). u ++ line_feed ∷ n2) (sym front)
+    sym (take-append-drop k p) ∙ ap (λ (u : List ℕ). take k p ++ u) (h ∙ ap (λ (u : List ℕ). line_feed ∷ u) (sym e3))
+    ∙ ap (λ (u : List ℕ). u ++ line_feed ∷ rest) (sym front)
 
 pub Consumes-part : (old part new : List ℕ) (left : Option (List ℕ)) → old ≡ part ++ new → Consumes (prepend_known old left) (prepend_known new left) part
 Consumes-part old part new None e = tt

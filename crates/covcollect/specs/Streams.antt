@@ -6,6 +6,8 @@ use Rattle.covline.specs.Lines.{line_feed, carriage_return, before_feed, pieces_
 use Rattle.covcollect.specs.Outcome.{most_bytes}
 use Rattle.covcollect.specs.Session.{IsBody, IsSession}
 use Rattle.covcollect.specs.declared.session.text.Text.{Text}
+use Rattle.covcollect.specs.declared.session.text.Taken.{Taken}
+use Rattle.covcollect.specs.declared.session.text.Taken.TheVariants.{Whole, TooLong, Unfinished}
 use Rattle.covcollect.specs.declared.session.text.LineSoFar.{LineSoFar}
 use Rattle.covcollect.specs.declared.session.text.LineSoFar.TheVariants.{Nothing, Dot, Other}
 use Rattle.covcollect.specs.declared.session.text.LineEnd.{LineEnd}
@@ -118,6 +120,25 @@ pub record IsCollected (limit : ℕ) (kept : List ℕ) (total begins : ℕ) (lin
 -- so much is collected of it
 abbrev pub HasCollected : {A : Type 0} → Text A → List ℕ → List ℕ → Type 0
 HasCollected text before now = IsCollected text.limit text.kept.items text.total text.begins text.line before now
+
+-- what was taken is this text, which is kept unless it is too long
+abbrev pub IsTextOf : {A : Type 0} → List ℕ → Taken A → Type 0
+IsTextOf text (Whole kept) = (kept.items ≡ text) × (length text ≤ most_bytes)
+IsTextOf text TooLong = most_bytes < length text
+IsTextOf text Unfinished = ⊥
+
+-- the pieces behind a line `trace`: a text and its last line
+abbrev pub IsTextTaken : {A : Type 0} → List (List ℕ) → Taken A → Type 0
+IsTextTaken pieces taken =
+    (body : List (List ℕ)) × (last : List ℕ) × (pieces ≡ body ++ last ∷ []) × IsBody body × (line_of last ≡ codes ".")
+    × IsTextOf (concat body) taken
+
+-- they are a text that was taken so, or all the rest of the input
+abbrev pub IsTaken : {A : Type 0} → List (List ℕ) → LineEnd → Taken A → Type 0
+IsTaken pieces ending (Whole kept) = IsTextTaken pieces (Whole kept)
+IsTaken pieces ending TooLong = (body : List (List ℕ)) × (last : List ℕ) × (pieces ≡ body ++ last ∷ []) × IsBody body × (line_of last ≡ codes ".")
+    × (most_bytes < length (concat body))
+IsTaken pieces ending Unfinished = IsBody pieces × (ending ≡ Input)
 
 -- a whole input was read, and its session text written and nothing else
 abbrev pub IsWholeSession : Option (List ℕ) → Option (List ℕ) → Option (List ℕ) → Option (List ℕ) → Type 0

@@ -2,12 +2,13 @@
 
 ghost use Rattle.std.specs.Prelude.{◌≡◌, ℕ, ◌+◌, ◌^◌, ◌<◌, List, [], ◌++◌, IfOk, OnOk};
 ghost use Rattle.covline.specs.Lines.{before_feed};
-ghost use Rattle.covcollect.specs.Streams.{moment, CanCall, TakesLine, TakesPart, HasCollected};
+ghost use Rattle.covcollect.specs.Streams.{moment, CanCall, TakesLine, TakesPart, TakesPieces, IsTaken, HasCollected};
 
 use crate::session::block::{Block, fill};
 use crate::session::fault::SessionFault;
-use crate::session::text::{LineEnd, Text};
+use crate::session::text::{LineEnd, LineSoFar, Taken, Text};
 use crate::stream::{Sink, Source};
+use crate::trace::read::MOST_BYTES;
 use std::alloc::Allocator;
 
 /// Takes what the block has of a line, and answers whether that is all of it, the line feed too.
@@ -56,5 +57,32 @@ pub fn take_line<I: Source, O: Sink, A: Allocator>(
         if take_part(text, block)? {
             return Ok(LineEnd::Feed);
         }
+    }
+}
+
+/// Takes the lines of a text, up to a line `.`, and answers what they are and how the last line ended.
+pub fn take_text<I: Source, O: Sink, A: Allocator>(
+    alloc: A,
+    block: &mut Block<A>,
+    source: &mut I,
+    waiting: &mut Vec<u8, A>,
+    sink: &mut O,
+) -> Result<(Taken<A>, LineEnd), SessionFault>
+    requires { CanCall (moment I.left I.reads I.failed_reads O.written O.failed_writes block.old source.old waiting.old.items sink.old) }
+    ensures { IfOk result (λ r. (pieces : List (List ℕ))
+        × TakesPieces (moment I.left I.reads I.failed_reads O.written O.failed_writes block.old source.old waiting.old.items sink.old)
+            (moment I.left I.reads I.failed_reads O.written O.failed_writes block.new source.new waiting.new.items sink.new) pieces r.1 []
+        × IsTaken pieces r.1 r.0) }
+{
+    let mut text = Text::new(alloc, MOST_BYTES);
+    loop {
+        let ending = take_line(&mut text, block, source, waiting, sink)?;
+        if text.line == LineSoFar::Dot {
+            return Ok((text.body(), ending));
+        }
+        if ending == LineEnd::Input {
+            return Ok((Taken::Unfinished, LineEnd::Input));
+        }
+        text.next_line()?;
     }
 }

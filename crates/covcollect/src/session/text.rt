@@ -2,7 +2,8 @@
 
 ghost use Rattle.std.specs.Prelude.{◌≡◌, ℕ, ◌<◌, ◌≤◌, List, [], ◌∷◌, ◌++◌, length, take, OnOk};
 ghost use Rattle.covline.specs.Lines.{line_feed};
-ghost use Rattle.covcollect.specs.Streams.{line_after, line_with, HasCollected};
+ghost use Rattle.covcollect.specs.Outcome.{most_bytes};
+ghost use Rattle.covcollect.specs.Streams.{line_after, line_with, HasCollected, IsTextOf};
 
 use crate::session::fault::SessionFault;
 use std::alloc::Allocator;
@@ -62,6 +63,17 @@ pub fn with_bytes(so_far: LineSoFar, bytes: &[u8]) -> LineSoFar
         line = with_byte(line, *byte);
     }
     line
+}
+
+/// What was taken of a text.
+#[derive(Drop)]
+pub enum Taken<A: Allocator> {
+    /// The whole text, up to its last line.
+    Whole(Vec<u8, A>),
+    /// It has more bytes than a text may have, and isn't kept.
+    TooLong,
+    /// The input ended before it.
+    Unfinished,
 }
 
 /// Bytes that are collected, and kept up to a limit.
@@ -134,5 +146,19 @@ impl<A: Allocator> Text<A> {
         self.begins = self.total;
         self.line = LineSoFar::Nothing;
         Ok(())
+    }
+
+    /// The text is all that stands before the line that was begun.
+    pub fn body(self) -> Taken<A>
+        requires { self.limit ≡ most_bytes }
+        ensures { (before : List ℕ) → (now : List ℕ) → HasCollected self before now → IsTextOf before result }
+    {
+        let Text { kept, limit, begins, .. } = self;
+        if begins > limit as u64 {
+            return Taken::TooLong;
+        }
+        let mut text = kept;
+        text.truncate(begins as usize);
+        Taken::Whole(text)
     }
 }
