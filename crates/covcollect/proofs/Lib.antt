@@ -1,2 +1,3 @@
 pub mod SessionBytes
 pub mod SessionMoves
+pub mod SessionPieces

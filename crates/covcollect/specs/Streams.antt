@@ -1,5 +1,5 @@
 -- What a session has taken of its input and said to its output at a moment between two reads.
-use Rattle.std.specs.Prelude.{◌≡◌, ℕ, ◌+◌, ◌-◌, ◌*◌, ◌^◌, ◌<◌, ◌≤◌, ◌==◌, Bool, true, false, min, if◌then◌else◌, List, [], ◌∷◌, ◌++◌, length, take, Option, codes}
+use Rattle.std.specs.Prelude.{◌≡◌, ◌≢◌, ℕ, ◌+◌, ◌-◌, ◌*◌, ◌^◌, ◌<◌, ◌≤◌, ◌==◌, Bool, true, false, min, if◌then◌else◌, List, [], ◌∷◌, ◌++◌, length, take, Option, codes}
 use Rattle.std.specs.List.{concat}
 use Rattle.std.specs.Io.KnownBytes.{Consumes, Appends, IsAtEnd, prepend_known, append_known}
 use Rattle.covline.specs.Lines.{line_feed, carriage_return, before_feed, pieces_of, line_of}
@@ -8,6 +8,8 @@ use Rattle.covcollect.specs.Session.{IsBody, IsSession}
 use Rattle.covcollect.specs.declared.session.text.Text.{Text}
 use Rattle.covcollect.specs.declared.session.text.Taken.{Taken}
 use Rattle.covcollect.specs.declared.session.text.Taken.TheVariants.{Whole, TooLong, Unfinished}
+use Rattle.covcollect.specs.declared.session.word.Word.{Word}
+use Rattle.covcollect.specs.declared.session.word.Word.TheVariants as words
 use Rattle.covcollect.specs.declared.session.text.LineSoFar.{LineSoFar}
 use Rattle.covcollect.specs.declared.session.text.LineSoFar.TheVariants.{Nothing, Dot, Other}
 use Rattle.covcollect.specs.declared.session.text.LineEnd.{LineEnd}
@@ -139,6 +141,13 @@ IsTaken pieces ending (Whole kept) = IsTextTaken pieces (Whole kept)
 IsTaken pieces ending TooLong = (body : List (List ℕ)) × (last : List ℕ) × (pieces ≡ body ++ last ∷ []) × IsBody body × (line_of last ≡ codes ".")
     × (most_bytes < length (concat body))
 IsTaken pieces ending Unfinished = IsBody pieces × (ending ≡ Input)
+
+-- what a line without the carriage returns at its end asks for
+abbrev pub IsWord : List ℕ → Word → Type 0
+IsWord line words.Blank = line ≡ []
+IsWord line words.Report = line ≡ codes "report"
+IsWord line words.Trace = line ≡ codes "trace"
+IsWord line words.Other = (line ≢ []) × (line ≢ codes "report") × (line ≢ codes "trace")
 
 -- a whole input was read, and its session text written and nothing else
 abbrev pub IsWholeSession : Option (List ℕ) → Option (List ℕ) → Option (List ℕ) → Option (List ℕ) → Type 0

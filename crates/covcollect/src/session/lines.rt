@@ -6,7 +6,7 @@ ghost use Rattle.covcollect.specs.Streams.{moment, CanCall, TakesLine, TakesPart
 
 use crate::session::block::{Block, fill};
 use crate::session::fault::SessionFault;
-use crate::session::text::{LineEnd, LineSoFar, Taken, Text};
+use crate::session::text::{LineEnd, Taken, Text};
 use crate::stream::{Sink, Source};
 use crate::trace::read::MOST_BYTES;
 use std::alloc::Allocator;
@@ -77,12 +77,12 @@ pub fn take_text<I: Source, O: Sink, A: Allocator>(
     let mut text = Text::new(alloc, MOST_BYTES);
     loop {
         let ending = take_line(&mut text, block, source, waiting, sink)?;
-        if text.line == LineSoFar::Dot {
+        if text.is_last() {
             return Ok((text.body(), ending));
         }
-        if ending == LineEnd::Input {
-            return Ok((Taken::Unfinished, LineEnd::Input));
+        match ending {
+            LineEnd::Feed => text.next_line()?,
+            LineEnd::Input => return Ok((Taken::Unfinished, LineEnd::Input)),
         }
-        text.next_line()?;
     }
 }

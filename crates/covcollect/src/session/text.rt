@@ -1,6 +1,6 @@
 //! A text, or a command line, while it is collected part by part.
 
-ghost use Rattle.std.specs.Prelude.{◌≡◌, ℕ, ◌<◌, ◌≤◌, List, [], ◌∷◌, ◌++◌, length, take, OnOk};
+ghost use Rattle.std.specs.Prelude.{◌≡◌, ◌↔◌, ℕ, List, [], ◌∷◌, ◌++◌, take, IsTrue, OnOk};
 ghost use Rattle.covline.specs.Lines.{line_feed};
 ghost use Rattle.covcollect.specs.Outcome.{most_bytes};
 ghost use Rattle.covcollect.specs.Streams.{line_after, line_with, HasCollected, IsTextOf};
@@ -146,6 +146,16 @@ impl<A: Allocator> Text<A> {
         self.begins = self.total;
         self.line = LineSoFar::Nothing;
         Ok(())
+    }
+
+    /// Whether the line that was begun is the one that ends a text, if it ends here.
+    pub fn is_last(&self) -> bool
+        ensures { IsTrue result ↔ self.now.line ≡ LineSoFar.Dot }
+    {
+        match self.line {
+            LineSoFar::Dot => true,
+            LineSoFar::Nothing | LineSoFar::Other => false,
+        }
     }
 
     /// The text is all that stands before the line that was begun.
