@@ -35,9 +35,13 @@ pub record IsLawful (s : SubmissionData) : Type 0 where
   pub fit : AllByRecursion (λ sect. AllFit64 sect.items) s.sects
   pub odd_fits : s.odd < 2 ^ 64
 
+-- the first section with an unlawful text has this number
+abbrev pub IsFirstUnlawful : List SectData → ℕ → Type 0
+IsFirstUnlawful sects k =
+    (before : List SectData) × (bad : SectData) × (after : List SectData)
+    × (sects ≡ before ++ bad ∷ after) × (length before ≡ k) × All IsLawfulSect before × ¬ IsLawfulSect bad
+
 -- why sections make no submission: the number of items is tested first, then the texts in order
 abbrev pub IsRefusedAs : List SectData → BadSubmission → Type 0
 IsRefusedAs sects TooMany = most_items < items_in sects
-IsRefusedAs sects (BadText k) =
-    (items_in sects ≤ most_items) × (before : List SectData) × (bad : SectData) × (after : List SectData)
-    × (sects ≡ before ++ bad ∷ after) × (length before ≡ k) × All IsLawfulSect before × ¬ IsLawfulSect bad
+IsRefusedAs sects (BadText k) = (items_in sects ≤ most_items) × IsFirstUnlawful sects k

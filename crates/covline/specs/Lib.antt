@@ -4,3 +4,4 @@ pub mod Lines
 pub mod Lawful
 pub mod Spells
 pub mod Printed
+pub mod LineLaws

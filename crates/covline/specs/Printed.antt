@@ -1,5 +1,5 @@
 -- How a record is printed: its key, its fields with numbers in decimal without leading zeros, and a line feed.
-use Rattle.std.specs.Prelude.{◌≡◌, ℕ, ◌<◌, List, [], ◌∷◌, ◌++◌, length, codes, decimal}
+use Rattle.std.specs.Prelude.{ℕ, ◌<◌, List, [], ◌∷◌, ◌++◌, length, codes, decimal}
 use Rattle.covline.specs.Lines.{line_feed}
 use Rattle.covline.specs.Lawful.{IsGoodTest}
 use Rattle.covline.specs.Spells.{LineData, Test, Path, Line, Total, End, Skip, comma, key_of, HasSmallNumbers}

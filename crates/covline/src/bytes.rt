@@ -1,4 +1,4 @@
-ghost use Rattle.std.specs.Prelude.{◌≡◌, IfOk, OnOk, OnErr, ◌++◌, []};
+ghost use Rattle.std.specs.Prelude.{◌≡◌, IfOk, OnOk, OnErr, ◌++◌, [], length, take};
 
 use crate::memory::Memory;
 use std::alloc::{Allocator, Global};
@@ -42,6 +42,29 @@ impl<A: Allocator> Bytes<A> {
         ensures { result.now ≡ self.now }
     {
         self.text.as_slice()
+    }
+
+    /// How many bytes there are.
+    pub fn len(&self) -> usize
+        ensures { result ≡ length self.now }
+    {
+        self.text.len()
+    }
+
+    /// Appends the bytes. A refusal leaves the text as it was.
+    pub fn append(&mut self, more: &[u8]) -> Result<(), Memory>
+        ensures ok { OnOk result (self.new ≡ self.old ++ more.now) }
+        ensures err { OnErr result (self.new ≡ self.old) }
+    {
+        self.text.extend_from_slice(more)?;
+        Ok(())
+    }
+
+    /// Keeps the first bytes, at most this many of them, and the memory.
+    pub fn truncate(&mut self, len: usize)
+        ensures { self.new ≡ take len self.old }
+    {
+        self.text.truncate(len);
     }
 
     /// An equal text, in memory of its own.

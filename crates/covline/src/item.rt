@@ -30,8 +30,9 @@ impl<A: Allocator> Model for Items<A> {
 }
 
 impl<A: Allocator> Items<A> {
-    ghost use Rattle.std.specs.Prelude.{◌≡◌, ◌++◌, [], ◌∷◌, OnOk, OnErr, map};
+    ghost use Rattle.std.specs.Prelude.{◌≡◌, ◌++◌, [], ◌∷◌, OnOk, OnErr, length, map};
     ghost use Rattle.covline.specs.Row.{item_data};
+    ghost use Rattle.covline.specs.Lawful.{AllFit64};
 
     /// The empty list.
     pub fn new(alloc: A) -> Items<A>
@@ -51,11 +52,25 @@ impl<A: Allocator> Items<A> {
         Ok(())
     }
 
+    /// How many items there are.
+    pub fn len(&self) -> usize
+        ensures { result ≡ length self.now }
+    {
+        self.items.len()
+    }
+
+    /// Gives the unused room back: for a list that is finished.
+    pub fn shrink(&mut self)
+        ensures { self.new ≡ self.old }
+    {
+        self.items.shrink_to_fit();
+    }
+
     /// The items in order.
     pub fn get(&self) -> &[Item]
-        ensures { map item_data result.now ≡ self.now }
+        ensures items { map item_data result.now ≡ self.now }
+        ensures fit { AllFit64 self.now }
     {
         self.items.as_slice()
     }
 }
-

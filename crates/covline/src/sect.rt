@@ -34,7 +34,7 @@ impl<A: Allocator> Model for Sects<A> {
 }
 
 impl<A: Allocator> Sects<A> {
-    ghost use Rattle.std.specs.Prelude.{◌≡◌, ◌++◌, [], ◌∷◌, OnOk, OnErr, map};
+    ghost use Rattle.std.specs.Prelude.{◌≡◌, ◌++◌, [], ◌∷◌, OnOk, OnErr, length, map};
     ghost use Rattle.covline.specs.SectView.{sect_data};
 
     /// The empty list.
@@ -55,6 +55,20 @@ impl<A: Allocator> Sects<A> {
         Ok(())
     }
 
+    /// How many sections there are.
+    pub fn len(&self) -> usize
+        ensures { result ≡ length self.now }
+    {
+        self.sects.len()
+    }
+
+    /// Gives the unused room of the list itself back: for a list that is finished.
+    pub fn shrink(&mut self)
+        ensures { self.new ≡ self.old }
+    {
+        self.sects.shrink_to_fit();
+    }
+
     /// The sections in order.
     pub fn get(&self) -> &[Sect<A>]
         ensures { map sect_data result.now ≡ self.now }
@@ -62,4 +76,3 @@ impl<A: Allocator> Sects<A> {
         self.sects.as_slice()
     }
 }
-

@@ -1,5 +1,6 @@
 //! Submissions: what one text says.
 
+use crate::checks::{count_items, first_unlawful};
 use crate::sect::{Sect, Sects};
 use std::alloc::{Allocator, Global};
 use std::marker::Model;
@@ -37,12 +38,28 @@ impl<A: Allocator> Model for Submission<A> {
     ghost invariant = { λ a. IsLawful (record { sects = a.sects; odd = a.odd }) × (a.items ≡ items_in a.sects) };
 }
 
-
 impl<A: Allocator> Submission<A> {
-    ghost use Rattle.std.specs.Prelude.{◌≡◌, map};
+    ghost use Rattle.std.specs.Prelude.{◌≡◌, ◌↔◌, IfOk, IfErr, IsOk, map};
     ghost use Rattle.covline.specs.Row.{items_in};
     ghost use Rattle.covline.specs.SectView.{sect_data};
-    ghost use Rattle.covline.specs.Lawful.{IsLawful};
+    ghost use Rattle.covline.specs.Lawful.{IsLawful, IsRefusedAs};
+
+    /// The submission of these sections, of whose text so many lines don't fit the others. Takes no memory. A
+    /// refusal gives the sections back: there are too many items, or else a text is unlawful.
+    pub fn of(sects: Sects<A>, odd: u64) -> Result<Submission<A>, (Sects<A>, BadSubmission)>
+        ensures ok { IfOk result (λ s. s ≡ record { sects = sects; odd = odd }) }
+        ensures lawful { IsOk result ↔ IsLawful (record { sects = sects; odd = odd }) }
+        ensures refused { IfErr result (λ e. (e.0 ≡ sects) × IsRefusedAs sects e.1) }
+    {
+        let all = sects.get();
+        let Some(items) = count_items(all) else {
+            return Err((sects, BadSubmission::TooMany));
+        };
+        if let Some(sect) = first_unlawful(all) {
+            return Err((sects, BadSubmission::BadText { sect }));
+        }
+        Ok(Submission { sects, items, odd })
+    }
 
     /// The sections, in the order of the text.
     pub fn sects(&self) -> &[Sect<A>]

@@ -1,13 +1,5 @@
 //! One line of a tracefile (geninfo(1) of LCOV 1.x, section FILES).
 
-ghost use Rattle.std.specs.Prelude.{◌≡◌, ◌++◌, ◌∷◌, [], OnOk, OnErr};
-ghost use Rattle.covline.specs.Lines.{lines_of};
-ghost use Rattle.covline.specs.Spells.{line_data, Spells};
-ghost use Rattle.covline.specs.Printed.{line_text, printed, IsReadable};
-
-use crate::bytes::Bytes;
-use crate::memory::Memory;
-use std::alloc::Allocator;
 use thiserror::Error;
 
 /// Which of a section's own totals a line states.
@@ -48,15 +40,4 @@ pub enum LineFault {
     /// `SF:` and nothing behind it.
     #[error("EmptyPath")]
     EmptyPath = 3,
-}
-
-/// Appends the line that says this, and a line feed; nothing for a skipped line. A refusal leaves the text as
-/// it was.
-pub fn put_line<A: Allocator>(line: &TraceLine<'_>, text: &mut Bytes<A>) -> Result<(), Memory>
-    ensures ok { OnOk result (text.new ≡ text.old ++ printed (line_data line.now)) }
-    ensures err { OnErr result (text.new ≡ text.old) }
-{
-    let _line = line;
-    let _text = text;
-    Err(Memory)
 }

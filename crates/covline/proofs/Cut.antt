@@ -1,0 +1,230 @@
+-- How a text is cut into lines, from its beginning and at its first line feed.
+use Rattle.std.proofs.Common.{◌≡◌, ◌≢◌, ℕ, suc, ◌+◌, ◌<◌, ◌≤◌, Bool, true, false, cond, eqb, List, [], ◌∷◌, ◌++◌, length, get_or, take, drop, map, refl, sym, ap, ◌∙◌, arith}
+use Rattle.std.specs.Prelude.{All}
+use Rattle.std.specs.List.{concat, sum_by}
+use Rattle.std.proofs.lemmas.Bool.{ne_eqb, eq-eqb, eqb-true, eqb-false}
+use Rattle.std.proofs.lemmas.List.{drop_more, take-append-drop, get_or-take, same_from_push, length-take, length-map, length-append}
+use Rattle.std.proofs.lemmas.List.Elements.{All-nil, All-cons, All-head, All-tail, All-from_get_or}
+use Rattle.std.proofs.lemmas.List.Sums.{sum_by-cons}
+use Rattle.memchr.specs.Find.{NoneBefore, Nowhere, Passes, is_byte}
+use Rattle.covline.specs.Lines.{line_feed, carriage_return, onto_first, pieces_of, before_feed, before_stripped, strip, line_of, lines_of}
+use Rattle.covline.specs.Lawful.{IsGoodTest}
+
+-- no byte is a line feed
+abbrev pub HasNoFeed : List ℕ → Type 0
+HasNoFeed text = All (λ b. b ≢ line_feed) text
+
+pub HasNoFeed-head : (b : ℕ) (bs : List ℕ) → HasNoFeed (b ∷ bs) → eqb b line_feed ≡ false
+HasNoFeed-head b bs none = ne_eqb b line_feed (All-head (λ x. x ≢ line_feed) b bs none)
+
+pub HasNoFeed-tail : (b : ℕ) (bs : List ℕ) → HasNoFeed (b ∷ bs) → HasNoFeed bs
+HasNoFeed-tail b bs none = All-tail (λ x. x ≢ line_feed) b bs none
+
+-- ---- pieces
+
+pub pieces_at : (front rest : List ℕ) → HasNoFeed front → pieces_of (front ++ line_feed ∷ rest) ≡ (front ++ line_feed ∷ []) ∷ pieces_of rest
+pieces_at [] rest none = refl
+pieces_at (b ∷ bs) rest none =
+    rw (HasNoFeed-head b bs none, pieces_at bs rest (HasNoFeed-tail b bs none)) refl
+
+pub pieces_last : (b : ℕ) (bs : List ℕ) → HasNoFeed (b ∷ bs) → pieces_of (b ∷ bs) ≡ (b ∷ bs) ∷ []
+pieces_last b [] none = rw (HasNoFeed-head b [] none) refl
+pieces_last b (c ∷ cs) none =
+    rw (HasNoFeed-head b (c ∷ cs) none, pieces_last c cs (HasNoFeed-tail b (c ∷ cs) none)) refl
+
+concat-onto_first : (b : ℕ) (pieces : List (List ℕ)) → concat (onto_first b pieces) ≡ b ∷ concat pieces
+concat-onto_first b [] = refl
+concat-onto_first b (piece ∷ pieces) = refl
+
+concat_cut : (b : ℕ) (pieces : List (List ℕ)) (test : Bool) → concat (cond test ((b ∷ []) ∷ pieces) (onto_first b pieces)) ≡ b ∷ concat pieces
+concat_cut b pieces true = refl
+concat_cut b pieces false = concat-onto_first b pieces
+
+-- joined again, the pieces are the text
+pub concat-pieces : (text : List ℕ) → concat (pieces_of text) ≡ text
+concat-pieces [] = refl
+concat-pieces (b ∷ bs) = concat_cut b (pieces_of bs) (eqb b line_feed) ∙ ap (λ (t : List ℕ). b ∷ t) (concat-pieces bs)
+
+length-onto_first : (b : ℕ) (pieces : List (List ℕ)) → length (onto_first b pieces) ≤ suc (length pieces)
+length-onto_first b [] = omega arith
+length-onto_first b (piece ∷ pieces) = omega arith
+
+length_cut : (b : ℕ) (pieces : List (List ℕ)) (test : Bool) → length (cond test ((b ∷ []) ∷ pieces) (onto_first b pieces)) ≤ suc (length pieces)
+length_cut b pieces true = omega arith
+length_cut b pieces false = length-onto_first b pieces
+
+-- there are at most as many pieces as bytes
+pub length-pieces : (text : List ℕ) → length (pieces_of text) ≤ length text
+length-pieces [] = omega arith
+length-pieces (b ∷ bs) = omega (arith, length_cut b (pieces_of bs) (eqb b line_feed), length-pieces bs)
+
+-- ---- what stands before the first line feed
+
+pub before_feed-at : (front rest : List ℕ) → HasNoFeed front → before_feed (front ++ line_feed ∷ rest) ≡ front
+before_feed-at [] rest none = refl
+before_feed-at (b ∷ bs) rest none =
+    rw (HasNoFeed-head b bs none, before_feed-at bs rest (HasNoFeed-tail b bs none)) refl
+
+pub before_feed-none : (text : List ℕ) → HasNoFeed text → before_feed text ≡ text
+before_feed-none [] none = refl
+before_feed-none (b ∷ bs) none =
+    rw (HasNoFeed-head b bs none, before_feed-none bs (HasNoFeed-tail b bs none)) refl
+
+no_feed_cut : (b : ℕ) (bs : List ℕ) (test : Bool) → eqb b line_feed ≡ test → HasNoFeed bs → HasNoFeed (cond test [] (b ∷ bs))
+no_feed_cut b bs true e none = All-nil (λ x. x ≢ line_feed)
+no_feed_cut b bs false e none = All-cons (λ x. x ≢ line_feed) b bs (eqb-false b line_feed e) none
+
+HasNoFeed-before : (text : List ℕ) → HasNoFeed (before_feed text)
+HasNoFeed-before [] = All-nil (λ x. x ≢ line_feed)
+HasNoFeed-before (b ∷ bs) = no_feed_cut b (before_feed bs) (eqb b line_feed) refl (HasNoFeed-before bs)
+
+length_before : (b : ℕ) (bs : List ℕ) (test : Bool) → length (cond test [] (b ∷ bs)) ≤ suc (length bs)
+length_before b bs true = omega arith
+length_before b bs false = omega arith
+
+length-before_feed : (text : List ℕ) → length (before_feed text) ≤ length text
+length-before_feed [] = omega arith
+length-before_feed (b ∷ bs) = omega (arith, length_before b (before_feed bs) (eqb b line_feed), length-before_feed bs)
+
+-- ---- carriage returns at the end
+
+-- the text doesn't end in a carriage return
+abbrev pub NoReturn : List ℕ → Type 0
+NoReturn text = (front : List ℕ) → text ≢ front ++ carriage_return ∷ []
+
+keeps_first : (b : ℕ) (test : Bool) → eqb b carriage_return ≡ test → NoReturn (b ∷ []) → cond test [] (b ∷ []) ≡ b ∷ []
+keeps_first b true e none = absurd (none [] (ap (λ (x : ℕ). x ∷ []) (eqb-true b carriage_return e)))
+keeps_first b false e none = refl
+
+NoReturn-tail : (b : ℕ) (bs : List ℕ) → NoReturn (b ∷ bs) → NoReturn bs
+NoReturn-tail b bs none front e = none (b ∷ front) (ap (λ (t : List ℕ). b ∷ t) e)
+
+keeps_more : (b : ℕ) (bs : List ℕ) → NoReturn (b ∷ bs) → before_stripped b bs ≡ b ∷ bs
+keeps_more b [] none = keeps_first b (eqb b carriage_return) refl none
+keeps_more b (c ∷ cs) none = refl
+
+pub strip-none : (text : List ℕ) → NoReturn text → strip text ≡ text
+strip-none [] none = refl
+strip-none (b ∷ bs) none = rw (strip-none bs (NoReturn-tail b bs none)) (keeps_more b bs none)
+
+pub strip-return : (text : List ℕ) → strip (text ++ carriage_return ∷ []) ≡ strip text
+strip-return [] = refl
+strip-return (b ∷ bs) = ap (λ (t : List ℕ). before_stripped b t) (strip-return bs)
+
+pub strip_returns : (text front : List ℕ) (last : ℕ) → text ≡ front ++ last ∷ [] → last ≡ carriage_return → strip front ≡ strip text
+strip_returns text front last e same = rw (e, same) (sym (strip-return front))
+
+pub strip_other : (text front : List ℕ) (last : ℕ) → text ≡ front ++ last ∷ [] → last ≢ carriage_return → strip text ≡ text
+strip_other text front last e other = strip-none text (λ before at. other (same_from_push front before last carriage_return (sym e ∙ at)).1)
+
+pub strip_empty : (text : List ℕ) → length text ≡ 0 → strip text ≡ text
+strip_empty [] empty = refl
+strip_empty (b ∷ bs) empty = absurd (omega arith)
+
+NoReturn-nil : NoReturn []
+NoReturn-nil [] e = absurd cc
+NoReturn-nil (f ∷ front) e = absurd cc
+
+NoReturn-one : (b : ℕ) (test : Bool) → eqb b carriage_return ≡ test → NoReturn (cond test [] (b ∷ []))
+NoReturn-one b true t front e = NoReturn-nil front e
+NoReturn-one b false t [] e = let same : b ≡ carriage_return = cc in eqb-false b carriage_return t same
+NoReturn-one b false t (f ∷ []) e = absurd cc
+NoReturn-one b false t (f ∷ g ∷ front) e = absurd cc
+
+NoReturn-stripped : (b : ℕ) (bs : List ℕ) → NoReturn bs → NoReturn (before_stripped b bs)
+NoReturn-stripped b [] none front e = NoReturn-one b (eqb b carriage_return) refl front e
+NoReturn-stripped b (c ∷ cs) none [] e = absurd cc
+NoReturn-stripped b (c ∷ cs) none (f ∷ front) e = let rest : c ∷ cs ≡ front ++ carriage_return ∷ [] = cc in none front rest
+
+pub NoReturn-strip : (text : List ℕ) → NoReturn (strip text)
+NoReturn-strip [] = NoReturn-nil
+NoReturn-strip (b ∷ bs) = NoReturn-stripped b (strip bs) (NoReturn-strip bs)
+
+no_feed_one : (b : ℕ) (test : Bool) → b ≢ line_feed → HasNoFeed (cond test [] (b ∷ []))
+no_feed_one b true ne = All-nil (λ x. x ≢ line_feed)
+no_feed_one b false ne = All-cons (λ x. x ≢ line_feed) b [] ne (All-nil (λ x. x ≢ line_feed))
+
+no_feed_stripped : (b : ℕ) (bs : List ℕ) → b ≢ line_feed → HasNoFeed bs → HasNoFeed (before_stripped b bs)
+no_feed_stripped b [] ne none = no_feed_one b (eqb b carriage_return) ne
+no_feed_stripped b (c ∷ cs) ne none = All-cons (λ x. x ≢ line_feed) b (c ∷ cs) ne none
+
+HasNoFeed-strip : (text : List ℕ) → HasNoFeed text → HasNoFeed (strip text)
+HasNoFeed-strip [] none = none
+HasNoFeed-strip (b ∷ bs) none = no_feed_stripped b (strip bs) (All-head (λ x. x ≢ line_feed) b bs none) (HasNoFeed-strip bs (HasNoFeed-tail b bs none))
+
+length_one : (b : ℕ) (test : Bool) → length (cond test [] (b ∷ [])) ≤ 1
+length_one b true = omega arith
+length_one b false = omega arith
+
+length_stripped : (b : ℕ) (bs : List ℕ) → length (before_stripped b bs) ≤ suc (length bs)
+length_stripped b [] = length_one b (eqb b carriage_return)
+length_stripped b (c ∷ cs) = omega arith
+
+length-strip : (text : List ℕ) → length (strip text) ≤ length text
+length-strip [] = omega arith
+length-strip (b ∷ bs) = omega (arith, length_stripped b (strip bs), length-strip bs)
+
+-- ---- lines
+
+pub IsGoodTest-line : (piece : List ℕ) → IsGoodTest (line_of piece)
+IsGoodTest-line piece = record {
+  one_line = HasNoFeed-strip (before_feed piece) (HasNoFeed-before piece);
+  no_return = NoReturn-strip (before_feed piece);
+}
+
+every_line : (pieces : List (List ℕ)) → All IsGoodTest (map line_of pieces)
+every_line [] = All-nil IsGoodTest
+every_line (piece ∷ pieces) = All-cons IsGoodTest (line_of piece) (map line_of pieces) (IsGoodTest-line piece) (every_line pieces)
+
+-- each line of a text is a good text
+pub IsGoodTest-lines : (text : List ℕ) → All IsGoodTest (lines_of text)
+IsGoodTest-lines text = every_line (pieces_of text)
+
+-- there are at most as many lines as bytes
+pub length-lines : (text : List ℕ) → length (lines_of text) ≤ length text
+length-lines text = omega (arith, length-map (pieces_of text) line_of, length-pieces text)
+
+bytes_of_lines : (pieces : List (List ℕ)) → sum_by length (map line_of pieces) ≤ length (concat pieces)
+bytes_of_lines [] = omega arith
+bytes_of_lines (piece ∷ pieces) =
+    omega (arith, sum_by-cons length (line_of piece) (map line_of pieces), length-append piece (concat pieces), bytes_of_lines pieces, length-strip (before_feed piece), length-before_feed piece)
+
+-- the lines have at most the bytes of the text
+pub bytes-lines : (text : List ℕ) → sum_by length (lines_of text) ≤ length text
+bytes-lines text = omega (arith, bytes_of_lines (pieces_of text), ap length (concat-pieces text))
+
+pub lines_at : (front rest : List ℕ) → HasNoFeed front → lines_of (front ++ line_feed ∷ rest) ≡ strip front ∷ lines_of rest
+lines_at front rest none = rw (pieces_at front rest none, before_feed-at front [] none) refl
+
+pub lines_last : (b : ℕ) (bs : List ℕ) → HasNoFeed (b ∷ bs) → lines_of (b ∷ bs) ≡ strip (b ∷ bs) ∷ []
+lines_last b bs none = rw (pieces_last b bs none, before_feed-none (b ∷ bs) none) refl
+
+-- ---- at the place that a search for the line feed gives
+
+HasNoFeed-from : (text : List ℕ) → Nowhere (Passes (is_byte line_feed) text) 0 (length text) → HasNoFeed text
+HasNoFeed-from text none =
+    All-from_get_or (λ b. b ≢ line_feed) text 0 (λ k lt e. none k (omega arith) lt (eq-eqb (get_or text k 0) line_feed e))
+
+HasNoFeed-take : (text : List ℕ) (i : ℕ) → Nowhere (Passes (is_byte line_feed) text) 0 i → HasNoFeed (take i text)
+HasNoFeed-take text i none =
+    All-from_get_or (λ b. b ≢ line_feed) (take i text) 0 (λ k lt e.
+    let below : k < i = omega (arith, length-take i text) in
+    none k (omega arith) below (eq-eqb (get_or text k 0) line_feed (sym (get_or-take i text k 0 below) ∙ e)))
+
+pub lines_cut : (text : List ℕ) (i : ℕ) → NoneBefore (Passes (is_byte line_feed) text) 0 (length text) i → Passes (is_byte line_feed) text i → lines_of text ≡ strip (take i text) ∷ lines_of (drop (i + 1) text)
+lines_cut text i first here =
+    let behind : drop i text ≡ line_feed ∷ drop (i + 1) text = drop_more text i 0 first.high ∙ ap (λ (b : ℕ). b ∷ drop (i + 1) text) (eqb-true (get_or text i 0) line_feed here) in
+    let parts : text ≡ take i text ++ line_feed ∷ drop (i + 1) text = sym (take-append-drop i text) ∙ ap (λ (t : List ℕ). take i text ++ t) behind in
+    ap lines_of parts ∙ lines_at (take i text) (drop (i + 1) text) (HasNoFeed-take text i first.before)
+
+pub lines_whole : (text : List ℕ) → 0 < length text → Nowhere (Passes (is_byte line_feed) text) 0 (length text) → lines_of text ≡ strip text ∷ []
+lines_whole [] some none = absurd (omega arith)
+lines_whole (b ∷ bs) some none = lines_last b bs (HasNoFeed-from (b ∷ bs) none)
+
+-- the first line, where the search found a line feed behind it and where it found none
+pub first_line_at : (text line rest : List ℕ) (i : ℕ) → NoneBefore (Passes (is_byte line_feed) text) 0 (length text) i × Passes (is_byte line_feed) text i → line ≡ strip (take i text) → rest ≡ drop (i + 1) text → lines_of text ≡ line ∷ lines_of rest
+first_line_at text line rest i found line-is rest-is = rw (line-is, rest-is) (lines_cut text i found.0 found.1)
+
+pub first_line_whole : (text line rest : List ℕ) → 0 < length text → Nowhere (Passes (is_byte line_feed) text) 0 (length text) → line ≡ strip text → length rest ≡ 0 → lines_of text ≡ line ∷ lines_of rest
+first_line_whole text line [] some none line-is empty = rw line-is (lines_whole text some none)
+first_line_whole text line (b ∷ bs) some none line-is empty = absurd (omega arith)

@@ -1,0 +1,5 @@
+pub mod GoodTexts
+pub mod Cut
+pub mod SectLaws
+pub mod PrintedLaws
+pub mod LineLaws

@@ -1,0 +1,52 @@
+//! What is tested of sections before they make a submission.
+
+ghost use Rattle.std.specs.Prelude.{◌≡◌, ◌<◌, ◌≤◌, ◌↔◌, IsTrue, IsSome, MatchOption, All, map};
+ghost use Rattle.std.specs.List.{AllByRecursion};
+ghost use Rattle.covline.specs.Row.{items_in};
+ghost use Rattle.covline.specs.SectView.{sect_data};
+ghost use Rattle.covline.specs.Lawful.{most_items, AllFit64, IsFirstUnlawful, IsLawfulSect};
+
+use crate::names::good_test;
+use crate::sect::Sect;
+use std::alloc::Allocator;
+
+/// How many items a submission has at the most.
+const MOST_ITEMS: u64 = 67_108_864;
+
+/// How many items the sections have, or `None` where there are too many of them.
+pub fn count_items<A: Allocator>(sects: &[Sect<A>]) -> Option<u64>
+    ensures count { let all = map sect_data sects.now in
+        MatchOption result (most_items < items_in all) (λ n. (n ≡ items_in all) × (n ≤ most_items)) }
+    ensures fit { IsSome result → AllByRecursion (λ s. AllFit64 s.items) (map sect_data sects.now) }
+{
+    let mut items = 0;
+    for sect in sects {
+        let more = sect.items.get().len() as u64;
+        if more > MOST_ITEMS - items {
+            return None;
+        }
+        items += more;
+    }
+    Some(items)
+}
+
+/// The number of the first section with an unlawful text.
+pub fn first_unlawful<A: Allocator>(sects: &[Sect<A>]) -> Option<usize>
+    ensures { let all = map sect_data sects.now in
+        MatchOption result (All IsLawfulSect all) (IsFirstUnlawful all) }
+{
+    for (at, sect) in sects.iter().enumerate() {
+        if !is_lawful(sect) {
+            return Some(at);
+        }
+    }
+    None
+}
+
+/// Whether the texts of the section are lawful.
+fn is_lawful<A: Allocator>(sect: &Sect<A>) -> bool
+    ensures { IsTrue result ↔ IsLawfulSect (sect_data sect.now) }
+{
+    let file = sect.file.get();
+    good_test(sect.test.get()) && good_test(file) && !file.is_empty()
+}

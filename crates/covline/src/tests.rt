@@ -1,0 +1,4 @@
+mod cutting;
+mod owning;
+mod printing;
+mod submitting;
