@@ -41,8 +41,7 @@ returns-in-Input g c =
     let taken = subst P c.in-Input.is t.1 in (
       i.0 ++ line_pieces Input t.0,
       takes_more m n o (concat i.0) t.0 i.0 Input i.2 i.3 i.4 taken,
-      text_rest i.0 t.0 i.1 t.1.one_line other,
-      refl,
+      (text_rest i.0 t.0 i.1 t.1.one_line other, refl),
     )
 
 pub loop-text-preserved : goal.loop-text-preserved
