@@ -1,3 +1,4 @@
 pub mod SessionBytes
 pub mod SessionMoves
 pub mod SessionPieces
+pub mod SessionRun

@@ -4,6 +4,7 @@ use Rattle.covline.specs.Row.{SubmissionData}
 use Rattle.covbook.specs.Op.{OpData}
 use Rattle.covbook.specs.Step.{Table, answers_from}
 use Rattle.covcollect.specs.declared.trace.fault.ReadFault.{ReadFault}
+use Rattle.covcollect.specs.declared.trace.fault.ReadFault.TheVariants as faults
 use Rattle.covcollect.specs.declared.session.text.LineEnd.{LineEnd}
 use Rattle.covcollect.specs.declared.session.text.LineEnd.TheVariants.{Feed, Input}
 use Rattle.covcollect.specs.Session.{Command, Submit, Refuse, AreCommands, ops_of, output_of}
@@ -12,6 +13,15 @@ use Rattle.covcollect.specs.Session.{Command, Submit, Refuse, AreCommands, ops_o
 abbrev pub asked_for : Result SubmissionData ReadFault → List Command
 asked_for (Ok submission) = Submit submission ∷ []
 asked_for (Err fault) = Refuse fault ∷ []
+
+-- a fault that is told of a text: memory that ran out isn't one
+abbrev pub IsTold : ReadFault → Type 0
+IsTold faults.TooLong = Unit {0}
+IsTold (faults.Line at fault) = Unit {0}
+IsTold (faults.Outside at) = Unit {0}
+IsTold (faults.Inside at) = Unit {0}
+IsTold faults.OpenEnd = Unit {0}
+IsTold faults.Memory = ⊥
 
 -- what commands are answered at a table
 abbrev pub text_after : Table → List Command → List ℕ

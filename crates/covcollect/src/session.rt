@@ -10,7 +10,7 @@ ghost use Rattle.covcollect.specs.declared.trace.fault.ReadFault.{ReadFault as F
 ghost use Rattle.covcollect.specs.Outcome.{IsOutcome};
 ghost use Rattle.covcollect.specs.Session.{Command, IsSession, answer_text, refused_text, ops_asked, ops_of};
 ghost use Rattle.covcollect.specs.Streams.{moment, said_so_far, CanCall, TakesPieces, IsWholeSession};
-ghost use Rattle.covcollect.specs.Run.{asked_for, text_after, Asks, IsRun};
+ghost use Rattle.covcollect.specs.Run.{asked_for, text_after, Asks, IsRun, IsTold};
 
 pub mod answers;
 pub mod block;
@@ -55,6 +55,20 @@ fn step<O: Sink, A: Allocator + Copy>(
     say_answer(alloc, &receipt.answer, waiting, sink)
 }
 
+// A fault that isn't told of a text ends the session.
+fn told(fault: ReadFault) -> Result<(), SessionFault>
+    ensures { OnOk result (IsTold fault) }
+{
+    match fault {
+        ReadFault::TooLong
+        | ReadFault::Line { .. }
+        | ReadFault::Outside { .. }
+        | ReadFault::Inside { .. }
+        | ReadFault::OpenEnd => Ok(()),
+        ReadFault::Memory => Err(SessionFault::Memory),
+    }
+}
+
 // Says why a text was refused.
 fn refuse<O: Sink, A: Allocator + Copy>(
     alloc: A,
@@ -93,9 +107,13 @@ fn submit<O: Sink, A: Allocator + Copy>(
     match read {
         Ok(submission) => {
             let op = Op::Submit(SubRef::of(alloc, submission)?);
-            step(alloc, book, &op, waiting, sink)
+            step(alloc, book, &op, waiting, sink)?;
+            Ok(())
         }
-        Err(ReadFault::Memory) => Err(SessionFault::Memory),
-        Err(fault) => refuse(alloc, fault, waiting, sink),
+        Err(fault) => {
+            told(fault)?;
+            refuse(alloc, fault, waiting, sink)?;
+            Ok(())
+        }
     }
 }
