@@ -1,16 +1,15 @@
 //! One session: commands in, answers out.
 
 ghost use Rattle.std.specs.Prelude.{◌≡◌, ℕ, ◌^◌, ◌<◌, List, [], ◌∷◌, ◌++◌, Result, IfOk, OnOk, IfSome};
-ghost use Rattle.std.specs.Io.KnownBytes.{Appends};
+ghost use Rattle.std.specs.Io.KnownBytes.{Appends, Keeps};
 ghost use Rattle.covline.specs.Row.{SubmissionData};
-ghost use Rattle.covbook.specs.Op.{OpData};
 ghost use Rattle.covbook.specs.Step.{answer_of, table_of, ops_in};
 ghost use Rattle.covbook.specs.View.{op_data};
 ghost use Rattle.covcollect.specs.declared.trace.fault.ReadFault.{ReadFault as Fault};
 ghost use Rattle.covcollect.specs.Outcome.{IsOutcome};
-ghost use Rattle.covcollect.specs.Session.{Command, IsSession, answer_text, refused_text, ops_asked, ops_of};
-ghost use Rattle.covcollect.specs.Streams.{moment, said_so_far, CanCall, TakesPieces, IsWholeSession};
-ghost use Rattle.covcollect.specs.Run.{asked_for, text_after, Asks, IsRun, IsTold};
+ghost use Rattle.covcollect.specs.Session.{Command, IsSession, answer_text, refused_text};
+ghost use Rattle.covcollect.specs.Streams.{moment, said_so_far, CanCall, IsWholeSession};
+ghost use Rattle.covcollect.specs.Run.{asked_for, asked_by, text_after, Asks, IsTold, IsAnsweredAs, TakesTrace, TakesCommand, IsDone};
 
 pub mod answers;
 pub mod block;
@@ -117,3 +116,156 @@ fn submit<O: Sink, A: Allocator + Copy>(
         }
     }
 }
+
+// Answers a line that is a command of its own.
+fn answer_word<O: Sink, A: Allocator + Copy>(
+    alloc: A,
+    book: &mut Book<A>,
+    word: Word,
+    waiting: &mut Vec<u8, A>,
+    sink: &mut O,
+) -> Result<(), SessionFault>
+    requires { O.failed_writes sink.old < 2 ^ 63 }
+    ensures asks { OnOk result (Asks (asked_by word) (ops_in book.old) (ops_in book.new)) }
+    ensures said { OnOk result (Appends (said_so_far (O.written sink.old) waiting.old.items)
+        (said_so_far (O.written sink.new) waiting.new.items)
+        (text_after (table_of (ops_in book.old)) (asked_by word))) }
+    ensures failed { OnOk result (O.failed_writes sink.new ≡ O.failed_writes sink.old) }
+{
+    match word {
+        Word::Blank => say(b"", waiting, sink),
+        Word::Report => step(alloc, book, &Op::Report, waiting, sink),
+        Word::Trace => say(b"unfinished\n", waiting, sink),
+        Word::Other => say(b"unknown\n", waiting, sink),
+    }
+}
+
+// Answers what was taken of a text.
+fn answer_text_taken<O: Sink, A: Allocator + Copy>(
+    alloc: A,
+    book: &mut Book<A>,
+    taken: Taken<A>,
+    waiting: &mut Vec<u8, A>,
+    sink: &mut O,
+) -> Result<(), SessionFault>
+    requires { O.failed_writes sink.old < 2 ^ 63 }
+    ensures done { OnOk result ((commands : List Command) × IsAnsweredAs taken commands
+        × Asks commands (ops_in book.old) (ops_in book.new)
+        × Appends (said_so_far (O.written sink.old) waiting.old.items) (said_so_far (O.written sink.new) waiting.new.items)
+            (text_after (table_of (ops_in book.old)) commands)) }
+    ensures failed { OnOk result (O.failed_writes sink.new ≡ O.failed_writes sink.old) }
+{
+    match taken {
+        Taken::Whole(text) => {
+            submit(alloc, book, text, waiting, sink)?;
+            Ok(())
+        }
+        Taken::TooLong => {
+            refuse(alloc, ReadFault::TooLong, waiting, sink)?;
+            Ok(())
+        }
+        Taken::Unfinished => {
+            say(b"unfinished\n", waiting, sink)?;
+            Ok(())
+        }
+    }
+}
+
+// Answers a text that follows a line `trace`.
+fn answer_trace<I: Source, O: Sink, A: Allocator + Copy>(
+    alloc: A,
+    book: &mut Book<A>,
+    block: &mut Block<A>,
+    source: &mut I,
+    waiting: &mut Vec<u8, A>,
+    sink: &mut O,
+) -> Result<LineEnd, SessionFault>
+    requires { CanCall (moment I.left I.reads I.failed_reads O.written O.failed_writes block.old source.old waiting.old.items sink.old) }
+    ensures { IfOk result (λ ending. TakesTrace (moment I.left I.reads I.failed_reads O.written O.failed_writes block.old source.old waiting.old.items sink.old)
+        (moment I.left I.reads I.failed_reads O.written O.failed_writes block.new source.new waiting.new.items sink.new) (ops_in book.old) (ops_in book.new) ending) }
+{
+    let (taken, ending) = take_text(alloc, block, source, waiting, sink)?;
+    answer_text_taken(alloc, book, taken, waiting, sink)?;
+    Ok(ending)
+}
+
+// Answers the next command.
+fn answer_command<I: Source, O: Sink, A: Allocator + Copy>(
+    alloc: A,
+    book: &mut Book<A>,
+    block: &mut Block<A>,
+    source: &mut I,
+    waiting: &mut Vec<u8, A>,
+    sink: &mut O,
+) -> Result<LineEnd, SessionFault>
+    requires { CanCall (moment I.left I.reads I.failed_reads O.written O.failed_writes block.old source.old waiting.old.items sink.old) }
+    ensures { IfOk result (λ ending. TakesCommand (moment I.left I.reads I.failed_reads O.written O.failed_writes block.old source.old waiting.old.items sink.old)
+        (moment I.left I.reads I.failed_reads O.written O.failed_writes block.new source.new waiting.new.items sink.new) (ops_in book.old) (ops_in book.new) ending) }
+{
+    let mut line = Text::new(alloc, usize::MAX);
+    let ending = take_line(&mut line, block, source, waiting, sink)?;
+    let word = word_of(line.whole());
+    if let (Word::Trace, LineEnd::Feed) = (word, ending) {
+        return answer_trace(alloc, book, block, source, waiting, sink);
+    }
+    answer_word(alloc, book, word, waiting, sink)?;
+    Ok(ending)
+}
+
+// Answers all commands.
+fn answer_all<I: Source, O: Sink, A: Allocator + Copy>(
+    alloc: A,
+    block: &mut Block<A>,
+    source: &mut I,
+    waiting: &mut Vec<u8, A>,
+    sink: &mut O,
+) -> Result<(), SessionFault>
+    requires { CanCall (moment I.left I.reads I.failed_reads O.written O.failed_writes block.old source.old waiting.old.items sink.old) }
+    ensures { OnOk result (IsDone (moment I.left I.reads I.failed_reads O.written O.failed_writes block.old source.old waiting.old.items sink.old)
+        (moment I.left I.reads I.failed_reads O.written O.failed_writes block.new source.new waiting.new.items sink.new)) }
+{
+    let mut book = Book::new(alloc);
+    loop {
+        match answer_command(alloc, &mut book, block, source, waiting, sink)? {
+            LineEnd::Feed => {}
+            LineEnd::Input => return Ok(()),
+        }
+    }
+}
+
+/// Runs one book, with job 0, on the commands of the source, and writes the answers to the sink. A text of more than
+/// 67,108,864 bytes isn't kept. Output is written when much of it waits, before each read, and at the end.
+pub fn session<I: Source, O: Sink, A: Allocator + Copy>(
+    alloc: A,
+    source: &mut I,
+    sink: &mut O,
+) -> Result<(), SessionFault>
+    requires reads { I.reads source.old < 2 ^ 62 }
+    requires failed_reads { I.failed_reads source.old < 2 ^ 62 }
+    requires failed_writes { O.failed_writes sink.old < 2 ^ 62 }
+    // The whole input was read, and its session text written and nothing else.
+    ensures whole { OnOk result (IsWholeSession (I.left source.old) (I.left source.new) (O.written sink.old) (O.written sink.new)) }
+    // No other output was possible.
+    ensures only { OnOk result (IfSome (I.left source.old) (λ input. (output : List ℕ) → IsSession input output
+        → Appends (O.written sink.old) (O.written sink.new) output)) }
+{
+    let mut block = Block::new(alloc)?;
+    let mut waiting = Vec::new(alloc);
+    answer_all(alloc, &mut block, source, &mut waiting, sink)?;
+    put_out(&mut waiting, sink)?;
+    flush(sink)
+}
+
+// Sends on all that was written.
+fn flush<O: Sink>(sink: &mut O) -> Result<(), SessionFault>
+    requires { O.failed_writes sink.old < 2 ^ 63 }
+    ensures { OnOk result (Keeps (O.written sink.old) (O.written sink.new)) }
+{
+    match sink.flush() {
+        Ok(()) => Ok(()),
+        Err(_) => Err(SessionFault::Write),
+    }
+}
+
+#[cfg(test)]
+mod tests;

@@ -148,6 +148,14 @@ impl<A: Allocator> Text<A> {
         Ok(())
     }
 
+    /// All bytes, where there is no limit to keep.
+    pub fn whole(&self) -> &[u8]
+        ensures { (before : List ℕ) → (now : List ℕ) → self.now.limit ≡ usize.MAX → HasCollected self.now before now
+            → result.now ≡ before ++ now }
+    {
+        self.kept.as_slice()
+    }
+
     /// Whether the line that was begun is the one that ends a text, if it ends here.
     pub fn is_last(&self) -> bool
         ensures { IsTrue result ↔ self.now.line ≡ LineSoFar.Dot }

@@ -1,0 +1,1 @@
+//! Sessions on texts in memory.
