@@ -2,3 +2,11 @@ pub mod SessionBytes
 pub mod SessionMoves
 pub mod SessionPieces
 pub mod SessionRun
+pub mod TraceGrammar
+pub mod TraceStands
+pub mod TraceOutcome
+pub mod TraceDistinct
+pub mod TraceLaw
+pub mod TraceRun
+pub mod TraceLawful
+pub mod TraceLoop

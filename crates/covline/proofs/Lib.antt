@@ -3,3 +3,8 @@ pub mod Cut
 pub mod SectLaws
 pub mod PrintedLaws
 pub mod LineLaws
+pub mod ReadKeys
+pub mod ReadNumbers
+pub mod ReadForms
+pub mod ReadLaws
+pub mod ReadDispatch

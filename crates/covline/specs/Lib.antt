@@ -5,3 +5,4 @@ pub mod Lawful
 pub mod Spells
 pub mod Printed
 pub mod LineLaws
+pub mod Reading

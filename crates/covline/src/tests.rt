@@ -1,4 +1,5 @@
 mod cutting;
 mod owning;
 mod printing;
+mod read_line;
 mod submitting;

@@ -1,6 +1,9 @@
 //! Why a text is refused.
 
-use covline::LineFault;
+ghost use Rattle.std.specs.Prelude.{◌≡◌};
+ghost use Rattle.covcollect.specs.declared.trace.fault.ReadFault.TheVariants.{Memory as NoMemory};
+
+use covline::{LineFault, Memory};
 use thiserror::Error;
 
 /// Why a text was not read. The first fault of a text is told, with the number of its line, counted from 1.
@@ -24,4 +27,12 @@ pub enum ReadFault {
     /// Fault 13: a growth was refused.
     #[error("out of memory")]
     Memory,
+}
+
+impl From<Memory> for ReadFault {
+    ghost from_gives = { λ _ e. e ≡ NoMemory };
+
+    fn from(_refused: Memory) -> ReadFault {
+        ReadFault::Memory
+    }
 }

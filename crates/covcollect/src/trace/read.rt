@@ -1,12 +1,15 @@
 //! The reader: forward over the text once.
 
-ghost use Rattle.std.specs.Prelude.{Result};
+ghost use Rattle.std.specs.Prelude.{◌≡◌, ◌+◌, ◌<◌, ◌≤◌, ◌^◌, length, Result};
 ghost use Rattle.covline.specs.Row.{SubmissionData};
 ghost use Rattle.covcollect.specs.declared.trace.fault.ReadFault.{ReadFault as Fault};
-ghost use Rattle.covcollect.specs.Outcome.{IsOutcome, Answers, IsOrMemory};
+ghost use Rattle.covcollect.specs.Outcome.{most_bytes, IsOutcome, Answers, IsOrMemory};
+ghost use Rattle.covcollect.specs.TraceSteps.{held_data, stated_in, ReadsTo, TakesLine};
 
 use crate::trace::fault::ReadFault;
-use covline::Submission;
+use crate::trace::misplaced::Misplaced;
+use crate::trace::reader::Reader;
+use covline::{Submission, lines, read_line};
 use std::alloc::Allocator;
 
 /// How many bytes a text has at the most: 64 MiB.
@@ -19,9 +22,44 @@ pub fn read_trace<A: Allocator + Copy>(alloc: A, text: &[u8]) -> Result<Submissi
     // Nothing else is what the text is read as.
     ensures only { (outcome : Result SubmissionData Fault) → IsOutcome text.now outcome → IsOrMemory result outcome }
 {
-    let _alloc = alloc;
     if text.len() > MOST_BYTES {
         return Err(ReadFault::TooLong);
     }
-    Err(ReadFault::Memory)
+    read_lines(alloc, text)?.finish()
+}
+
+/// Takes all lines of the text.
+fn read_lines<'a, A: Allocator + Copy>(alloc: A, text: &'a [u8]) -> Result<Reader<'a, A>, ReadFault>
+    requires { length text.now ≤ most_bytes }
+    ensures { ReadsTo text.now result }
+{
+    let mut reader = Reader::new(alloc);
+    let mut at: u64 = 0;
+    for line in lines(text) {
+        at += 1;
+        take_line(&mut reader, alloc, at, line)?;
+    }
+    Ok(reader)
+}
+
+/// Takes the line with this number.
+fn take_line<'a, A: Allocator + Copy>(
+    reader: &mut Reader<'a, A>,
+    alloc: A,
+    at: u64,
+    line: &'a [u8],
+) -> Result<(), ReadFault>
+    requires { reader.old.odd + length (stated_in (held_data reader.old).section) < 2 ^ 64 }
+    ensures { TakesLine result (held_data reader.old) (held_data reader.new) line.now at }
+{
+    let says = match read_line(line) {
+        Ok(says) => says,
+        Err(fault) => return Err(ReadFault::Line { at, fault }),
+    };
+    match reader.take(alloc, says) {
+        Ok(()) => Ok(()),
+        Err(Misplaced::Outside) => Err(ReadFault::Outside { at }),
+        Err(Misplaced::Inside) => Err(ReadFault::Inside { at }),
+        Err(Misplaced::Memory) => Err(ReadFault::Memory),
+    }
 }
