@@ -1,4 +1,5 @@
 pub mod Ascending
+pub mod Next
 pub mod Value
 pub mod Report
 pub mod Op
@@ -6,3 +7,4 @@ pub mod Step
 pub mod View
 pub mod EntryView
 pub mod Held
+pub mod KeyView

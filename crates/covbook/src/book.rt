@@ -1,8 +1,10 @@
 //! The book: what a table of counts was asked, in order, and what it answered.
 
 use crate::entry::{Entries, Entry, Receipt};
-use crate::op::Op;
-use crate::shared::SubRef;
+use crate::op::{Answer, Op};
+use crate::shared::{SubRef, TextRef};
+use crate::trace_text::trace_text;
+use covline::Memory;
 use std::alloc::{Allocator, Global};
 use std::marker::Model;
 use thiserror::Error;
@@ -19,6 +21,17 @@ pub enum BookFault {
     /// A growth was refused.
     #[error("out of memory")]
     Memory = 2,
+}
+
+impl From<Memory> for BookFault {
+    ghost use Rattle.std.specs.Prelude.{◌≡◌};
+    ghost use Rattle.covbook.specs.declared.book.BookFault.TheVariants as faults;
+
+    ghost from_gives = { λ _ e. e ≡ faults.Memory };
+
+    fn from(_refused: Memory) -> BookFault {
+        BookFault::Memory
+    }
 }
 
 /// A table of counts with its history. Contracts see the history, which is legal at every moment; the table is
@@ -42,7 +55,8 @@ impl<A: Allocator> Model for Book<A> {
 }
 
 impl<A: Allocator + Copy> Book<A> {
-    ghost use Rattle.std.specs.Prelude.{◌≡◌, ◌↔◌, ◌++◌, [], ◌∷◌, length, IfOk, OnErr, Err, map};
+    ghost use Rattle.std.specs.Prelude.{◌≡◌, ◌↔◌, ◌<◌, ◌++◌, [], ◌∷◌, length, IfOk, OnErr, Err, map};
+    ghost use Rattle.covbook.specs.Op.{SubmitOp, ReportOp};
     ghost use Rattle.covbook.specs.Step.{IsLegal, answer_of, table_of, ops_in, most_entries};
     ghost use Rattle.covbook.specs.View.{op_data, answer_data};
     ghost use Rattle.covbook.specs.EntryView.{entry_data};
@@ -76,12 +90,66 @@ impl<A: Allocator + Copy> Book<A> {
         ensures refused { OnErr result (self.new ≡ self.old) }
         ensures full { (result ≡ Err BookFault.Full) ↔ (length self.old ≡ most_entries) }
     {
-        let _alloc = alloc;
-        let _job = job;
-        let _op = op;
         if self.entries.get().len() as u64 == MOST_ENTRIES {
             return Err(BookFault::Full);
         }
-        Err(BookFault::Memory)
+        match op {
+            Op::Submit(submission) => Ok(self.submit(job, submission)?),
+            Op::Report => Ok(self.report(alloc, job)?),
+        }
+    }
+
+    /// The submission is held too. All growths come before the first change.
+    fn submit(&mut self, job: u32, submission: &SubRef<A>) -> Result<Receipt<A>, Memory>
+        requires { length self.old < most_entries }
+        ensures answer { IfOk result (λ r. answer_data r.answer ≡ answer_of (table_of (ops_in self.old)) (SubmitOp submission.now)) }
+        ensures place { IfOk result (λ r. r.place ≡ length self.old) }
+        ensures asked { IfOk result (λ r. op_data r.op ≡ SubmitOp submission.now) }
+        ensures entry { IfOk result (λ r. self.new ≡ self.old ++ record { job = job; op = SubmitOp submission.now; answer = answer_data r.answer } ∷ []) }
+        ensures refused { OnErr result (self.new ≡ self.old) }
+    {
+        let place = self.entries.get().len() as u64;
+        let number = self.held.len() as u64 + 1;
+        let items = submission.get().items();
+        let odd = submission.get().odd();
+        let entry = Entry {
+            job,
+            op: Op::Submit(submission.copy()?),
+            answer: Answer::Accepted { number, items, odd },
+        };
+        let receipt = Receipt {
+            place,
+            op: Op::Submit(submission.copy()?),
+            answer: Answer::Accepted { number, items, odd },
+        };
+        let held = submission.copy()?;
+        self.held.reserve(1)?;
+        self.entries.push(entry)?;
+        self.held.push_reserved(held);
+        Ok(receipt)
+    }
+
+    /// The merged tracefile is printed, and shared between the entry and the receipt.
+    fn report(&mut self, alloc: A, job: u32) -> Result<Receipt<A>, Memory>
+        requires { length self.old < most_entries }
+        ensures answer { IfOk result (λ r. answer_data r.answer ≡ answer_of (table_of (ops_in self.old)) ReportOp) }
+        ensures place { IfOk result (λ r. r.place ≡ length self.old) }
+        ensures asked { IfOk result (λ r. op_data r.op ≡ ReportOp) }
+        ensures entry { IfOk result (λ r. self.new ≡ self.old ++ record { job = job; op = ReportOp; answer = answer_data r.answer } ∷ []) }
+        ensures refused { OnErr result (self.new ≡ self.old) }
+    {
+        let place = self.entries.get().len() as u64;
+        let text = TextRef::of(alloc, trace_text(alloc, self.held.as_slice())?)?;
+        let reported = Entry {
+            job,
+            op: Op::Report,
+            answer: Answer::Text(text.copy()?),
+        };
+        self.entries.push(reported)?;
+        Ok(Receipt {
+            place,
+            op: Op::Report,
+            answer: Answer::Text(text),
+        })
     }
 }

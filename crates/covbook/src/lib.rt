@@ -3,10 +3,16 @@
 
 pub mod book;
 pub mod entry;
+pub mod laws;
 pub mod op;
+mod sections;
 pub mod shared;
+mod trace_text;
 
 pub use book::{Book, BookFault};
 pub use entry::{Entries, Entry, Receipt};
 pub use op::{Answer, Op};
 pub use shared::{SubRef, TextRef};
+
+#[cfg(test)]
+mod tests;

@@ -1,6 +1,7 @@
 //! What a book is asked, and what it answers.
 
 use crate::shared::{SubRef, TextRef};
+use covline::Memory;
 use std::alloc::{Allocator, Global};
 
 /// An operation on a book.
@@ -12,6 +13,21 @@ pub enum Op<A: Allocator = Global> {
     Report,
 }
 
+impl<A: Allocator> Op<A> {
+    ghost use Rattle.std.specs.Prelude.{◌≡◌, IfOk};
+    ghost use Rattle.covbook.specs.View.{op_data};
+
+    /// An equal operation, which shares the submission.
+    pub fn copy(&self) -> Result<Op<A>, Memory>
+        ensures { IfOk result (λ o. op_data o ≡ op_data self.now) }
+    {
+        match self {
+            Op::Submit(submission) => Ok(Op::Submit(submission.copy()?)),
+            Op::Report => Ok(Op::Report),
+        }
+    }
+}
+
 /// What an operation was answered.
 #[derive(Drop)]
 pub enum Answer<A: Allocator = Global> {
@@ -20,4 +36,23 @@ pub enum Answer<A: Allocator = Global> {
     Accepted { number: u64, items: u64, odd: u64 },
     /// The printed text.
     Text(TextRef<A>),
+}
+
+impl<A: Allocator> Answer<A> {
+    ghost use Rattle.std.specs.Prelude.{◌≡◌, IfOk};
+    ghost use Rattle.covbook.specs.View.{answer_data};
+
+    /// An equal answer, which shares the text.
+    pub fn copy(&self) -> Result<Answer<A>, Memory>
+        ensures { IfOk result (λ a. answer_data a ≡ answer_data self.now) }
+    {
+        match self {
+            Answer::Accepted { number, items, odd } => Ok(Answer::Accepted {
+                number: *number,
+                items: *items,
+                odd: *odd,
+            }),
+            Answer::Text(text) => Ok(Answer::Text(text.copy()?)),
+        }
+    }
 }

@@ -1,0 +1,9 @@
+pub mod Members
+pub mod Ascend
+pub mod Nearest
+pub mod Orders
+pub mod Rows
+pub mod Passes
+pub mod Bounds
+pub mod Texts
+pub mod Runs

@@ -1,0 +1,27 @@
+-- Membership by recursion on the list, and what it has to do with `Contains`.
+use Rattle.std.proofs.Common.{◌≡◌, ℕ, zero, suc, ◌<◌, List, [], ◌∷◌, ◌++◌, length, get_or, refl, sym, ap, ◌∙◌, subst, inl, inr, ⊎_elim, arith}
+use Rattle.std.specs.Prelude.{◌⊎◌, ◌↔◌, Contains}
+use Rattle.std.specs.List.{AllByRecursion}
+
+abbrev pub In : {X : Type 0} → X → List X → Type 0
+In x [] = ⊥
+In x (y ∷ ys) = (y ≡ x) ⊎ In x ys
+
+pub In-from : {X : Type 0} (xs : List X) (x : X) → Contains xs x → In x xs
+In-from [] x h = absurd (omega (arith, h.1))
+In-from (y ∷ ys) x (zero, lt, is) = inl is
+In-from (y ∷ ys) x (suc k, lt, is) = inr (In-from ys x (k, omega arith, is))
+
+pub Contains-from : {X : Type 0} (xs : List X) (x : X) → In x xs → Contains xs x
+Contains-from [] x h = absurd h
+Contains-from (y ∷ ys) x (inl e) = (0, omega arith, e)
+Contains-from (y ∷ ys) x (inr h) = let w = Contains-from ys x h in (suc w.0, omega (arith, w.1), w.2)
+
+pub All-in : {X : Type 0} (P : X → Type 0) (xs : List X) (x : X) → AllByRecursion P xs → In x xs → P x
+All-in P [] x all h = absurd h
+All-in P (y ∷ ys) x all (inl e) = subst P e all.0
+All-in P (y ∷ ys) x all (inr h) = All-in P ys x all.1 h
+
+pub All-from_in : {X : Type 0} (P : X → Type 0) (xs : List X) → ((x : X) → In x xs → P x) → AllByRecursion P xs
+All-from_in P [] h = tt
+All-from_in P (y ∷ ys) h = (h y (inl refl), All-from_in P ys (λ x i. h x (inr i)))

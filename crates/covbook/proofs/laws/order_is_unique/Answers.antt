@@ -1,0 +1,9 @@
+use Rattle.covbook.proofs.Ascend.{one_ascending}
+use Rattle.covbook.proofs.Orders.{keys_order, lines_order}
+use Rattle.covbook.proofs.laws.order_is_unique.Goals as goal
+
+pub returns-clause-keys : goal.returns-clause-keys
+returns-clause-keys c = λ all some others a b. one_ascending keys_order all some others a b
+
+pub returns-clause-lines : goal.returns-clause-lines
+returns-clause-lines c = λ all some others a b. one_ascending lines_order all some others a b

@@ -1,0 +1,182 @@
+//! Which sections, lines and counts the held rows have, found by passing over all rows. This is the plain program:
+//! it takes no memory, and each look costs a pass.
+
+ghost use Rattle.std.specs.Prelude.{◌≡◌, ◌<◌, ◌^◌, [], ◌∷◌, map, option_map};
+ghost use Rattle.std.specs.Ordering.{is_lt, nat_cmp};
+ghost use Rattle.covline.specs.Row.{item_data, rows_of, rows_of_sect};
+ghost use Rattle.covline.specs.SectView.{sect_data};
+ghost use Rattle.std.specs.List.{flat_map};
+ghost use Rattle.covbook.specs.Held.{IsHeld};
+ghost use Rattle.covbook.specs.KeyView.{key_data, is_sect_of};
+ghost use Rattle.covbook.specs.Next.{IsNext, nearer, nearest};
+ghost use Rattle.covbook.specs.Step.{all_rows};
+ghost use Rattle.covbook.specs.Value.{key_cmp, key_of_row, items_at, line_number, line_value};
+
+use crate::shared::SubRef;
+use covline::{Item, Sect};
+use std::alloc::Allocator;
+
+/// The file and the test that a section is of.
+#[derive(Clone, Copy)]
+pub struct SectKey<'a> {
+    pub file: &'a [u8],
+    pub test: &'a [u8],
+}
+
+impl SectKey<'_> {
+    /// By file and then by test, each by its bytes.
+    fn comes_before(&self, other: &SectKey<'_>) -> bool
+        ensures { result ≡ is_lt (key_cmp (key_data self.now) (key_data other.now)) }
+    {
+        self.file.cmp(other.file).then(self.test.cmp(other.test)).is_lt()
+    }
+
+    /// Whether the section is of this file and this test.
+    fn is_of<A: Allocator>(&self, sect: &Sect<A>) -> bool
+        ensures { result ≡ is_sect_of (key_data self.now) (sect_data sect.now) }
+    {
+        sect.file.get() == self.file && sect.test.get() == self.test
+    }
+}
+
+/// The least file and test behind the last one that have a row.
+pub(crate) fn next_key<'a, A: Allocator>(held: &'a [SubRef<A>], last: Option<SectKey<'a>>) -> Option<SectKey<'a>>
+    ensures { IsNext key_cmp (option_map key_data last.entry) (map key_of_row (all_rows (map rows_of held.now))) (option_map key_data result) }
+{
+    let mut best = None;
+    for submission in held {
+        best = nearest_key(submission.get().sects(), last, best);
+    }
+    best
+}
+
+/// The best key so far, after the sections with an item.
+fn nearest_key<'a, A: Allocator>(sects: &'a [Sect<A>], last: Option<SectKey<'a>>, best: Option<SectKey<'a>>) -> Option<SectKey<'a>>
+    ensures { option_map key_data result ≡ nearest key_cmp (option_map key_data last.entry) (option_map key_data best.entry) (map key_of_row (flat_map rows_of_sect (map sect_data sects.now))) }
+{
+    let mut nearest = best;
+    for sect in sects {
+        if !sect.items.get().is_empty() {
+            let key = SectKey {
+                file: sect.file.get(),
+                test: sect.test.get(),
+            };
+            nearest = nearer_key(key, last, nearest);
+        }
+    }
+    nearest
+}
+
+/// The key, where it comes behind the last one and before the best so far; else the best so far.
+fn nearer_key<'a>(key: SectKey<'a>, last: Option<SectKey<'a>>, best: Option<SectKey<'a>>) -> Option<SectKey<'a>>
+    ensures { option_map key_data result ≡ nearer key_cmp (option_map key_data last.entry) (option_map key_data best.entry) (key_data key.entry) }
+{
+    let is_behind = match last {
+        None => true,
+        Some(taken) => taken.comes_before(&key),
+    };
+    let is_nearer = match best {
+        None => true,
+        Some(found) => key.comes_before(&found),
+    };
+    if is_behind && is_nearer { Some(key) } else { best }
+}
+
+/// The least line behind the last one of which the rows of this file and test speak.
+pub(crate) fn next_line<A: Allocator>(held: &[SubRef<A>], key: SectKey<'_>, last: Option<u64>) -> Option<u64>
+    ensures { IsNext nat_cmp last (map line_number (items_at (key_data key.entry) (all_rows (map rows_of held.now)))) result }
+{
+    let mut best = None;
+    for submission in held {
+        best = nearest_line(submission.get().sects(), key, last, best);
+    }
+    best
+}
+
+/// The best line so far, after the sections of this file and test.
+fn nearest_line<A: Allocator>(sects: &[Sect<A>], key: SectKey<'_>, last: Option<u64>, best: Option<u64>) -> Option<u64>
+    ensures { result ≡ nearest nat_cmp last best (map line_number (items_at (key_data key.entry) (flat_map rows_of_sect (map sect_data sects.now)))) }
+{
+    let mut nearest = best;
+    for sect in sects {
+        if key.is_of(sect) {
+            nearest = nearest_item(sect.items.get(), last, nearest);
+        }
+    }
+    nearest
+}
+
+/// The best line so far, after the items of a section.
+fn nearest_item(items: &[Item], last: Option<u64>, best: Option<u64>) -> Option<u64>
+    ensures { result ≡ nearest nat_cmp last best (map line_number (map item_data items.now)) }
+{
+    let mut nearest = best;
+    for item in items {
+        let Item::Line { line, .. } = *item;
+        nearest = nearer_line(line, last, nearest);
+    }
+    nearest
+}
+
+/// The line, where it comes behind the last one and before the best so far; else the best so far.
+fn nearer_line(line: u64, last: Option<u64>, best: Option<u64>) -> Option<u64>
+    ensures { result ≡ nearer nat_cmp last best line }
+{
+    let is_behind = match last {
+        None => true,
+        Some(taken) => taken < line,
+    };
+    let is_nearer = match best {
+        None => true,
+        Some(found) => line < found,
+    };
+    if is_behind && is_nearer { Some(line) } else { best }
+}
+
+/// The execution count of a line: the sum over the rows of this file and test.
+pub(crate) fn line_count<A: Allocator>(held: &[SubRef<A>], key: SectKey<'_>, line: u64) -> u128
+    requires { IsHeld held.now }
+    ensures { result ≡ line_value line (items_at (key_data key.entry) (all_rows (map rows_of held.now))) }
+{
+    let mut sum = 0;
+    for submission in held {
+        sum += count_in_sects(submission.get().sects(), key, line);
+    }
+    sum
+}
+
+/// The line's count in the sections of this file and test.
+fn count_in_sects<A: Allocator>(sects: &[Sect<A>], key: SectKey<'_>, line: u64) -> u128
+    requires { line_value line (items_at (key_data key) (flat_map rows_of_sect (map sect_data sects.now))) < 2 ^ 128 }
+    ensures { result ≡ line_value line (items_at (key_data key.entry) (flat_map rows_of_sect (map sect_data sects.now))) }
+{
+    let mut sum = 0;
+    for sect in sects {
+        if key.is_of(sect) {
+            sum += count_in_items(sect.items.get(), line);
+        }
+    }
+    sum
+}
+
+/// The line's count in the items of a section.
+fn count_in_items(items: &[Item], line: u64) -> u128
+    requires { line_value line (map item_data items.now) < 2 ^ 128 }
+    ensures { result ≡ line_value line (map item_data items.now) }
+{
+    let mut sum = 0;
+    for item in items {
+        sum += count_of(item, line);
+    }
+    sum
+}
+
+/// The count of an item of this line, and 0 of another.
+fn count_of(item: &Item, line: u64) -> u128
+    ensures { result ≡ line_value line (item_data item.now ∷ []) }
+{
+    match *item {
+        Item::Line { line: at, count } if at == line => u128::from(count),
+        Item::Line { .. } => 0,
+    }
+}
