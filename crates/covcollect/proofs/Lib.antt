@@ -2,6 +2,7 @@ pub mod SessionBytes
 pub mod SessionMoves
 pub mod SessionPieces
 pub mod SessionRun
+pub mod SessionSteps
 pub mod TraceGrammar
 pub mod TraceStands
 pub mod TraceOutcome

@@ -1,7 +1,7 @@
 -- Bytes taken, lines found in them, and bytes written, in steps.
 use Rattle.std.proofs.Common.{◌≡◌, ◌≢◌, ℕ, zero, suc, ◌+◌, ◌-◌, ◌^◌, ◌<◌, ◌≤◌, Bool, true, false, List, [], ◌∷◌, ◌++◌, length, take, drop, min, get_or, Option, None, Some, refl, sym, ◌∙◌, ap, subst, arith, add-one, append_assoc, append-nil, length-append, eqb, if◌then◌else◌}
 use Rattle.std.proofs.Math.Seq.{take-add}
-use Rattle.std.proofs.lemmas.List.{take_rest, take-append-drop}
+use Rattle.std.proofs.lemmas.List.{take_rest, take-append-drop, take_all, length-take}
 use Rattle.memchr.specs.Find.{IsFirstByte, is_byte}
 use Rattle.std.specs.Io.KnownBytes.{Consumes, Appends, Keeps, IsAtEnd, prepend_known, append_known}
 use Rattle.covline.specs.Lines.{line_feed, before_feed}
@@ -136,3 +136,9 @@ part_whole p q part rest k e e2 h e3 =
 pub Consumes-part : (old part new : List ℕ) (left : Option (List ℕ)) → old ≡ part ++ new → Consumes (prepend_known old left) (prepend_known new left) part
 Consumes-part old part new None e = tt
 Consumes-part old part new (Some xs) e = ap (λ (u : List ℕ). u ++ xs) e ∙ append_assoc part new xs
+
+pub whole_kept : (kept all : List ℕ) (limit : ℕ) → kept ≡ take limit all → length kept < limit → kept ≡ all
+whole_kept kept all limit e few =
+    let size : length kept ≡ min limit (length all) = ap length e ∙ length-take limit all in
+    let fits : length all ≤ limit = omega arith in
+    e ∙ take_all limit all fits

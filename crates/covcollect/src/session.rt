@@ -1,6 +1,6 @@
 //! One session: commands in, answers out.
 
-ghost use Rattle.std.specs.Prelude.{◌≡◌, ℕ, ◌^◌, ◌<◌, List, [], ◌∷◌, ◌++◌, Result, IfOk, OnOk, IfSome};
+ghost use Rattle.std.specs.Prelude.{◌≡◌, ℕ, ◌^◌, ◌<◌, List, [], ◌∷◌, ◌++◌, Result, IfOk, OnOk, IfSome, IsTrue, IsFalse};
 ghost use Rattle.std.specs.Io.KnownBytes.{Appends, Keeps};
 ghost use Rattle.covline.specs.Row.{SubmissionData};
 ghost use Rattle.covbook.specs.Step.{answer_of, table_of, ops_in};
@@ -189,6 +189,20 @@ fn answer_trace<I: Source, O: Sink, A: Allocator + Copy>(
     Ok(ending)
 }
 
+// Whether a text follows a line.
+fn text_follows(word: Word, ending: LineEnd) -> bool
+    ensures text { IsTrue result → (word ≡ Word.Trace) × (ending ≡ LineEnd.Feed) }
+    ensures no_text { IsFalse result → word ≡ Word.Trace → ending ≡ LineEnd.Input }
+{
+    match word {
+        Word::Blank | Word::Report | Word::Other => false,
+        Word::Trace => match ending {
+            LineEnd::Feed => true,
+            LineEnd::Input => false,
+        },
+    }
+}
+
 // Answers the next command.
 fn answer_command<I: Source, O: Sink, A: Allocator + Copy>(
     alloc: A,
@@ -205,8 +219,10 @@ fn answer_command<I: Source, O: Sink, A: Allocator + Copy>(
     let mut line = Text::new(alloc, usize::MAX);
     let ending = take_line(&mut line, block, source, waiting, sink)?;
     let word = word_of(line.whole());
-    if let (Word::Trace, LineEnd::Feed) = (word, ending) {
-        return answer_trace(alloc, book, block, source, waiting, sink);
+    drop(line);
+    if text_follows(word, ending) {
+        let ended = answer_trace(alloc, book, block, source, waiting, sink)?;
+        return Ok(ended);
     }
     answer_word(alloc, book, word, waiting, sink)?;
     Ok(ending)

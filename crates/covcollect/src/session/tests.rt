@@ -1,1 +1,140 @@
-//! Sessions on texts in memory.
+//! Sessions on texts in memory: expected answers are those of the written examples.
+
+use crate::session::{SessionFault, session};
+use crate::stream::{Failed, FromRead, FromWrite, Sink, Source};
+use std::alloc::Global;
+use std::test::*;
+
+const SMALL: &[u8] = b"trace\nTN:t\nSF:/a.c\nDA:1,2\nDA:2,0\nLF:2\nLH:1\nend_of_record\n.\nreport\n";
+const SMALL_ANSWER: &[u8] = b"accepted 1 items 2 odd 0\nTN:t\nSF:/a.c\nDA:1,2\nDA:2,0\nLF:2\nLH:1\nend_of_record\n.\n";
+
+/// What a session over std's readers and writers answers: how it ended, and whether it wrote just this.
+fn answers(alloc: Global, input: &[u8], wanted: &[u8]) -> (Result<(), SessionFault>, bool) {
+    let mut output: Vec<u8> = Vec::new(alloc);
+    let ended = {
+        let mut source = FromRead::new(input);
+        let mut sink = FromWrite::new(&mut output);
+        session(alloc, &mut source, &mut sink)
+    };
+    (ended, output.as_slice() == wanted)
+}
+
+#[test]
+fn whole_sessions(rt: HostRuntime) {
+    let sessions: [(&str, &[u8], &[u8]); 18] = [
+        ("nothing", b"", b""),
+        ("a text and its report", SMALL, SMALL_ANSWER),
+        ("an empty text", b"trace\n.\nreport\n", b"accepted 1 items 0 odd 0\n.\n"),
+        (
+            "large counts",
+            b"trace\nSF:/a.c\nDA:1,18446744073709551615\nDA:1,18446744073709551615\nend_of_record\n.\nreport\n",
+            b"accepted 1 items 2 odd 0\nTN:\nSF:/a.c\nDA:1,36893488147419103230\nLF:1\nLH:1\nend_of_record\n.\n",
+        ),
+        (
+            "a number that is too large",
+            b"trace\nSF:/a.c\nDA:1,18446744073709551616\n.\n",
+            b"refused NumberTooLarge at 2\n",
+        ),
+        (
+            "a wrong total",
+            b"trace\nTN:t\nSF:/a.c\nDA:1,2\nDA:2,0\nLF:9\nLH:1\nend_of_record\n.\nreport\n",
+            b"accepted 1 items 2 odd 1\nTN:t\nSF:/a.c\nDA:1,2\nDA:2,0\nLF:2\nLH:1\nend_of_record\n.\n",
+        ),
+        ("an open section", b"trace\nSF:/a.c\nDA:1,1\n.\n", b"refused OpenEnd\n"),
+        ("a count outside", b"trace\nDA:1,1\n.\n", b"refused Outside at 1\n"),
+        ("a bad line", b"trace\nDA:x\n.\nreport\n", b"refused BadLine at 1\n.\n"),
+        (
+            "a test inside",
+            b"trace\nTN:t\nSF:/a.c\nTN:u\n.\n",
+            b"refused Inside at 3\n",
+        ),
+        ("an empty path", b"trace\nSF:\n.\n", b"refused EmptyPath at 1\n"),
+        ("a text without its end", b"trace\nTN:t", b"unfinished\n"),
+        ("a text that doesn't begin", b"trace", b"unfinished\n"),
+        ("an unknown word", b"bogus", b"unknown\n"),
+        (
+            "words that are no commands",
+            b"report \n.\n report\ntrace x\n",
+            b"unknown\nunknown\nunknown\nunknown\n",
+        ),
+        ("blank lines", b"\n\r\n\r\r\n\r", b""),
+        (
+            "carriage returns",
+            b"trace\r\nSF:/a.c\r\nDA:1,1\r\nend_of_record\r\n.\r\r\nreport\r\n",
+            b"accepted 1 items 1 odd 0\nTN:\nSF:/a.c\nDA:1,1\nLF:1\nLH:1\nend_of_record\n.\n",
+        ),
+        (
+            "lines that end no text",
+            b"trace\n .\n..\n.x\n\n.",
+            b"accepted 1 items 0 odd 0\n",
+        ),
+    ];
+    for (name, input, wanted) in sessions {
+        assert_eq!(rt; answers(rt.alloc(), input, wanted), (Ok(()), true), "{name}");
+    }
+}
+
+/// A reader and a writer that take a few bytes at each call, and fail at one of their calls.
+struct Slow<'a> {
+    input: &'a [u8],
+    read_fails_at: usize,
+    reads: u64,
+    failed_reads: u64,
+}
+
+impl Source for Slow<'_> {
+    ghost left = { λ s. None };
+
+    ghost reads = { λ s. s.reads };
+
+    ghost failed_reads = { λ s. s.failed_reads };
+
+    fn read(&mut self, buffer: &mut [u8]) -> Result<usize, Failed> {
+        self.reads += 1;
+        if self.read_fails_at == 0 {
+            self.failed_reads += 1;
+            return Err(Failed);
+        }
+        self.read_fails_at -= 1;
+        match self.input.split_first() {
+            Some((first, rest)) if !buffer.is_empty() => {
+                buffer[0] = *first;
+                self.input = rest;
+                Ok(1)
+            }
+            _ => Ok(0),
+        }
+    }
+}
+
+/// A writer that takes one byte at each call, and fails at one of its calls.
+struct Narrow {
+    output: Vec<u8>,
+    write_fails_at: usize,
+    failed_writes: u64,
+}
+
+impl Sink for Narrow {
+    ghost written = { λ s. None };
+
+    ghost failed_writes = { λ s. s.failed_writes };
+
+    fn write(&mut self, bytes: &[u8]) -> Result<usize, Failed> {
+        if self.write_fails_at > 0
+            && let Some(first) = bytes.first()
+            && self.output.push(*first).is_ok()
+        {
+            self.write_fails_at -= 1;
+            return Ok(1);
+        }
+        if bytes.is_empty() {
+            return Ok(0);
+        }
+        self.failed_writes += 1;
+        Err(Failed)
+    }
+
+    fn flush(&mut self) -> Result<(), Failed> {
+        Ok(())
+    }
+}
