@@ -332,3 +332,6 @@ only_whole m n last flushed d none empty k f =
 
 pub answered : {A : Type 0} (taken other : Taken A) (commands : List Command) → taken ≡ other → IsAnsweredAs other commands → IsAnsweredAs taken commands
 answered {A} taken other commands e h = let P : Taken A → Type 0 = λ t. IsAnsweredAs t commands in subst P (sym e) h
+
+pub appends_nil : (a b : Option (List ℕ)) (text : List ℕ) → Appends a b text → Appends a b (text ++ [])
+appends_nil a b text h = let P : List ℕ → Type 0 = λ u. Appends a b u in subst P (sym (append-nil text)) h

@@ -269,7 +269,8 @@ pub fn session<I: Source, O: Sink, A: Allocator + Copy>(
     let mut waiting = Vec::new(alloc);
     answer_all(alloc, &mut block, source, &mut waiting, sink)?;
     put_out(&mut waiting, sink)?;
-    flush(sink)
+    flush(sink)?;
+    Ok(())
 }
 
 // Sends on all that was written.

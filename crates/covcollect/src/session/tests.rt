@@ -74,67 +74,107 @@ fn whole_sessions(rt: HostRuntime) {
     }
 }
 
-/// A reader and a writer that take a few bytes at each call, and fail at one of their calls.
+/// A reader that gives one byte at each call, and fails after some calls.
 struct Slow<'a> {
     input: &'a [u8],
-    read_fails_at: usize,
+    good_reads: usize,
     reads: u64,
-    failed_reads: u64,
+    failed: u64,
 }
 
-impl Source for Slow<'_> {
+impl<'a> Source for Slow<'a> {
     ghost left = { λ s. None };
 
     ghost reads = { λ s. s.reads };
 
-    ghost failed_reads = { λ s. s.failed_reads };
+    ghost failed_reads = { λ s. s.failed };
 
     fn read(&mut self, buffer: &mut [u8]) -> Result<usize, Failed> {
         self.reads += 1;
-        if self.read_fails_at == 0 {
-            self.failed_reads += 1;
+        if self.good_reads == 0 {
+            self.failed += 1;
             return Err(Failed);
         }
-        self.read_fails_at -= 1;
-        match self.input.split_first() {
-            Some((first, rest)) if !buffer.is_empty() => {
+        self.good_reads -= 1;
+        if buffer.is_empty() {
+            return Ok(0);
+        }
+        let input = self.input;
+        match input.split_first() {
+            Some((first, rest)) => {
                 buffer[0] = *first;
                 self.input = rest;
                 Ok(1)
             }
-            _ => Ok(0),
+            None => Ok(0),
         }
     }
 }
 
-/// A writer that takes one byte at each call, and fails at one of its calls.
+/// A writer that takes one byte at each call, and fails after some calls.
 struct Narrow {
     output: Vec<u8>,
-    write_fails_at: usize,
-    failed_writes: u64,
+    good_writes: usize,
+    failed: u64,
 }
 
 impl Sink for Narrow {
     ghost written = { λ s. None };
 
-    ghost failed_writes = { λ s. s.failed_writes };
+    ghost failed_writes = { λ s. s.failed };
 
     fn write(&mut self, bytes: &[u8]) -> Result<usize, Failed> {
-        if self.write_fails_at > 0
-            && let Some(first) = bytes.first()
-            && self.output.push(*first).is_ok()
-        {
-            self.write_fails_at -= 1;
-            return Ok(1);
-        }
         if bytes.is_empty() {
             return Ok(0);
         }
-        self.failed_writes += 1;
-        Err(Failed)
+        if self.good_writes == 0 || self.output.push(bytes[0]).is_err() {
+            self.failed += 1;
+            return Err(Failed);
+        }
+        self.good_writes -= 1;
+        Ok(1)
     }
 
     fn flush(&mut self) -> Result<(), Failed> {
         Ok(())
     }
+}
+
+/// How a session on the small text ends after so many good reads and writes, and how much it wrote of its answer.
+fn narrow(
+    alloc: Global,
+    good_reads: usize,
+    good_writes: usize,
+) -> (Result<(), SessionFault>, usize, bool) {
+    let mut source = Slow {
+        input: SMALL,
+        good_reads,
+        reads: 0,
+        failed: 0,
+    };
+    let mut sink = Narrow {
+        output: Vec::new(alloc),
+        good_writes,
+        failed: 0,
+    };
+    let ended = session(alloc, &mut source, &mut sink);
+    let written = sink.output.as_slice();
+    (ended, written.len(), SMALL_ANSWER.starts_with(written))
+}
+
+#[test]
+fn one_byte_at_a_time(rt: HostRuntime) {
+    let all = SMALL_ANSWER.len();
+    assert_eq!(rt; narrow(rt.alloc(), 1000, 1000), (Ok(()), all, true));
+}
+
+#[test]
+fn failing_reads_and_writes(rt: HostRuntime) {
+    let read = Err(SessionFault::Read);
+    let write = Err(SessionFault::Write);
+    assert_eq!(rt; narrow(rt.alloc(), 0, 1000), (read, 0, true), "the first read");
+    assert_eq!(rt; narrow(rt.alloc(), 40, 1000), (read, 0, true), "a read in the text");
+    assert_eq!(rt; narrow(rt.alloc(), 64, 1000), (read, 25, true), "a read behind the text");
+    assert_eq!(rt; narrow(rt.alloc(), 1000, 0), (write, 0, true), "the first write");
+    assert_eq!(rt; narrow(rt.alloc(), 1000, 30), (write, 30, true), "a later write");
 }

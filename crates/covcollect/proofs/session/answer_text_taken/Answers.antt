@@ -4,7 +4,7 @@ use Rattle.covcollect.specs.Session.{Refuse, Unfinished}
 use Rattle.covcollect.specs.Run.{IsAnsweredAs}
 use Rattle.covcollect.specs.declared.session.text.Taken.{Taken}
 use Rattle.covcollect.specs.declared.trace.fault.ReadFault.TheVariants as faults
-use Rattle.covcollect.proofs.SessionSteps.{answered}
+use Rattle.covcollect.proofs.SessionSteps.{answered, appends_nil}
 use Rattle.covcollect.proofs.session.answer_text_taken.Goals as goal
 
 pub returns-in_ok-refuse-in-TooLong-clause-done : goal.returns-in_ok-refuse-in-TooLong-clause-done
@@ -12,7 +12,7 @@ returns-in_ok-refuse-in-TooLong-clause-done g c = (
   Refuse faults.TooLong ∷ [],
   answered c.args.taken _ _ c.in-TooLong.is refl,
   sym (append-nil _),
-  subst (λ (u : List ℕ). Appends _ _ u) (sym (append-nil _)) c.in_ok-refuse-in-TooLong.ensures.said,
+  appends_nil _ _ _ c.in_ok-refuse-in-TooLong.ensures.said,
 )
 
 pub returns-in_ok-say-in-Unfinished-clause-done : goal.returns-in_ok-say-in-Unfinished-clause-done
