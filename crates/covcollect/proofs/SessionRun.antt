@@ -215,7 +215,7 @@ whole_by first body rest those further last outcome c d trace no_last dot only a
     let none : further ≡ [] = open_ends d further s.asked ends in
     let tails : (body ++ last ∷ []) ++ rest ≡ s.body ++ further = cc in
     let flat : s.body ≡ body ++ last ∷ rest =
-        sym (append-nil s.body) ∙ ap (λ (u : List (List ℕ)). s.body ++ u) (sym none) ∙ sym tails ∙ append_assoc body (last ∷ []) rest in
+    sym (append-nil s.body) ∙ ap (λ (u : List (List ℕ)). s.body ++ u) (sym none) ∙ sym tails ∙ append_assoc body (last ∷ []) rest in
     absurd (no_dot s.body body rest last s.no_last dot flat)
 
 pub whole_determined : (first : List ℕ) (body rest : List (List ℕ)) (last : List ℕ) (outcome : Result SubmissionData ReadFault) (c : Command)

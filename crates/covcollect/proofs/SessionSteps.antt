@@ -108,7 +108,7 @@ taken_run taken.Unfinished pieces ending commands (no_last, ends) asked first tr
     let Q : LineEnd → Type 0 = λ u. IsRun u (first ∷ pieces) commands in
     let R : List Command → Type 0 = λ u. IsRun Input (first ∷ pieces) u in
     subst Q (sym ends) (subst R (sym asked)
-      (run_one_input (first ∷ pieces) Unfinished (first, pieces, refl, trace, no_last) refl (open_determined first pieces trace no_last)))
+    (run_one_input (first ∷ pieces) Unfinished (first, pieces, refl, trace, no_last) refl (open_determined first pieces trace no_last)))
 
 -- a command of one line
 blank_run : (ending : LineEnd) (piece : List ℕ) → line_of piece ≡ [] → IsRun ending (piece ∷ []) (Blank ∷ [])

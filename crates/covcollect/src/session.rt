@@ -19,8 +19,6 @@ pub mod output;
 pub mod text;
 pub mod word;
 
-pub use fault::SessionFault;
-
 use crate::session::answers::{refused_line, say_answer};
 use crate::session::block::Block;
 use crate::session::lines::{take_line, take_text};
@@ -30,6 +28,7 @@ use crate::session::word::{Word, word_of};
 use crate::stream::{Sink, Source};
 use crate::trace::{ReadFault, read_trace};
 use covbook::{Book, Op, SubRef};
+pub use fault::SessionFault;
 use std::alloc::Allocator;
 
 /// The job that a session's entries have.
@@ -98,7 +97,7 @@ fn submit<O: Sink, A: Allocator + Copy>(
         × ((other : Result SubmissionData Fault) → IsOutcome text.items other → other ≡ outcome)
         × Asks (asked_for outcome) (ops_in book.old) (ops_in book.new)
         × Appends (said_so_far (O.written sink.old) waiting.old.items) (said_so_far (O.written sink.new) waiting.new.items)
-            (text_after (table_of (ops_in book.old)) (asked_for outcome))) }
+        (text_after (table_of (ops_in book.old)) (asked_for outcome))) }
     ensures failed { OnOk result (O.failed_writes sink.new ≡ O.failed_writes sink.old) }
 {
     let read = read_trace(alloc, text.as_slice());
@@ -152,7 +151,7 @@ fn answer_text_taken<O: Sink, A: Allocator + Copy>(
     ensures done { OnOk result ((commands : List Command) × IsAnsweredAs taken commands
         × Asks commands (ops_in book.old) (ops_in book.new)
         × Appends (said_so_far (O.written sink.old) waiting.old.items) (said_so_far (O.written sink.new) waiting.new.items)
-            (text_after (table_of (ops_in book.old)) commands)) }
+        (text_after (table_of (ops_in book.old)) commands)) }
     ensures failed { OnOk result (O.failed_writes sink.new ≡ O.failed_writes sink.old) }
 {
     match taken {

@@ -45,7 +45,7 @@ pub fn take_line<I: Source, O: Sink, A: Allocator>(
     requires { CanCall (moment I.left I.reads I.failed_reads O.written O.failed_writes block.old source.old waiting.old.items sink.old) }
     ensures taken { IfOk result (λ ending. (line : List ℕ)
         × TakesLine (moment I.left I.reads I.failed_reads O.written O.failed_writes block.old source.old waiting.old.items sink.old)
-            (moment I.left I.reads I.failed_reads O.written O.failed_writes block.new source.new waiting.new.items sink.new) line ending
+        (moment I.left I.reads I.failed_reads O.written O.failed_writes block.new source.new waiting.new.items sink.new) line ending
         × ((before : List ℕ) → (now : List ℕ) → HasCollected text.old before now → HasCollected text.new before (now ++ line))) }
     ensures limit { OnOk result (text.new.limit ≡ text.old.limit) }
 {
@@ -71,7 +71,7 @@ pub fn take_text<I: Source, O: Sink, A: Allocator>(
     requires { CanCall (moment I.left I.reads I.failed_reads O.written O.failed_writes block.old source.old waiting.old.items sink.old) }
     ensures { IfOk result (λ r. (pieces : List (List ℕ))
         × TakesPieces (moment I.left I.reads I.failed_reads O.written O.failed_writes block.old source.old waiting.old.items sink.old)
-            (moment I.left I.reads I.failed_reads O.written O.failed_writes block.new source.new waiting.new.items sink.new) pieces r.1 []
+        (moment I.left I.reads I.failed_reads O.written O.failed_writes block.new source.new waiting.new.items sink.new) pieces r.1 []
         × IsTaken pieces r.1 r.0) }
 {
     let mut text = Text::new(alloc, MOST_BYTES);

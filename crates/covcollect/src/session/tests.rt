@@ -5,8 +5,11 @@ use crate::stream::{Failed, FromRead, FromWrite, Sink, Source};
 use std::alloc::Global;
 use std::test::*;
 
-const SMALL: &[u8] = b"trace\nTN:t\nSF:/a.c\nDA:1,2\nDA:2,0\nLF:2\nLH:1\nend_of_record\n.\nreport\n";
-const SMALL_ANSWER: &[u8] = b"accepted 1 items 2 odd 0\nTN:t\nSF:/a.c\nDA:1,2\nDA:2,0\nLF:2\nLH:1\nend_of_record\n.\n";
+const SMALL: &[u8] =
+    b"trace\nTN:t\nSF:/a.c\nDA:1,2\nDA:2,0\nLF:2\nLH:1\nend_of_record\n.\nreport\n";
+
+const SMALL_ANSWER: &[u8] =
+    b"accepted 1 items 2 odd 0\nTN:t\nSF:/a.c\nDA:1,2\nDA:2,0\nLF:2\nLH:1\nend_of_record\n.\n";
 
 /// What a session over std's readers and writers answers: how it ended, and whether it wrote just this.
 fn answers(alloc: Global, input: &[u8], wanted: &[u8]) -> (Result<(), SessionFault>, bool) {
@@ -24,7 +27,11 @@ fn whole_sessions(rt: HostRuntime) {
     let sessions: [(&str, &[u8], &[u8]); 18] = [
         ("nothing", b"", b""),
         ("a text and its report", SMALL, SMALL_ANSWER),
-        ("an empty text", b"trace\n.\nreport\n", b"accepted 1 items 0 odd 0\n.\n"),
+        (
+            "an empty text",
+            b"trace\n.\nreport\n",
+            b"accepted 1 items 0 odd 0\n.\n",
+        ),
         (
             "large counts",
             b"trace\nSF:/a.c\nDA:1,18446744073709551615\nDA:1,18446744073709551615\nend_of_record\n.\nreport\n",
@@ -40,15 +47,31 @@ fn whole_sessions(rt: HostRuntime) {
             b"trace\nTN:t\nSF:/a.c\nDA:1,2\nDA:2,0\nLF:9\nLH:1\nend_of_record\n.\nreport\n",
             b"accepted 1 items 2 odd 1\nTN:t\nSF:/a.c\nDA:1,2\nDA:2,0\nLF:2\nLH:1\nend_of_record\n.\n",
         ),
-        ("an open section", b"trace\nSF:/a.c\nDA:1,1\n.\n", b"refused OpenEnd\n"),
-        ("a count outside", b"trace\nDA:1,1\n.\n", b"refused Outside at 1\n"),
-        ("a bad line", b"trace\nDA:x\n.\nreport\n", b"refused BadLine at 1\n.\n"),
+        (
+            "an open section",
+            b"trace\nSF:/a.c\nDA:1,1\n.\n",
+            b"refused OpenEnd\n",
+        ),
+        (
+            "a count outside",
+            b"trace\nDA:1,1\n.\n",
+            b"refused Outside at 1\n",
+        ),
+        (
+            "a bad line",
+            b"trace\nDA:x\n.\nreport\n",
+            b"refused BadLine at 1\n.\n",
+        ),
         (
             "a test inside",
             b"trace\nTN:t\nSF:/a.c\nTN:u\n.\n",
             b"refused Inside at 3\n",
         ),
-        ("an empty path", b"trace\nSF:\n.\n", b"refused EmptyPath at 1\n"),
+        (
+            "an empty path",
+            b"trace\nSF:\n.\n",
+            b"refused EmptyPath at 1\n",
+        ),
         ("a text without its end", b"trace\nTN:t", b"unfinished\n"),
         ("a text that doesn't begin", b"trace", b"unfinished\n"),
         ("an unknown word", b"bogus", b"unknown\n"),
@@ -70,11 +93,16 @@ fn whole_sessions(rt: HostRuntime) {
         ),
     ];
     for (name, input, wanted) in sessions {
-        assert_eq!(rt; answers(rt.alloc(), input, wanted), (Ok(()), true), "{name}");
+        assert_eq!(rt;
+            answers(rt.alloc(), input, wanted),
+            (Ok(()), true),
+            "{name}"
+        );
     }
 }
 
 /// A reader that gives one byte at each call, and fails after some calls.
+#[derive(Drop)]
 struct Slow<'a> {
     input: &'a [u8],
     good_reads: usize,
@@ -112,6 +140,7 @@ impl<'a> Source for Slow<'a> {
 }
 
 /// A writer that takes one byte at each call, and fails after some calls.
+#[derive(Drop)]
 struct Narrow {
     output: Vec<u8>,
     good_writes: usize,
@@ -141,7 +170,7 @@ impl Sink for Narrow {
 }
 
 /// How a session on the small text ends after so many good reads and writes, and how much it wrote of its answer.
-fn narrow(
+fn by_bytes(
     alloc: Global,
     good_reads: usize,
     good_writes: usize,
@@ -165,16 +194,120 @@ fn narrow(
 #[test]
 fn one_byte_at_a_time(rt: HostRuntime) {
     let all = SMALL_ANSWER.len();
-    assert_eq!(rt; narrow(rt.alloc(), 1000, 1000), (Ok(()), all, true));
+    assert_eq!(rt; by_bytes(rt.alloc(), 1000, 1000), (Ok(()), all, true));
 }
 
 #[test]
 fn failing_reads_and_writes(rt: HostRuntime) {
     let read = Err(SessionFault::Read);
     let write = Err(SessionFault::Write);
-    assert_eq!(rt; narrow(rt.alloc(), 0, 1000), (read, 0, true), "the first read");
-    assert_eq!(rt; narrow(rt.alloc(), 40, 1000), (read, 0, true), "a read in the text");
-    assert_eq!(rt; narrow(rt.alloc(), 64, 1000), (read, 25, true), "a read behind the text");
-    assert_eq!(rt; narrow(rt.alloc(), 1000, 0), (write, 0, true), "the first write");
-    assert_eq!(rt; narrow(rt.alloc(), 1000, 30), (write, 30, true), "a later write");
+    assert_eq!(rt;
+        by_bytes(rt.alloc(), 0, 1000),
+        (read, 0, true),
+        "the first read"
+    );
+    assert_eq!(rt;
+        by_bytes(rt.alloc(), 40, 1000),
+        (read, 0, true),
+        "a read in the text"
+    );
+    assert_eq!(rt;
+        by_bytes(rt.alloc(), 64, 1000),
+        (read, 25, true),
+        "a read behind the text"
+    );
+    assert_eq!(rt;
+        by_bytes(rt.alloc(), 1000, 0),
+        (write, 0, true),
+        "the first write"
+    );
+    assert_eq!(rt;
+        by_bytes(rt.alloc(), 1000, 30),
+        (write, 30, true),
+        "a later write"
+    );
+}
+
+/// A reader of a text that is made as it is read: a line `trace`, so many bytes, and what follows.
+#[derive(Drop)]
+struct Long<'a> {
+    before: &'a [u8],
+    filling: usize,
+    after: &'a [u8],
+    reads: u64,
+}
+
+impl<'a> Source for Long<'a> {
+    ghost left = { λ s. None };
+
+    ghost reads = { λ s. s.reads };
+
+    ghost failed_reads = { λ s. 0 };
+
+    fn read(&mut self, buffer: &mut [u8]) -> Result<usize, Failed> {
+        self.reads += 1;
+        if buffer.is_empty() {
+            return Ok(0);
+        }
+        if let Some((first, rest)) = self.before.split_first() {
+            buffer[0] = *first;
+            self.before = rest;
+            return Ok(1);
+        }
+        if self.filling > 0 {
+            let count = self.filling.min(buffer.len());
+            buffer[..count].fill(b'x');
+            self.filling -= count;
+            return Ok(count);
+        }
+        let Some((first, rest)) = self.after.split_first() else {
+            return Ok(0);
+        };
+        buffer[0] = *first;
+        self.after = rest;
+        Ok(1)
+    }
+}
+
+/// How a session on a text of so many bytes in one line ends, and whether it wrote just this.
+fn long_text(alloc: Global, bytes: usize, wanted: &[u8]) -> (Result<(), SessionFault>, bool) {
+    let mut output: Vec<u8> = Vec::new(alloc);
+    let ended = {
+        let mut source = Long {
+            before: b"trace\n",
+            filling: bytes,
+            after: b"\n.\nreport\n",
+            reads: 0,
+        };
+        let mut sink = FromWrite::new(&mut output);
+        session(alloc, &mut source, &mut sink)
+    };
+    (ended, output.as_slice() == wanted)
+}
+
+#[test]
+fn longest_texts(rt: HostRuntime) {
+    let kept = b"accepted 1 items 0 odd 0\n.\n";
+    let refused = b"refused TooLong\n.\n";
+    assert_eq!(rt;
+        long_text(rt.alloc(), 67_108_863, kept.as_slice()),
+        (Ok(()), true),
+        "the limit"
+    );
+    assert_eq!(rt;
+        long_text(rt.alloc(), 67_108_864, refused.as_slice()),
+        (Ok(()), true),
+        "above it"
+    );
+}
+
+#[test]
+fn a_writer_that_is_full(rt: HostRuntime) {
+    let mut room = [0; 10];
+    let mut source = FromRead::new(SMALL);
+    let mut sink = FromWrite::new(room.as_mut_slice());
+    assert_eq!(rt;
+        session(rt.alloc(), &mut source, &mut sink),
+        Err(SessionFault::Write)
+    );
 }

@@ -171,7 +171,12 @@ impl<A: Allocator> Text<A> {
         requires { self.limit ≡ most_bytes }
         ensures { (before : List ℕ) → (now : List ℕ) → HasCollected self before now → IsTextOf before result }
     {
-        let Text { kept, limit, begins, .. } = self;
+        let Text {
+            kept,
+            limit,
+            begins,
+            ..
+        } = self;
         if begins > limit as u64 {
             return Taken::TooLong;
         }

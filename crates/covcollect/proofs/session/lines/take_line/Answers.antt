@@ -12,7 +12,7 @@ returns-then-branch-clause-taken g c =
     let t = c.in_ok-take_part.ensures in (
       i.0 ++ t.taken.0,
       line_end m n o c.take_part.new.block i.0 t.taken.0 i.1 t.taken.1 i.2 c.in_ok-fill.ensures.moves
-      (taken_whole _ _ _ _ c.if-branch.true t.taken.2) t.reads i.3 c.in_ok-fill.ensures.fewer,
+          (taken_whole _ _ _ _ c.if-branch.true t.taken.2) t.reads i.3 c.in_ok-fill.ensures.fewer,
       λ before now h. collected_on c.take_part.new.text before now i.0 t.taken.0 (t.taken.3 before (now ++ i.0) (i.4 before now h)),
     )
 

@@ -7,7 +7,7 @@ abbrev pub invariant-loop-block : goal.invariant-loop-block
 invariant-loop-block g l =
     (line : List ℕ) × (before_feed line ≡ line)
     × Moves (moment g.I.Source.left g.I.Source.reads g.I.Source.failed_reads g.O.Sink.written g.O.Sink.failed_writes l.initial.block l.initial.source l.initial.waiting.items l.initial.sink)
-        (moment g.I.Source.left g.I.Source.reads g.I.Source.failed_reads g.O.Sink.written g.O.Sink.failed_writes l.block l.source l.waiting.items l.sink) line []
+    (moment g.I.Source.left g.I.Source.reads g.I.Source.failed_reads g.O.Sink.written g.O.Sink.failed_writes l.block l.source l.waiting.items l.sink) line []
     × (turns l.block ≤ turns l.initial.block)
     × ((before : List ℕ) → (now : List ℕ) → HasCollected l.initial.text before now → HasCollected l.text before (now ++ line))
     × (l.text.limit ≡ l.initial.text.limit)

@@ -10,7 +10,7 @@ abbrev pub invariant-loop-text : goal.invariant-loop-text
 invariant-loop-text g l =
     (body : List (List ℕ)) × IsBody body × AreCut Feed (concat body) body
     × Moves (moment g.I.Source.left g.I.Source.reads g.I.Source.failed_reads g.O.Sink.written g.O.Sink.failed_writes l.initial.block l.initial.source l.initial.waiting.items l.initial.sink)
-        (moment g.I.Source.left g.I.Source.reads g.I.Source.failed_reads g.O.Sink.written g.O.Sink.failed_writes l.block l.source l.waiting.items l.sink) (concat body) []
+    (moment g.I.Source.left g.I.Source.reads g.I.Source.failed_reads g.O.Sink.written g.O.Sink.failed_writes l.block l.source l.waiting.items l.sink) (concat body) []
     × (turns l.block ≤ turns l.initial.block)
     × HasCollected l.text (concat body) []
     × (l.text.limit ≡ most_bytes)
