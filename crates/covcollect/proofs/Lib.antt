@@ -1,3 +1,8 @@
+pub mod SessionBytes
+pub mod SessionMoves
+pub mod SessionPieces
+pub mod SessionRun
+pub mod SessionSteps
 pub mod TraceGrammar
 pub mod TraceStands
 pub mod TraceOutcome

@@ -3,3 +3,5 @@ pub mod Outcome
 pub mod TraceTally
 pub mod TraceSteps
 pub mod Session
+pub mod Streams
+pub mod Run

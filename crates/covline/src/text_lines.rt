@@ -62,7 +62,7 @@ fn first_line(text: &[u8]) -> (&[u8], &[u8])
 }
 
 /// The text without the carriage returns at its end.
-fn without_returns(text: &[u8]) -> &[u8]
+pub fn without_returns(text: &[u8]) -> &[u8]
     ensures { result.now ≡ strip text.now }
 {
     let mut line = text;

@@ -1,0 +1,340 @@
+-- The commands of an input: there is one list of them, and it is found piece by piece.
+use Rattle.std.proofs.Common.{◌≡◌, ◌≢◌, ℕ, List, [], ◌∷◌, ◌++◌, Result, Ok, Err, refl, sym, ◌∙◌, ap, subst, append_assoc, append-nil, codes, eqb, length}
+use Rattle.std.proofs.lemmas.Bool.{false≢true}
+use Rattle.std.specs.List.{concat, flat_map}
+use Rattle.covline.specs.Row.{SubmissionData}
+use Rattle.covline.specs.Lines.{line_of}
+use Rattle.covbook.specs.Op.{OpData, SubmitOp, ReportOp}
+use Rattle.covbook.specs.Step.{Table, answer_of, table_after, table_from}
+use Rattle.covcollect.specs.declared.trace.fault.ReadFault.{ReadFault}
+use Rattle.covcollect.specs.declared.session.text.LineEnd.{LineEnd}
+use Rattle.covcollect.specs.declared.session.text.LineEnd.TheVariants.{Feed, Input}
+use Rattle.covcollect.specs.Outcome.{IsOutcome, Answers, IsOrMemory}
+use Rattle.covcollect.specs.declared.trace.fault.ReadFault.TheVariants as faults
+use Rattle.covcollect.specs.Session.{Command, Blank, Report, Submit, Refuse, Unknown, Unfinished, IsBody, IsCommand, EndsInput, AreCommands, ops_of, output_of, answer_text, refused_text, said}
+use Rattle.covcollect.specs.Run.{asked_for, text_after, GoOn, GoOnOnly, IsRun, IsTold}
+
+-- what commands are answered, and then further ones
+pub text_more : (table : Table) (commands more : List Command)
+    → text_after table (commands ++ more) ≡ text_after table commands ++ text_after (table_from table (ops_of commands)) more
+text_more table [] more = refl
+text_more table (Blank ∷ commands) more = text_more table commands more
+text_more table (Refuse fault ∷ commands) more =
+    ap (λ (u : List ℕ). refused_text fault ++ u) (text_more table commands more)
+    ∙ sym (append_assoc (refused_text fault) (text_after table commands) (text_after (table_from table (ops_of commands)) more))
+text_more table (Unknown ∷ commands) more =
+    ap (λ (u : List ℕ). said (codes "unknown") ++ u) (text_more table commands more)
+    ∙ sym (append_assoc (said (codes "unknown")) (text_after table commands) (text_after (table_from table (ops_of commands)) more))
+text_more table (Unfinished ∷ commands) more =
+    ap (λ (u : List ℕ). said (codes "unfinished") ++ u) (text_more table commands more)
+    ∙ sym (append_assoc (said (codes "unfinished")) (text_after table commands) (text_after (table_from table (ops_of commands)) more))
+text_more table (Submit submission ∷ commands) more =
+    let next = table_after table (SubmitOp submission) in
+    let first = answer_text (answer_of table (SubmitOp submission)) in
+    ap (λ (u : List ℕ). first ++ u) (text_more next commands more)
+    ∙ sym (append_assoc first (text_after next commands) (text_after (table_from next (ops_of commands)) more))
+text_more table (Report ∷ commands) more =
+    let next = table_after table ReportOp in
+    let first = answer_text (answer_of table ReportOp) in
+    ap (λ (u : List ℕ). first ++ u) (text_more next commands more)
+    ∙ sym (append_assoc first (text_after next commands) (text_after (table_from next (ops_of commands)) more))
+
+-- a command of one line
+abbrev pub IsSingle : List ℕ → Command → Type 0
+IsSingle line Blank = line ≡ []
+IsSingle line Report = line ≡ codes "report"
+IsSingle line Unknown = (line ≢ []) × (line ≢ codes "report") × (line ≢ codes "trace")
+IsSingle line (Submit submission) = ⊥
+IsSingle line (Refuse fault) = ⊥
+IsSingle line Unfinished = ⊥
+
+pub record Single (those : List (List ℕ)) (d : Command) : Type 0 where
+  pub piece : List ℕ
+  pub is : those ≡ piece ∷ []
+  pub says : IsSingle (line_of piece) d
+
+pub record WholeTrace (those : List (List ℕ)) (d : Command) : Type 0 where
+  pub first : List ℕ
+  pub body : List (List ℕ)
+  pub last : List ℕ
+  pub outcome : Result SubmissionData ReadFault
+  pub is : those ≡ first ∷ (body ++ last ∷ [])
+  pub trace : line_of first ≡ codes "trace"
+  pub no_last : IsBody body
+  pub dot : line_of last ≡ codes "."
+  pub read : IsOutcome (concat body) outcome
+  pub asked : asked_for outcome ≡ d ∷ []
+
+pub record OpenTrace (those : List (List ℕ)) (d : Command) : Type 0 where
+  pub first : List ℕ
+  pub body : List (List ℕ)
+  pub is : those ≡ first ∷ body
+  pub trace : line_of first ≡ codes "trace"
+  pub no_last : IsBody body
+  pub asked : d ≡ Unfinished
+
+pub data Shape (those : List (List ℕ)) (d : Command) : Type 0 where
+  ASingle : Single those d → Shape those d
+  AWhole : WholeTrace those d → Shape those d
+  AnOpen : OpenTrace those d → Shape those d
+
+pub shape : (those : List (List ℕ)) (d : Command) → IsCommand those d → Shape those d
+shape those Blank (piece, is, line) = ASingle (record { piece = piece; is = is; says = line })
+shape those Report (piece, is, line) = ASingle (record { piece = piece; is = is; says = line })
+shape those Unknown (line, (piece, is, same), a, b, c) =
+    ASingle (record { piece = piece; is = is; says = (λ e. a (sym same ∙ e), λ e. b (sym same ∙ e), λ e. c (sym same ∙ e)) })
+shape those (Submit submission) (text, (first, body, last, is, trace, no_last, dot, same), read) =
+    let P : List ℕ → Type 0 = λ u. IsOutcome u (Ok submission) in
+    AWhole (record { first = first; body = body; last = last; outcome = Ok submission; is = is; trace = trace; no_last = no_last; dot = dot; read = subst P same read; asked = refl })
+shape those (Refuse fault) (text, (first, body, last, is, trace, no_last, dot, same), read) =
+    let P : List ℕ → Type 0 = λ u. IsOutcome u (Err fault) in
+    AWhole (record { first = first; body = body; last = last; outcome = Err fault; is = is; trace = trace; no_last = no_last; dot = dot; read = subst P same read; asked = refl })
+shape those Unfinished (first, body, is, trace, no_last) =
+    AnOpen (record { first = first; body = body; is = is; trace = trace; no_last = no_last; asked = refl })
+
+-- a line is at most one command
+pub blank_unique : (line : List ℕ) (d : Command) → line ≡ [] → IsSingle line d → d ≡ Blank
+blank_unique line Blank h k = refl
+blank_unique line Report h k = absurd (let bad : codes "report" ≡ [] = sym k ∙ h in let nothing : ⊥ = cc in nothing)
+blank_unique line Unknown h k = absurd (k.0 h)
+blank_unique line (Submit submission) h k = absurd k
+blank_unique line (Refuse fault) h k = absurd k
+blank_unique line Unfinished h k = absurd k
+
+pub report_unique : (line : List ℕ) (d : Command) → line ≡ codes "report" → IsSingle line d → d ≡ Report
+report_unique line Report h k = refl
+report_unique line Blank h k = absurd (let bad : codes "report" ≡ [] = sym h ∙ k in let nothing : ⊥ = cc in nothing)
+report_unique line Unknown h k = absurd (k.1 h)
+report_unique line (Submit submission) h k = absurd k
+report_unique line (Refuse fault) h k = absurd k
+report_unique line Unfinished h k = absurd k
+
+pub unknown_unique : (line : List ℕ) (d : Command) → IsSingle line Unknown → IsSingle line d → d ≡ Unknown
+unknown_unique line Unknown h k = refl
+unknown_unique line Blank h k = absurd (h.0 k)
+unknown_unique line Report h k = absurd (h.1 k)
+unknown_unique line (Submit submission) h k = absurd k
+unknown_unique line (Refuse fault) h k = absurd k
+unknown_unique line Unfinished h k = absurd k
+
+pub single_unique : (line : List ℕ) (c d : Command) → IsSingle line c → IsSingle line d → d ≡ c
+single_unique line Blank d h k = blank_unique line d h k
+single_unique line Report d h k = report_unique line d h k
+single_unique line Unknown d h k = unknown_unique line d h k
+single_unique line (Submit submission) d h k = absurd h
+single_unique line (Refuse fault) d h k = absurd h
+single_unique line Unfinished d h k = absurd h
+
+-- no such line is `trace`
+empty_not_trace : codes "trace" ≢ []
+empty_not_trace e = cc
+
+report_not_trace : codes "report" ≢ codes "trace"
+report_not_trace e = false≢true (ap (λ (u : List ℕ). eqb (length u) 5) e)
+
+pub not_trace : (line : List ℕ) (d : Command) → IsSingle line d → line ≢ codes "trace"
+not_trace line Blank k e = empty_not_trace (sym e ∙ k)
+not_trace line Report k e = report_not_trace (sym k ∙ e)
+not_trace line Unknown k e = k.2 e
+not_trace line (Submit submission) k e = k
+not_trace line (Refuse fault) k e = k
+not_trace line Unfinished k e = k
+
+-- the first line `.` behind a line `trace` has one place
+pub no_dot : (body before after : List (List ℕ)) (last : List ℕ) → IsBody body → line_of last ≡ codes "." → body ≡ before ++ last ∷ after → ⊥
+no_dot [] [] after last h dot e = cc
+no_dot [] (b ∷ before) after last h dot e = cc
+no_dot (x ∷ body) [] after last h dot e = let same : x ≡ last = cc in h.0 (ap line_of same ∙ dot)
+no_dot (x ∷ body) (b ∷ before) after last h dot e = let rest : body ≡ before ++ last ∷ after = cc in no_dot body before after last h.1 dot rest
+
+pub dot_place : (body body2 rest rest2 : List (List ℕ)) (last last2 : List ℕ) → IsBody body → IsBody body2
+    → line_of last ≡ codes "." → line_of last2 ≡ codes "." → body ++ last ∷ rest ≡ body2 ++ last2 ∷ rest2 → (body ≡ body2) × (rest ≡ rest2)
+dot_place [] [] rest rest2 last last2 h k d d2 e = (refl, cc)
+dot_place [] (y ∷ body2) rest rest2 last last2 h k d d2 e = absurd (let same : last ≡ y = cc in k.0 (ap line_of (sym same) ∙ d))
+dot_place (x ∷ body) [] rest rest2 last last2 h k d d2 e = absurd (let same : x ≡ last2 = cc in h.0 (ap line_of same ∙ d2))
+dot_place (x ∷ body) (y ∷ body2) rest rest2 last last2 h k d d2 e =
+    let same : x ≡ y = cc in
+    let further : body ++ last ∷ rest ≡ body2 ++ last2 ∷ rest2 = cc in
+    let both = dot_place body body2 rest rest2 last last2 h.1 k.1 d d2 further in
+    (let bodies : body ≡ body2 = both.0 in cc, both.1)
+
+-- what a command of given pieces is determined by: the same pieces in front are that command, and the rest is the same
+abbrev pub Determined : List (List ℕ) → List (List ℕ) → Command → Type 0
+Determined these rest c =
+    (those : List (List ℕ)) (further : List (List ℕ)) (d : Command) → these ++ rest ≡ those ++ further
+    → IsCommand those d → EndsInput d further → (d ≡ c) × (further ≡ rest)
+
+single_by : (piece : List ℕ) (rest those further : List (List ℕ)) (c d : Command) → IsSingle (line_of piece) c → piece ∷ rest ≡ those ++ further
+    → Shape those d → (d ≡ c) × (further ≡ rest)
+single_by piece rest those further c d h e (ASingle s) =
+    let all : piece ∷ rest ≡ s.piece ∷ further = e ∙ ap (λ (u : List (List ℕ)). u ++ further) s.is in
+    let same : piece ≡ s.piece = cc in
+    let P : List ℕ → Type 0 = λ u. IsSingle (line_of u) d in
+    (single_unique (line_of piece) c d h (subst P (sym same) s.says), cc)
+single_by piece rest those further c d h e (AWhole s) =
+    let all : piece ∷ rest ≡ s.first ∷ ((s.body ++ s.last ∷ []) ++ further) = e ∙ ap (λ (u : List (List ℕ)). u ++ further) s.is in
+    let same : piece ≡ s.first = cc in
+    absurd (not_trace (line_of piece) c h (ap line_of same ∙ s.trace))
+single_by piece rest those further c d h e (AnOpen s) =
+    let all : piece ∷ rest ≡ s.first ∷ (s.body ++ further) = e ∙ ap (λ (u : List (List ℕ)). u ++ further) s.is in
+    let same : piece ≡ s.first = cc in
+    absurd (not_trace (line_of piece) c h (ap line_of same ∙ s.trace))
+
+pub single_determined : (piece : List ℕ) (rest : List (List ℕ)) (c : Command) → IsSingle (line_of piece) c → Determined (piece ∷ []) rest c
+single_determined piece rest c h = λ those further d e is ends. single_by piece rest those further c d h e (shape those d is)
+
+one_command : (c d : Command) → c ∷ [] ≡ d ∷ [] → c ≡ d
+one_command c d e = cc
+
+open_ends : (d : Command) (further : List (List ℕ)) → d ≡ Unfinished → EndsInput d further → further ≡ []
+open_ends Unfinished further e h = h
+open_ends Blank further e h = absurd (let nothing : ⊥ = cc in nothing)
+open_ends Report further e h = absurd (let nothing : ⊥ = cc in nothing)
+open_ends Unknown further e h = absurd (let nothing : ⊥ = cc in nothing)
+open_ends (Submit submission) further e h = absurd (let nothing : ⊥ = cc in nothing)
+open_ends (Refuse fault) further e h = absurd (let nothing : ⊥ = cc in nothing)
+
+whole_by : (first : List ℕ) (body rest those further : List (List ℕ)) (last : List ℕ) (outcome : Result SubmissionData ReadFault) (c d : Command)
+    → line_of first ≡ codes "trace" → IsBody body → line_of last ≡ codes "."
+    → ((other : Result SubmissionData ReadFault) → IsOutcome (concat body) other → other ≡ outcome) → asked_for outcome ≡ c ∷ []
+    → first ∷ ((body ++ last ∷ []) ++ rest) ≡ those ++ further → EndsInput d further → Shape those d → (d ≡ c) × (further ≡ rest)
+whole_by first body rest those further last outcome c d trace no_last dot only asked e ends (ASingle s) =
+    let all : first ∷ ((body ++ last ∷ []) ++ rest) ≡ s.piece ∷ further = e ∙ ap (λ (u : List (List ℕ)). u ++ further) s.is in
+    let same : first ≡ s.piece = cc in
+    absurd (not_trace (line_of s.piece) d s.says (ap line_of (sym same) ∙ trace))
+whole_by first body rest those further last outcome c d trace no_last dot only asked e ends (AWhole s) =
+    let all : first ∷ ((body ++ last ∷ []) ++ rest) ≡ s.first ∷ ((s.body ++ s.last ∷ []) ++ further) = e ∙ ap (λ (u : List (List ℕ)). u ++ further) s.is in
+    let tails : (body ++ last ∷ []) ++ rest ≡ (s.body ++ s.last ∷ []) ++ further = cc in
+    let flat : body ++ last ∷ rest ≡ s.body ++ s.last ∷ further = sym (append_assoc body (last ∷ []) rest) ∙ tails ∙ append_assoc s.body (s.last ∷ []) further in
+    let both = dot_place body s.body rest further last s.last no_last s.no_last dot s.dot flat in
+    let P : List (List ℕ) → Type 0 = λ u. IsOutcome (concat u) s.outcome in
+    let same : s.outcome ≡ outcome = only s.outcome (subst P (sym both.0) s.read) in
+    (one_command d c (sym s.asked ∙ ap asked_for same ∙ asked), sym both.1)
+whole_by first body rest those further last outcome c d trace no_last dot only asked e ends (AnOpen s) =
+    let all : first ∷ ((body ++ last ∷ []) ++ rest) ≡ s.first ∷ (s.body ++ further) = e ∙ ap (λ (u : List (List ℕ)). u ++ further) s.is in
+    let none : further ≡ [] = open_ends d further s.asked ends in
+    let tails : (body ++ last ∷ []) ++ rest ≡ s.body ++ further = cc in
+    let flat : s.body ≡ body ++ last ∷ rest =
+    sym (append-nil s.body) ∙ ap (λ (u : List (List ℕ)). s.body ++ u) (sym none) ∙ sym tails ∙ append_assoc body (last ∷ []) rest in
+    absurd (no_dot s.body body rest last s.no_last dot flat)
+
+pub whole_determined : (first : List ℕ) (body rest : List (List ℕ)) (last : List ℕ) (outcome : Result SubmissionData ReadFault) (c : Command)
+    → line_of first ≡ codes "trace" → IsBody body → line_of last ≡ codes "."
+    → ((other : Result SubmissionData ReadFault) → IsOutcome (concat body) other → other ≡ outcome) → asked_for outcome ≡ c ∷ []
+    → Determined (first ∷ (body ++ last ∷ [])) rest c
+whole_determined first body rest last outcome c trace no_last dot only asked = λ those further d e is ends.
+    whole_by first body rest those further last outcome c d trace no_last dot only asked e ends (shape those d is)
+
+open_by : (first : List ℕ) (body those further : List (List ℕ)) (d : Command) → line_of first ≡ codes "trace" → IsBody body
+    → first ∷ body ≡ those ++ further → EndsInput d further → Shape those d → (d ≡ Unfinished) × (further ≡ [])
+open_by first body those further d trace no_last e ends (ASingle s) =
+    let all : first ∷ body ≡ s.piece ∷ further = e ∙ ap (λ (u : List (List ℕ)). u ++ further) s.is in
+    let same : first ≡ s.piece = cc in
+    absurd (not_trace (line_of s.piece) d s.says (ap line_of (sym same) ∙ trace))
+open_by first body those further d trace no_last e ends (AWhole s) =
+    let all : first ∷ body ≡ s.first ∷ ((s.body ++ s.last ∷ []) ++ further) = e ∙ ap (λ (u : List (List ℕ)). u ++ further) s.is in
+    let tails : body ≡ (s.body ++ s.last ∷ []) ++ further = cc in
+    absurd (no_dot body s.body further s.last no_last s.dot (tails ∙ append_assoc s.body (s.last ∷ []) further))
+open_by first body those further d trace no_last e ends (AnOpen s) = (s.asked, open_ends d further s.asked ends)
+
+pub open_determined : (first : List ℕ) (body : List (List ℕ)) → line_of first ≡ codes "trace" → IsBody body → Determined (first ∷ body) [] Unfinished
+open_determined first body trace no_last = λ those further d e is ends.
+    open_by first body those further d trace no_last (sym (append-nil (first ∷ body)) ∙ e) ends (shape those d is)
+
+-- a command has a piece
+not_none : (those : List (List ℕ)) (d : Command) → Shape those d → those ≢ []
+not_none those d (ASingle s) e = let bad : s.piece ∷ [] ≡ [] = sym s.is ∙ e in cc
+not_none those d (AWhole s) e = let bad : s.first ∷ (s.body ++ s.last ∷ []) ≡ [] = sym s.is ∙ e in cc
+not_none those d (AnOpen s) e = let bad : s.first ∷ s.body ≡ [] = sym s.is ∙ e in cc
+
+front_none : (xs ys : List (List ℕ)) → xs ++ ys ≡ [] → xs ≡ []
+front_none [] ys e = refl
+front_none (x ∷ xs) ys e = absurd (let nothing : ⊥ = cc in nothing)
+
+none_only : (pieces : List (List ℕ)) (others : List Command) → pieces ≡ [] → AreCommands pieces others → others ≡ []
+none_only pieces [] e h = refl
+none_only pieces (d ∷ ds) e (those, rest, is, command, ends, more) =
+    absurd (not_none those d (shape those d command) (front_none those rest (sym is ∙ e)))
+
+pub run_none : (ending : LineEnd) → IsRun ending [] []
+run_none Feed = record { are = λ rest more h. h; only = λ rest others h. (others, refl, h) }
+run_none Input = record { are = refl; only = λ others h. none_only [] others refl h }
+
+-- runs join
+run_more_feed : (ps qs : List (List ℕ)) (cs ds : List Command) → IsRun Feed ps cs → IsRun Feed qs ds → IsRun Feed (ps ++ qs) (cs ++ ds)
+run_more_feed ps qs cs ds h k = record {
+  are = λ rest more r.
+      let P : List (List ℕ) → Type 0 = λ u. AreCommands u ((cs ++ ds) ++ more) in
+      let Q : List Command → Type 0 = λ u. AreCommands (ps ++ (qs ++ rest)) u in
+      subst P (sym (append_assoc ps qs rest)) (subst Q (sym (append_assoc cs ds more)) (h.are (qs ++ rest) (ds ++ more) (k.are rest more r)));
+  only = λ rest others r.
+      let P : List (List ℕ) → Type 0 = λ u. AreCommands u others in
+      let a = h.only (qs ++ rest) others (subst P (append_assoc ps qs rest) r) in
+      let b = k.only rest a.0 a.2 in
+      (b.0, a.1 ∙ ap (λ (u : List Command). cs ++ u) b.1 ∙ sym (append_assoc cs ds b.0), b.2);
+}
+
+run_more_input : (ps qs : List (List ℕ)) (cs ds : List Command) → IsRun Feed ps cs → IsRun Input qs ds → IsRun Input (ps ++ qs) (cs ++ ds)
+run_more_input ps qs cs ds h k = record {
+  are = h.are qs ds k.are;
+  only = λ others r.
+      let a = h.only qs others r in
+      a.1 ∙ ap (λ (u : List Command). cs ++ u) (k.only a.0 a.2);
+}
+
+pub run_more : (ending : LineEnd) (ps qs : List (List ℕ)) (cs ds : List Command) → IsRun Feed ps cs → IsRun ending qs ds → IsRun ending (ps ++ qs) (cs ++ ds)
+run_more Feed ps qs cs ds h k = run_more_feed ps qs cs ds h k
+run_more Input ps qs cs ds h k = run_more_input ps qs cs ds h k
+
+-- one command
+rest_of : (rest further : List (List ℕ)) (c d : Command) (ds : List Command) → d ≡ c → further ≡ rest → AreCommands further ds
+    → (more : List Command) × (d ∷ ds ≡ (c ∷ []) ++ more) × AreCommands rest more
+rest_of rest further c d ds e e2 h = let P : List (List ℕ) → Type 0 = λ u. AreCommands u ds in (ds, ap (λ (u : Command). u ∷ ds) e, subst P e2 h)
+
+one_only : (these rest : List (List ℕ)) (c : Command) → these ≢ [] → Determined these rest c → (others : List Command) → AreCommands (these ++ rest) others
+    → (more : List Command) × (others ≡ (c ∷ []) ++ more) × AreCommands rest more
+one_only these rest c some det [] h = absurd (some (front_none these rest h))
+one_only these rest c some det (d ∷ ds) (those, further, e, is, ends, more) =
+    let both = det those further d e is ends in
+    rest_of rest further c d ds both.0 both.1 more
+
+one_last : (these : List (List ℕ)) (c : Command) → these ≢ [] → Determined these [] c → (others : List Command) → AreCommands these others → others ≡ c ∷ []
+one_last these c some det others h =
+    let P : List (List ℕ) → Type 0 = λ u. AreCommands u others in
+    let a = one_only these [] c some det others (subst P (sym (append-nil these)) h) in
+    a.1 ∙ ap (λ (u : List Command). c ∷ u) (none_only [] a.0 refl a.2)
+
+pub run_one_feed : (these : List (List ℕ)) (c : Command) → IsCommand these c → ((rest : List (List ℕ)) → EndsInput c rest)
+    → ((rest : List (List ℕ)) → Determined these rest c) → IsRun Feed these (c ∷ [])
+run_one_feed these c is goes det = record {
+  are = λ rest more r. (these, rest, refl, is, goes rest, r);
+  only = λ rest others r. one_only these rest c (not_none these c (shape these c is)) (det rest) others r;
+}
+
+pub run_one_input : (these : List (List ℕ)) (c : Command) → IsCommand these c → EndsInput c [] → Determined these [] c → IsRun Input these (c ∷ [])
+run_one_input these c is ends det = record {
+  are = (these, [], sym (append-nil these), is, ends, refl);
+  only = λ others r. one_last these c (not_none these c (shape these c is)) det others r;
+}
+
+pub run_one : (ending : LineEnd) (these : List (List ℕ)) (c : Command) → IsCommand these c → ((rest : List (List ℕ)) → EndsInput c rest)
+    → ((rest : List (List ℕ)) → Determined these rest c) → IsRun ending these (c ∷ [])
+run_one Feed these c is goes det = run_one_feed these c is goes det
+run_one Input these c is goes det = run_one_input these c is (goes []) (det [])
+
+-- a fault that is told is what the text is read as
+pub told_outcome : (text : List ℕ) (fault : ReadFault) → IsTold fault → Answers text (Err fault) → IsOutcome text (Err fault)
+told_outcome text faults.TooLong told h = h
+told_outcome text (faults.Line at fault) told h = h
+told_outcome text (faults.Outside at) told h = h
+told_outcome text (faults.Inside at) told h = h
+told_outcome text faults.OpenEnd told h = h
+told_outcome text faults.Memory told h = absurd told
+
+pub told_only : (fault : ReadFault) (outcome : Result SubmissionData ReadFault) → IsTold fault → IsOrMemory (Err fault) outcome → outcome ≡ Err fault
+told_only faults.TooLong outcome told h = h
+told_only (faults.Line at fault) outcome told h = h
+told_only (faults.Outside at) outcome told h = h
+told_only (faults.Inside at) outcome told h = h
+told_only faults.OpenEnd outcome told h = h
+told_only faults.Memory outcome told h = absurd told

@@ -1,0 +1,337 @@
+-- The steps of a session from one command to the next, and the whole session.
+use Rattle.std.proofs.Common.{◌≡◌, ◌≢◌, ℕ, ◌+◌, ◌<◌, ◌≤◌, List, [], ◌∷◌, ◌++◌, length, Result, Ok, Err, Option, None, Some, refl, sym, ◌∙◌, ap, subst, arith, append_assoc, append-nil, codes}
+use Rattle.std.specs.List.{concat, flat_map}
+use Rattle.std.proofs.lemmas.List.Concat.{flat_map-append}
+use Rattle.std.specs.Option.{IfSome}
+use Rattle.std.specs.Io.KnownBytes.{Consumes, Appends, Keeps, IsAtEnd, prepend_known, append_known}
+use Rattle.covline.specs.Row.{SubmissionData}
+use Rattle.covline.specs.Lines.{line_feed, before_feed, strip, line_of, pieces_of}
+use Rattle.covbook.specs.Op.{OpData}
+use Rattle.covbook.specs.Step.{Table, table_of, table_from}
+use Rattle.covcollect.specs.declared.trace.fault.ReadFault.{ReadFault}
+use Rattle.covcollect.specs.declared.trace.fault.ReadFault.TheVariants as faults
+use Rattle.covcollect.specs.declared.session.text.LineEnd.{LineEnd}
+use Rattle.covcollect.specs.declared.session.text.LineEnd.TheVariants.{Feed, Input}
+use Rattle.covcollect.specs.declared.session.text.Taken.{Taken}
+use Rattle.covcollect.specs.declared.session.text.Taken.TheVariants as taken
+use Rattle.covcollect.specs.declared.session.word.Word.{Word}
+use Rattle.covcollect.specs.declared.session.word.Word.TheVariants as words
+use Rattle.covcollect.specs.Outcome.{IsOutcome, most_bytes}
+use Rattle.covcollect.specs.Session.{Command, Blank, Report, Submit, Refuse, Unknown, Unfinished, IsBody, IsCommand, IsSession, AreCommands, ops_of, ops_asked}
+use Rattle.covcollect.specs.Streams.{Moment, Moves, TakesLine, TakesPieces, AreCut, EndsAs, turns, unread, said_so_far, line_bytes, line_pieces, IsTaken, IsWord, IsWholeSession}
+use Rattle.covcollect.specs.Run.{asked_for, asked_by, text_after, Asks, IsRun, IsAnsweredAs, TakesTrace, TakesCommand, IsSoFar, IsDone}
+use Rattle.covcollect.proofs.SessionBytes.{Consumes-trans, Appends-trans}
+use Rattle.covcollect.proofs.SessionMoves.{Moves-trans}
+use Rattle.covcollect.proofs.SessionPieces.{cut_append, cut_ending, line_of_bytes}
+use Rattle.covcollect.proofs.SessionRun.{IsSingle, text_more, run_none, run_one, run_one_input, run_more, single_determined, whole_determined, open_determined}
+
+ends_as : (m n : Moment) (ending : LineEnd) (waiting : List ℕ) (written : Option (List ℕ)) (failed : ℕ)
+    → EndsAs ending m n → EndsAs ending m (record n { waiting = waiting; written = written; failed_writes = failed })
+ends_as m n Feed waiting written failed h = h
+ends_as m n Input waiting written failed h = h
+
+-- pieces were taken, and then something was said
+pub says_on : (m n : Moment) (pieces : List (List ℕ)) (ending : LineEnd) (waiting : List ℕ) (written : Option (List ℕ)) (failed : ℕ) (text : List ℕ)
+    → TakesPieces m n pieces ending [] → Appends (said_so_far n.written n.waiting) (said_so_far written waiting) text → failed ≡ n.failed_writes
+    → TakesPieces m (record n { waiting = waiting; written = written; failed_writes = failed }) pieces ending text
+says_on m n pieces ending waiting written failed text h says same = record {
+  bytes = h.bytes;
+  moves = record {
+    took = h.moves.took;
+    says = Appends-trans (said_so_far m.written m.waiting) (said_so_far n.written n.waiting) (said_so_far written waiting) [] text h.moves.says says;
+    counted = h.moves.counted;
+    failed_reads = h.moves.failed_reads;
+    failed_writes = same ∙ h.moves.failed_writes;
+  };
+  cut = h.cut;
+  ended = ends_as m n ending waiting written failed h.ended;
+}
+
+-- pieces and then further pieces
+ends_trans : (m n o : Moment) (ending : LineEnd) → EndsAs Feed m n → EndsAs ending n o → EndsAs ending m o
+ends_trans m n o Feed h k = omega arith
+ends_trans m n o Input h k = k
+
+pub pieces_trans : (m n o : Moment) (ps qs : List (List ℕ)) (ending : LineEnd) (x y : List ℕ)
+    → TakesPieces m n ps Feed x → TakesPieces n o qs ending y → TakesPieces m o (ps ++ qs) ending (x ++ y)
+pieces_trans m n o ps qs ending x y h k = record {
+  bytes = h.bytes ++ k.bytes;
+  moves = Moves-trans m n o h.bytes k.bytes x y h.moves k.moves;
+  cut = cut_append ending h.bytes k.bytes ps qs h.cut k.cut;
+  ended = ends_trans m n o ending h.ended k.ended;
+}
+
+pub line_taken : (m n : Moment) (line : List ℕ) (ending : LineEnd) → TakesLine m n line ending → TakesPieces m n (line_pieces ending line) ending []
+line_taken m n line ending h = record {
+  bytes = line_bytes ending line;
+  moves = h.moves;
+  cut = cut_ending ending line h.one_line;
+  ended = h.ended;
+}
+
+-- a text behind a line `trace`
+whole_run : (ending : LineEnd) (first : List ℕ) (body : List (List ℕ)) (last : List ℕ) (outcome : Result SubmissionData ReadFault)
+    → line_of first ≡ codes "trace" → IsBody body → line_of last ≡ codes "." → IsOutcome (concat body) outcome
+    → ((other : Result SubmissionData ReadFault) → IsOutcome (concat body) other → other ≡ outcome)
+    → IsRun ending (first ∷ (body ++ last ∷ [])) (asked_for outcome)
+whole_run ending first body last (Ok submission) trace no_last dot read only =
+    run_one ending (first ∷ (body ++ last ∷ [])) (Submit submission)
+    (concat body, (first, body, last, refl, trace, no_last, dot, refl), read) (λ rest. tt)
+    (λ rest. whole_determined first body rest last (Ok submission) (Submit submission) trace no_last dot only refl)
+whole_run ending first body last (Err fault) trace no_last dot read only =
+    run_one ending (first ∷ (body ++ last ∷ [])) (Refuse fault)
+    (concat body, (first, body, last, refl, trace, no_last, dot, refl), read) (λ rest. tt)
+    (λ rest. whole_determined first body rest last (Err fault) (Refuse fault) trace no_last dot only refl)
+
+too_long_only : (text : List ℕ) → most_bytes < length text → (other : Result SubmissionData ReadFault) → IsOutcome text other → other ≡ Err faults.TooLong
+too_long_only text long (Ok submission) h = absurd (let few : length text ≤ most_bytes = h.0 in omega arith)
+too_long_only text long (Err faults.TooLong) h = refl
+too_long_only text long (Err faults.Memory) h = absurd h
+too_long_only text long (Err (faults.Line at fault)) h = absurd (let few : length text ≤ most_bytes = h.0 in omega arith)
+too_long_only text long (Err (faults.Outside at)) h = absurd (let few : length text ≤ most_bytes = h.0 in omega arith)
+too_long_only text long (Err (faults.Inside at)) h = absurd (let few : length text ≤ most_bytes = h.0 in omega arith)
+too_long_only text long (Err faults.OpenEnd) h = absurd (let few : length text ≤ most_bytes = h.0 in omega arith)
+
+pub taken_run : {A : Type 0} (taken : Taken A) (pieces : List (List ℕ)) (ending : LineEnd) (commands : List Command)
+    → IsTaken pieces ending taken → IsAnsweredAs taken commands → (first : List ℕ) → line_of first ≡ codes "trace" → IsRun ending (first ∷ pieces) commands
+taken_run (taken.Whole kept) pieces ending commands (body, last, is, no_last, dot, (same, few)) (outcome, asked, read, only) first trace =
+    let P : List ℕ → Type 0 = λ u. IsOutcome u outcome in
+    let O : List ℕ → Type 0 = λ u. (other : Result SubmissionData ReadFault) → IsOutcome u other → other ≡ outcome in
+    let Q : List (List ℕ) → Type 0 = λ u. IsRun ending (first ∷ u) commands in
+    let R : List Command → Type 0 = λ u. IsRun ending (first ∷ (body ++ last ∷ [])) u in
+    subst Q (sym is) (subst R (sym asked) (whole_run ending first body last outcome trace no_last dot (subst P same read) (subst O same only)))
+taken_run taken.TooLong pieces ending commands (body, last, is, no_last, dot, long) asked first trace =
+    let Q : List (List ℕ) → Type 0 = λ u. IsRun ending (first ∷ u) commands in
+    let R : List Command → Type 0 = λ u. IsRun ending (first ∷ (body ++ last ∷ [])) u in
+    subst Q (sym is) (subst R (sym asked) (whole_run ending first body last (Err faults.TooLong) trace no_last dot long (too_long_only (concat body) long)))
+taken_run taken.Unfinished pieces ending commands (no_last, ends) asked first trace =
+    let Q : LineEnd → Type 0 = λ u. IsRun u (first ∷ pieces) commands in
+    let R : List Command → Type 0 = λ u. IsRun Input (first ∷ pieces) u in
+    subst Q (sym ends) (subst R (sym asked)
+    (run_one_input (first ∷ pieces) Unfinished (first, pieces, refl, trace, no_last) refl (open_determined first pieces trace no_last)))
+
+-- a command of one line
+blank_run : (ending : LineEnd) (piece : List ℕ) → line_of piece ≡ [] → IsRun ending (piece ∷ []) (Blank ∷ [])
+blank_run ending piece e = run_one ending (piece ∷ []) Blank (piece, refl, e) (λ rest. tt) (λ rest. single_determined piece rest Blank e)
+
+report_run : (ending : LineEnd) (piece : List ℕ) → line_of piece ≡ codes "report" → IsRun ending (piece ∷ []) (Report ∷ [])
+report_run ending piece e = run_one ending (piece ∷ []) Report (piece, refl, e) (λ rest. tt) (λ rest. single_determined piece rest Report e)
+
+unknown_run : (ending : LineEnd) (piece : List ℕ) → IsSingle (line_of piece) Unknown → IsRun ending (piece ∷ []) (Unknown ∷ [])
+unknown_run ending piece h =
+    run_one ending (piece ∷ []) Unknown (line_of piece, (piece, refl, refl), h.0, h.1, h.2) (λ rest. tt) (λ rest. single_determined piece rest Unknown h)
+
+word_run : (ending : LineEnd) (piece : List ℕ) (word : Word) → IsWord (line_of piece) word → (word ≡ words.Trace → ending ≡ Input)
+    → IsRun ending (piece ∷ []) (asked_by word)
+word_run ending piece words.Blank h last = blank_run ending piece h
+word_run ending piece words.Report h last = report_run ending piece h
+word_run ending piece words.Other h last = unknown_run ending piece h
+word_run ending piece words.Trace h last =
+    let Q : LineEnd → Type 0 = λ u. IsRun u (piece ∷ []) (Unfinished ∷ []) in
+    subst Q (sym (last refl)) (run_one_input (piece ∷ []) Unfinished (piece, [], refl, h, tt) refl (open_determined piece [] h tt))
+
+-- what a line is asked for, and nothing behind the last line
+pub record LineRun (ending : LineEnd) (pieces : List (List ℕ)) (word : Word) : Type 0 where
+  pub commands : List Command
+  pub run : IsRun ending pieces commands
+  pub same_text : (table : Table) → text_after table commands ≡ text_after table (asked_by word)
+  pub same_ops : ops_of commands ≡ ops_of (asked_by word)
+
+nothing_run : (word : Word) → IsWord [] word → LineRun Input [] word
+nothing_run words.Blank h = record { commands = []; run = run_none Input; same_text = λ table. refl; same_ops = refl }
+nothing_run words.Report h = absurd (let nothing : ⊥ = cc in nothing)
+nothing_run words.Trace h = absurd (let nothing : ⊥ = cc in nothing)
+nothing_run words.Other h = absurd (h.0 refl)
+
+piece_line : (ending : LineEnd) (piece : List ℕ) (word : Word) → IsWord (line_of piece) word → (word ≡ words.Trace → ending ≡ Input) → LineRun ending (piece ∷ []) word
+piece_line ending piece word h last = record {
+  commands = asked_by word;
+  run = word_run ending piece word h last;
+  same_text = λ table. refl;
+  same_ops = refl;
+}
+
+pub line_run : (ending : LineEnd) (line : List ℕ) (word : Word) → before_feed line ≡ line → IsWord (strip line) word → (word ≡ words.Trace → ending ≡ Input)
+    → LineRun ending (line_pieces ending line) word
+line_run Feed line word one h last =
+    let P : List ℕ → Type 0 = λ u. IsWord u word in
+    piece_line Feed (line ++ line_feed ∷ []) word (subst P (sym (line_of_bytes Feed line one)) h) last
+line_run Input [] word one h last = nothing_run word h
+line_run Input (b ∷ bs) word one h last =
+    let P : List ℕ → Type 0 = λ u. IsWord u word in
+    piece_line Input (b ∷ bs) word (subst P (sym (line_of_bytes Input (b ∷ bs) one)) h) last
+
+-- a line and its answer are a command
+pub line_command : (m n : Moment) (line : List ℕ) (ending : LineEnd) (word : Word) (waiting : List ℕ) (written : Option (List ℕ)) (failed : ℕ) (before after : List OpData)
+    → TakesLine m n line ending → IsWord (strip line) word → (word ≡ words.Trace → ending ≡ Input)
+    → Asks (asked_by word) before after
+    → Appends (said_so_far n.written n.waiting) (said_so_far written waiting) (text_after (table_of before) (asked_by word)) → failed ≡ n.failed_writes
+    → TakesCommand m (record n { waiting = waiting; written = written; failed_writes = failed }) before after ending
+line_command m n line ending word waiting written failed before after h is last asks says same =
+    let r = line_run ending line word h.one_line is last in
+    let o : Moment = record n { waiting = waiting; written = written; failed_writes = failed } in
+    let P : List ℕ → Type 0 = λ u. TakesPieces m o (line_pieces ending line) ending u in
+    record {
+      pieces = line_pieces ending line;
+      commands = r.commands;
+      taken = subst P (sym (r.same_text (table_of before)))
+          (says_on m n (line_pieces ending line) ending waiting written failed (text_after (table_of before) (asked_by word)) (line_taken m n line ending h) says same);
+      asks = asks ∙ ap (λ (u : List OpData). before ++ u) (sym r.same_ops);
+      run = r.run;
+    }
+
+-- a line `trace` with its text and the answer are a command
+pub trace_command : (m n o : Moment) (line : List ℕ) (ending first : LineEnd) (before after : List OpData)
+    → TakesLine m n line first → first ≡ Feed → strip line ≡ codes "trace" → TakesTrace n o before after ending → TakesCommand m o before after ending
+trace_command m n o line ending first before after h feed is t =
+    let F : LineEnd → Type 0 = λ u. TakesLine m n line u in
+    let taken : TakesLine m n line Feed = subst F feed h in
+    record {
+      pieces = (line ++ line_feed ∷ []) ∷ t.pieces;
+      commands = t.commands;
+      taken = pieces_trans m n o ((line ++ line_feed ∷ []) ∷ []) t.pieces ending [] (text_after (table_of before) t.commands) (line_taken m n line Feed taken) t.taken;
+      asks = t.asks;
+      run = t.run (line ++ line_feed ∷ []) (line_of_bytes Feed line h.one_line ∙ is);
+    }
+
+consumes_none : (a : Option (List ℕ)) → Consumes a a []
+consumes_none None = tt
+consumes_none (Some xs) = refl
+
+appends_none : (a : Option (List ℕ)) → Appends a a []
+appends_none None = tt
+appends_none (Some xs) = sym (append-nil xs)
+
+-- the whole session
+pub so_far_none : (m : Moment) (history : List OpData) → history ≡ [] → IsSoFar m m history
+so_far_none m history e = record {
+  bytes = [];
+  pieces = [];
+  commands = [];
+  moves = record {
+    took = consumes_none (unread m.block m.left);
+    says = appends_none (said_so_far m.written m.waiting);
+    counted = refl;
+    failed_reads = refl;
+    failed_writes = refl;
+  };
+  cut = λ more. refl;
+  run = run_none Feed;
+  asked = e;
+  fewer = omega arith;
+}
+
+both_asked : (history before : List OpData) (cs ds : List Command) → before ≡ ops_of cs → history ≡ before ++ ops_of ds → history ≡ ops_of (cs ++ ds)
+both_asked history before cs ds e h = h ∙ ap (λ (u : List OpData). u ++ ops_of ds) e ∙ sym (flat_map-append ops_asked cs ds)
+
+more_text : (before : List OpData) (cs ds : List Command) → before ≡ ops_of cs
+    → text_after [] cs ++ text_after (table_of before) ds ≡ text_after [] (cs ++ ds)
+more_text before cs ds e =
+    ap (λ (u : List OpData). text_after [] cs ++ text_after (table_of u) ds) e ∙ sym (text_more [] cs ds)
+
+more_said : (m n o : Moment) (before after : List OpData) (ending : LineEnd) (s : IsSoFar m n before) (t : TakesCommand n o before after ending)
+    → Moves m o (s.bytes ++ t.taken.bytes) (text_after [] (s.commands ++ t.commands))
+more_said m n o before after ending s t =
+    let P : List ℕ → Type 0 = λ u. Moves m o (s.bytes ++ t.taken.bytes) u in
+    subst P (more_text before s.commands t.commands s.asked)
+    (Moves-trans m n o s.bytes t.taken.bytes (text_after [] s.commands) (text_after (table_of before) t.commands) s.moves t.taken.moves)
+
+fewer_turns : (m n o : Moment) → turns n.block ≤ turns m.block → EndsAs Feed n o → turns o.block ≤ turns m.block
+fewer_turns m n o h k = omega arith
+
+pub so_far_more : (m n o : Moment) (before after : List OpData) → IsSoFar m n before → TakesCommand n o before after Feed → IsSoFar m o after
+so_far_more m n o before after s t = record {
+  bytes = s.bytes ++ t.taken.bytes;
+  pieces = s.pieces ++ t.pieces;
+  commands = s.commands ++ t.commands;
+  moves = more_said m n o before after Feed s t;
+  cut = cut_append Feed s.bytes t.taken.bytes s.pieces t.pieces s.cut t.taken.cut;
+  run = run_more Feed s.pieces t.pieces s.commands t.commands s.run t.run;
+  asked = both_asked after before s.commands t.commands s.asked t.asks;
+  fewer = fewer_turns m n o s.fewer t.taken.ended;
+}
+
+pub so_far_done : (m n o : Moment) (before after : List OpData) → IsSoFar m n before → TakesCommand n o before after Input → IsDone m o
+so_far_done m n o before after s t =
+    let cut : pieces_of (s.bytes ++ t.taken.bytes) ≡ s.pieces ++ t.pieces = cut_append Input s.bytes t.taken.bytes s.pieces t.pieces s.cut t.taken.cut in
+    let P : List (List ℕ) → Type 0 = λ u. IsRun Input u (s.commands ++ t.commands) in
+    record {
+      bytes = s.bytes ++ t.taken.bytes;
+      commands = s.commands ++ t.commands;
+      moves = more_said m n o before after Input s t;
+      run = subst P (sym cut) (run_more Input s.pieces t.pieces s.commands t.commands s.run t.run);
+      ended = t.taken.ended;
+      failed = t.taken.moves.failed_writes ∙ s.moves.failed_writes;
+    }
+
+-- the last writes
+start_took : (left other : Option (List ℕ)) (bytes : List ℕ) → Consumes (prepend_known [] left) other bytes → Consumes left other bytes
+start_took None other bytes h = tt
+start_took (Some xs) other bytes h = h
+
+none_front : (xs ys : List ℕ) → xs ++ ys ≡ [] → ys ≡ []
+none_front [] ys e = e
+none_front (x ∷ xs) ys e = absurd (let nothing : ⊥ = cc in nothing)
+
+end_left : (pending : List ℕ) (left : Option (List ℕ)) → IsAtEnd (prepend_known pending left) → IsAtEnd left
+end_left pending None h = tt
+end_left pending (Some xs) h = none_front pending xs h
+
+end_took : (first : Option (List ℕ)) (pending bytes : List ℕ) (left : Option (List ℕ)) → Consumes first (prepend_known pending left) bytes
+    → IsAtEnd (prepend_known pending left) → Consumes first left bytes
+end_took None pending bytes left h e = tt
+end_took (Some xs) pending bytes None h e = absurd h
+end_took (Some xs) pending bytes (Some ys) h e =
+    h ∙ ap (λ (u : List ℕ). bytes ++ u) (e ∙ sym (none_front pending ys e))
+
+end_says : (first middle last flushed : Option (List ℕ)) (waiting text : List ℕ) → Appends (append_known first []) (append_known middle waiting) text
+    → Appends middle last waiting → Keeps last flushed → Appends first flushed text
+end_says None middle last flushed waiting text h k f = tt
+end_says (Some xs) None last flushed waiting text h k f = absurd h
+end_says (Some xs) (Some ys) None flushed waiting text h k f = absurd k
+end_says (Some xs) (Some ys) (Some zs) None waiting text h k f = absurd f
+end_says (Some xs) (Some ys) (Some zs) (Some us) waiting text h k f =
+    f ∙ k ∙ h ∙ ap (λ (u : List ℕ). u ++ text) (append-nil xs)
+
+pub whole_session : (m n : Moment) (last flushed : Option (List ℕ)) → IsDone m n → m.block.pending ≡ [] → m.waiting ≡ []
+    → Appends n.written last n.waiting → Keeps last flushed → IsWholeSession m.left n.left m.written flushed
+whole_session m n last flushed d none empty k f =
+    let P : List ℕ → Type 0 = λ u. Consumes (prepend_known u m.left) (unread n.block n.left) d.bytes in
+    let Q : List ℕ → Type 0 = λ u. Appends (append_known m.written u) (said_so_far n.written n.waiting) (text_after [] d.commands) in (
+      d.bytes,
+      text_after [] d.commands,
+      end_took m.left n.block.pending d.bytes n.left (start_took m.left (unread n.block n.left) d.bytes (subst P none d.moves.took)) d.ended,
+      end_left n.block.pending n.left d.ended,
+      (d.commands, d.run.are, refl),
+      end_says m.written n.written last flushed n.waiting (text_after [] d.commands) (subst Q empty d.moves.says) k f,
+    )
+
+only_session : (left left_after written written_after : Option (List ℕ)) (bytes : List ℕ) (commands : List Command)
+    → Consumes left left_after bytes → IsAtEnd left_after → IsRun Input (pieces_of bytes) commands
+    → Appends written written_after (text_after [] commands)
+    → IfSome left (λ input. (output : List ℕ) → IsSession input output → Appends written written_after output)
+only_session None left_after written written_after bytes commands took ended run says = tt
+only_session (Some input) None written written_after bytes commands took ended run says = absurd took
+only_session (Some input) (Some rest) written written_after bytes commands took ended run says = λ output (others, are, is).
+    let all : input ≡ bytes = took ∙ ap (λ (u : List ℕ). bytes ++ u) ended ∙ append-nil bytes in
+    let P : List ℕ → Type 0 = λ u. AreCommands (pieces_of u) others in
+    let same : others ≡ commands = run.only others (subst P all are) in
+    let Q : List ℕ → Type 0 = λ u. Appends written written_after u in
+    subst Q (ap (λ (u : List Command). text_after [] u) (sym same) ∙ sym is) says
+
+pub only_whole : (m n : Moment) (last flushed : Option (List ℕ)) → IsDone m n → m.block.pending ≡ [] → m.waiting ≡ []
+    → Appends n.written last n.waiting → Keeps last flushed
+    → IfSome m.left (λ input. (output : List ℕ) → IsSession input output → Appends m.written flushed output)
+only_whole m n last flushed d none empty k f =
+    let P : List ℕ → Type 0 = λ u. Consumes (prepend_known u m.left) (unread n.block n.left) d.bytes in
+    let Q : List ℕ → Type 0 = λ u. Appends (append_known m.written u) (said_so_far n.written n.waiting) (text_after [] d.commands) in
+    only_session m.left n.left m.written flushed d.bytes d.commands
+    (end_took m.left n.block.pending d.bytes n.left (start_took m.left (unread n.block n.left) d.bytes (subst P none d.moves.took)) d.ended)
+    (end_left n.block.pending n.left d.ended) d.run
+    (end_says m.written n.written last flushed n.waiting (text_after [] d.commands) (subst Q empty d.moves.says) k f)
+
+pub answered : {A : Type 0} (taken other : Taken A) (commands : List Command) → taken ≡ other → IsAnsweredAs other commands → IsAnsweredAs taken commands
+answered {A} taken other commands e h = let P : Taken A → Type 0 = λ t. IsAnsweredAs t commands in subst P (sym e) h
+
+pub appends_nil : (a b : Option (List ℕ)) (text : List ℕ) → Appends a b text → Appends a b (text ++ [])
+appends_nil a b text h = let P : List ℕ → Type 0 = λ u. Appends a b u in subst P (sym (append-nil text)) h

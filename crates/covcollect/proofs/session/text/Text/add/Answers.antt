@@ -1,0 +1,12 @@
+use Rattle.std.proofs.Common.{ℕ, ◌+◌, ◌-◌, ◌^◌, min, length, sym, ◌∙◌, ap}
+use Rattle.covcollect.specs.Streams.{line_after}
+use Rattle.covcollect.specs.declared.session.text.LineSoFar.{LineSoFar}
+use Rattle.covcollect.proofs.SessionBytes.{collected_add}
+use Rattle.covcollect.proofs.session.text.Text.add.Goals as goal
+
+pub returns-clause-collected : goal.returns-clause-collected
+returns-clause-collected g c = λ before now h.
+    collected_add _ _ _ _ _ _ _ _ _ _ c.args.part.now before now h
+    c.in_ok-keep.ensures.limit c.in_ok-keep.ensures.begins (c.in_ok-keep.ensures.kept _ h.keeps)
+    (c.saturating_add-self.ensures ∙ ap (λ (n : ℕ). min (n + length c.args.part.now) (2 ^ 64 - 1)) c.in_ok-keep.ensures.total)
+    (c.with_bytes-self.ensures ∙ ap (λ (s : LineSoFar). line_after s c.args.part.now) c.in_ok-keep.ensures.line)

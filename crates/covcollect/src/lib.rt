@@ -1,4 +1,0 @@
-//! A session: commands in, answers out.
-#![tactic(auto)]
-
-pub mod trace;

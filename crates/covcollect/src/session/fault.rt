@@ -1,0 +1,44 @@
+//! Why a session ends early.
+
+use covbook::BookFault;
+use covline::Memory;
+use std::alloc::AllocError;
+use thiserror::Error;
+
+/// Why a session ended before its input.
+#[derive(Clone, Copy, Debug, PartialEq, Eq, Error)]
+pub enum SessionFault {
+    /// A read failed, or 2^32 reads were made.
+    #[error("read fault")]
+    Read = 1,
+    /// A write failed, or took none of some bytes.
+    #[error("write fault")]
+    Write = 2,
+    /// A growth was refused.
+    #[error("out of memory")]
+    Memory = 3,
+    /// The history has no room for another entry.
+    #[error("book full")]
+    Full = 4,
+}
+
+impl From<AllocError> for SessionFault {
+    fn from(_refused: AllocError) -> SessionFault {
+        SessionFault::Memory
+    }
+}
+
+impl From<Memory> for SessionFault {
+    fn from(_refused: Memory) -> SessionFault {
+        SessionFault::Memory
+    }
+}
+
+impl From<BookFault> for SessionFault {
+    fn from(fault: BookFault) -> SessionFault {
+        match fault {
+            BookFault::Full => SessionFault::Full,
+            BookFault::Memory => SessionFault::Memory,
+        }
+    }
+}

@@ -1,0 +1,313 @@
+//! Sessions on texts in memory: expected answers are those of the written examples.
+
+use crate::session::{SessionFault, session};
+use crate::stream::{Failed, FromRead, FromWrite, Sink, Source};
+use std::alloc::Global;
+use std::test::*;
+
+const SMALL: &[u8] =
+    b"trace\nTN:t\nSF:/a.c\nDA:1,2\nDA:2,0\nLF:2\nLH:1\nend_of_record\n.\nreport\n";
+
+const SMALL_ANSWER: &[u8] =
+    b"accepted 1 items 2 odd 0\nTN:t\nSF:/a.c\nDA:1,2\nDA:2,0\nLF:2\nLH:1\nend_of_record\n.\n";
+
+/// What a session over std's readers and writers answers: how it ended, and whether it wrote just this.
+fn answers(alloc: Global, input: &[u8], wanted: &[u8]) -> (Result<(), SessionFault>, bool) {
+    let mut output: Vec<u8> = Vec::new(alloc);
+    let ended = {
+        let mut source = FromRead::new(input);
+        let mut sink = FromWrite::new(&mut output);
+        session(alloc, &mut source, &mut sink)
+    };
+    (ended, output.as_slice() == wanted)
+}
+
+#[test]
+fn whole_sessions(rt: HostRuntime) {
+    let sessions: [(&str, &[u8], &[u8]); 18] = [
+        ("nothing", b"", b""),
+        ("a text and its report", SMALL, SMALL_ANSWER),
+        (
+            "an empty text",
+            b"trace\n.\nreport\n",
+            b"accepted 1 items 0 odd 0\n.\n",
+        ),
+        (
+            "large counts",
+            b"trace\nSF:/a.c\nDA:1,18446744073709551615\nDA:1,18446744073709551615\nend_of_record\n.\nreport\n",
+            b"accepted 1 items 2 odd 0\nTN:\nSF:/a.c\nDA:1,36893488147419103230\nLF:1\nLH:1\nend_of_record\n.\n",
+        ),
+        (
+            "a number that is too large",
+            b"trace\nSF:/a.c\nDA:1,18446744073709551616\n.\n",
+            b"refused NumberTooLarge at 2\n",
+        ),
+        (
+            "a wrong total",
+            b"trace\nTN:t\nSF:/a.c\nDA:1,2\nDA:2,0\nLF:9\nLH:1\nend_of_record\n.\nreport\n",
+            b"accepted 1 items 2 odd 1\nTN:t\nSF:/a.c\nDA:1,2\nDA:2,0\nLF:2\nLH:1\nend_of_record\n.\n",
+        ),
+        (
+            "an open section",
+            b"trace\nSF:/a.c\nDA:1,1\n.\n",
+            b"refused OpenEnd\n",
+        ),
+        (
+            "a count outside",
+            b"trace\nDA:1,1\n.\n",
+            b"refused Outside at 1\n",
+        ),
+        (
+            "a bad line",
+            b"trace\nDA:x\n.\nreport\n",
+            b"refused BadLine at 1\n.\n",
+        ),
+        (
+            "a test inside",
+            b"trace\nTN:t\nSF:/a.c\nTN:u\n.\n",
+            b"refused Inside at 3\n",
+        ),
+        (
+            "an empty path",
+            b"trace\nSF:\n.\n",
+            b"refused EmptyPath at 1\n",
+        ),
+        ("a text without its end", b"trace\nTN:t", b"unfinished\n"),
+        ("a text that doesn't begin", b"trace", b"unfinished\n"),
+        ("an unknown word", b"bogus", b"unknown\n"),
+        (
+            "words that are no commands",
+            b"report \n.\n report\ntrace x\n",
+            b"unknown\nunknown\nunknown\nunknown\n",
+        ),
+        ("blank lines", b"\n\r\n\r\r\n\r", b""),
+        (
+            "carriage returns",
+            b"trace\r\nSF:/a.c\r\nDA:1,1\r\nend_of_record\r\n.\r\r\nreport\r\n",
+            b"accepted 1 items 1 odd 0\nTN:\nSF:/a.c\nDA:1,1\nLF:1\nLH:1\nend_of_record\n.\n",
+        ),
+        (
+            "lines that end no text",
+            b"trace\n .\n..\n.x\n\n.",
+            b"accepted 1 items 0 odd 0\n",
+        ),
+    ];
+    for (name, input, wanted) in sessions {
+        assert_eq!(rt;
+            answers(rt.alloc(), input, wanted),
+            (Ok(()), true),
+            "{name}"
+        );
+    }
+}
+
+/// A reader that gives one byte at each call, and fails after some calls.
+#[derive(Drop)]
+struct Slow<'a> {
+    input: &'a [u8],
+    good_reads: usize,
+    reads: u64,
+    failed: u64,
+}
+
+impl<'a> Source for Slow<'a> {
+    ghost left = { λ s. None };
+
+    ghost reads = { λ s. s.reads };
+
+    ghost failed_reads = { λ s. s.failed };
+
+    fn read(&mut self, buffer: &mut [u8]) -> Result<usize, Failed> {
+        self.reads += 1;
+        if self.good_reads == 0 {
+            self.failed += 1;
+            return Err(Failed);
+        }
+        self.good_reads -= 1;
+        if buffer.is_empty() {
+            return Ok(0);
+        }
+        let input = self.input;
+        match input.split_first() {
+            Some((first, rest)) => {
+                buffer[0] = *first;
+                self.input = rest;
+                Ok(1)
+            }
+            None => Ok(0),
+        }
+    }
+}
+
+/// A writer that takes one byte at each call, and fails after some calls.
+#[derive(Drop)]
+struct Narrow {
+    output: Vec<u8>,
+    good_writes: usize,
+    failed: u64,
+}
+
+impl Sink for Narrow {
+    ghost written = { λ s. None };
+
+    ghost failed_writes = { λ s. s.failed };
+
+    fn write(&mut self, bytes: &[u8]) -> Result<usize, Failed> {
+        if bytes.is_empty() {
+            return Ok(0);
+        }
+        if self.good_writes == 0 || self.output.push(bytes[0]).is_err() {
+            self.failed += 1;
+            return Err(Failed);
+        }
+        self.good_writes -= 1;
+        Ok(1)
+    }
+
+    fn flush(&mut self) -> Result<(), Failed> {
+        Ok(())
+    }
+}
+
+/// How a session on the small text ends after so many good reads and writes, and how much it wrote of its answer.
+fn by_bytes(
+    alloc: Global,
+    good_reads: usize,
+    good_writes: usize,
+) -> (Result<(), SessionFault>, usize, bool) {
+    let mut source = Slow {
+        input: SMALL,
+        good_reads,
+        reads: 0,
+        failed: 0,
+    };
+    let mut sink = Narrow {
+        output: Vec::new(alloc),
+        good_writes,
+        failed: 0,
+    };
+    let ended = session(alloc, &mut source, &mut sink);
+    let written = sink.output.as_slice();
+    (ended, written.len(), SMALL_ANSWER.starts_with(written))
+}
+
+#[test]
+fn one_byte_at_a_time(rt: HostRuntime) {
+    let all = SMALL_ANSWER.len();
+    assert_eq!(rt; by_bytes(rt.alloc(), 1000, 1000), (Ok(()), all, true));
+}
+
+#[test]
+fn failing_reads_and_writes(rt: HostRuntime) {
+    let read = Err(SessionFault::Read);
+    let write = Err(SessionFault::Write);
+    assert_eq!(rt;
+        by_bytes(rt.alloc(), 0, 1000),
+        (read, 0, true),
+        "the first read"
+    );
+    assert_eq!(rt;
+        by_bytes(rt.alloc(), 40, 1000),
+        (read, 0, true),
+        "a read in the text"
+    );
+    assert_eq!(rt;
+        by_bytes(rt.alloc(), 64, 1000),
+        (read, 25, true),
+        "a read behind the text"
+    );
+    assert_eq!(rt;
+        by_bytes(rt.alloc(), 1000, 0),
+        (write, 0, true),
+        "the first write"
+    );
+    assert_eq!(rt;
+        by_bytes(rt.alloc(), 1000, 30),
+        (write, 30, true),
+        "a later write"
+    );
+}
+
+/// A reader of a text that is made as it is read: a line `trace`, so many bytes, and what follows.
+#[derive(Drop)]
+struct Long<'a> {
+    before: &'a [u8],
+    filling: usize,
+    after: &'a [u8],
+    reads: u64,
+}
+
+impl<'a> Source for Long<'a> {
+    ghost left = { λ s. None };
+
+    ghost reads = { λ s. s.reads };
+
+    ghost failed_reads = { λ s. 0 };
+
+    fn read(&mut self, buffer: &mut [u8]) -> Result<usize, Failed> {
+        self.reads += 1;
+        if buffer.is_empty() {
+            return Ok(0);
+        }
+        if let Some((first, rest)) = self.before.split_first() {
+            buffer[0] = *first;
+            self.before = rest;
+            return Ok(1);
+        }
+        if self.filling > 0 {
+            let count = self.filling.min(buffer.len());
+            buffer[..count].fill(b'x');
+            self.filling -= count;
+            return Ok(count);
+        }
+        let Some((first, rest)) = self.after.split_first() else {
+            return Ok(0);
+        };
+        buffer[0] = *first;
+        self.after = rest;
+        Ok(1)
+    }
+}
+
+/// How a session on a text of so many bytes in one line ends, and whether it wrote just this.
+fn long_text(alloc: Global, bytes: usize, wanted: &[u8]) -> (Result<(), SessionFault>, bool) {
+    let mut output: Vec<u8> = Vec::new(alloc);
+    let ended = {
+        let mut source = Long {
+            before: b"trace\n",
+            filling: bytes,
+            after: b"\n.\nreport\n",
+            reads: 0,
+        };
+        let mut sink = FromWrite::new(&mut output);
+        session(alloc, &mut source, &mut sink)
+    };
+    (ended, output.as_slice() == wanted)
+}
+
+#[test]
+fn longest_texts(rt: HostRuntime) {
+    let kept = b"accepted 1 items 0 odd 0\n.\n";
+    let refused = b"refused TooLong\n.\n";
+    assert_eq!(rt;
+        long_text(rt.alloc(), 67_108_863, kept.as_slice()),
+        (Ok(()), true),
+        "the limit"
+    );
+    assert_eq!(rt;
+        long_text(rt.alloc(), 67_108_864, refused.as_slice()),
+        (Ok(()), true),
+        "above it"
+    );
+}
+
+#[test]
+fn a_writer_that_is_full(rt: HostRuntime) {
+    let mut room = [0; 10];
+    let mut source = FromRead::new(SMALL);
+    let mut sink = FromWrite::new(room.as_mut_slice());
+    assert_eq!(rt;
+        session(rt.alloc(), &mut source, &mut sink),
+        Err(SessionFault::Write)
+    );
+}

@@ -1,0 +1,143 @@
+//! Where a session's bytes come from, and where they go to.
+
+ghost use Rattle.std.specs.Prelude.{◌≡◌, ◌≢◌, ℕ, ◌+◌, ◌^◌, ◌<◌, ◌≤◌, List, [], Option, None, length, take, MatchResult, IfOk, OnOk, OnErr};
+ghost use Rattle.std.specs.Io.KnownBytes.{Consumes, Appends, Keeps, IsAtEnd, ReadConsumes, WriteAppends};
+
+use std::io;
+
+/// A read or a write failed.
+#[derive(Clone, Copy, Debug, PartialEq, Eq)]
+pub struct Failed;
+
+/// Gives bytes in order. It counts its calls, and those of them that failed.
+pub trait Source {
+    // The bytes that it still has, where it tells them.
+    ghost left: { Self → Option (List ℕ) };
+
+    // How many calls were made, and how many of them failed.
+    ghost reads: { Self → ℕ };
+
+    ghost failed_reads: { Self → ℕ };
+
+    /// Reads bytes into the buffer from its beginning, and answers how many. 0 bytes are read only at the end or
+    /// into an empty buffer. A read that fails leaves the bytes.
+    fn read(&mut self, buffer: &mut [u8]) -> Result<usize, Failed>
+        requires few { reads self.old < 2 ^ 63 }
+        requires few_failed { failed_reads self.old < 2 ^ 63 }
+        ensures bound { IfOk result (λ n. n ≤ length buffer.new) }
+        ensures bytes { ReadConsumes (left self.old) (left self.new) result buffer.new }
+        ensures counted { reads self.new ≡ reads self.old + 1 }
+        ensures good { OnOk result (failed_reads self.new ≡ failed_reads self.old) }
+        ensures failed { OnErr result (failed_reads self.new ≡ failed_reads self.old + 1) };
+}
+
+/// Takes bytes in order. It counts its calls that failed.
+pub trait Sink {
+    // The bytes that it has taken, where it tells them.
+    ghost written: { Self → Option (List ℕ) };
+
+    // How many calls failed.
+    ghost failed_writes: { Self → ℕ };
+
+    /// Takes bytes from the beginning of these, and answers how many. To take none of some bytes is a failure, and
+    /// a write that fails has taken none.
+    fn write(&mut self, bytes: &[u8]) -> Result<usize, Failed>
+        requires { failed_writes self.old < 2 ^ 63 }
+        ensures bound { IfOk result (λ n. n ≤ length bytes.now) }
+        ensures some { IfOk result (λ n. n ≡ 0 → length bytes.now ≡ 0) }
+        ensures bytes { WriteAppends (written self.old) (written self.new) result bytes.now }
+        ensures good { OnOk result (failed_writes self.new ≡ failed_writes self.old) }
+        ensures failed { OnErr result (failed_writes self.new ≡ failed_writes self.old + 1) };
+
+    /// Sends on what it holds back. Its bytes stay.
+    fn flush(&mut self) -> Result<(), Failed>
+        requires { failed_writes self.old < 2 ^ 63 }
+        ensures bytes { Keeps (written self.old) (written self.new) }
+        ensures good { OnOk result (failed_writes self.new ≡ failed_writes self.old) }
+        ensures failed { OnErr result (failed_writes self.new ≡ failed_writes self.old + 1) };
+}
+
+/// A reader of std as a source.
+#[derive(Drop)]
+pub struct FromRead<R> {
+    reader: R,
+    reads: u64,
+    failed: u64,
+}
+
+impl<R: io::Read> FromRead<R> {
+    /// The reader's bytes, with no calls counted.
+    pub fn new(reader: R) -> FromRead<R>
+        ensures bytes { ⟦<FromRead<R> as Source>⟧.left result ≡ R.remaining reader }
+        ensures calls { ⟦<FromRead<R> as Source>⟧.reads result ≡ 0 }
+        ensures failures { ⟦<FromRead<R> as Source>⟧.failed_reads result ≡ 0 }
+    {
+        FromRead {
+            reader,
+            reads: 0,
+            failed: 0,
+        }
+    }
+}
+
+impl<R: io::Read> Source for FromRead<R> {
+    ghost left = { λ s. R.remaining s.reader };
+
+    ghost reads = { λ s. s.reads };
+
+    ghost failed_reads = { λ s. s.failed };
+
+    fn read(&mut self, buffer: &mut [u8]) -> Result<usize, Failed> {
+        self.reads += 1;
+        match self.reader.read(buffer) {
+            Ok(n) => Ok(n),
+            Err(_) => {
+                self.failed += 1;
+                Err(Failed)
+            }
+        }
+    }
+}
+
+/// A writer of std as a sink.
+#[derive(Drop)]
+pub struct FromWrite<W> {
+    writer: W,
+    failed: u64,
+}
+
+impl<W: io::Write> FromWrite<W> {
+    /// The writer's bytes, with no failures counted.
+    pub fn new(writer: W) -> FromWrite<W>
+        ensures bytes { ⟦<FromWrite<W> as Sink>⟧.written result ≡ W.contents writer }
+        ensures failures { ⟦<FromWrite<W> as Sink>⟧.failed_writes result ≡ 0 }
+    {
+        FromWrite { writer, failed: 0 }
+    }
+}
+
+impl<W: io::Write> Sink for FromWrite<W> {
+    ghost written = { λ s. W.contents s.writer };
+
+    ghost failed_writes = { λ s. s.failed };
+
+    fn write(&mut self, bytes: &[u8]) -> Result<usize, Failed> {
+        match self.writer.write(bytes) {
+            Ok(n) if n > 0 || bytes.is_empty() => Ok(n),
+            _ => {
+                self.failed += 1;
+                Err(Failed)
+            }
+        }
+    }
+
+    fn flush(&mut self) -> Result<(), Failed> {
+        match self.writer.flush() {
+            Ok(()) => Ok(()),
+            Err(_) => {
+                self.failed += 1;
+                Err(Failed)
+            }
+        }
+    }
+}
