@@ -1,7 +1,11 @@
--- An entry of the code, seen as plain data.
+-- Entries and receipts of the code, seen as plain data.
 use Rattle.covbook.specs.declared.entry.Entry.{Entry}
-use Rattle.covbook.specs.Op.{EntryData}
+use Rattle.covbook.specs.declared.entry.Receipt.{Receipt}
+use Rattle.covbook.specs.Op.{EntryData, ReceiptData}
 use Rattle.covbook.specs.View.{op_data, answer_data}
 
 abbrev pub entry_data : {A : Type 0} → Entry A → EntryData
 entry_data e = record { job = e.job; op = op_data e.op; answer = answer_data e.answer }
+
+abbrev pub receipt_data : {A : Type 0} → Receipt A → ReceiptData
+receipt_data r = record { place = r.place; op = op_data r.op; answer = answer_data r.answer }

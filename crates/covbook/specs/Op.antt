@@ -1,4 +1,4 @@
--- Operations, answers and entries of a history, apart from where they lie in memory.
+-- Operations, answers, entries of a history and receipts, apart from where they lie in memory.
 use Rattle.std.specs.Prelude.{ℕ, List}
 use Rattle.covline.specs.Row.{SubmissionData}
 
@@ -13,5 +13,11 @@ pub data AnswerData : Type 0 where
 -- one operation of a job, and what it was answered
 pub record EntryData : Type 0 where
   pub job : ℕ
+  pub op : OpData
+  pub answer : AnswerData
+
+-- what the asking job gets of an operation: its place in the history, counted from 0, and the answer
+pub record ReceiptData : Type 0 where
+  pub place : ℕ
   pub op : OpData
   pub answer : AnswerData

@@ -66,3 +66,49 @@ impl<A: Allocator> Entries<A> {
         self.entries.as_slice()
     }
 }
+
+/// A list of receipts. Contracts see what they say.
+#[derive(Drop)]
+pub struct Receipts<A: Allocator = Global> {
+    receipts: Vec<Receipt<A>, A>,
+}
+
+impl<A: Allocator> Model for Receipts<A> {
+    ghost use Rattle.std.specs.Prelude.{List, map};
+    ghost use Rattle.covbook.specs.Op.{ReceiptData};
+    ghost use Rattle.covbook.specs.EntryView.{receipt_data};
+
+    ghost Value = { List ReceiptData };
+
+    ghost view = { λ a. map receipt_data a.receipts.items };
+}
+
+impl<A: Allocator> Receipts<A> {
+    ghost use Rattle.std.specs.Prelude.{◌≡◌, ◌++◌, [], ◌∷◌, OnOk, OnErr, map};
+    ghost use Rattle.covbook.specs.EntryView.{receipt_data};
+
+    /// The empty list.
+    pub fn new(alloc: A) -> Receipts<A>
+        ensures { result ≡ [] }
+    {
+        Receipts {
+            receipts: Vec::new(alloc),
+        }
+    }
+
+    /// Appends a receipt. A refusal gives it up and leaves the list as it was.
+    pub fn push(&mut self, receipt: Receipt<A>) -> Result<(), Memory>
+        ensures ok { OnOk result (self.new ≡ self.old ++ receipt_data receipt ∷ []) }
+        ensures err { OnErr result (self.new ≡ self.old) }
+    {
+        self.receipts.push(receipt)?;
+        Ok(())
+    }
+
+    /// The receipts in order.
+    pub fn get(&self) -> &[Receipt<A>]
+        ensures { map receipt_data result.now ≡ self.now }
+    {
+        self.receipts.as_slice()
+    }
+}

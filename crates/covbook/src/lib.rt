@@ -10,7 +10,7 @@ pub mod shared;
 mod trace_text;
 
 pub use book::{Book, BookFault};
-pub use entry::{Entries, Entry, Receipt};
+pub use entry::{Entries, Entry, Receipt, Receipts};
 pub use op::{Answer, Op};
 pub use shared::{SubRef, TextRef};
 

@@ -1,4 +1,4 @@
-use crate::{Answer, Book, Entries, Entry, Op, Receipt, SubRef, TextRef};
+use crate::{Answer, Book, BookFault, Entries, Entry, Op, Receipt, Receipts, SubRef, TextRef};
 use covline::{Bytes, Item, Items, Sect, Sects, Submission};
 use std::alloc::Global;
 use std::test::*;
@@ -135,5 +135,43 @@ fn copies(rt: HostRuntime) -> Result<(), Fail> {
         assert_eq!(rt; entry.job, 7);
     }
     assert_eq!(rt; entries.get().len(), 1);
+    Ok(())
+}
+
+#[test]
+fn receipts_in_a_list(rt: HostRuntime) -> Result<(), Fail> {
+    let mut receipts = Receipts::new(rt.alloc());
+    assert_eq!(rt; receipts.get().len(), 0);
+    for place in 3..5 {
+        receipts.push(Receipt {
+            place,
+            op: Op::Report,
+            answer: Answer::Accepted {
+                number: 1,
+                items: 2,
+                odd: 0,
+            },
+        })?;
+    }
+    assert_eq!(rt; receipts.get().len(), 2);
+    for (receipt, place) in receipts.get().iter().zip(&[3, 4]) {
+        assert_eq!(rt; receipt.place, *place);
+    }
+    Ok(())
+}
+
+/// A history takes 1,048,576 entries and no more.
+#[test]
+fn a_full_book(rt: HostRuntime) -> Result<(), Fail> {
+    let mut book = Book::new(rt.alloc());
+    for place in 0..1_048_576 {
+        let receipt = book.step(rt.alloc(), 0, &Op::Report)?;
+        assert_eq!(rt; receipt.place, place);
+    }
+    match book.step(rt.alloc(), 0, &Op::Report) {
+        Err(fault) => assert_eq!(rt; fault, BookFault::Full),
+        Ok(_) => assert!(rt; false, "a step beyond the last one"),
+    }
+    assert_eq!(rt; book.entries().len(), 1_048_576);
     Ok(())
 }
