@@ -1,5 +1,5 @@
 -- The commands of an input: there is one list of them, and it is found piece by piece.
-use Rattle.std.proofs.Common.{◌≡◌, ◌≢◌, ℕ, List, [], ◌∷◌, ◌++◌, Result, Ok, Err, refl, sym, ◌∙◌, ap, subst, append_assoc, append-nil, codes, eqb, length}
+use Rattle.std.proofs.Common.{◌≡◌, ◌≢◌, ℕ, List, [], ◌∷◌, ◌++◌, Result, Ok, Err, refl, sym, ◌∙◌, ap, subst, append_assoc, append-nil, codes, eqb, length, inl, inr}
 use Rattle.std.proofs.lemmas.Bool.{false≢true}
 use Rattle.std.specs.List.{concat, flat_map}
 use Rattle.covline.specs.Row.{SubmissionData}
@@ -322,19 +322,39 @@ pub run_one : (ending : LineEnd) (these : List (List ℕ)) (c : Command) → IsC
 run_one Feed these c is goes det = run_one_feed these c is goes det
 run_one Input these c is goes det = run_one_input these c is (goes []) (det [])
 
+-- the answer of a reader that refuses a text
+abbrev told_as : ReadFault → Result SubmissionData ReadFault
+told_as fault = Err fault
+
+same_fault : (x y : ReadFault) → told_as x ≡ told_as y → x ≡ y
+same_fault x y e = cc
+
+not_memory : (fault : ReadFault) → IsTold fault → fault ≡ faults.Memory → ⊥
+not_memory fault told e = subst IsTold e told
+
+not_told : (fault : ReadFault) → IsTold fault → told_as fault ≡ told_as faults.Memory → ⊥
+not_told fault told e = not_memory fault told (same_fault fault faults.Memory e)
+
 -- a fault that is told is what the text is read as
 pub told_outcome : (text : List ℕ) (fault : ReadFault) → IsTold fault → Answers text (Err fault) → IsOutcome text (Err fault)
-told_outcome text faults.TooLong told h = h
-told_outcome text (faults.Line at fault) told h = h
-told_outcome text (faults.Outside at) told h = h
-told_outcome text (faults.Inside at) told h = h
-told_outcome text faults.OpenEnd told h = h
-told_outcome text faults.Memory told h = absurd told
+told_outcome text fault told (inl none) = absurd (not_told fault told none.1)
+told_outcome text fault told (inr h) = h
 
 pub told_only : (fault : ReadFault) (outcome : Result SubmissionData ReadFault) → IsTold fault → IsOrMemory (Err fault) outcome → outcome ≡ Err fault
-told_only faults.TooLong outcome told h = h
-told_only (faults.Line at fault) outcome told h = h
-told_only (faults.Outside at) outcome told h = h
-told_only (faults.Inside at) outcome told h = h
-told_only faults.OpenEnd outcome told h = h
-told_only faults.Memory outcome told h = absurd told
+told_only fault outcome told (inl none) = absurd (not_told fault told none)
+told_only fault outcome told (inr h) = h
+
+-- a submission that is answered is what the text is read as
+abbrev answered : SubmissionData → Result SubmissionData ReadFault
+answered submission = Ok submission
+
+ok_no_fault : (submission : SubmissionData) → answered submission ≡ told_as faults.Memory → ⊥
+ok_no_fault submission e = cc
+
+pub ok_outcome : (text : List ℕ) (submission : SubmissionData) → Answers text (Ok submission) → IsOutcome text (Ok submission)
+ok_outcome text submission (inl none) = absurd (ok_no_fault submission none.1)
+ok_outcome text submission (inr h) = h
+
+pub ok_only : (submission : SubmissionData) (outcome : Result SubmissionData ReadFault) → IsOrMemory (Ok submission) outcome → outcome ≡ Ok submission
+ok_only submission outcome (inl none) = absurd (ok_no_fault submission none)
+ok_only submission outcome (inr h) = h

@@ -1,5 +1,5 @@
 -- The steps of a session from one command to the next, and the whole session.
-use Rattle.std.proofs.Common.{◌≡◌, ◌≢◌, ℕ, ◌+◌, ◌<◌, ◌≤◌, List, [], ◌∷◌, ◌++◌, length, Result, Ok, Err, Option, None, Some, refl, sym, ◌∙◌, ap, subst, arith, append_assoc, append-nil, codes}
+use Rattle.std.proofs.Common.{◌≡◌, ◌≢◌, ℕ, ◌+◌, ◌<◌, ◌≤◌, List, [], ◌∷◌, ◌++◌, length, Result, Ok, Err, Option, None, Some, refl, sym, ◌∙◌, ap, subst, arith, append_assoc, append-nil, codes, inl, inr}
 use Rattle.std.specs.List.{concat, flat_map}
 use Rattle.std.proofs.lemmas.List.Concat.{flat_map-append}
 use Rattle.std.specs.Option.{IfSome}
@@ -85,12 +85,8 @@ whole_run ending first body last (Err fault) trace no_last dot read only =
 
 too_long_only : (text : List ℕ) → most_bytes < length text → (other : Result SubmissionData ReadFault) → IsOutcome text other → other ≡ Err faults.TooLong
 too_long_only text long (Ok submission) h = absurd (let few : length text ≤ most_bytes = h.0 in omega arith)
-too_long_only text long (Err faults.TooLong) h = refl
-too_long_only text long (Err faults.Memory) h = absurd h
-too_long_only text long (Err (faults.Line at fault)) h = absurd (let few : length text ≤ most_bytes = h.0 in omega arith)
-too_long_only text long (Err (faults.Outside at)) h = absurd (let few : length text ≤ most_bytes = h.0 in omega arith)
-too_long_only text long (Err (faults.Inside at)) h = absurd (let few : length text ≤ most_bytes = h.0 in omega arith)
-too_long_only text long (Err faults.OpenEnd) h = absurd (let few : length text ≤ most_bytes = h.0 in omega arith)
+too_long_only text long (Err fault) (inl h) = ap (λ (f : ReadFault). Err f) h.1
+too_long_only text long (Err fault) (inr h) = absurd (let few : length text ≤ most_bytes = h.0 in omega arith)
 
 pub taken_run : {A : Type 0} (taken : Taken A) (pieces : List (List ℕ)) (ending : LineEnd) (commands : List Command)
     → IsTaken pieces ending taken → IsAnsweredAs taken commands → (first : List ℕ) → line_of first ≡ codes "trace" → IsRun ending (first ∷ pieces) commands
@@ -103,7 +99,7 @@ taken_run (taken.Whole kept) pieces ending commands (body, last, is, no_last, do
 taken_run taken.TooLong pieces ending commands (body, last, is, no_last, dot, long) asked first trace =
     let Q : List (List ℕ) → Type 0 = λ u. IsRun ending (first ∷ u) commands in
     let R : List Command → Type 0 = λ u. IsRun ending (first ∷ (body ++ last ∷ [])) u in
-    subst Q (sym is) (subst R (sym asked) (whole_run ending first body last (Err faults.TooLong) trace no_last dot long (too_long_only (concat body) long)))
+    subst Q (sym is) (subst R (sym asked) (whole_run ending first body last (Err faults.TooLong) trace no_last dot (inl (long, refl)) (too_long_only (concat body) long)))
 taken_run taken.Unfinished pieces ending commands (no_last, ends) asked first trace =
     let Q : LineEnd → Type 0 = λ u. IsRun u (first ∷ pieces) commands in
     let R : List Command → Type 0 = λ u. IsRun Input (first ∷ pieces) u in

@@ -1,5 +1,5 @@
 -- What is known of single lines, and the one outcome that each text has.
-use Rattle.std.proofs.Common.{◌≡◌, ℕ, ◌+◌, ◌≤◌, List, [], ◌∷◌, ◌++◌, length, Result, Ok, Err, refl, sym, subst, ◌∙◌, append_assoc, inl, inr}
+use Rattle.std.proofs.Common.{◌≡◌, ℕ, ◌+◌, ◌≤◌, List, [], ◌∷◌, ◌++◌, length, Result, Ok, Err, refl, sym, subst, ◌∙◌, append_assoc, inl, inr, ap}
 use Rattle.std.proofs.lemmas.Bool.{cases_lt}
 use Rattle.std.proofs.lemmas.List.{append-nil}
 use Rattle.covline.specs.Row.{SubmissionData}
@@ -70,22 +70,14 @@ walk lines parts place (line ∷ rest) all s e =
 abbrev HasOutcome : List ℕ → Type 0
 HasOutcome text = (r : Result SubmissionData ReadFault) × IsOutcome text r
 
-fault_outcome : (text : List ℕ) (fault : ReadFault) → length text ≤ most_bytes → IsFirstFault (lines_of text) fault → IsOutcome text (Err fault)
-fault_outcome text (faults.Line at f) short first = (short, first)
-fault_outcome text (faults.Outside at) short first = (short, first)
-fault_outcome text (faults.Inside at) short first = (short, first)
-fault_outcome text faults.OpenEnd short first = (short, first)
-fault_outcome text faults.TooLong short first = absurd first
-fault_outcome text faults.Memory short first = absurd first
-
 short_outcome : (text : List ℕ) → length text ≤ most_bytes → Ends (lines_of text) → HasOutcome text
 short_outcome text short (Lawful parts s) = (Ok _, (short, stands_reads (lines_of text) parts s))
-short_outcome text short (Faulty fault first) = (Err fault, fault_outcome text fault short first)
+short_outcome text short (Faulty fault first) = (Err fault, inr (short, first))
 
 pub some_outcome : (text : List ℕ) → (r : Result SubmissionData ReadFault) × IsOutcome text r
 some_outcome text =
     elim (cases_lt most_bytes (length text)) [
-      | inl long ↦ (Err faults.TooLong, long)
+      | inl long ↦ (Err faults.TooLong, inl (long, refl))
       | inr short ↦ short_outcome text short (walk [] [] Between (lines_of text) (lines_of text) stands_at_first refl)
     ]
 
@@ -94,10 +86,5 @@ no_other_outcome text r s h k = one_outcome line_law text r s h k
 
 -- an answer is every outcome, unless memory ran out
 pub answer_is : (text : List ℕ) (answer outcome : Result SubmissionData ReadFault) → Answers text answer → IsOutcome text outcome → IsOrMemory answer outcome
-answer_is text (Ok s) outcome h k = no_other_outcome text outcome (Ok s) k h
-answer_is text (Err faults.TooLong) outcome h k = no_other_outcome text outcome (Err faults.TooLong) k h
-answer_is text (Err faults.Memory) outcome h k = tt
-answer_is text (Err (faults.Line at f)) outcome h k = no_other_outcome text outcome (Err (faults.Line at f)) k h
-answer_is text (Err (faults.Outside at)) outcome h k = no_other_outcome text outcome (Err (faults.Outside at)) k h
-answer_is text (Err (faults.Inside at)) outcome h k = no_other_outcome text outcome (Err (faults.Inside at)) k h
-answer_is text (Err faults.OpenEnd) outcome h k = no_other_outcome text outcome (Err faults.OpenEnd) k h
+answer_is text answer outcome (inl none) k = inl none.1
+answer_is text answer outcome (inr h) k = inr (no_other_outcome text outcome answer k h)

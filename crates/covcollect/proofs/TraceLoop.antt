@@ -1,5 +1,5 @@
 -- Reading line after line, as the loop does.
-use Rattle.std.proofs.Common.{◌≡◌, ℕ, ◌+◌, ◌<◌, ◌≤◌, ◌^◌, false, List, [], ◌∷◌, ◌++◌, length, Option, Some, None, Ok, Err, refl, sym, ap, subst, ◌∙◌, append_assoc, arith}
+use Rattle.std.proofs.Common.{◌≡◌, ℕ, ◌+◌, ◌<◌, ◌≤◌, ◌^◌, false, List, [], ◌∷◌, ◌++◌, length, Option, Some, None, Ok, Err, refl, sym, ap, subst, ◌∙◌, append_assoc, arith, inl, inr}
 use Rattle.std.specs.Prelude.{option_map, is_some}
 use Rattle.std.proofs.lemmas.List.{append-nil, length-append}
 use Rattle.covline.specs.Lines.{lines_of}
@@ -58,22 +58,22 @@ number_is n at lines e f = omega (arith, e, f)
 -- a fault of the next line is the first fault of the text
 pub reading_stop : (text rest line left : List ℕ) (before after : HeldData) (at : ℕ) (fault : ReadFault) → length text ≤ most_bytes → Reading text rest before at
     → lines_of rest ≡ line ∷ lines_of left → TakesLine {T = Unit {0}} (Err fault) before after line (at + 1) → Answers text (Err fault)
-reading_stop text rest line left before after at (faults.Line n f) short r e takes = (
+reading_stop text rest line left before after at (faults.Line n f) short r e takes = inr (inr (
   short,
   subst (λ (k : ℕ). IsFirstFault (lines_of text) (faults.Line k f)) (number_is n at r.before takes.0 r.number)
       (stop_by_fault line_law r.holds.place line r.before r.holds.parts (lines_of left) (lines_of text) r.holds.stands (place_is text rest line left before at r e) f takes.1),
-)
-reading_stop text rest line left before after at (faults.Outside n) short r e takes = (
+))
+reading_stop text rest line left before after at (faults.Outside n) short r e takes = inr (inr (
   short,
   subst (λ (k : ℕ). IsFirstFault (lines_of text) (faults.Outside k)) (number_is n at r.before takes.0 r.number)
       (holds_outside r.before line (lines_of left) (lines_of text) before takes.1 r.holds (place_is text rest line left before at r e) takes.2 takes.3),
-)
-reading_stop text rest line left before after at (faults.Inside n) short r e takes = (
+))
+reading_stop text rest line left before after at (faults.Inside n) short r e takes = inr (inr (
   short,
   subst (λ (k : ℕ). IsFirstFault (lines_of text) (faults.Inside k)) (number_is n at r.before takes.0 r.number)
       (holds_inside r.before line (lines_of left) (lines_of text) before takes.1 r.holds (place_is text rest line left before at r e) takes.2 takes.3),
-)
-reading_stop text rest line left before after at faults.Memory short r e takes = short
+))
+reading_stop text rest line left before after at faults.Memory short r e takes = inl (short, refl)
 reading_stop text rest line left before after at faults.OpenEnd short r e takes = absurd takes
 reading_stop text rest line left before after at faults.TooLong short r e takes = absurd takes
 
@@ -84,8 +84,8 @@ Ended text held = Answers text (ends held) × EndsLawfully held
 
 ended : (text : List ℕ) (parts : List Part) (place : Place) → length text ≤ most_bytes → Stands (lines_of text) parts place → Ended text (held_of parts place)
 ended text parts Between short s =
-    ((short, stands_reads (lines_of text) parts s), lawful_parts (lines_of text) parts s (good_lines text) (omega (arith, short, few_lines text)))
-ended text parts (Within path inside) short s = ((short, stop_open line_law (lines_of text) parts path inside s), tt)
+    (inr (short, stands_reads (lines_of text) parts s), lawful_parts (lines_of text) parts s (good_lines text) (omega (arith, short, few_lines text)))
+ended text parts (Within path inside) short s = (inr (inr (short, stop_open line_law (lines_of text) parts path inside s)), tt)
 
 pub reading_end : (text rest : List ℕ) (held : HeldData) (at : ℕ) → length text ≤ most_bytes → Reading text rest held at → lines_of rest ≡ []
     → Answers text (ends held) × EndsLawfully held

@@ -1,5 +1,5 @@
 -- Each text has exactly one outcome.
-use Rattle.std.proofs.Common.{◌≡◌, ℕ, ◌<◌, ◌≤◌, List, [], ◌∷◌, ◌++◌, length, Result, Ok, Err, refl, sym, ap, subst, ◌∙◌, append_assoc, arith}
+use Rattle.std.proofs.Common.{◌≡◌, ℕ, ◌<◌, ◌≤◌, List, [], ◌∷◌, ◌++◌, length, Result, Ok, Err, refl, sym, ap, subst, ◌∙◌, append_assoc, arith, inl, inr}
 use Rattle.std.specs.List.{flat_map, sum_by}
 use Rattle.std.proofs.lemmas.List.{append-nil}
 use Rattle.covline.specs.Row.{SectData, SubmissionData}
@@ -133,12 +133,8 @@ data Told (text : List ℕ) : Result SubmissionData ReadFault → Type 0 where
 
 told : (text : List ℕ) (r : Result SubmissionData ReadFault) → IsOutcome text r → Told text r
 told text (Ok s) h = Lawful s h.0 h.1
-told text (Err faults.TooLong) h = Long h
-told text (Err faults.Memory) h = absurd h
-told text (Err (faults.Line at f)) h = Faulty (faults.Line at f) h.0 h.1
-told text (Err (faults.Outside at)) h = Faulty (faults.Outside at) h.0 h.1
-told text (Err (faults.Inside at)) h = Faulty (faults.Inside at) h.0 h.1
-told text (Err faults.OpenEnd) h = Faulty faults.OpenEnd h.0 h.1
+told text (Err fault) (inl h) = subst (λ (f : ReadFault). Told text (Err f)) (sym h.1) (Long h.0)
+told text (Err fault) (inr h) = Faulty fault h.0 h.1
 
 same_told : LineLaw → (text : List ℕ) (r s : Result SubmissionData ReadFault) → Told text r → Told text s → r ≡ s
 same_told law text _ _ (Long a) (Long b) = refl

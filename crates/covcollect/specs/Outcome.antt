@@ -1,5 +1,5 @@
 -- What a text is read as: the submission that its lines say, or its first fault.
-use Rattle.std.specs.Prelude.{◌≡◌, ℕ, ◌+◌, ◌<◌, ◌≤◌, List, [], ◌∷◌, ◌++◌, length, Result, Ok, Err}
+use Rattle.std.specs.Prelude.{◌⊎◌, ◌≡◌, ℕ, ◌+◌, ◌<◌, ◌≤◌, List, [], ◌∷◌, ◌++◌, length, Result, Ok, Err}
 use Rattle.covline.specs.Row.{SubmissionData}
 use Rattle.covline.specs.Lines.{lines_of}
 use Rattle.covline.specs.Spells.{LineData, Test, Path, Line, Total, End, Skip, Spells, HasFault}
@@ -56,29 +56,13 @@ IsFirstFault lines faults.Memory = ⊥
 -- what the text is read as; its length is tested first
 abbrev pub IsOutcome : List ℕ → Result SubmissionData ReadFault → Type 0
 IsOutcome text (Ok submission) = (length text ≤ most_bytes) × Reads (lines_of text) submission
-IsOutcome text (Err faults.TooLong) = most_bytes < length text
-IsOutcome text (Err faults.Memory) = ⊥
-IsOutcome text (Err (faults.Line at fault)) = (length text ≤ most_bytes) × IsFirstFault (lines_of text) (faults.Line at fault)
-IsOutcome text (Err (faults.Outside at)) = (length text ≤ most_bytes) × IsFirstFault (lines_of text) (faults.Outside at)
-IsOutcome text (Err (faults.Inside at)) = (length text ≤ most_bytes) × IsFirstFault (lines_of text) (faults.Inside at)
-IsOutcome text (Err faults.OpenEnd) = (length text ≤ most_bytes) × IsFirstFault (lines_of text) faults.OpenEnd
+IsOutcome text (Err fault) =
+    ((most_bytes < length text) × (fault ≡ faults.TooLong)) ⊎ ((length text ≤ most_bytes) × IsFirstFault (lines_of text) fault)
 
 -- the answer of a reader is what the text is read as, or memory ran out, which comes only after the test of length
 abbrev pub Answers : List ℕ → Result SubmissionData ReadFault → Type 0
-Answers text (Err faults.Memory) = length text ≤ most_bytes
-Answers text (Ok submission) = IsOutcome text (Ok submission)
-Answers text (Err faults.TooLong) = IsOutcome text (Err faults.TooLong)
-Answers text (Err (faults.Line at fault)) = IsOutcome text (Err (faults.Line at fault))
-Answers text (Err (faults.Outside at)) = IsOutcome text (Err (faults.Outside at))
-Answers text (Err (faults.Inside at)) = IsOutcome text (Err (faults.Inside at))
-Answers text (Err faults.OpenEnd) = IsOutcome text (Err faults.OpenEnd)
+Answers text answer = ((length text ≤ most_bytes) × (answer ≡ Err faults.Memory)) ⊎ IsOutcome text answer
 
 -- the answer is the outcome, or memory ran out
 abbrev pub IsOrMemory : Result SubmissionData ReadFault → Result SubmissionData ReadFault → Type 0
-IsOrMemory (Err faults.Memory) outcome = Unit {0}
-IsOrMemory (Ok submission) outcome = outcome ≡ Ok submission
-IsOrMemory (Err faults.TooLong) outcome = outcome ≡ Err faults.TooLong
-IsOrMemory (Err (faults.Line at fault)) outcome = outcome ≡ Err (faults.Line at fault)
-IsOrMemory (Err (faults.Outside at)) outcome = outcome ≡ Err (faults.Outside at)
-IsOrMemory (Err (faults.Inside at)) outcome = outcome ≡ Err (faults.Inside at)
-IsOrMemory (Err faults.OpenEnd) outcome = outcome ≡ Err faults.OpenEnd
+IsOrMemory answer outcome = (answer ≡ Err faults.Memory) ⊎ (outcome ≡ answer)

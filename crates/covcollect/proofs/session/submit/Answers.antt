@@ -1,6 +1,7 @@
 use Rattle.std.proofs.Common.{◌≡◌, ◌∙◌, Ok, ap, sym, subst, List, ℕ}
 use Rattle.covline.specs.Row.{SubmissionData}
 use Rattle.covcollect.specs.Outcome.{IsOutcome}
+use Rattle.covcollect.proofs.SessionRun.{ok_outcome, ok_only}
 use Rattle.covcollect.proofs.SessionSteps.{appends_nil}
 use Rattle.covcollect.proofs.session.submit.Goals as goal
 
@@ -9,8 +10,8 @@ returns-in_ok-step-in-Ok-clause-done g c =
     let P : List ℕ → Type 0 = λ u. IsOutcome u (Ok c.in-Ok.submission) in
     let Q : SubmissionData → Type 0 = λ s. IsOutcome c.args.text.items (Ok s) in (
       Ok c.in_ok-of-in-Ok.field-0,
-      subst Q (sym c.in_ok-of-in-Ok.ensures) (subst P c.as_slice.ensures.value c.in-Ok.ensures.answers),
-      λ other h. c.in-Ok.ensures.only other (subst (λ (u : List ℕ). IsOutcome u other) (sym c.as_slice.ensures.value) h) ∙ ap Ok (sym c.in_ok-of-in-Ok.ensures),
+      subst Q (sym c.in_ok-of-in-Ok.ensures) (subst P c.as_slice.ensures.value (ok_outcome _ _ c.in-Ok.ensures.answers)),
+      λ other h. ok_only _ other (c.in-Ok.ensures.only other (subst (λ (u : List ℕ). IsOutcome u other) (sym c.as_slice.ensures.value) h)) ∙ ap Ok (sym c.in_ok-of-in-Ok.ensures),
       c.in_ok-step-in-Ok.ensures.asked,
       appends_nil _ _ _ c.in_ok-step-in-Ok.ensures.said,
     )
