@@ -98,3 +98,9 @@ abbrev pub HasFault : List ℕ → LineFault → Type 0
 HasFault line EmptyPath = line ≡ codes "SF:"
 HasFault line NumberTooLarge = (says : LineData) × HasForm line says × ¬ HasSmallNumbers says
 HasFault line BadLine = HasKey line × (line ≢ codes "SF:") × ((says : LineData) → ¬ HasForm line says)
+
+-- the number of each fault, which stays the same in all versions
+abbrev pub fault_number : LineFault → ℕ
+fault_number BadLine = 1
+fault_number NumberTooLarge = 2
+fault_number EmptyPath = 3

@@ -1,5 +1,8 @@
 //! One line of a tracefile (geninfo(1) of LCOV 1.x, section FILES).
 
+ghost use Rattle.std.specs.Prelude.{◌≡◌};
+ghost use Rattle.covline.specs.Spells.{fault_number};
+
 use thiserror::Error;
 
 /// Which of a section's own totals a line states.
@@ -40,4 +43,13 @@ pub enum LineFault {
     /// `SF:` and nothing behind it.
     #[error("EmptyPath")]
     EmptyPath = 3,
+}
+
+impl LineFault {
+    /// The number of the fault, from 1.
+    pub fn number(self) -> u32
+        ensures { result ≡ fault_number self }
+    {
+        self as u32
+    }
 }

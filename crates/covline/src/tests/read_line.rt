@@ -136,3 +136,10 @@ fn a_million_leading_zeros(rt: HostRuntime) -> Result<(), Fail> {
     assert!(rt; is_wanted(read_line(line.as_slice()), Wanted::Line(7, 1)));
     Ok(())
 }
+
+#[test]
+fn fault_numbers(rt: HostRuntime) {
+    assert_eq!(rt; LineFault::BadLine.number(), 1);
+    assert_eq!(rt; LineFault::NumberTooLarge.number(), 2);
+    assert_eq!(rt; LineFault::EmptyPath.number(), 3);
+}
