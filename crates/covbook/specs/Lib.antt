@@ -8,3 +8,4 @@ pub mod View
 pub mod EntryView
 pub mod Held
 pub mod KeyView
+pub mod Fault

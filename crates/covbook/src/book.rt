@@ -23,6 +23,18 @@ pub enum BookFault {
     Memory = 2,
 }
 
+impl BookFault {
+    ghost use Rattle.std.specs.Prelude.{◌≡◌};
+    ghost use Rattle.covbook.specs.Fault.{fault_number};
+
+    /// The number of the fault, from 1.
+    pub fn number(self) -> u32
+        ensures { result ≡ fault_number self }
+    {
+        self as u32
+    }
+}
+
 impl From<Memory> for BookFault {
     ghost use Rattle.std.specs.Prelude.{◌≡◌};
     ghost use Rattle.covbook.specs.declared.book.BookFault.TheVariants as faults;

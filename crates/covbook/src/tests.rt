@@ -169,9 +169,10 @@ fn a_full_book(rt: HostRuntime) -> Result<(), Fail> {
         assert_eq!(rt; receipt.place, place);
     }
     match book.step(rt.alloc(), 0, &Op::Report) {
-        Err(fault) => assert_eq!(rt; fault, BookFault::Full),
+        Err(fault) => assert_eq!(rt; fault.number(), 1),
         Ok(_) => assert!(rt; false, "a step beyond the last one"),
     }
     assert_eq!(rt; book.entries().len(), 1_048_576);
+    assert_eq!(rt; BookFault::Memory.number(), 2);
     Ok(())
 }

@@ -5,3 +5,5 @@ pub mod TraceSteps
 pub mod Session
 pub mod Streams
 pub mod Run
+pub mod TraceFault
+pub mod SessionFaults

@@ -45,3 +45,8 @@ IsFirstUnlawful sects k =
 abbrev pub IsRefusedAs : List SectData → BadSubmission → Type 0
 IsRefusedAs sects TooMany = most_items < items_in sects
 IsRefusedAs sects (BadText k) = (items_in sects ≤ most_items) × IsFirstUnlawful sects k
+
+-- the number of the reason, from the first day on
+abbrev pub refusal_number : BadSubmission → ℕ
+refusal_number TooMany = 1
+refusal_number (BadText sect) = 2

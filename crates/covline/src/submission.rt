@@ -17,6 +17,21 @@ pub enum BadSubmission {
     BadText { sect: usize },
 }
 
+impl BadSubmission {
+    ghost use Rattle.std.specs.Prelude.{◌≡◌};
+    ghost use Rattle.covline.specs.Lawful.{refusal_number};
+
+    /// The number of the reason, from 1.
+    pub fn number(self) -> u32
+        ensures { result ≡ refusal_number self }
+    {
+        match self {
+            BadSubmission::TooMany => 1,
+            BadSubmission::BadText { .. } => 2,
+        }
+    }
+}
+
 /// What one text says: at most 67,108,864 items in sections with lawful texts, and how many of its lines
 /// don't fit the others. Contracts see the sections and that number.
 #[derive(Drop)]

@@ -22,6 +22,18 @@ pub enum SessionFault {
     Full = 4,
 }
 
+impl SessionFault {
+    ghost use Rattle.std.specs.Prelude.{◌≡◌};
+    ghost use Rattle.covcollect.specs.SessionFaults.{fault_number};
+
+    /// The number of the fault, from 1.
+    pub fn number(self) -> u32
+        ensures { result ≡ fault_number self }
+    {
+        self as u32
+    }
+}
+
 impl From<AllocError> for SessionFault {
     fn from(_refused: AllocError) -> SessionFault {
         SessionFault::Memory

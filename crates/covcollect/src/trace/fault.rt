@@ -29,6 +29,25 @@ pub enum ReadFault {
     Memory,
 }
 
+impl ReadFault {
+    ghost use Rattle.std.specs.Prelude.{◌≡◌};
+    ghost use Rattle.covcollect.specs.TraceFault.{fault_number};
+
+    /// The number of the fault. Those between 5 and 13 are left to faults of other texts.
+    pub fn number(self) -> u32
+        ensures { result ≡ fault_number self }
+    {
+        match self {
+            ReadFault::TooLong => 1,
+            ReadFault::Line { .. } => 2,
+            ReadFault::Outside { .. } => 3,
+            ReadFault::Inside { .. } => 4,
+            ReadFault::OpenEnd => 5,
+            ReadFault::Memory => 13,
+        }
+    }
+}
+
 impl From<Memory> for ReadFault {
     ghost from_gives = { λ _ e. e ≡ NoMemory };
 

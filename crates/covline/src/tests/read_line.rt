@@ -1,4 +1,4 @@
-use crate::{LineFault, TotalKind, TraceLine, read_line};
+use crate::{BadSubmission, LineFault, TotalKind, TraceLine, read_line};
 use std::test::*;
 
 /// What a line says, with texts that outlive it.
@@ -142,4 +142,6 @@ fn fault_numbers(rt: HostRuntime) {
     assert_eq!(rt; LineFault::BadLine.number(), 1);
     assert_eq!(rt; LineFault::NumberTooLarge.number(), 2);
     assert_eq!(rt; LineFault::EmptyPath.number(), 3);
+    assert_eq!(rt; BadSubmission::TooMany.number(), 1);
+    assert_eq!(rt; BadSubmission::BadText { sect: 7 }.number(), 2);
 }

@@ -1,0 +1,8 @@
+-- The numbers of a book's faults, the same from the first day on.
+use Rattle.std.specs.Prelude.{ℕ}
+use Rattle.covbook.specs.declared.book.BookFault.{BookFault}
+use Rattle.covbook.specs.declared.book.BookFault.TheVariants.{Full, Memory}
+
+abbrev pub fault_number : BookFault → ℕ
+fault_number Full = 1
+fault_number Memory = 2
