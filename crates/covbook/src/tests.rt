@@ -176,3 +176,11 @@ fn a_full_book(rt: HostRuntime) -> Result<(), Fail> {
     assert_eq!(rt; BookFault::Memory.number(), 2);
     Ok(())
 }
+
+/// No contract reads the number of a variant.
+#[test]
+fn numbers_of_faults(rt: HostRuntime) -> Result<(), Fail> {
+    assert_eq!(rt; BookFault::Full as u32, 1);
+    assert_eq!(rt; BookFault::Memory as u32, 2);
+    Ok(())
+}
