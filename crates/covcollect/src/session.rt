@@ -263,6 +263,9 @@ pub fn session<I: Source, O: Sink, A: Allocator + Copy>(
     // No other output was possible.
     ensures only { OnOk result (IfSome (I.left source.old) (λ input. (output : List ℕ) → IsSession input output
         → Appends (O.written sink.old) (O.written sink.new) output)) }
+    // No call of it failed.
+    ensures no_failed_read { OnOk result (I.failed_reads source.new ≡ I.failed_reads source.old) }
+    ensures no_failed_write { OnOk result (O.failed_writes sink.new ≡ O.failed_writes sink.old) }
 {
     let mut block = Block::new(alloc)?;
     let mut waiting = Vec::new(alloc);
@@ -275,7 +278,8 @@ pub fn session<I: Source, O: Sink, A: Allocator + Copy>(
 // Sends on all that was written.
 fn flush<O: Sink>(sink: &mut O) -> Result<(), SessionFault>
     requires { O.failed_writes sink.old < 2 ^ 63 }
-    ensures { OnOk result (Keeps (O.written sink.old) (O.written sink.new)) }
+    ensures kept { OnOk result (Keeps (O.written sink.old) (O.written sink.new)) }
+    ensures failed { OnOk result (O.failed_writes sink.new ≡ O.failed_writes sink.old) }
 {
     match sink.flush() {
         Ok(()) => Ok(()),

@@ -118,6 +118,7 @@ pub fn fill<I: Source, O: Sink, A: Allocator>(
         (moment I.left I.reads I.failed_reads O.written O.failed_writes block.new source.new waiting.new.items sink.new) [] []) }
     ensures ended { OnOk result (block.new.pending ≡ [] → IsAtEnd (unread block.new (I.left source.new))) }
     ensures fewer { OnOk result (turns block.new ≤ turns block.old) }
+    ensures shown { OnOk result (block.old.pending ≡ [] → waiting.new.items ≡ []) }
 {
     if !block.pending().is_empty() {
         return Ok(());

@@ -3,6 +3,7 @@
 use crate::session::{SessionFault, session};
 use crate::stream::{Failed, FromRead, FromWrite, Sink, Source};
 use std::alloc::Global;
+use std::io::{self, Write};
 use std::test::*;
 
 const SMALL: &[u8] =
@@ -24,7 +25,7 @@ fn answers(alloc: Global, input: &[u8], wanted: &[u8]) -> (Result<(), SessionFau
 
 #[test]
 fn whole_sessions(rt: HostRuntime) {
-    let sessions: [(&str, &[u8], &[u8]); 18] = [
+    let sessions: [(&str, &[u8], &[u8]); 22] = [
         ("nothing", b"", b""),
         ("a text and its report", SMALL, SMALL_ANSWER),
         (
@@ -85,6 +86,26 @@ fn whole_sessions(rt: HostRuntime) {
             "carriage returns",
             b"trace\r\nSF:/a.c\r\nDA:1,1\r\nend_of_record\r\n.\r\r\nreport\r\n",
             b"accepted 1 items 1 odd 0\nTN:\nSF:/a.c\nDA:1,1\nLF:1\nLH:1\nend_of_record\n.\n",
+        ),
+        (
+            "the same text twice",
+            b"trace\nTN:t\nSF:/a.c\nDA:1,2\nDA:2,0\nend_of_record\n.\ntrace\nTN:t\nSF:/a.c\nDA:1,2\nDA:2,0\nend_of_record\n.\nreport\n",
+            b"accepted 1 items 2 odd 0\naccepted 2 items 2 odd 0\nTN:t\nSF:/a.c\nDA:1,4\nDA:2,0\nLF:2\nLH:1\nend_of_record\n.\n",
+        ),
+        (
+            "a count below zero",
+            b"trace\nSF:/a.c\nDA:1,-7\nend_of_record\n.\nreport\n",
+            b"accepted 1 items 1 odd 0\nTN:\nSF:/a.c\nDA:1,0\nLF:1\nLH:0\nend_of_record\n.\n",
+        ),
+        (
+            "any bytes in names",
+            b"trace\nTN:\x00\xff\nSF:\xff\x00\nDA:1,1\nend_of_record\n.\nreport\n",
+            b"accepted 1 items 1 odd 0\nTN:\x00\xff\nSF:\xff\x00\nDA:1,1\nLF:1\nLH:1\nend_of_record\n.\n",
+        ),
+        (
+            "carriage returns inside names",
+            b"trace\nTN:t\rt\r\nSF:\r/a\r.c\r\r\nDA:1,1\nend_of_record\n.\nrep\rort\nreport\n",
+            b"accepted 1 items 1 odd 0\nunknown\nTN:t\rt\nSF:\r/a\r.c\nDA:1,1\nLF:1\nLH:1\nend_of_record\n.\n",
         ),
         (
             "lines that end no text",
@@ -228,7 +249,91 @@ fn failing_reads_and_writes(rt: HostRuntime) {
     );
 }
 
-/// A reader of a text that is made as it is read: a line `trace`, so many bytes, and what follows.
+/// A writer that holds all bytes back until they are sent on.
+#[derive(Drop)]
+struct Holding {
+    held: Vec<u8>,
+    sent: usize,
+    can_send: bool,
+    failed: u64,
+}
+
+impl Sink for Holding {
+    ghost written = { λ s. None };
+
+    ghost failed_writes = { λ s. s.failed };
+
+    fn write(&mut self, bytes: &[u8]) -> Result<usize, Failed> {
+        if bytes.is_empty() {
+            return Ok(0);
+        }
+        match self.held.extend_from_slice(bytes) {
+            Ok(()) => Ok(bytes.len()),
+            Err(_) => {
+                self.failed += 1;
+                Err(Failed)
+            }
+        }
+    }
+
+    fn flush(&mut self) -> Result<(), Failed> {
+        if !self.can_send {
+            self.failed += 1;
+            return Err(Failed);
+        }
+        self.sent = self.held.len();
+        Ok(())
+    }
+}
+
+/// How a session on the small text ends over a writer that holds back, and whether its answer was sent on.
+fn by_flushes(alloc: Global, can_send: bool) -> (Result<(), SessionFault>, bool) {
+    let mut source = FromRead::new(SMALL);
+    let mut sink = Holding {
+        held: Vec::new(alloc),
+        sent: 0,
+        can_send,
+        failed: 0,
+    };
+    let ended = session(alloc, &mut source, &mut sink);
+    let sent = sink.sent == SMALL_ANSWER.len() && sink.held.as_slice() == SMALL_ANSWER;
+    (ended, sent)
+}
+
+#[test]
+fn a_writer_that_holds_back(rt: HostRuntime) {
+    assert_eq!(rt; by_flushes(rt.alloc(), true), (Ok(()), true));
+    assert_eq!(rt;
+        by_flushes(rt.alloc(), false),
+        (Err(SessionFault::Write), false)
+    );
+}
+
+/// A writer of std that can't send on.
+#[derive(Drop)]
+struct Stuck;
+
+impl Write for Stuck {
+    fn write(&mut self, bytes: &[u8]) -> io::Result<usize> {
+        Ok(bytes.len())
+    }
+
+    fn flush(&mut self) -> io::Result<()> {
+        Err(io::Error::from(io::ErrorKind::BrokenPipe))
+    }
+}
+
+#[test]
+fn a_writer_that_cannot_send_on(rt: HostRuntime) {
+    let mut source = FromRead::new(SMALL);
+    let mut sink = FromWrite::new(Stuck);
+    assert_eq!(rt;
+        session(rt.alloc(), &mut source, &mut sink),
+        Err(SessionFault::Write)
+    );
+}
+
+/// A reader of a text that is made as it is read: first bytes, so many others, and what follows.
 #[derive(Drop)]
 struct Long<'a> {
     before: &'a [u8],
@@ -269,14 +374,21 @@ impl<'a> Source for Long<'a> {
     }
 }
 
-/// How a session on a text of so many bytes in one line ends, and whether it wrote just this.
-fn long_text(alloc: Global, bytes: usize, wanted: &[u8]) -> (Result<(), SessionFault>, bool) {
+/// How a session ends on these bytes, so many others behind them in the same line, and `after`; and whether it wrote
+/// just this.
+fn long_line(
+    alloc: Global,
+    before: &[u8],
+    bytes: usize,
+    after: &[u8],
+    wanted: &[u8],
+) -> (Result<(), SessionFault>, bool) {
     let mut output: Vec<u8> = Vec::new(alloc);
     let ended = {
         let mut source = Long {
-            before: b"trace\n",
+            before,
             filling: bytes,
-            after: b"\n.\nreport\n",
+            after,
             reads: 0,
         };
         let mut sink = FromWrite::new(&mut output);
@@ -287,18 +399,50 @@ fn long_text(alloc: Global, bytes: usize, wanted: &[u8]) -> (Result<(), SessionF
 
 #[test]
 fn longest_texts(rt: HostRuntime) {
-    let kept = b"accepted 1 items 0 odd 0\n.\n";
-    let refused = b"refused TooLong\n.\n";
-    assert_eq!(rt;
-        long_text(rt.alloc(), 67_108_863, kept.as_slice()),
-        (Ok(()), true),
-        "the limit"
-    );
-    assert_eq!(rt;
-        long_text(rt.alloc(), 67_108_864, refused.as_slice()),
-        (Ok(()), true),
-        "above it"
-    );
+    let texts: [(&str, &[u8], usize, &[u8], &[u8]); 5] = [
+        (
+            "the limit",
+            b"trace\n",
+            67_108_863,
+            b"\n.\nreport\n",
+            b"accepted 1 items 0 odd 0\n.\n",
+        ),
+        (
+            "above it",
+            b"trace\n",
+            67_108_864,
+            b"\n.\nreport\n",
+            b"refused TooLong\n.\n",
+        ),
+        (
+            "a short text behind one above it",
+            b"trace\n",
+            67_108_864,
+            b"\n.\ntrace\nSF:/a.c\nend_of_record\n.\n",
+            b"refused TooLong\naccepted 1 items 0 odd 0\n",
+        ),
+        (
+            "a long command",
+            b"report",
+            1_000_000,
+            b"\nreport\n",
+            b"unknown\n.\n",
+        ),
+        (
+            "a long line that seems to end the text",
+            b"trace\n.",
+            1_000_000,
+            b"\n.\n",
+            b"accepted 1 items 0 odd 0\n",
+        ),
+    ];
+    for (name, before, bytes, after, wanted) in texts {
+        assert_eq!(rt;
+            long_line(rt.alloc(), before, bytes, after, wanted),
+            (Ok(()), true),
+            "{name}"
+        );
+    }
 }
 
 #[test]

@@ -211,3 +211,29 @@ fn longest_text(rt: HostRuntime) -> Result<(), Fail> {
     assert_eq!(rt; read(rt.alloc(), &text[1..]), Ok((0, 0)));
     Ok(())
 }
+
+#[test]
+fn long_lines(rt: HostRuntime) -> Result<(), Fail> {
+    let zeros = vec![in rt.alloc(); b'0'; 1_000_000]?;
+    let mut text: Vec<u8> = Vec::from_slice(rt.alloc(), b"SF:")?;
+    text.extend_from_slice(&zeros)?;
+    text.extend_from_slice(b"\nDA:")?;
+    text.extend_from_slice(&zeros)?;
+    text.extend_from_slice(b"1,")?;
+    text.extend_from_slice(&zeros)?;
+    text.extend_from_slice(b"2\nend_of_record\n")?;
+    match read_trace(rt.alloc(), &text) {
+        Err(fault) => assert!(rt; false, "{fault}"),
+        Ok(submission) => match submission.sects() {
+            [sect] => {
+                assert!(rt; sect.file.get() == zeros.as_slice(), "the path");
+                assert_eq!(rt;
+                    sect.items.get(),
+                    [Item::Line { line: 1, count: 2 }].as_slice()
+                );
+            }
+            sects => assert_eq!(rt; sects.len(), 1),
+        },
+    }
+    Ok(())
+}
