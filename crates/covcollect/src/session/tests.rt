@@ -1,5 +1,7 @@
 //! Sessions on texts in memory: expected answers are those of the written examples.
 
+ghost use Rattle.std.specs.Prelude.{None};
+
 use crate::session::{SessionFault, session};
 use crate::stream::{Failed, FromRead, FromWrite, Sink, Source};
 use std::alloc::Global;
