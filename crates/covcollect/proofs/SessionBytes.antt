@@ -1,13 +1,13 @@
 -- Bytes taken, lines found in them, and bytes written, in steps.
-use Rattle.std.proofs.Common.{◌≡◌, ◌≢◌, ℕ, zero, suc, ◌+◌, ◌-◌, ◌^◌, ◌<◌, ◌≤◌, Bool, true, false, List, [], ◌∷◌, ◌++◌, length, take, drop, min, get_or, Option, None, Some, refl, sym, ◌∙◌, ap, subst, arith, add-one, append_assoc, append-nil, length-append, eqb, if◌then◌else◌}
+use Rattle.std.proofs.Common.{◌≡◌, ℕ, zero, suc, ◌+◌, ◌-◌, ◌^◌, ◌<◌, ◌≤◌, Bool, true, false, List, [], ◌∷◌, ◌++◌, length, take, drop, min, get_or, Option, None, Some, refl, sym, ◌∙◌, ap, subst, arith, add-one, append_assoc, append-nil, length-append, eqb}
 use Rattle.std.proofs.Math.Seq.{take-add}
 use Rattle.std.proofs.lemmas.List.{take_rest, take-append-drop, take_all, length-take}
 use Rattle.memchr.specs.Find.{IsFirstByte, is_byte}
-use Rattle.std.specs.Io.KnownBytes.{Consumes, Appends, Keeps, IsAtEnd, prepend_known, append_known}
+use Rattle.std.specs.Io.KnownBytes.{Consumes, Appends, prepend_known}
 use Rattle.covline.specs.Lines.{line_feed, before_feed}
 use Rattle.covcollect.specs.Streams.{line_after, line_with, IsCollected}
 use Rattle.covcollect.specs.declared.session.text.LineSoFar.{LineSoFar}
-use Rattle.covcollect.specs.declared.session.text.LineSoFar.TheVariants.{Nothing, Dot, Other}
+use Rattle.covcollect.specs.declared.session.text.LineSoFar.TheVariants.{Nothing, Other}
 
 -- a test that isn't true is false
 not_true : (b : Bool) → (b ≡ true → ⊥) → b ≡ false

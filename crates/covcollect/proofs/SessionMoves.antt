@@ -1,9 +1,9 @@
 -- How the steps of a session join: what was taken, what was said, and what was collected.
-use Rattle.std.proofs.Common.{◌≡◌, ℕ, ◌+◌, ◌*◌, ◌<◌, ◌≤◌, List, [], ◌∷◌, ◌++◌, length, Bool, true, false, Option, None, Some, refl, sym, ◌∙◌, ap, subst, arith, append_assoc, append-nil, length-append}
-use Rattle.std.specs.Io.KnownBytes.{Consumes, Appends, IsAtEnd}
+use Rattle.std.proofs.Common.{◌≡◌, ℕ, ◌+◌, ◌≤◌, List, [], ◌∷◌, ◌++◌, length, Bool, true, false, Option, None, Some, refl, sym, ◌∙◌, ap, subst, arith, append_assoc, append-nil, length-append}
+use Rattle.std.specs.Io.KnownBytes.{Appends}
 use Rattle.covline.specs.Lines.{line_feed, before_feed}
-use Rattle.covcollect.specs.Streams.{BlockData, Moment, Moves, TakesLine, CanCall, unread, turns, said_so_far, line_bytes, HasCollected, TakesPart}
-use Rattle.covcollect.specs.declared.session.text.LineEnd.TheVariants.{Feed, Input}
+use Rattle.covcollect.specs.Streams.{BlockData, Moment, Moves, TakesLine, unread, turns, said_so_far, HasCollected, TakesPart}
+use Rattle.covcollect.specs.declared.session.text.LineEnd.TheVariants.{Feed}
 use Rattle.covcollect.specs.declared.session.text.Text.{Text}
 use Rattle.covcollect.proofs.SessionBytes.{Consumes-trans, Appends-trans, Consumes-part, before_feed-append}
 

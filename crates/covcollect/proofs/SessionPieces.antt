@@ -1,7 +1,7 @@
 -- Lines and texts as pieces of an input.
-use Rattle.std.proofs.Common.{◌≡◌, ◌≢◌, ℕ, ◌+◌, ◌<◌, ◌≤◌, Bool, true, false, eqb, List, [], ◌∷◌, ◌++◌, length, refl, sym, ◌∙◌, ap, subst, arith, append_assoc, append-nil, codes}
+use Rattle.std.proofs.Common.{◌≡◌, ◌≢◌, ℕ, ◌<◌, ◌≤◌, Bool, true, false, eqb, List, [], ◌∷◌, ◌++◌, refl, sym, ◌∙◌, ap, subst, arith, append_assoc, append-nil, codes}
 use Rattle.std.proofs.lemmas.Bool.{eqb-true}
-use Rattle.std.specs.List.{concat, AllByRecursion}
+use Rattle.std.specs.List.{concat}
 use Rattle.covline.specs.Lines.{line_feed, carriage_return, before_feed, before_stripped, strip, pieces_of, onto_first, line_of}
 use Rattle.covcollect.specs.Session.{IsBody}
 use Rattle.covcollect.specs.Streams.{Moment, Moves, TakesLine, TakesPieces, AreCut, EndsAs, turns, line_after, line_with, line_bytes, line_pieces, IsTaken, IsTextOf, HasCollected}

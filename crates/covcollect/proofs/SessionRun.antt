@@ -1,18 +1,18 @@
 -- The commands of an input: there is one list of them, and it is found piece by piece.
 use Rattle.std.proofs.Common.{◌≡◌, ◌≢◌, ℕ, List, [], ◌∷◌, ◌++◌, Result, Ok, Err, refl, sym, ◌∙◌, ap, subst, append_assoc, append-nil, codes, eqb, length, inl, inr}
 use Rattle.std.proofs.lemmas.Bool.{false≢true}
-use Rattle.std.specs.List.{concat, flat_map}
+use Rattle.std.specs.List.{concat}
 use Rattle.covline.specs.Row.{SubmissionData}
 use Rattle.covline.specs.Lines.{line_of}
-use Rattle.covbook.specs.Op.{OpData, SubmitOp, ReportOp}
+use Rattle.covbook.specs.Op.{SubmitOp, ReportOp}
 use Rattle.covbook.specs.Step.{Table, answer_of, table_after, table_from}
 use Rattle.covcollect.specs.declared.trace.fault.ReadFault.{ReadFault}
 use Rattle.covcollect.specs.declared.session.text.LineEnd.{LineEnd}
 use Rattle.covcollect.specs.declared.session.text.LineEnd.TheVariants.{Feed, Input}
 use Rattle.covcollect.specs.Outcome.{IsOutcome, Answers, IsOrMemory}
 use Rattle.covcollect.specs.declared.trace.fault.ReadFault.TheVariants as faults
-use Rattle.covcollect.specs.Session.{Command, Blank, Report, Submit, Refuse, Unknown, Unfinished, IsBody, IsCommand, EndsInput, AreCommands, ops_of, output_of, answer_text, refused_text, said}
-use Rattle.covcollect.specs.Run.{asked_for, text_after, GoOn, GoOnOnly, IsRun, IsTold}
+use Rattle.covcollect.specs.Session.{Command, Blank, Report, Submit, Refuse, Unknown, Unfinished, IsBody, IsCommand, EndsInput, AreCommands, ops_of, answer_text, refused_text, said}
+use Rattle.covcollect.specs.Run.{asked_for, text_after, IsRun, IsTold}
 
 -- what commands are answered, and then further ones
 pub text_more : (table : Table) (commands more : List Command)

@@ -1,13 +1,13 @@
 -- The steps of a session from one command to the next, and the whole session.
-use Rattle.std.proofs.Common.{◌≡◌, ◌≢◌, ℕ, ◌+◌, ◌<◌, ◌≤◌, List, [], ◌∷◌, ◌++◌, length, Result, Ok, Err, Option, None, Some, refl, sym, ◌∙◌, ap, subst, arith, append_assoc, append-nil, codes, inl, inr}
-use Rattle.std.specs.List.{concat, flat_map}
+use Rattle.std.proofs.Common.{◌≡◌, ℕ, ◌<◌, ◌≤◌, List, [], ◌∷◌, ◌++◌, length, Result, Ok, Err, Option, None, Some, refl, sym, ◌∙◌, ap, subst, arith, append-nil, codes, inl, inr}
+use Rattle.std.specs.List.{concat}
 use Rattle.std.proofs.lemmas.List.Concat.{flat_map-append}
 use Rattle.std.specs.Option.{IfSome}
 use Rattle.std.specs.Io.KnownBytes.{Consumes, Appends, Keeps, IsAtEnd, prepend_known, append_known}
 use Rattle.covline.specs.Row.{SubmissionData}
 use Rattle.covline.specs.Lines.{line_feed, before_feed, strip, line_of, pieces_of}
 use Rattle.covbook.specs.Op.{OpData}
-use Rattle.covbook.specs.Step.{Table, table_of, table_from}
+use Rattle.covbook.specs.Step.{Table, table_of}
 use Rattle.covcollect.specs.declared.trace.fault.ReadFault.{ReadFault}
 use Rattle.covcollect.specs.declared.trace.fault.ReadFault.TheVariants as faults
 use Rattle.covcollect.specs.declared.session.text.LineEnd.{LineEnd}
@@ -17,10 +17,10 @@ use Rattle.covcollect.specs.declared.session.text.Taken.TheVariants as taken
 use Rattle.covcollect.specs.declared.session.word.Word.{Word}
 use Rattle.covcollect.specs.declared.session.word.Word.TheVariants as words
 use Rattle.covcollect.specs.Outcome.{IsOutcome, most_bytes}
-use Rattle.covcollect.specs.Session.{Command, Blank, Report, Submit, Refuse, Unknown, Unfinished, IsBody, IsCommand, IsSession, AreCommands, ops_of, ops_asked}
-use Rattle.covcollect.specs.Streams.{Moment, Moves, TakesLine, TakesPieces, AreCut, EndsAs, turns, unread, said_so_far, line_bytes, line_pieces, IsTaken, IsWord, IsWholeSession}
+use Rattle.covcollect.specs.Session.{Command, Blank, Report, Submit, Refuse, Unknown, Unfinished, IsBody, IsSession, AreCommands, ops_of, ops_asked}
+use Rattle.covcollect.specs.Streams.{Moment, Moves, TakesLine, TakesPieces, EndsAs, turns, unread, said_so_far, line_bytes, line_pieces, IsTaken, IsWord, IsWholeSession}
 use Rattle.covcollect.specs.Run.{asked_for, asked_by, text_after, Asks, IsRun, IsAnsweredAs, TakesTrace, TakesCommand, IsSoFar, IsDone}
-use Rattle.covcollect.proofs.SessionBytes.{Consumes-trans, Appends-trans}
+use Rattle.covcollect.proofs.SessionBytes.{Appends-trans}
 use Rattle.covcollect.proofs.SessionMoves.{Moves-trans}
 use Rattle.covcollect.proofs.SessionPieces.{cut_append, cut_ending, line_of_bytes}
 use Rattle.covcollect.proofs.SessionRun.{IsSingle, text_more, run_none, run_one, run_one_input, run_more, single_determined, whole_determined, open_determined}

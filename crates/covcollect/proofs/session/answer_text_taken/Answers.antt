@@ -1,8 +1,5 @@
-use Rattle.std.proofs.Common.{◌≡◌, [], ◌∷◌, append-nil, refl, sym, subst, List, ℕ}
-use Rattle.std.specs.Io.KnownBytes.{Appends}
+use Rattle.std.proofs.Common.{[], ◌∷◌, append-nil, refl, sym}
 use Rattle.covcollect.specs.Session.{Refuse, Unfinished}
-use Rattle.covcollect.specs.Run.{IsAnsweredAs}
-use Rattle.covcollect.specs.declared.session.text.Taken.{Taken}
 use Rattle.covcollect.specs.declared.trace.fault.ReadFault.TheVariants as faults
 use Rattle.covcollect.proofs.SessionSteps.{answered, appends_nil}
 use Rattle.covcollect.proofs.session.answer_text_taken.Goals as goal

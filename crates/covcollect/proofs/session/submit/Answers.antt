@@ -1,4 +1,4 @@
-use Rattle.std.proofs.Common.{◌≡◌, ◌∙◌, Ok, ap, sym, subst, List, ℕ}
+use Rattle.std.proofs.Common.{◌∙◌, Ok, ap, sym, subst, List, ℕ}
 use Rattle.covline.specs.Row.{SubmissionData}
 use Rattle.covcollect.specs.Outcome.{IsOutcome}
 use Rattle.covcollect.proofs.SessionRun.{ok_outcome, ok_only}

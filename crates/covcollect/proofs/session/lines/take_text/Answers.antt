@@ -1,10 +1,8 @@
-use Rattle.std.proofs.Common.{◌≡◌, ◌≢◌, ◌++◌, [], ◌∷◌, rules, arith, refl, sym, ◌∙◌, ap, subst, ℕ, List, codes}
+use Rattle.std.proofs.Common.{◌≡◌, ◌++◌, [], ◌∷◌, rules, refl, sym, ◌∙◌, subst}
 use Rattle.std.proofs.lemmas.Bool.{false≢true}
 use Rattle.std.specs.List.{concat}
-use Rattle.covline.specs.Lines.{line_of, line_feed}
-use Rattle.covcollect.specs.Outcome.{most_bytes}
-use Rattle.covcollect.specs.Session.{IsBody}
-use Rattle.covcollect.specs.Streams.{turns, moment, TakesLine, line_bytes, line_pieces, line_after}
+use Rattle.covline.specs.Lines.{line_feed}
+use Rattle.covcollect.specs.Streams.{moment, TakesLine, line_bytes, line_pieces, line_after}
 use Rattle.covcollect.specs.declared.session.text.LineSoFar.TheVariants.{Nothing, Dot}
 use Rattle.covcollect.specs.declared.session.text.LineEnd.{LineEnd}
 use Rattle.covcollect.specs.declared.session.text.LineEnd.TheVariants.{Feed, Input}

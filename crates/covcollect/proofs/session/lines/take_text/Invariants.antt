@@ -1,4 +1,4 @@
-use Rattle.std.proofs.Common.{◌≡◌, ℕ, ◌≤◌, List, [], ◌++◌}
+use Rattle.std.proofs.Common.{◌≡◌, ℕ, ◌≤◌, List, []}
 use Rattle.std.specs.List.{concat}
 use Rattle.covcollect.specs.Outcome.{most_bytes}
 use Rattle.covcollect.specs.Session.{IsBody}

@@ -1,4 +1,4 @@
-use Rattle.std.proofs.Common.{arith, length-drop, ◌∙◌}
+use Rattle.std.proofs.Common.{arith, ◌∙◌}
 use Rattle.covcollect.proofs.SessionBytes.{Appends-step}
 use Rattle.covcollect.proofs.session.output.put_bytes.Goals as goal
 

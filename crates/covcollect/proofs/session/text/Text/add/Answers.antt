@@ -1,4 +1,4 @@
-use Rattle.std.proofs.Common.{ℕ, ◌+◌, ◌-◌, ◌^◌, min, length, sym, ◌∙◌, ap}
+use Rattle.std.proofs.Common.{ℕ, ◌+◌, ◌-◌, ◌^◌, min, length, ◌∙◌, ap}
 use Rattle.covcollect.specs.Streams.{line_after}
 use Rattle.covcollect.specs.declared.session.text.LineSoFar.{LineSoFar}
 use Rattle.covcollect.proofs.SessionBytes.{collected_add}

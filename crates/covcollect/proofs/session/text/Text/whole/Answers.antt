@@ -1,4 +1,4 @@
-use Rattle.std.proofs.Common.{◌≡◌, ◌<◌, ◌^◌, ◌-◌, length, ap, sym, ◌∙◌, arith, take, List, ℕ}
+use Rattle.std.proofs.Common.{◌<◌, length, ap, ◌∙◌, arith}
 use Rattle.covcollect.proofs.SessionBytes.{whole_kept}
 use Rattle.covcollect.proofs.session.text.Text.whole.Goals as goal
 
