@@ -3,11 +3,3 @@ pub mod SessionMoves
 pub mod SessionPieces
 pub mod SessionRun
 pub mod SessionSteps
-pub mod TraceGrammar
-pub mod TraceStands
-pub mod TraceOutcome
-pub mod TraceDistinct
-pub mod TraceLaw
-pub mod TraceRun
-pub mod TraceLawful
-pub mod TraceLoop

@@ -6,11 +6,11 @@ use Rattle.covline.specs.Row.{SubmissionData}
 use Rattle.covline.specs.Lines.{line_of}
 use Rattle.covbook.specs.Op.{SubmitOp, ReportOp}
 use Rattle.covbook.specs.Step.{Table, answer_of, table_after, table_from}
-use Rattle.covcollect.specs.declared.trace.fault.ReadFault.{ReadFault}
+use Rattle.covread.specs.declared.fault.ReadFault.{ReadFault}
 use Rattle.covcollect.specs.declared.session.text.LineEnd.{LineEnd}
 use Rattle.covcollect.specs.declared.session.text.LineEnd.TheVariants.{Feed, Input}
-use Rattle.covcollect.specs.Outcome.{IsOutcome, Answers, IsOrMemory}
-use Rattle.covcollect.specs.declared.trace.fault.ReadFault.TheVariants as faults
+use Rattle.covread.specs.Outcome.{IsOutcome, Answers, IsOrMemory}
+use Rattle.covread.specs.declared.fault.ReadFault.TheVariants as faults
 use Rattle.covcollect.specs.Session.{Command, Blank, Report, Submit, Refuse, Unknown, Unfinished, IsBody, IsCommand, EndsInput, AreCommands, ops_of, answer_text, refused_text, said}
 use Rattle.covcollect.specs.Run.{asked_for, text_after, IsRun, IsTold}
 

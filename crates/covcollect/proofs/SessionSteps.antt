@@ -8,15 +8,15 @@ use Rattle.covline.specs.Row.{SubmissionData}
 use Rattle.covline.specs.Lines.{line_feed, before_feed, strip, line_of, pieces_of}
 use Rattle.covbook.specs.Op.{OpData}
 use Rattle.covbook.specs.Step.{Table, table_of}
-use Rattle.covcollect.specs.declared.trace.fault.ReadFault.{ReadFault}
-use Rattle.covcollect.specs.declared.trace.fault.ReadFault.TheVariants as faults
+use Rattle.covread.specs.declared.fault.ReadFault.{ReadFault}
+use Rattle.covread.specs.declared.fault.ReadFault.TheVariants as faults
 use Rattle.covcollect.specs.declared.session.text.LineEnd.{LineEnd}
 use Rattle.covcollect.specs.declared.session.text.LineEnd.TheVariants.{Feed, Input}
 use Rattle.covcollect.specs.declared.session.text.Taken.{Taken}
 use Rattle.covcollect.specs.declared.session.text.Taken.TheVariants as taken
 use Rattle.covcollect.specs.declared.session.word.Word.{Word}
 use Rattle.covcollect.specs.declared.session.word.Word.TheVariants as words
-use Rattle.covcollect.specs.Outcome.{IsOutcome, most_bytes}
+use Rattle.covread.specs.Outcome.{IsOutcome, most_bytes}
 use Rattle.covcollect.specs.Session.{Command, Blank, Report, Submit, Refuse, Unknown, Unfinished, IsBody, IsSession, AreCommands, ops_of, ops_asked}
 use Rattle.covcollect.specs.Streams.{Moment, Moves, TakesLine, TakesPieces, EndsAs, turns, unread, said_so_far, line_bytes, line_pieces, IsTaken, IsWord, IsWholeSession}
 use Rattle.covcollect.specs.Run.{asked_for, asked_by, text_after, Asks, IsRun, IsAnsweredAs, TakesTrace, TakesCommand, IsSoFar, IsDone}

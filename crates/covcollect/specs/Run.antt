@@ -5,8 +5,8 @@ use Rattle.covline.specs.Row.{SubmissionData}
 use Rattle.covline.specs.Lines.{pieces_of, line_of}
 use Rattle.covbook.specs.Op.{OpData}
 use Rattle.covbook.specs.Step.{Table, answers_from, table_of}
-use Rattle.covcollect.specs.declared.trace.fault.ReadFault.{ReadFault}
-use Rattle.covcollect.specs.declared.trace.fault.ReadFault.TheVariants as faults
+use Rattle.covread.specs.declared.fault.ReadFault.{ReadFault}
+use Rattle.covread.specs.declared.fault.ReadFault.TheVariants as faults
 use Rattle.covcollect.specs.declared.session.text.LineEnd.{LineEnd}
 use Rattle.covcollect.specs.declared.session.text.LineEnd.TheVariants.{Feed, Input}
 use Rattle.covcollect.specs.declared.session.text.Taken.{Taken}
@@ -14,7 +14,7 @@ use Rattle.covcollect.specs.declared.session.text.Taken.TheVariants as taken
 use Rattle.covcollect.specs.declared.session.text.Taken.TheVariants.{Whole, TooLong}
 use Rattle.covcollect.specs.declared.session.word.Word.{Word}
 use Rattle.covcollect.specs.declared.session.word.Word.TheVariants as words
-use Rattle.covcollect.specs.Outcome.{IsOutcome}
+use Rattle.covread.specs.Outcome.{IsOutcome}
 use Rattle.covcollect.specs.Session.{Command, Blank, Report, Submit, Refuse, Unknown, Unfinished, AreCommands, ops_of, output_of}
 use Rattle.covcollect.specs.Streams.{Moment, Moves, TakesPieces, AreCut, turns, unread}
 

@@ -7,9 +7,9 @@ use Rattle.covline.specs.declared.trace_line.LineFault.{LineFault}
 use Rattle.covline.specs.declared.trace_line.LineFault.TheVariants.{BadLine, NumberTooLarge, EmptyPath}
 use Rattle.covbook.specs.Op.{OpData, SubmitOp, ReportOp, AnswerData, AcceptedAnswer, TextAnswer}
 use Rattle.covbook.specs.Step.{answers_to}
-use Rattle.covcollect.specs.declared.trace.fault.ReadFault.{ReadFault}
-use Rattle.covcollect.specs.declared.trace.fault.ReadFault.TheVariants as faults
-use Rattle.covcollect.specs.Outcome.{IsOutcome}
+use Rattle.covread.specs.declared.fault.ReadFault.{ReadFault}
+use Rattle.covread.specs.declared.fault.ReadFault.TheVariants as faults
+use Rattle.covread.specs.Outcome.{IsOutcome}
 
 -- what an input asks for, one command after another
 pub data Command : Type 0 where

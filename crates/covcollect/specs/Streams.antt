@@ -3,7 +3,7 @@ use Rattle.std.specs.Prelude.{◌≡◌, ◌≢◌, ℕ, ◌+◌, ◌-◌, ◌*�
 use Rattle.std.specs.List.{concat}
 use Rattle.std.specs.Io.KnownBytes.{Consumes, Appends, IsAtEnd, prepend_known, append_known}
 use Rattle.covline.specs.Lines.{line_feed, carriage_return, before_feed, pieces_of, line_of}
-use Rattle.covcollect.specs.Outcome.{most_bytes}
+use Rattle.covread.specs.Outcome.{most_bytes}
 use Rattle.covcollect.specs.Session.{IsBody, IsSession}
 use Rattle.covcollect.specs.declared.session.text.Text.{Text}
 use Rattle.covcollect.specs.declared.session.text.Taken.{Taken}

@@ -5,7 +5,6 @@ ghost use Rattle.std.specs.Prelude.{◌≡◌};
 
 pub mod session;
 pub mod stream;
-pub mod trace;
 
 use crate::session::{SessionFault, session};
 use crate::stream::{FromRead, FromWrite};

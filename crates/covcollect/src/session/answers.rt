@@ -10,7 +10,7 @@ ghost use Rattle.covcollect.specs.Streams.{said_so_far};
 use crate::session::fault::SessionFault;
 use crate::session::output::say;
 use crate::stream::Sink;
-use crate::trace::ReadFault;
+use covread::ReadFault;
 use covbook::Answer;
 use covline::LineFault;
 use itoa::Buffer;

@@ -8,7 +8,7 @@ use crate::session::block::{Block, fill};
 use crate::session::fault::SessionFault;
 use crate::session::text::{LineEnd, Taken, Text};
 use crate::stream::{Sink, Source};
-use crate::trace::read::MOST_BYTES;
+use covread::MOST_BYTES;
 use std::alloc::Allocator;
 
 /// Takes what the block has of a line, and answers whether that is all of it, the line feed too.

@@ -1,6 +1,6 @@
 use Rattle.std.proofs.Common.{[], ◌∷◌, append-nil, refl, sym}
 use Rattle.covcollect.specs.Session.{Refuse, Unfinished}
-use Rattle.covcollect.specs.declared.trace.fault.ReadFault.TheVariants as faults
+use Rattle.covread.specs.declared.fault.ReadFault.TheVariants as faults
 use Rattle.covcollect.proofs.SessionSteps.{answered, appends_nil}
 use Rattle.covcollect.proofs.session.answer_text_taken.Goals as goal
 

@@ -1,6 +1,6 @@
 use Rattle.std.proofs.Common.{◌∙◌, Ok, ap, sym, subst, List, ℕ}
 use Rattle.covline.specs.Row.{SubmissionData}
-use Rattle.covcollect.specs.Outcome.{IsOutcome}
+use Rattle.covread.specs.Outcome.{IsOutcome}
 use Rattle.covcollect.proofs.SessionRun.{ok_outcome, ok_only}
 use Rattle.covcollect.proofs.SessionSteps.{appends_nil}
 use Rattle.covcollect.proofs.session.submit.Goals as goal

@@ -1,6 +1,6 @@
 use Rattle.std.proofs.Common.{◌≡◌, ℕ, ◌≤◌, List, []}
 use Rattle.std.specs.List.{concat}
-use Rattle.covcollect.specs.Outcome.{most_bytes}
+use Rattle.covread.specs.Outcome.{most_bytes}
 use Rattle.covcollect.specs.Session.{IsBody}
 use Rattle.covcollect.specs.Streams.{turns, moment, Moves, AreCut, HasCollected}
 use Rattle.covcollect.specs.declared.session.text.LineEnd.TheVariants.{Feed}

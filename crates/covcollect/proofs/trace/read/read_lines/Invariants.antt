@@ -1,6 +1,0 @@
-use Rattle.covcollect.specs.TraceSteps.{held_data}
-use Rattle.covcollect.proofs.TraceLoop.{Reading}
-use Rattle.covcollect.proofs.trace.read.read_lines.Given as goal
-
-abbrev pub invariant-loop-line : goal.invariant-loop-line
-invariant-loop-line g l = Reading l.text l.line-iterator (held_data l.reader) l.at

@@ -1,0 +1,8 @@
+pub mod TraceGrammar
+pub mod TraceStands
+pub mod TraceOutcome
+pub mod TraceDistinct
+pub mod TraceLaw
+pub mod TraceRun
+pub mod TraceLawful
+pub mod TraceLoop

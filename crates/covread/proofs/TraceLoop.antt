@@ -1,0 +1,104 @@
+-- Reading line after line, as the loop does.
+use Rattle.std.proofs.Common.{◌≡◌, ℕ, ◌+◌, ◌<◌, ◌≤◌, ◌^◌, false, List, [], ◌∷◌, ◌++◌, length, Option, Some, None, Ok, Err, refl, sym, ap, subst, ◌∙◌, append_assoc, arith, inl, inr}
+use Rattle.std.specs.Prelude.{option_map, is_some}
+use Rattle.std.proofs.lemmas.List.{append-nil, length-append}
+use Rattle.covline.specs.Lines.{lines_of}
+use Rattle.covline.specs.Lawful.{IsLawful}
+use Rattle.covline.specs.Spells.{LineData, Spells}
+use Rattle.covline.proofs.LineLaws.{few_lines, good_lines}
+use Rattle.covread.specs.declared.fault.ReadFault.{ReadFault}
+use Rattle.covread.specs.declared.fault.ReadFault.TheVariants as faults
+use Rattle.covread.specs.Reads.{Part}
+use Rattle.covread.specs.Outcome.{most_bytes, IsFirstFault, Answers}
+use Rattle.covread.specs.TraceSteps.{SectionData, HeldData, submission_held, IsLawfulAt, empty, stated_in, step, TakesLine, ends, EndsLawfully}
+use Rattle.covread.proofs.TraceGrammar.{Place, Between, Within}
+use Rattle.covread.proofs.TraceStands.{Stands, stands_reads, stop_by_fault, stop_open}
+use Rattle.covread.proofs.TraceLaw.{line_law}
+use Rattle.covread.proofs.TraceRun.{Holds, held_of, holds_at_first, holds_more, holds_outside, holds_inside}
+use Rattle.covread.proofs.TraceLawful.{held_room, lawful_parts}
+
+-- the lines of the text are those that were taken, and those that are left
+pub record Reading (text rest : List ℕ) (held : HeldData) (at : ℕ) : Type 0 where
+  pub before : List (List ℕ)
+  pub whole : lines_of text ≡ before ++ lines_of rest
+  pub holds : Holds before held
+  pub number : at ≡ length before
+
+pub reading_at_first : (text : List ℕ) → Reading text text empty 0
+reading_at_first text = record { before = []; whole = refl; holds = holds_at_first; number = refl }
+
+-- a record whose line follows
+abbrev Follows : List ℕ → List ℕ → List ℕ → Type 0
+Follows rest line left = lines_of rest ≡ line ∷ lines_of left
+
+place_is : (text rest line left : List ℕ) (held : HeldData) (at : ℕ) (r : Reading text rest held at) → Follows rest line left → lines_of text ≡ r.before ++ line ∷ lines_of left
+place_is text rest line left held at r f = r.whole ∙ ap (λ (x : List (List ℕ)). r.before ++ x) f
+
+pub reading_more : (text rest line left : List ℕ) (before after : HeldData) (at : ℕ) → Reading text rest before at → lines_of rest ≡ line ∷ lines_of left
+    → (says : LineData) → Spells line says → step before says ≡ Ok after → Reading text left after (at + 1)
+reading_more text rest line left before after at r f says spells e = record {
+  before = r.before ++ line ∷ [];
+  whole = place_is text rest line left before at r f ∙ sym (append_assoc r.before (line ∷ []) (lines_of left));
+  holds = holds_more r.before line before after says r.holds spells e;
+  number = omega (arith, r.number, length-append r.before (line ∷ []));
+}
+
+-- the number of a line fits 64 bits, and so does what may become odd
+pub reading_number : (text rest line left : List ℕ) (held : HeldData) (at : ℕ) → length text ≤ most_bytes → Reading text rest held at → lines_of rest ≡ line ∷ lines_of left → at + 1 < 2 ^ 64
+reading_number text rest line left held at short r f =
+    omega (arith, short, few_lines text, r.number, ap length (place_is text rest line left held at r f), length-append r.before (line ∷ lines_of left))
+
+pub reading_room : (text rest : List ℕ) (held : HeldData) (at : ℕ) → length text ≤ most_bytes → Reading text rest held at → held.odd + length (stated_in held.section) < 2 ^ 64
+reading_room text rest held at short r =
+    omega (arith, short, few_lines text, held_room r.before held r.holds, ap length r.whole, length-append r.before (lines_of rest))
+
+number_is : (n at : ℕ) (lines : List (List ℕ)) → n ≡ at + 1 → at ≡ length lines → length lines + 1 ≡ n
+number_is n at lines e f = omega (arith, e, f)
+
+-- a fault of the next line is the first fault of the text
+pub reading_stop : (text rest line left : List ℕ) (before after : HeldData) (at : ℕ) (fault : ReadFault) → length text ≤ most_bytes → Reading text rest before at
+    → lines_of rest ≡ line ∷ lines_of left → TakesLine {T = Unit {0}} (Err fault) before after line (at + 1) → Answers text (Err fault)
+reading_stop text rest line left before after at (faults.Line n f) short r e takes = inr (inr (
+  short,
+  subst (λ (k : ℕ). IsFirstFault (lines_of text) (faults.Line k f)) (number_is n at r.before takes.0 r.number)
+      (stop_by_fault line_law r.holds.place line r.before r.holds.parts (lines_of left) (lines_of text) r.holds.stands (place_is text rest line left before at r e) f takes.1),
+))
+reading_stop text rest line left before after at (faults.Outside n) short r e takes = inr (inr (
+  short,
+  subst (λ (k : ℕ). IsFirstFault (lines_of text) (faults.Outside k)) (number_is n at r.before takes.0 r.number)
+      (holds_outside r.before line (lines_of left) (lines_of text) before takes.1 r.holds (place_is text rest line left before at r e) takes.2 takes.3),
+))
+reading_stop text rest line left before after at (faults.Inside n) short r e takes = inr (inr (
+  short,
+  subst (λ (k : ℕ). IsFirstFault (lines_of text) (faults.Inside k)) (number_is n at r.before takes.0 r.number)
+      (holds_inside r.before line (lines_of left) (lines_of text) before takes.1 r.holds (place_is text rest line left before at r e) takes.2 takes.3),
+))
+reading_stop text rest line left before after at faults.Memory short r e takes = inl (short, refl)
+reading_stop text rest line left before after at faults.OpenEnd short r e takes = absurd takes
+reading_stop text rest line left before after at faults.TooLong short r e takes = absurd takes
+
+-- ---- behind the last line
+
+abbrev Ended : List ℕ → HeldData → Type 0
+Ended text held = Answers text (ends held) × EndsLawfully held
+
+ended : (text : List ℕ) (parts : List Part) (place : Place) → length text ≤ most_bytes → Stands (lines_of text) parts place → Ended text (held_of parts place)
+ended text parts Between short s =
+    (inr (short, stands_reads (lines_of text) parts s), lawful_parts (lines_of text) parts s (good_lines text) (omega (arith, short, few_lines text)))
+ended text parts (Within path inside) short s = (inr (inr (short, stop_open line_law (lines_of text) parts path inside s)), tt)
+
+pub reading_end : (text rest : List ℕ) (held : HeldData) (at : ℕ) → length text ≤ most_bytes → Reading text rest held at → lines_of rest ≡ []
+    → Answers text (ends held) × EndsLawfully held
+reading_end text rest held at short r none =
+    let all : r.before ≡ lines_of text = sym (r.whole ∙ ap (λ (x : List (List ℕ)). r.before ++ x) none ∙ append-nil r.before) in
+    let s : Stands (lines_of text) r.holds.parts r.holds.place = subst (λ (x : List (List ℕ)). Stands x r.holds.parts r.holds.place) all r.holds.stands in
+    subst (λ (x : HeldData). Ended text x) (sym r.holds.is) (ended text r.holds.parts r.holds.place short s)
+
+pub reading_begins : (text rest : List ℕ) (held : HeldData) → held ≡ empty → rest ≡ text → Reading text rest held 0
+reading_begins text rest held e f =
+    subst (λ (h : HeldData). Reading text rest h 0) (sym e) (subst (λ (x : List ℕ). Reading text x empty 0) (sym f) (reading_at_first text))
+
+-- with no open section what is held makes a submission
+pub closed_lawful : {X : Type 0} (view : X → SectionData) (section : Option X) (held : HeldData) → is_some section ≡ false → IsLawfulAt (option_map view section) held → IsLawful (submission_held held)
+closed_lawful view None held e h = h
+closed_lawful view (Some s) held e h = absurd cc

@@ -1,0 +1,68 @@
+-- What a text is read as: the submission that its lines say, or its first fault.
+use Rattle.std.specs.Prelude.{◌⊎◌, ◌≡◌, ℕ, ◌+◌, ◌<◌, ◌≤◌, List, [], ◌∷◌, ◌++◌, length, Result, Ok, Err}
+use Rattle.covline.specs.Row.{SubmissionData}
+use Rattle.covline.specs.Lines.{lines_of}
+use Rattle.covline.specs.Spells.{LineData, Test, Path, Line, Total, End, Skip, Spells, HasFault}
+use Rattle.covread.specs.declared.fault.ReadFault.{ReadFault}
+use Rattle.covread.specs.declared.fault.ReadFault.TheVariants as faults
+use Rattle.covread.specs.Reads.{Reads}
+
+-- how many bytes a text has at the most: 64 MiB
+abbrev pub most_bytes : ℕ
+most_bytes = 67108864
+
+abbrev pub IsLawfulText : List (List ℕ) → Type 0
+IsLawfulText lines = (submission : SubmissionData) × Reads lines submission
+
+-- the lines begin some lawful text
+abbrev pub MayGoOn : List (List ℕ) → Type 0
+MayGoOn lines = (more : List (List ℕ)) × IsLawfulText (lines ++ more)
+
+-- the line with this number, counted from 1, is the first that no lawful text has at its place
+pub record IsFirstFaulty (lines : List (List ℕ)) (at : ℕ) (line : List ℕ) : Type 0 where
+  pub before : List (List ℕ)
+  pub after : List (List ℕ)
+  pub place : lines ≡ before ++ line ∷ after
+  pub number : at ≡ length before + 1
+  pub goes_on : MayGoOn before
+  pub ends_here : ¬ MayGoOn (before ++ line ∷ [])
+
+-- counts, totals and ends stand in sections alone; test names and paths stand outside of them alone
+abbrev pub NeedsSection : LineData → Type 0
+NeedsSection (Line line count) = Unit {0}
+NeedsSection (Total kind value) = Unit {0}
+NeedsSection End = Unit {0}
+NeedsSection (Test name) = ⊥
+NeedsSection (Path path) = ⊥
+NeedsSection Skip = ⊥
+
+abbrev pub NeedsOutside : LineData → Type 0
+NeedsOutside (Test name) = Unit {0}
+NeedsOutside (Path path) = Unit {0}
+NeedsOutside (Line line count) = ⊥
+NeedsOutside (Total kind value) = ⊥
+NeedsOutside End = ⊥
+NeedsOutside Skip = ⊥
+
+-- the first fault of lines. A line's own fault comes before a fault of its place
+abbrev pub IsFirstFault : List (List ℕ) → ReadFault → Type 0
+IsFirstFault lines (faults.Line at fault) = (line : List ℕ) × IsFirstFaulty lines at line × HasFault line fault
+IsFirstFault lines (faults.Outside at) = (line : List ℕ) × (says : LineData) × IsFirstFaulty lines at line × Spells line says × NeedsSection says
+IsFirstFault lines (faults.Inside at) = (line : List ℕ) × (says : LineData) × IsFirstFaulty lines at line × Spells line says × NeedsOutside says
+IsFirstFault lines faults.OpenEnd = MayGoOn lines × ¬ IsLawfulText lines
+IsFirstFault lines faults.TooLong = ⊥
+IsFirstFault lines faults.Memory = ⊥
+
+-- what the text is read as; its length is tested first
+abbrev pub IsOutcome : List ℕ → Result SubmissionData ReadFault → Type 0
+IsOutcome text (Ok submission) = (length text ≤ most_bytes) × Reads (lines_of text) submission
+IsOutcome text (Err fault) =
+    ((most_bytes < length text) × (fault ≡ faults.TooLong)) ⊎ ((length text ≤ most_bytes) × IsFirstFault (lines_of text) fault)
+
+-- the answer of a reader is what the text is read as, or memory ran out, which comes only after the test of length
+abbrev pub Answers : List ℕ → Result SubmissionData ReadFault → Type 0
+Answers text answer = ((length text ≤ most_bytes) × (answer ≡ Err faults.Memory)) ⊎ IsOutcome text answer
+
+-- the answer is the outcome, or memory ran out
+abbrev pub IsOrMemory : Result SubmissionData ReadFault → Result SubmissionData ReadFault → Type 0
+IsOrMemory answer outcome = (answer ≡ Err faults.Memory) ⊎ (outcome ≡ answer)

@@ -1,0 +1,115 @@
+-- What the reader of a tracefile holds between two lines, and what a line makes of it. The contracts of its private
+-- steps speak of it; what a text is read as is said in Reads and Outcome.
+use Rattle.std.specs.Prelude.{◌≡◌, ℕ, ◌+◌, List, [], ◌∷◌, ◌++◌, Option, Some, None, Result, Ok, Err, option_map}
+use Rattle.covline.specs.Row.{ItemData, LineItem, SectData, SubmissionData}
+use Rattle.covline.specs.Spells.{LineData, Test, Path, Line, Total, End, Skip, Spells, HasFault}
+use Rattle.covline.specs.Lawful.{IsLawful}
+use Rattle.covline.specs.declared.item.Item.{Item}
+use Rattle.covline.specs.declared.item.Item.TheVariants as items
+use Rattle.covread.specs.declared.trace.tally.Stated.{Stated}
+use Rattle.covread.specs.declared.trace.reader.OpenSection.{OpenSection}
+use Rattle.covread.specs.declared.trace.reader.Reader.{Reader}
+use Rattle.covread.specs.declared.trace.misplaced.Misplaced.{Misplaced}
+use Rattle.covread.specs.declared.trace.misplaced.Misplaced.TheVariants as misplaced
+use Rattle.covread.specs.declared.fault.ReadFault.{ReadFault}
+use Rattle.covread.specs.declared.fault.ReadFault.TheVariants as faults
+use Rattle.covread.specs.Outcome.{Answers}
+use Rattle.covread.specs.TraceTally.{odd_among}
+
+-- an open section: its path, and what its lines said so far
+pub record SectionData : Type 0 where
+  pub file : List ℕ
+  pub items : List ItemData
+  pub stated : List Stated
+
+pub record HeldData : Type 0 where
+  pub test : List ℕ
+  pub section : Option SectionData
+  pub sects : List SectData
+  pub odd : ℕ
+
+abbrev pub section_data : {A : Type 0} → OpenSection A → SectionData
+section_data s = record { file = s.file; items = s.items; stated = s.stated.items }
+
+abbrev pub held_data : {A : Type 0} → Reader A → HeldData
+held_data r = record { test = r.test.now; section = option_map section_data r.section; sects = r.sects; odd = r.odd }
+
+-- before the first line
+abbrev pub empty : HeldData
+empty = record { test = []; section = None; sects = []; odd = 0 }
+
+-- the line that says an item
+abbrev pub item_line : Item → LineData
+item_line (items.Line line count) = Line line count
+
+-- one line, where no section is open and in an open one
+abbrev pub step_between : HeldData → LineData → Result HeldData Misplaced
+step_between held (Test name) = Ok (record { test = name; section = None; sects = held.sects; odd = held.odd })
+step_between held (Path path) = Ok (record { test = held.test; section = Some (record { file = path; items = []; stated = [] }); sects = held.sects; odd = held.odd })
+step_between held (Line line count) = Err misplaced.Outside
+step_between held (Total kind value) = Err misplaced.Outside
+step_between held End = Err misplaced.Outside
+step_between held Skip = Ok held
+
+abbrev pub step_within : SectionData → HeldData → LineData → Result HeldData Misplaced
+step_within s held (Test name) = Err misplaced.Inside
+step_within s held (Path path) = Err misplaced.Inside
+step_within s held (Line line count) =
+    Ok (record { test = held.test; section = Some (record { file = s.file; items = s.items ++ LineItem line count ∷ []; stated = s.stated }); sects = held.sects; odd = held.odd })
+step_within s held (Total kind value) =
+    Ok (record { test = held.test; section = Some (record { file = s.file; items = s.items; stated = s.stated ++ record { kind = kind; value = value } ∷ [] }); sects = held.sects; odd = held.odd })
+step_within s held End =
+    Ok (record { test = held.test; section = None; sects = held.sects ++ record { test = held.test; file = s.file; items = s.items } ∷ []; odd = held.odd + odd_among s.items s.stated })
+step_within s held Skip = Ok held
+
+abbrev pub step_at : Option SectionData → HeldData → LineData → Result HeldData Misplaced
+step_at None held says = step_between held says
+step_at (Some s) held says = step_within s held says
+
+abbrev pub step : HeldData → LineData → Result HeldData Misplaced
+step held says = step_at held.section held says
+
+-- a step of the code makes what the step on plain data makes, unless memory ran out
+abbrev pub Steps : {T : Type 0} → Result T Misplaced → HeldData → HeldData → LineData → Type 0
+Steps (Ok done) before after says = step before says ≡ Ok after
+Steps (Err misplaced.Outside) before after says = step before says ≡ Err misplaced.Outside
+Steps (Err misplaced.Inside) before after says = step before says ≡ Err misplaced.Inside
+Steps (Err misplaced.Memory) before after says = Unit {0}
+
+-- the totals that are stated, at the most, and what was odd before, fit 64 bits
+abbrev pub stated_in : Option SectionData → List Stated
+stated_in None = []
+stated_in (Some s) = s.stated
+
+-- what a reader takes of a line, or its fault; lines are counted from 1
+abbrev pub TakesLine : {T : Type 0} → Result T ReadFault → HeldData → HeldData → List ℕ → ℕ → Type 0
+TakesLine (Ok done) before after line at = (says : LineData) × Spells line says × (step before says ≡ Ok after)
+TakesLine (Err (faults.Line n fault)) before after line at = (n ≡ at) × HasFault line fault
+TakesLine (Err (faults.Outside n)) before after line at = (n ≡ at) × (says : LineData) × Spells line says × (step before says ≡ Err misplaced.Outside)
+TakesLine (Err (faults.Inside n)) before after line at = (n ≡ at) × (says : LineData) × Spells line says × (step before says ≡ Err misplaced.Inside)
+TakesLine (Err faults.Memory) before after line at = Unit {0}
+TakesLine (Err faults.OpenEnd) before after line at = ⊥
+TakesLine (Err faults.TooLong) before after line at = ⊥
+
+-- what is held behind the last line makes a submission, unless a section is open
+abbrev pub submission_held : HeldData → SubmissionData
+submission_held held = record { sects = held.sects; odd = held.odd }
+
+abbrev pub ends_at : Option SectionData → HeldData → Result SubmissionData ReadFault
+ends_at None held = Ok (submission_held held)
+ends_at (Some s) held = Err faults.OpenEnd
+
+abbrev pub ends : HeldData → Result SubmissionData ReadFault
+ends held = ends_at held.section held
+
+abbrev pub IsLawfulAt : Option SectionData → HeldData → Type 0
+IsLawfulAt None held = IsLawful (submission_held held)
+IsLawfulAt (Some s) held = Unit {0}
+
+abbrev pub EndsLawfully : HeldData → Type 0
+EndsLawfully held = IsLawfulAt held.section held
+
+-- what all lines of a text lead to
+abbrev pub ReadsTo : {A : Type 0} → List ℕ → Result (Reader A) ReadFault → Type 0
+ReadsTo text (Ok reader) = Answers text (ends (held_data reader)) × EndsLawfully (held_data reader)
+ReadsTo text (Err fault) = Answers text (Err fault)

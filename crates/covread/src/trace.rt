@@ -1,0 +1,13 @@
+//! Reads a tracefile (geninfo(1) of LCOV 1.x, section FILES).
+
+pub mod laws;
+mod misplaced;
+pub mod read;
+mod reader;
+mod tally;
+
+pub use laws::each_text_has_one_outcome;
+pub use read::{MOST_BYTES, read_trace};
+
+#[cfg(test)]
+mod tests;

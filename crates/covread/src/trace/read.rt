@@ -1,0 +1,65 @@
+//! The reader: forward over the text once.
+
+ghost use Rattle.std.specs.Prelude.{◌≡◌, ◌+◌, ◌<◌, ◌≤◌, ◌^◌, length, Result};
+ghost use Rattle.covline.specs.Row.{SubmissionData};
+ghost use Rattle.covread.specs.declared.fault.ReadFault.{ReadFault as Fault};
+ghost use Rattle.covread.specs.Outcome.{most_bytes, IsOutcome, Answers, IsOrMemory};
+ghost use Rattle.covread.specs.TraceSteps.{held_data, stated_in, ReadsTo, TakesLine};
+
+use crate::fault::ReadFault;
+use crate::trace::misplaced::Misplaced;
+use crate::trace::reader::Reader;
+use covline::{Submission, lines, read_line};
+use std::alloc::Allocator;
+
+/// How many bytes a text has at the most: 64 MiB.
+pub const MOST_BYTES: usize = 67_108_864;
+
+/// Reads a tracefile: answers what its lines say, or the text's first fault.
+pub fn read_trace<A: Allocator + Copy>(alloc: A, text: &[u8]) -> Result<Submission<A>, ReadFault>
+    // What is answered is what the text is read as, or memory ran out.
+    ensures answers { Answers text.now result }
+    // Nothing else is what the text is read as.
+    ensures only { (outcome : Result SubmissionData Fault) → IsOutcome text.now outcome → IsOrMemory result outcome }
+{
+    if text.len() > MOST_BYTES {
+        return Err(ReadFault::TooLong);
+    }
+    read_lines(alloc, text)?.finish()
+}
+
+/// Takes all lines of the text.
+fn read_lines<'a, A: Allocator + Copy>(alloc: A, text: &'a [u8]) -> Result<Reader<'a, A>, ReadFault>
+    requires { length text.now ≤ most_bytes }
+    ensures { ReadsTo text.now result }
+{
+    let mut reader = Reader::new(alloc);
+    let mut at: u64 = 0;
+    for line in lines(text) {
+        at += 1;
+        take_line(&mut reader, alloc, at, line)?;
+    }
+    Ok(reader)
+}
+
+/// Takes the line with this number.
+fn take_line<'a, A: Allocator + Copy>(
+    reader: &mut Reader<'a, A>,
+    alloc: A,
+    at: u64,
+    line: &'a [u8],
+) -> Result<(), ReadFault>
+    requires { reader.old.odd + length (stated_in (held_data reader.old).section) < 2 ^ 64 }
+    ensures { TakesLine result (held_data reader.old) (held_data reader.new) line.now at }
+{
+    let says = match read_line(line) {
+        Ok(says) => says,
+        Err(fault) => return Err(ReadFault::Line { at, fault }),
+    };
+    match reader.take(alloc, says) {
+        Ok(()) => Ok(()),
+        Err(Misplaced::Outside) => Err(ReadFault::Outside { at }),
+        Err(Misplaced::Inside) => Err(ReadFault::Inside { at }),
+        Err(Misplaced::Memory) => Err(ReadFault::Memory),
+    }
+}
