@@ -2,6 +2,7 @@ pub mod Ascending
 pub mod Next
 pub mod Value
 pub mod Report
+pub mod Clash
 pub mod Op
 pub mod Step
 pub mod View
@@ -9,3 +10,5 @@ pub mod EntryView
 pub mod Held
 pub mod KeyView
 pub mod Fault
+pub mod BranchView
+pub mod ClashView

@@ -1,6 +1,7 @@
 -- Operations, answers, entries of a history and receipts, apart from where they lie in memory.
 use Rattle.std.specs.Prelude.{ℕ, List}
 use Rattle.covline.specs.Row.{SubmissionData}
+use Rattle.covbook.specs.Clash.{ClashData}
 
 pub data OpData : Type 0 where
   SubmitOp : (submission : SubmissionData) → OpData
@@ -8,6 +9,7 @@ pub data OpData : Type 0 where
 
 pub data AnswerData : Type 0 where
   AcceptedAnswer : (number items odd : ℕ) → AnswerData
+  ClashAnswer : (clash : ClashData) → AnswerData
   TextAnswer : (text : List ℕ) → AnswerData
 
 -- one operation of a job, and what it was answered

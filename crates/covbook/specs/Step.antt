@@ -1,8 +1,9 @@
 -- One step of the plain table of counts, and whole runs of steps.
-use Rattle.std.specs.Prelude.{◌≡◌, ℕ, ◌+◌, List, [], ◌∷◌, ◌++◌, length, map}
+use Rattle.std.specs.Prelude.{◌≡◌, ℕ, ◌+◌, List, [], ◌∷◌, ◌++◌, length, Option, Some, None, map}
 use Rattle.std.specs.List.{flat_map}
-use Rattle.covline.specs.Row.{Row, rows_of, items_in}
-use Rattle.covbook.specs.Op.{OpData, SubmitOp, ReportOp, AnswerData, AcceptedAnswer, TextAnswer, EntryData}
+use Rattle.covline.specs.Row.{Row, SubmissionData, rows_of, items_in}
+use Rattle.covbook.specs.Op.{OpData, SubmitOp, ReportOp, AnswerData, AcceptedAnswer, ClashAnswer, TextAnswer, EntryData}
+use Rattle.covbook.specs.Clash.{ClashData, clash_of}
 use Rattle.covbook.specs.Report.{report_text}
 
 -- the rows of each accepted submission, in order of acceptance
@@ -12,14 +13,27 @@ Table = List (List Row)
 abbrev pub all_rows : Table → List Row
 all_rows table = flat_map (λ rows. rows) table
 
+-- the clash of a submission with a table
+abbrev pub clash_at : Table → SubmissionData → Option ClashData
+clash_at table submission = clash_of (all_rows table) (rows_of submission)
+
+-- a submission that clashes is refused whole; another one is accepted with the next number
+abbrev pub answer_to_submit : Table → SubmissionData → Option ClashData → AnswerData
+answer_to_submit table submission (Some clash) = ClashAnswer clash
+answer_to_submit table submission None = AcceptedAnswer (length table + 1) (items_in submission.sects) submission.odd
+
+abbrev pub table_after_submit : Table → SubmissionData → Option ClashData → Table
+table_after_submit table submission (Some clash) = table
+table_after_submit table submission None = table ++ rows_of submission ∷ []
+
 -- the answer to an operation at a table
 abbrev pub answer_of : Table → OpData → AnswerData
-answer_of table (SubmitOp submission) = AcceptedAnswer (length table + 1) (items_in submission.sects) submission.odd
+answer_of table (SubmitOp submission) = answer_to_submit table submission (clash_at table submission)
 answer_of table ReportOp = TextAnswer (report_text (all_rows table))
 
 -- the table that it leaves
 abbrev pub table_after : Table → OpData → Table
-table_after table (SubmitOp submission) = table ++ rows_of submission ∷ []
+table_after table (SubmitOp submission) = table_after_submit table submission (clash_at table submission)
 table_after table ReportOp = table
 
 -- the answers to operations one after another, and the table that they leave

@@ -3,7 +3,7 @@ use Rattle.covbook.specs.declared.op.Op.{Op}
 use Rattle.covbook.specs.declared.op.Op.TheVariants as ops
 use Rattle.covbook.specs.declared.op.Answer.{Answer}
 use Rattle.covbook.specs.declared.op.Answer.TheVariants as answers
-use Rattle.covbook.specs.Op.{OpData, SubmitOp, ReportOp, AnswerData, AcceptedAnswer, TextAnswer}
+use Rattle.covbook.specs.Op.{OpData, SubmitOp, ReportOp, AnswerData, AcceptedAnswer, ClashAnswer, TextAnswer}
 
 abbrev pub op_data : {A : Type 0} → Op A → OpData
 op_data (ops.Submit submission) = SubmitOp submission
@@ -11,4 +11,5 @@ op_data ops.Report = ReportOp
 
 abbrev pub answer_data : {A : Type 0} → Answer A → AnswerData
 answer_data (answers.Accepted number items odd) = AcceptedAnswer number items odd
+answer_data (answers.Clash file line held given) = ClashAnswer (record { file = file; line = line; held = held; given = given })
 answer_data (answers.Text text) = TextAnswer text

@@ -2,8 +2,12 @@
 #![tactic(auto)]
 
 pub mod book;
+mod branches;
+mod clash;
 pub mod entry;
+mod functions;
 pub mod laws;
+mod lines;
 pub mod op;
 mod sections;
 pub mod shared;

@@ -1,7 +1,7 @@
 //! What a book is asked, and what it answers.
 
 use crate::shared::{SubRef, TextRef};
-use covline::Memory;
+use covline::{Bytes, Memory};
 use std::alloc::{Allocator, Global};
 
 /// An operation on a book.
@@ -34,16 +34,24 @@ pub enum Answer<A: Allocator = Global> {
     /// The submission is the book's with this number, counted from 1; so many items it has, and so many of
     /// its text's lines don't fit the others.
     Accepted { number: u64, items: u64, odd: u64 },
+    /// The submission brings another checksum of this line of this file than the one that is held, so it comes from
+    /// another version of the source. Nothing of it is taken.
+    Clash {
+        file: Bytes<A>,
+        line: u64,
+        held: Bytes<A>,
+        given: Bytes<A>,
+    },
     /// The printed text.
     Text(TextRef<A>),
 }
 
-impl<A: Allocator> Answer<A> {
+impl<A: Allocator + Copy> Answer<A> {
     ghost use Rattle.std.specs.Prelude.{◌≡◌, IfOk};
     ghost use Rattle.covbook.specs.View.{answer_data};
 
-    /// An equal answer, which shares the text.
-    pub fn copy(&self) -> Result<Answer<A>, Memory>
+    /// An equal answer, which shares the text; the names of a clash are copied.
+    pub fn copy(&self, alloc: A) -> Result<Answer<A>, Memory>
         ensures { IfOk result (λ a. answer_data a ≡ answer_data self.now) }
     {
         match self {
@@ -51,6 +59,17 @@ impl<A: Allocator> Answer<A> {
                 number: *number,
                 items: *items,
                 odd: *odd,
+            }),
+            Answer::Clash {
+                file,
+                line,
+                held,
+                given,
+            } => Ok(Answer::Clash {
+                file: file.copy(alloc)?,
+                line: *line,
+                held: held.copy(alloc)?,
+                given: given.copy(alloc)?,
             }),
             Answer::Text(text) => Ok(Answer::Text(text.copy()?)),
         }

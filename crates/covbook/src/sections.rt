@@ -1,7 +1,7 @@
-//! Which sections, lines and counts the held rows have, found by passing over all rows. This is the plain program:
-//! it takes no memory, and each look costs a pass.
+//! Which files and tests the held rows have, found by passing over all sections. This is the plain program: it takes no
+//! memory, and each look costs a pass.
 
-ghost use Rattle.std.specs.Prelude.{◌≡◌, ◌<◌, ◌^◌, [], ◌∷◌, map, option_map};
+ghost use Rattle.std.specs.Prelude.{◌≡◌, map, option_map};
 ghost use Rattle.std.specs.Ordering.{is_lt, nat_cmp};
 ghost use Rattle.covline.specs.Row.{item_data, rows_of, rows_of_sect};
 ghost use Rattle.covline.specs.SectView.{sect_data};
@@ -97,117 +97,5 @@ fn nearer_key<'a>(
         Some(key)
     } else {
         best
-    }
-}
-
-/// The least line behind the last one of which the rows of this file and test speak.
-pub(crate) fn next_line<A: Allocator>(
-    held: &[SubRef<A>],
-    key: SectKey<'_>,
-    last: Option<u64>,
-) -> Option<u64>
-    ensures { IsNext nat_cmp last (map line_number (items_at (key_data key.entry) (all_rows (map rows_of held.now)))) result }
-{
-    let mut best = None;
-    for submission in held {
-        best = nearest_line(submission.get().sects(), key, last, best);
-    }
-    best
-}
-
-/// The best line so far, after the sections of this file and test.
-fn nearest_line<A: Allocator>(
-    sects: &[Sect<A>],
-    key: SectKey<'_>,
-    last: Option<u64>,
-    best: Option<u64>,
-) -> Option<u64>
-    ensures { result ≡ nearest nat_cmp last best (map line_number (items_at (key_data key.entry) (flat_map rows_of_sect (map sect_data sects.now)))) }
-{
-    let mut nearest = best;
-    for sect in sects {
-        if key.is_of(sect) {
-            nearest = nearest_item(sect.items.get(), last, nearest);
-        }
-    }
-    nearest
-}
-
-/// The best line so far, after the items of a section.
-fn nearest_item(items: &[Item], last: Option<u64>, best: Option<u64>) -> Option<u64>
-    ensures { result ≡ nearest nat_cmp last best (map line_number (map item_data items.now)) }
-{
-    let mut nearest = best;
-    for item in items {
-        let Item::Line { line, .. } = *item;
-        nearest = nearer_line(line, last, nearest);
-    }
-    nearest
-}
-
-/// The line, where it comes behind the last one and before the best so far; else the best so far.
-fn nearer_line(line: u64, last: Option<u64>, best: Option<u64>) -> Option<u64>
-    ensures { result ≡ nearer nat_cmp last best line }
-{
-    let is_behind = match last {
-        None => true,
-        Some(taken) => taken < line,
-    };
-    let is_nearer = match best {
-        None => true,
-        Some(found) => line < found,
-    };
-    if is_behind && is_nearer {
-        Some(line)
-    } else {
-        best
-    }
-}
-
-/// The execution count of a line: the sum over the rows of this file and test.
-pub(crate) fn line_count<A: Allocator>(held: &[SubRef<A>], key: SectKey<'_>, line: u64) -> u128
-    requires { IsHeld held.now }
-    ensures { result ≡ line_value line (items_at (key_data key.entry) (all_rows (map rows_of held.now))) }
-{
-    let mut sum = 0;
-    for submission in held {
-        sum += count_in_sects(submission.get().sects(), key, line);
-    }
-    sum
-}
-
-/// The line's count in the sections of this file and test.
-fn count_in_sects<A: Allocator>(sects: &[Sect<A>], key: SectKey<'_>, line: u64) -> u128
-    requires { line_value line (items_at (key_data key) (flat_map rows_of_sect (map sect_data sects.now))) < 2 ^ 128 }
-    ensures { result ≡ line_value line (items_at (key_data key.entry) (flat_map rows_of_sect (map sect_data sects.now))) }
-{
-    let mut sum = 0;
-    for sect in sects {
-        if key.is_of(sect) {
-            sum += count_in_items(sect.items.get(), line);
-        }
-    }
-    sum
-}
-
-/// The line's count in the items of a section.
-fn count_in_items(items: &[Item], line: u64) -> u128
-    requires { line_value line (map item_data items.now) < 2 ^ 128 }
-    ensures { result ≡ line_value line (map item_data items.now) }
-{
-    let mut sum = 0;
-    for item in items {
-        sum += count_of(item, line);
-    }
-    sum
-}
-
-/// The count of an item of this line, and 0 of another.
-fn count_of(item: &Item, line: u64) -> u128
-    ensures { result ≡ line_value line (item_data item.now ∷ []) }
-{
-    match *item {
-        Item::Line { line: at, count } if at == line => u128::from(count),
-        Item::Line { .. } => 0,
     }
 }

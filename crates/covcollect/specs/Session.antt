@@ -5,7 +5,7 @@ use Rattle.covline.specs.Row.{SubmissionData}
 use Rattle.covline.specs.Lines.{line_feed, pieces_of, line_of}
 use Rattle.covline.specs.declared.trace_line.LineFault.{LineFault}
 use Rattle.covline.specs.declared.trace_line.LineFault.TheVariants.{BadLine, NumberTooLarge, EmptyPath}
-use Rattle.covbook.specs.Op.{OpData, SubmitOp, ReportOp, AnswerData, AcceptedAnswer, TextAnswer}
+use Rattle.covbook.specs.Op.{OpData, SubmitOp, ReportOp, AnswerData, AcceptedAnswer, ClashAnswer, TextAnswer}
 use Rattle.covbook.specs.Step.{answers_to}
 use Rattle.covread.specs.declared.fault.ReadFault.{ReadFault}
 use Rattle.covread.specs.declared.fault.ReadFault.TheVariants as faults
@@ -84,6 +84,8 @@ said line = line ++ line_feed ∷ []
 abbrev pub answer_text : AnswerData → List ℕ
 answer_text (AcceptedAnswer number items odd) =
     said (codes "accepted " ++ decimal number ++ codes " items " ++ decimal items ++ codes " odd " ++ decimal odd)
+answer_text (ClashAnswer clash) =
+    said (codes "clash " ++ clash.file ++ codes " " ++ decimal clash.line ++ codes " " ++ clash.held ++ codes " " ++ clash.given)
 answer_text (TextAnswer text) = text ++ said (codes ".")
 
 abbrev pub line_fault_name : LineFault → List ℕ

@@ -1,10 +1,10 @@
 -- Which names and submissions are lawful: those that a tracefile can hold.
-use Rattle.std.specs.Prelude.{◌≡◌, ◌≢◌, ℕ, ◌<◌, ◌≤◌, ◌^◌, List, [], ◌∷◌, ◌++◌, length, All}
+use Rattle.std.specs.Prelude.{◌≡◌, ◌≢◌, ℕ, ◌<◌, ◌≤◌, ◌^◌, List, [], ◌∷◌, ◌++◌, length, Option, Some, None, All}
 use Rattle.std.specs.List.{AllByRecursion}
 use Rattle.covline.specs.declared.submission.BadSubmission.{BadSubmission}
 use Rattle.covline.specs.declared.submission.BadSubmission.TheVariants.{TooMany, BadText}
 use Rattle.covline.specs.Lines.{line_feed, carriage_return}
-use Rattle.covline.specs.Row.{ItemData, LineItem, SectData, SubmissionData, items_in}
+use Rattle.covline.specs.Row.{ItemData, LineItem, FuncItem, BranchItem, SectData, SubmissionData, items_in}
 
 -- how many items a submission has at the most: 64 Mi
 abbrev pub most_items : ℕ
@@ -15,15 +15,43 @@ pub record IsGoodTest (name : List ℕ) : Type 0 where
   pub one_line : All (λ b. b ≢ line_feed) name
   pub no_return : (front : List ℕ) → name ≢ front ++ carriage_return ∷ []
 
--- the texts of a section are lawful: both fit into a line, and the file's name isn't empty
+-- the name of a file or of a function: it fits into one line too, and isn't empty
+pub record IsGoodName (name : List ℕ) : Type 0 where
+  pub fits : IsGoodTest name
+  pub some : 0 < length name
+
+-- a byte that a checksum may have: all but comma, space, tab, carriage return and line feed
+pub record IsChecksumByte (b : ℕ) : Type 0 where
+  pub no_comma : b ≢ 44
+  pub no_space : b ≢ 32
+  pub no_tab : b ≢ 9
+  pub no_return : b ≢ carriage_return
+  pub no_feed : b ≢ line_feed
+
+-- the checksum of a line's text, which is taken as it is (geninfo(1), FILES: DA)
+pub record IsChecksum (checksum : List ℕ) : Type 0 where
+  pub some : 0 < length checksum
+  pub each : All IsChecksumByte checksum
+
+-- the texts of an item are lawful: the name of a function, and the checksum of a line where it has one
+abbrev pub IsLawfulItem : ItemData → Type 0
+IsLawfulItem (LineItem line count (Some checksum)) = IsChecksum checksum
+IsLawfulItem (LineItem line count None) = Unit {0}
+IsLawfulItem (FuncItem name line count) = IsGoodName name
+IsLawfulItem (BranchItem line block branch taken) = Unit {0}
+
+-- the texts of a section and of its items are lawful
 pub record IsLawfulSect (s : SectData) : Type 0 where
   pub test : IsGoodTest s.test
-  pub file : IsGoodTest s.file
-  pub named : 0 < length s.file
+  pub file : IsGoodName s.file
+  pub items : AllByRecursion IsLawfulItem s.items
 
 -- the numbers of an item are those of 64 bits
 abbrev pub Fits64 : ItemData → Type 0
-Fits64 (LineItem line count) = (line < 2 ^ 64) × (count < 2 ^ 64)
+Fits64 (LineItem line count checksum) = (line < 2 ^ 64) × (count < 2 ^ 64)
+Fits64 (FuncItem name line count) = (line < 2 ^ 64) × (count < 2 ^ 64)
+Fits64 (BranchItem line block branch None) = (line < 2 ^ 64) × (block < 2 ^ 64) × (branch < 2 ^ 64)
+Fits64 (BranchItem line block branch (Some taken)) = (line < 2 ^ 64) × (block < 2 ^ 64) × (branch < 2 ^ 64) × (taken < 2 ^ 64)
 
 abbrev pub AllFit64 : List ItemData → Type 0
 AllFit64 items = AllByRecursion Fits64 items

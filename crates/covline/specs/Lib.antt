@@ -1,4 +1,5 @@
 pub mod Row
+pub mod Points
 pub mod SectView
 pub mod Lines
 pub mod Lawful

@@ -1,14 +1,28 @@
 -- How a record is printed: its key, its fields with numbers in decimal without leading zeros, and a line feed.
-use Rattle.std.specs.Prelude.{ℕ, ◌<◌, List, [], ◌∷◌, ◌++◌, length, codes, decimal}
+use Rattle.std.specs.Prelude.{ℕ, ◌<◌, List, [], ◌∷◌, ◌++◌, length, Option, Some, None, codes, decimal}
 use Rattle.covline.specs.Lines.{line_feed}
-use Rattle.covline.specs.Lawful.{IsGoodTest}
-use Rattle.covline.specs.Spells.{LineData, Test, Path, Line, Total, End, Skip, comma, key_of, HasSmallNumbers}
+use Rattle.covline.specs.Lawful.{IsGoodTest, IsGoodName, IsChecksum}
+use Rattle.covline.specs.Spells.{LineData, Test, Path, FuncStart, FuncCount, Branch, Line, Total, End, Skip, comma, minus, key_of, HasSmallNumbers}
+
+-- how often a branch was taken: `-` where there is no number
+abbrev pub taken_text : Option ℕ → List ℕ
+taken_text None = minus ∷ []
+taken_text (Some taken) = decimal taken
+
+-- the checksum behind a line's count, where it has one
+abbrev pub checksum_text : Option (List ℕ) → List ℕ
+checksum_text None = []
+checksum_text (Some checksum) = comma ∷ checksum
 
 -- the printed line, without its line feed
 abbrev pub line_text : LineData → List ℕ
 line_text (Test name) = codes "TN:" ++ name
 line_text (Path path) = codes "SF:" ++ path
-line_text (Line number count) = codes "DA:" ++ decimal number ++ comma ∷ decimal count
+line_text (FuncStart number name) = codes "FN:" ++ decimal number ++ comma ∷ name
+line_text (FuncCount count name) = codes "FNDA:" ++ decimal count ++ comma ∷ name
+line_text (Branch number block branch taken) =
+    codes "BRDA:" ++ decimal number ++ comma ∷ (decimal block ++ comma ∷ (decimal branch ++ comma ∷ taken_text taken))
+line_text (Line number count checksum) = codes "DA:" ++ decimal number ++ comma ∷ (decimal count ++ checksum_text checksum)
 line_text (Total kind value) = key_of kind ++ decimal value
 line_text End = codes "end_of_record"
 line_text Skip = []
@@ -17,7 +31,10 @@ line_text Skip = []
 abbrev pub printed : LineData → List ℕ
 printed (Test name) = line_text (Test name) ++ line_feed ∷ []
 printed (Path path) = line_text (Path path) ++ line_feed ∷ []
-printed (Line number count) = line_text (Line number count) ++ line_feed ∷ []
+printed (FuncStart number name) = line_text (FuncStart number name) ++ line_feed ∷ []
+printed (FuncCount count name) = line_text (FuncCount count name) ++ line_feed ∷ []
+printed (Branch number block branch taken) = line_text (Branch number block branch taken) ++ line_feed ∷ []
+printed (Line number count checksum) = line_text (Line number count checksum) ++ line_feed ∷ []
 printed (Total kind value) = line_text (Total kind value) ++ line_feed ∷ []
 printed End = line_text End ++ line_feed ∷ []
 printed Skip = []
@@ -25,8 +42,12 @@ printed Skip = []
 -- the texts of a record are lawful
 abbrev pub HasLawfulTexts : LineData → Type 0
 HasLawfulTexts (Test name) = IsGoodTest name
-HasLawfulTexts (Path path) = IsGoodTest path × (0 < length path)
-HasLawfulTexts (Line number count) = Unit {0}
+HasLawfulTexts (Path path) = IsGoodName path
+HasLawfulTexts (FuncStart number name) = IsGoodName name
+HasLawfulTexts (FuncCount count name) = IsGoodName name
+HasLawfulTexts (Branch number block branch taken) = Unit {0}
+HasLawfulTexts (Line number count None) = Unit {0}
+HasLawfulTexts (Line number count (Some checksum)) = IsChecksum checksum
 HasLawfulTexts (Total kind value) = Unit {0}
 HasLawfulTexts End = Unit {0}
 HasLawfulTexts Skip = ⊥

@@ -8,7 +8,7 @@ use Rattle.covline.specs.declared.trace_line.TotalKind.{TotalKind}
 use Rattle.covline.specs.declared.trace_line.TotalKind.TheVariants.{LineFound, LineHit}
 use Rattle.covline.specs.declared.trace_line.LineFault.{LineFault}
 use Rattle.covline.specs.declared.trace_line.LineFault.TheVariants.{BadLine, NumberTooLarge, EmptyPath}
-use Rattle.covline.specs.Spells.{LineData, Test, Path, Line, Total, End, Skip, line_data, comma, minus, BeginsWithOneOf}
+use Rattle.covline.specs.Spells.{LineData, Test, Path, FuncStart, FuncCount, Branch, Line, Total, End, Skip, line_data, comma, minus, BeginsWithOneOf}
 
 -- what a function returned is what reading gives
 abbrev pub Gives : Result TraceLine LineFault → Result LineData LineFault → Type 0
@@ -64,7 +64,7 @@ abbrev pub line_and_count : Number → Option Number → Result LineData LineFau
 line_and_count line None = Err BadLine
 line_and_count TooLarge (Some count) = Err NumberTooLarge
 line_and_count (Value line) (Some TooLarge) = Err NumberTooLarge
-line_and_count (Value line) (Some (Value count)) = Ok (Line line count)
+line_and_count (Value line) (Some (Value count)) = Ok (Line line count None)
 
 abbrev pub behind_line : Number → List ℕ → Result LineData LineFault
 behind_line line [] = Err BadLine

@@ -1,12 +1,15 @@
 -- What an item, a section and a submission say, apart from where they lie in memory, and the rows of a submission.
-use Rattle.std.specs.Prelude.{ℕ, List, length, map}
+use Rattle.std.specs.Prelude.{ℕ, List, Option, length, map}
 use Rattle.std.specs.List.{flat_map, sum_by}
 use Rattle.covline.specs.declared.item.Item.{Item}
 use Rattle.covline.specs.declared.item.Item.TheVariants as items
 
--- one execution count of an instrumented line (geninfo(1), FILES: DA)
+-- one count of a source file (geninfo(1), FILES): of an instrumented line, with the checksum of its text where there is
+-- one (DA); of a function with its start line (FN, FNDA); of a branch, none where its block was never executed (BRDA)
 pub data ItemData : Type 0 where
-  LineItem : (line count : ℕ) → ItemData
+  LineItem : (line count : ℕ) (checksum : Option (List ℕ)) → ItemData
+  FuncItem : (name : List ℕ) (line count : ℕ) → ItemData
+  BranchItem : (line block branch : ℕ) (taken : Option ℕ) → ItemData
 
 -- what one test says about one source file
 pub record SectData : Type 0 where
@@ -26,8 +29,10 @@ pub record Row : Type 0 where
   pub item : ItemData
 
 -- an item of the code, seen as plain data
-abbrev pub item_data : Item → ItemData
-item_data (items.Line line count) = LineItem line count
+abbrev pub item_data : {A : Type 0} → Item A → ItemData
+item_data (items.Line line count checksum) = LineItem line count checksum
+item_data (items.Func name line count) = FuncItem name line count
+item_data (items.Branch line block branch taken) = BranchItem line block branch taken
 
 -- the rows of a section and of a submission: the items in order, each with its section's test and file
 abbrev pub rows_of_sect : SectData → List Row

@@ -1,17 +1,21 @@
 -- What one line of a tracefile says (geninfo(1) of LCOV 1.x, FILES). A key stands at the very beginning of the line.
-use Rattle.std.specs.Prelude.{◌≡◌, ◌≢◌, ℕ, ◌+◌, ◌-◌, ◌*◌, ◌<◌, ◌≤◌, ◌^◌, ◌⊎◌, List, [], ◌∷◌, ◌++◌, length, All, codes, fold}
+use Rattle.std.specs.Prelude.{◌≡◌, ◌≢◌, ℕ, ◌+◌, ◌-◌, ◌*◌, ◌<◌, ◌≤◌, ◌^◌, ◌⊎◌, List, [], ◌∷◌, ◌++◌, length, Option, Some, None, option_map, All, codes, fold}
 use Rattle.covline.specs.declared.trace_line.TraceLine.{TraceLine}
 use Rattle.covline.specs.declared.trace_line.TraceLine.TheVariants as lines
 use Rattle.covline.specs.declared.trace_line.TotalKind.{TotalKind}
-use Rattle.covline.specs.declared.trace_line.TotalKind.TheVariants.{LineFound, LineHit}
+use Rattle.covline.specs.declared.trace_line.TotalKind.TheVariants.{FuncFound, FuncHit, BranchFound, BranchHit, LineFound, LineHit}
 use Rattle.covline.specs.declared.trace_line.LineFault.{LineFault}
 use Rattle.covline.specs.declared.trace_line.LineFault.TheVariants.{BadLine, NumberTooLarge, EmptyPath}
+use Rattle.covline.specs.Lawful.{IsChecksum}
 
 -- what a line says, apart from where it lies in memory
 pub data LineData : Type 0 where
   Test : (name : List ℕ) → LineData
   Path : (path : List ℕ) → LineData
-  Line : (line count : ℕ) → LineData
+  FuncStart : (line : ℕ) (name : List ℕ) → LineData
+  FuncCount : (count : ℕ) (name : List ℕ) → LineData
+  Branch : (line block branch : ℕ) (taken : Option ℕ) → LineData
+  Line : (line count : ℕ) (checksum : Option (List ℕ)) → LineData
   Total : (kind : TotalKind) (value : ℕ) → LineData
   End : LineData
   Skip : LineData
@@ -19,7 +23,10 @@ pub data LineData : Type 0 where
 abbrev pub line_data : TraceLine → LineData
 line_data (lines.Test name) = Test name.now
 line_data (lines.Path path) = Path path.now
-line_data (lines.Line line count) = Line line count
+line_data (lines.FuncStart line name) = FuncStart line name.now
+line_data (lines.FuncCount count name) = FuncCount count name.now
+line_data (lines.Branch line block branch taken) = Branch line block branch taken
+line_data (lines.Line line count checksum) = Line line count (option_map (λ c. c.now) checksum)
 line_data (lines.Total kind value) = Total kind value
 line_data lines.End = End
 line_data lines.Skip = Skip
@@ -52,12 +59,21 @@ pub record IsNumeral (digits : List ℕ) (n : ℕ) : Type 0 where
 abbrev pub IsCount : List ℕ → ℕ → Type 0
 IsCount text n = IsNumeral text n ⊎ ((digits : List ℕ) × (below : ℕ) × (text ≡ minus ∷ digits) × IsNumeral digits below × (n ≡ 0))
 
--- the key of a total: lines found, lines hit
+-- how often a branch was taken: digits, or `-` where its block was never executed
+abbrev pub IsTaken : List ℕ → Option ℕ → Type 0
+IsTaken text None = text ≡ codes "-"
+IsTaken text (Some n) = IsNumeral text n
+
+-- the key of a total: functions, branches and lines, those found and those hit
 abbrev pub key_of : TotalKind → List ℕ
+key_of FuncFound = codes "FNF:"
+key_of FuncHit = codes "FNH:"
+key_of BranchFound = codes "BRF:"
+key_of BranchHit = codes "BRH:"
 key_of LineFound = codes "LF:"
 key_of LineHit = codes "LH:"
 
--- the twelve keys of version 1. Those of functions and branches have no form here yet, so such a line is malformed
+-- the twelve keys of version 1
 abbrev pub keys : List (List ℕ)
 keys = codes "TN:" ∷ codes "SF:" ∷ codes "FN:" ∷ codes "FNDA:" ∷ codes "FNF:" ∷ codes "FNH:" ∷ codes "BRDA:" ∷ codes "BRF:" ∷ codes "BRH:" ∷ codes "DA:" ∷ codes "LF:" ∷ codes "LH:" ∷ []
 
@@ -73,15 +89,29 @@ HasKey line = BeginsWithOneOf keys line
 abbrev pub HasForm : List ℕ → LineData → Type 0
 HasForm line (Test name) = line ≡ codes "TN:" ++ name
 HasForm line (Path path) = (line ≡ codes "SF:" ++ path) × (0 < length path)
-HasForm line (Line number count) =
+HasForm line (FuncStart number name) =
+    (digits : List ℕ) × (line ≡ codes "FN:" ++ digits ++ comma ∷ name) × IsNumeral digits number × (0 < length name)
+HasForm line (FuncCount count name) =
+    (text : List ℕ) × (line ≡ codes "FNDA:" ++ text ++ comma ∷ name) × IsCount text count × (0 < length name)
+HasForm line (Branch number block branch taken) =
+    (digits blocks branches text : List ℕ) × (line ≡ codes "BRDA:" ++ digits ++ comma ∷ (blocks ++ comma ∷ (branches ++ comma ∷ text)))
+    × IsNumeral digits number × IsNumeral blocks block × IsNumeral branches branch × IsTaken text taken
+HasForm line (Line number count None) =
     (digits text : List ℕ) × (line ≡ codes "DA:" ++ digits ++ comma ∷ text) × IsNumeral digits number × IsCount text count
+HasForm line (Line number count (Some checksum)) =
+    (digits text : List ℕ) × (line ≡ codes "DA:" ++ digits ++ comma ∷ (text ++ comma ∷ checksum))
+    × IsNumeral digits number × IsCount text count × IsChecksum checksum
 HasForm line (Total kind value) = (digits : List ℕ) × (line ≡ key_of kind ++ digits) × IsNumeral digits value
 HasForm line End = Begins line (codes "end_of_record")
 HasForm line Skip = ¬ HasKey line × ¬ Begins line (codes "end_of_record")
 
 -- the numbers of a record are below 2^64
 abbrev pub HasSmallNumbers : LineData → Type 0
-HasSmallNumbers (Line number count) = (number < 2 ^ 64) × (count < 2 ^ 64)
+HasSmallNumbers (FuncStart number name) = number < 2 ^ 64
+HasSmallNumbers (FuncCount count name) = count < 2 ^ 64
+HasSmallNumbers (Branch number block branch None) = (number < 2 ^ 64) × (block < 2 ^ 64) × (branch < 2 ^ 64)
+HasSmallNumbers (Branch number block branch (Some taken)) = (number < 2 ^ 64) × (block < 2 ^ 64) × (branch < 2 ^ 64) × (taken < 2 ^ 64)
+HasSmallNumbers (Line number count checksum) = (number < 2 ^ 64) × (count < 2 ^ 64)
 HasSmallNumbers (Total kind value) = value < 2 ^ 64
 HasSmallNumbers (Test name) = Unit {0}
 HasSmallNumbers (Path path) = Unit {0}

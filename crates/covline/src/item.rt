@@ -1,20 +1,40 @@
 //! Items, and the list of them.
 
+use crate::bytes::Bytes;
 use crate::memory::Memory;
 use std::alloc::{Allocator, Global};
 use std::marker::Model;
 
 /// One count of a source file (geninfo(1), section FILES).
-#[derive(Clone, Copy, Debug, PartialEq, Eq)]
-pub enum Item {
-    /// The execution count of an instrumented line.
-    Line { line: u64, count: u64 },
+#[derive(Drop)]
+pub enum Item<A: Allocator = Global> {
+    /// The execution count of an instrumented line, with the checksum of its text where the collector wrote one
+    /// (`DA:`). A checksum is one or more bytes without comma, space, tab, carriage return and line feed.
+    Line {
+        line: u64,
+        count: u64,
+        checksum: Option<Bytes<A>>,
+    },
+    /// The execution count of a function and the line that it starts at (`FN:`, `FNDA:`). A name isn't empty and
+    /// fits into a line.
+    Func {
+        name: Bytes<A>,
+        line: u64,
+        count: u64,
+    },
+    /// How often a branch of a line was taken; none where its block was never executed (`BRDA:`).
+    Branch {
+        line: u64,
+        block: u64,
+        branch: u64,
+        taken: Option<u64>,
+    },
 }
 
 /// A list of items. Contracts see the items.
 #[derive(Drop)]
 pub struct Items<A: Allocator = Global> {
-    items: Vec<Item, A>,
+    items: Vec<Item<A>, A>,
 }
 
 impl<A: Allocator> Model for Items<A> {
@@ -43,8 +63,8 @@ impl<A: Allocator> Items<A> {
         }
     }
 
-    /// Appends an item. A refusal leaves the list as it was.
-    pub fn push(&mut self, item: Item) -> Result<(), Memory>
+    /// Appends an item. A refusal gives it up and leaves the list as it was.
+    pub fn push(&mut self, item: Item<A>) -> Result<(), Memory>
         ensures ok { OnOk result (self.new ≡ self.old ++ item_data item ∷ []) }
         ensures err { OnErr result (self.new ≡ self.old) }
     {
@@ -67,7 +87,7 @@ impl<A: Allocator> Items<A> {
     }
 
     /// The items in order.
-    pub fn get(&self) -> &[Item]
+    pub fn get(&self) -> &[Item<A>]
         ensures items { map item_data result.now ≡ self.now }
         ensures fit { AllFit64 self.now }
     {

@@ -36,7 +36,10 @@ fn append_line<A: Allocator>(line: &TraceLine<'_>, text: &mut Bytes<A>) -> Resul
     match *line {
         TraceLine::Test(name) => append_text(b"TN:", name, text),
         TraceLine::Path(path) => append_text(b"SF:", path, text),
-        TraceLine::Line { line, count } => append_count(line, count, text),
+        TraceLine::FuncStart { .. }
+        | TraceLine::FuncCount { .. }
+        | TraceLine::Branch { .. }
+        | TraceLine::Line { .. } => Err(Memory),
         TraceLine::Total { kind, value } => append_total(kind, value, text),
         TraceLine::End => append_text(b"end_of_record", b"", text),
         TraceLine::Skip => Ok(()),
@@ -53,20 +56,6 @@ fn append_text<A: Allocator>(key: &[u8], field: &[u8], text: &mut Bytes<A>) -> R
     text.append(b"\n")
 }
 
-/// Appends the record of an instrumented line.
-fn append_count<A: Allocator>(line: u64, count: u128, text: &mut Bytes<A>) -> Result<(), Memory>
-    ensures ok { OnOk result
-        (text.new ≡ text.old ++ (codes "DA:" ++ decimal line ++ comma ∷ decimal count ++ line_feed ∷ [])) }
-    ensures err { OnErr result ((more : List ℕ) × (text.new ≡ text.old ++ more)) }
-{
-    let mut digits = Buffer::new();
-    text.append(b"DA:")?;
-    text.append(digits.format(line).as_bytes())?;
-    text.append(b",")?;
-    text.append(digits.format(count).as_bytes())?;
-    text.append(b"\n")
-}
-
 /// Appends a total.
 fn append_total<A: Allocator>(
     kind: TotalKind,
@@ -78,6 +67,10 @@ fn append_total<A: Allocator>(
 {
     let mut digits = Buffer::new();
     let key: &[u8] = match kind {
+        TotalKind::FuncFound => b"FNF:",
+        TotalKind::FuncHit => b"FNH:",
+        TotalKind::BranchFound => b"BRF:",
+        TotalKind::BranchHit => b"BRH:",
         TotalKind::LineFound => b"LF:",
         TotalKind::LineHit => b"LH:",
     };

@@ -94,6 +94,7 @@ fn line_record(fields: &[u8]) -> Result<TraceLine<'_>, LineFault>
         (Number::Value(line), Some(Number::Value(count))) => Ok(TraceLine::Line {
             line,
             count: u128::from(count),
+            checksum: None,
         }),
         _ => Err(LineFault::NumberTooLarge),
     }

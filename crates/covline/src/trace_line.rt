@@ -8,6 +8,14 @@ use thiserror::Error;
 /// Which of a section's own totals a line states.
 #[derive(Clone, Copy, Debug, PartialEq, Eq)]
 pub enum TotalKind {
+    /// `FNF:`, the functions with a start line.
+    FuncFound,
+    /// `FNH:`, those of them with an execution count above 0.
+    FuncHit,
+    /// `BRF:`, the branches.
+    BranchFound,
+    /// `BRH:`, those of them that were taken.
+    BranchHit,
     /// `LF:`, the instrumented lines.
     LineFound,
     /// `LH:`, the lines with an execution count above 0.
@@ -21,9 +29,26 @@ pub enum TraceLine<'a> {
     Test(&'a [u8]),
     /// `SF:<path>`, a source file's section begins.
     Path(&'a [u8]),
-    /// `DA:<line>,<count>`, the execution count of an instrumented line.
-    Line { line: u64, count: u128 },
-    /// `LF:` or `LH:` and a number.
+    /// `FN:<line>,<name>`, the line that a function starts at. The name isn't empty.
+    FuncStart { line: u64, name: &'a [u8] },
+    /// `FNDA:<count>,<name>`, the execution count of a function. The name isn't empty.
+    FuncCount { count: u128, name: &'a [u8] },
+    /// `BRDA:<line>,<block>,<branch>,<taken>`, how often a branch was taken: none for `-`, which says that its block
+    /// was never executed.
+    Branch {
+        line: u64,
+        block: u64,
+        branch: u64,
+        taken: Option<u128>,
+    },
+    /// `DA:<line>,<count>` or `DA:<line>,<count>,<checksum>`, the execution count of an instrumented line, and the
+    /// checksum of its text.
+    Line {
+        line: u64,
+        count: u128,
+        checksum: Option<&'a [u8]>,
+    },
+    /// `FNF:`, `FNH:`, `BRF:`, `BRH:`, `LF:` or `LH:` and a number.
     Total { kind: TotalKind, value: u64 },
     /// `end_of_record`, the section ends.
     End,

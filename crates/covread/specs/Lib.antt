@@ -1,5 +1,5 @@
 pub mod Reads
 pub mod Outcome
-pub mod TraceTally
+pub mod Said
 pub mod TraceSteps
 pub mod Fault

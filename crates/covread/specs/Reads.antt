@@ -1,11 +1,13 @@
 -- What the lines of a tracefile say together (geninfo(1) of LCOV 1.x, FILES): lines outside of sections and closed
 -- sections, in turn.
-use Rattle.std.specs.Prelude.{◌≡◌, ℕ, ◌+◌, Bool, false, ◌==◌, nat_lt, nat_eq, not, List, [], ◌∷◌, ◌++◌, map, filter, count_by, if◌then◌else◌}
+use Rattle.std.specs.Prelude.{◌≡◌, ℕ, ◌+◌, Bool, false, ◌==◌, ◌&&◌, nat_eq, not, is_none, List, [], ◌∷◌, ◌++◌, Option, Some, None, filter, count_by, if◌then◌else◌}
+use Rattle.std.specs.Str.{bytes_eq}
 use Rattle.std.specs.List.{flat_map, sum_by, list_any, AllByRecursion}
 use Rattle.covline.specs.declared.trace_line.TotalKind.{TotalKind}
-use Rattle.covline.specs.declared.trace_line.TotalKind.TheVariants.{LineFound, LineHit}
-use Rattle.covline.specs.Row.{ItemData, LineItem, SectData, SubmissionData}
-use Rattle.covline.specs.Spells.{LineData, Test, Path, Line, Total, End, Skip, Spells}
+use Rattle.covline.specs.declared.trace_line.TotalKind.TheVariants.{FuncFound, FuncHit, BranchFound, BranchHit, LineFound, LineHit}
+use Rattle.covline.specs.Row.{ItemData, LineItem, FuncItem, BranchItem, SectData, SubmissionData}
+use Rattle.covline.specs.Points.{BranchPoint, line_points, func_points, branch_points, is_hit, least}
+use Rattle.covline.specs.Spells.{LineData, Test, Path, FuncStart, FuncCount, Branch, Line, Total, End, Skip, Spells}
 
 -- each line says the record at its place; a blank line is a skipped one
 abbrev pub AllSpell : List (List ℕ) → List LineData → Type 0
@@ -24,13 +26,19 @@ abbrev pub IsOutside : LineData → Type 0
 IsOutside (Test name) = Unit {0}
 IsOutside Skip = Unit {0}
 IsOutside (Path path) = ⊥
-IsOutside (Line line count) = ⊥
+IsOutside (FuncStart line name) = ⊥
+IsOutside (FuncCount count name) = ⊥
+IsOutside (Branch line block branch taken) = ⊥
+IsOutside (Line line count checksum) = ⊥
 IsOutside (Total kind value) = ⊥
 IsOutside End = ⊥
 
 -- inside of a section stand counts, totals and skipped lines
 abbrev pub IsInside : LineData → Type 0
-IsInside (Line line count) = Unit {0}
+IsInside (FuncStart line name) = Unit {0}
+IsInside (FuncCount count name) = Unit {0}
+IsInside (Branch line block branch taken) = Unit {0}
+IsInside (Line line count checksum) = Unit {0}
 IsInside (Total kind value) = Unit {0}
 IsInside Skip = Unit {0}
 IsInside (Test name) = ⊥
@@ -46,56 +54,93 @@ abbrev pub records_of : Part → List LineData
 records_of (Outside says) = says ∷ []
 records_of (Section path inside) = Path path ∷ (inside ++ End ∷ [])
 
+-- the start line that a record gives to the function of this name
+abbrev pub start_said : List ℕ → LineData → List ℕ
+start_said name (FuncStart line other) = if bytes_eq other name then line ∷ [] else []
+start_said name (FuncCount count other) = []
+start_said name (Branch line block branch taken) = []
+start_said name (Line line count checksum) = []
+start_said name (Total kind value) = []
+start_said name (Test other) = []
+start_said name (Path path) = []
+start_said name End = []
+start_said name Skip = []
+
+-- the least start line of a function in a section, before or behind the place that asks; none where no record gives one
+abbrev pub start_in : List ℕ → List LineData → Option ℕ
+start_in name inside = least (flat_map (start_said name) inside)
+
+-- the item of a function's count, where the function has a start line
+abbrev pub counted : List ℕ → ℕ → Option ℕ → List ItemData
+counted name count None = []
+counted name count (Some line) = FuncItem name line count ∷ []
+
+-- the items that a record of a section gives
+abbrev pub items_said : List LineData → LineData → List ItemData
+items_said inside (FuncStart line name) = FuncItem name line 0 ∷ []
+items_said inside (FuncCount count name) = counted name count (start_in name inside)
+items_said inside (Branch line block branch taken) = BranchItem line block branch taken ∷ []
+items_said inside (Line line count checksum) = LineItem line count checksum ∷ []
+items_said inside (Total kind value) = []
+items_said inside (Test name) = []
+items_said inside (Path path) = []
+items_said inside End = []
+items_said inside Skip = []
+
 -- the items of a section, in the order of their lines
-abbrev pub items_said : LineData → List ItemData
-items_said (Line line count) = LineItem line count ∷ []
-items_said (Total kind value) = []
-items_said (Test name) = []
-items_said (Path path) = []
-items_said End = []
-items_said Skip = []
-
 abbrev pub items_of : List LineData → List ItemData
-items_of inside = flat_map items_said inside
+items_of inside = flat_map (items_said inside) inside
 
--- how many different numbers a list has
-abbrev pub distinct : List ℕ → ℕ
-distinct [] = 0
-distinct (x ∷ xs) = if list_any (nat_eq x) xs then distinct xs else distinct xs + 1
+-- how many members a list has, those that are the same counted once
+abbrev pub distinct : {X : Type 0} → (X → X → Bool) → List X → ℕ
+distinct same [] = 0
+distinct same (x ∷ xs) = if list_any (same x) xs then distinct same xs else distinct same xs + 1
 
-abbrev pub number_of : ItemData → ℕ
-number_of (LineItem line count) = line
+abbrev pub branch_eq : BranchPoint → BranchPoint → Bool
+branch_eq a b = a.line == b.line && a.block == b.block && a.branch == b.branch
 
-abbrev pub is_hit : ItemData → Bool
-is_hit (LineItem line count) = nat_lt 0 count
-
--- a section's own totals: its different lines, and those of them with an execution count above 0 somewhere
+-- a section's own totals: its different functions with a start line, branches and lines, and those of them that some
+-- item counts above 0
 abbrev pub own_total : TotalKind → List ItemData → ℕ
-own_total LineFound items = distinct (map number_of items)
-own_total LineHit items = distinct (map number_of (filter is_hit items))
+own_total FuncFound items = distinct bytes_eq (func_points items)
+own_total FuncHit items = distinct bytes_eq (func_points (filter is_hit items))
+own_total BranchFound items = distinct branch_eq (branch_points items)
+own_total BranchHit items = distinct branch_eq (branch_points (filter is_hit items))
+own_total LineFound items = distinct nat_eq (line_points items)
+own_total LineHit items = distinct nat_eq (line_points (filter is_hit items))
 
--- a total line is odd where its number differs from the section's own
-abbrev pub is_odd : List ItemData → LineData → Bool
-is_odd items (Total kind value) = not (value == own_total kind items)
-is_odd items (Line line count) = false
-is_odd items (Test name) = false
-is_odd items (Path path) = false
-is_odd items End = false
-is_odd items Skip = false
+-- odd is a count of a function without a start line in its section, and a total that differs from the section's own
+abbrev pub is_odd : List LineData → LineData → Bool
+is_odd inside (FuncCount count name) = is_none (start_in name inside)
+is_odd inside (Total kind value) = not (value == own_total kind (items_of inside))
+is_odd inside (FuncStart line name) = false
+is_odd inside (Branch line block branch taken) = false
+is_odd inside (Line line count checksum) = false
+is_odd inside (Test name) = false
+is_odd inside (Path path) = false
+is_odd inside End = false
+is_odd inside Skip = false
 
 abbrev pub odd_in : Part → ℕ
 odd_in (Outside says) = 0
-odd_in (Section path inside) = count_by (is_odd (items_of inside)) inside
+odd_in (Section path inside) = count_by (is_odd inside) inside
+
+-- the test's name behind a line outside of sections
+abbrev pub test_after : List ℕ → LineData → List ℕ
+test_after test (Test name) = name
+test_after test (Path path) = test
+test_after test (FuncStart line name) = test
+test_after test (FuncCount count name) = test
+test_after test (Branch line block branch taken) = test
+test_after test (Line line count checksum) = test
+test_after test (Total kind value) = test
+test_after test End = test
+test_after test Skip = test
 
 -- the sections of the parts. A section's test is the name in the last test line before it, at first the one given
 abbrev pub sects_from : List ℕ → List Part → List SectData
 sects_from test [] = []
-sects_from test (Outside (Test name) ∷ parts) = sects_from name parts
-sects_from test (Outside (Path path) ∷ parts) = sects_from test parts
-sects_from test (Outside (Line line count) ∷ parts) = sects_from test parts
-sects_from test (Outside (Total kind value) ∷ parts) = sects_from test parts
-sects_from test (Outside End ∷ parts) = sects_from test parts
-sects_from test (Outside Skip ∷ parts) = sects_from test parts
+sects_from test (Outside says ∷ parts) = sects_from (test_after test says) parts
 sects_from test (Section path inside ∷ parts) = record { test = test; file = path; items = items_of inside } ∷ sects_from test parts
 
 -- the lines are a lawful text, and this is what it says; before the first test line the test's name is empty

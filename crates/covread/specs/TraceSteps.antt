@@ -1,12 +1,9 @@
 -- What the reader of a tracefile holds between two lines, and what a line makes of it. The contracts of its private
 -- steps speak of it; what a text is read as is said in Reads and Outcome.
-use Rattle.std.specs.Prelude.{◌≡◌, ℕ, ◌+◌, List, [], ◌∷◌, ◌++◌, Option, Some, None, Result, Ok, Err, option_map}
-use Rattle.covline.specs.Row.{ItemData, LineItem, SectData, SubmissionData}
-use Rattle.covline.specs.Spells.{LineData, Test, Path, Line, Total, End, Skip, Spells, HasFault}
+use Rattle.std.specs.Prelude.{◌≡◌, ℕ, ◌+◌, List, [], ◌∷◌, ◌++◌, Option, Some, None, Result, Ok, Err, count_by, option_map}
+use Rattle.covline.specs.Row.{SectData, SubmissionData}
+use Rattle.covline.specs.Spells.{LineData, Test, Path, FuncStart, FuncCount, Branch, Line, Total, End, Skip, Spells, HasFault}
 use Rattle.covline.specs.Lawful.{IsLawful}
-use Rattle.covline.specs.declared.item.Item.{Item}
-use Rattle.covline.specs.declared.item.Item.TheVariants as items
-use Rattle.covread.specs.declared.trace.tally.Stated.{Stated}
 use Rattle.covread.specs.declared.trace.reader.OpenSection.{OpenSection}
 use Rattle.covread.specs.declared.trace.reader.Reader.{Reader}
 use Rattle.covread.specs.declared.trace.misplaced.Misplaced.{Misplaced}
@@ -14,13 +11,13 @@ use Rattle.covread.specs.declared.trace.misplaced.Misplaced.TheVariants as mispl
 use Rattle.covread.specs.declared.fault.ReadFault.{ReadFault}
 use Rattle.covread.specs.declared.fault.ReadFault.TheVariants as faults
 use Rattle.covread.specs.Outcome.{Answers}
-use Rattle.covread.specs.TraceTally.{odd_among}
+use Rattle.covread.specs.Reads.{items_of, is_odd}
+use Rattle.covread.specs.Said.{records_kept}
 
--- an open section: its path, and what its lines said so far
+-- an open section: its path, and what its lines said so far, the skipped ones left out
 pub record SectionData : Type 0 where
   pub file : List ℕ
-  pub items : List ItemData
-  pub stated : List Stated
+  pub lines : List LineData
 
 pub record HeldData : Type 0 where
   pub test : List ℕ
@@ -29,7 +26,7 @@ pub record HeldData : Type 0 where
   pub odd : ℕ
 
 abbrev pub section_data : {A : Type 0} → OpenSection A → SectionData
-section_data s = record { file = s.file; items = s.items; stated = s.stated.items }
+section_data s = record { file = s.file; lines = records_kept s.lines.items }
 
 abbrev pub held_data : {A : Type 0} → Reader A → HeldData
 held_data r = record { test = r.test.now; section = option_map section_data r.section; sects = r.sects; odd = r.odd }
@@ -38,15 +35,27 @@ held_data r = record { test = r.test.now; section = option_map section_data r.se
 abbrev pub empty : HeldData
 empty = record { test = []; section = None; sects = []; odd = 0 }
 
--- the line that says an item
-abbrev pub item_line : Item → LineData
-item_line (items.Line line count) = Line line count
+-- an open section with one line more
+abbrev pub kept : SectionData → HeldData → LineData → HeldData
+kept s held says = record { test = held.test; section = Some (record { file = s.file; lines = s.lines ++ says ∷ [] }); sects = held.sects; odd = held.odd }
+
+-- an open section ends
+abbrev pub closed : SectionData → HeldData → HeldData
+closed s held = record {
+  test = held.test;
+  section = None;
+  sects = held.sects ++ record { test = held.test; file = s.file; items = items_of s.lines } ∷ [];
+  odd = held.odd + count_by (is_odd s.lines) s.lines;
+}
 
 -- one line, where no section is open and in an open one
 abbrev pub step_between : HeldData → LineData → Result HeldData Misplaced
 step_between held (Test name) = Ok (record { test = name; section = None; sects = held.sects; odd = held.odd })
-step_between held (Path path) = Ok (record { test = held.test; section = Some (record { file = path; items = []; stated = [] }); sects = held.sects; odd = held.odd })
-step_between held (Line line count) = Err misplaced.Outside
+step_between held (Path path) = Ok (record { test = held.test; section = Some (record { file = path; lines = [] }); sects = held.sects; odd = held.odd })
+step_between held (FuncStart line name) = Err misplaced.Outside
+step_between held (FuncCount count name) = Err misplaced.Outside
+step_between held (Branch line block branch taken) = Err misplaced.Outside
+step_between held (Line line count checksum) = Err misplaced.Outside
 step_between held (Total kind value) = Err misplaced.Outside
 step_between held End = Err misplaced.Outside
 step_between held Skip = Ok held
@@ -54,12 +63,12 @@ step_between held Skip = Ok held
 abbrev pub step_within : SectionData → HeldData → LineData → Result HeldData Misplaced
 step_within s held (Test name) = Err misplaced.Inside
 step_within s held (Path path) = Err misplaced.Inside
-step_within s held (Line line count) =
-    Ok (record { test = held.test; section = Some (record { file = s.file; items = s.items ++ LineItem line count ∷ []; stated = s.stated }); sects = held.sects; odd = held.odd })
-step_within s held (Total kind value) =
-    Ok (record { test = held.test; section = Some (record { file = s.file; items = s.items; stated = s.stated ++ record { kind = kind; value = value } ∷ [] }); sects = held.sects; odd = held.odd })
-step_within s held End =
-    Ok (record { test = held.test; section = None; sects = held.sects ++ record { test = held.test; file = s.file; items = s.items } ∷ []; odd = held.odd + odd_among s.items s.stated })
+step_within s held (FuncStart line name) = Ok (kept s held (FuncStart line name))
+step_within s held (FuncCount count name) = Ok (kept s held (FuncCount count name))
+step_within s held (Branch line block branch taken) = Ok (kept s held (Branch line block branch taken))
+step_within s held (Line line count checksum) = Ok (kept s held (Line line count checksum))
+step_within s held (Total kind value) = Ok (kept s held (Total kind value))
+step_within s held End = Ok (closed s held)
 step_within s held Skip = Ok held
 
 abbrev pub step_at : Option SectionData → HeldData → LineData → Result HeldData Misplaced
@@ -76,10 +85,10 @@ Steps (Err misplaced.Outside) before after says = step before says ≡ Err mispl
 Steps (Err misplaced.Inside) before after says = step before says ≡ Err misplaced.Inside
 Steps (Err misplaced.Memory) before after says = Unit {0}
 
--- the totals that are stated, at the most, and what was odd before, fit 64 bits
-abbrev pub stated_in : Option SectionData → List Stated
-stated_in None = []
-stated_in (Some s) = s.stated
+-- the lines that are kept of an open section
+abbrev pub kept_in : Option SectionData → List LineData
+kept_in None = []
+kept_in (Some s) = s.lines
 
 -- what a reader takes of a line, or its fault; lines are counted from 1
 abbrev pub TakesLine : {T : Type 0} → Result T ReadFault → HeldData → HeldData → List ℕ → ℕ → Type 0

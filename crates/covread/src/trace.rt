@@ -4,7 +4,8 @@ pub mod laws;
 mod misplaced;
 pub mod read;
 mod reader;
-mod tally;
+mod said;
+mod settle;
 
 pub use laws::each_text_has_one_outcome;
 pub use read::{MOST_BYTES, read_trace};

@@ -108,6 +108,7 @@ pub fn say_answer<O: Sink, A: Allocator + Copy>(
             let line = accepted_line(alloc, *number, *items, *odd)?;
             say(line.as_slice(), waiting, sink)
         }
+        Answer::Clash { .. } => Err(SessionFault::Memory),
         Answer::Text(text) => {
             say(text.get().get(), waiting, sink)?;
             say(b".\n", waiting, sink)

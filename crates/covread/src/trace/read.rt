@@ -4,7 +4,7 @@ ghost use Rattle.std.specs.Prelude.{◌≡◌, ◌+◌, ◌<◌, ◌≤◌, ◌^
 ghost use Rattle.covline.specs.Row.{SubmissionData};
 ghost use Rattle.covread.specs.declared.fault.ReadFault.{ReadFault as Fault};
 ghost use Rattle.covread.specs.Outcome.{most_bytes, IsOutcome, Answers, IsOrMemory};
-ghost use Rattle.covread.specs.TraceSteps.{held_data, stated_in, ReadsTo, TakesLine};
+ghost use Rattle.covread.specs.TraceSteps.{held_data, kept_in, ReadsTo, TakesLine};
 
 use crate::fault::ReadFault;
 use crate::trace::misplaced::Misplaced;
@@ -49,7 +49,7 @@ fn take_line<'a, A: Allocator + Copy>(
     at: u64,
     line: &'a [u8],
 ) -> Result<(), ReadFault>
-    requires { reader.old.odd + length (stated_in (held_data reader.old).section) < 2 ^ 64 }
+    requires { reader.old.odd + length (kept_in (held_data reader.old).section) < 2 ^ 64 }
     ensures { TakesLine result (held_data reader.old) (held_data reader.new) line.now at }
 {
     let says = match read_line(line) {

@@ -1,25 +1,25 @@
 //! What the reader of a tracefile holds between two lines.
 
 ghost use Rattle.std.specs.Prelude.{◌≡◌, ◌+◌, ◌<◌, ◌^◌, length};
-ghost use Rattle.covline.specs.Spells.{line_data, HasSmallNumbers, Test, Path, Line, Total, End};
-ghost use Rattle.covline.specs.Row.{item_data};
-ghost use Rattle.covread.specs.TraceSteps.{held_data, empty, item_line, stated_in, Steps, ends, EndsLawfully};
+ghost use Rattle.covline.specs.Spells.{line_data, HasSmallNumbers, Test, Path, End};
+ghost use Rattle.covread.specs.Said.{said_data};
+ghost use Rattle.covread.specs.TraceSteps.{held_data, empty, kept_in, Steps, ends, EndsLawfully};
 
 use crate::fault::ReadFault;
 use crate::trace::misplaced::Misplaced;
-use crate::trace::tally::{Stated, odd_totals};
-use covline::{Bytes, Item, Items, Sect, Sects, Submission, TraceLine};
+use crate::trace::said::Said;
+use crate::trace::settle::{Settled, settle};
+use covline::{Bytes, Sect, Sects, Submission, TraceLine};
 use std::alloc::Allocator;
 
 /// A section whose end didn't come yet.
 #[derive(Drop)]
-pub struct OpenSection<A: Allocator> {
+pub struct OpenSection<'a, A: Allocator> {
     /// Its path.
     pub file: Bytes<A>,
-    /// The counts so far.
-    pub items: Items<A>,
-    /// The totals that its lines state. They count all lines of the section, so they wait for its end.
-    pub stated: Vec<Stated, A>,
+    /// What its lines said so far. A function's count needs the least start line of the function, and a total counts
+    /// all lines of the section, so they wait for its end.
+    pub lines: Vec<Said<'a>, A>,
 }
 
 /// What a reader holds between two lines.
@@ -28,10 +28,10 @@ pub struct Reader<'a, A: Allocator> {
     /// The name in the last test line.
     pub test: &'a [u8],
     /// The section that is open.
-    pub section: Option<OpenSection<A>>,
+    pub section: Option<OpenSection<'a, A>>,
     /// The sections that ended.
     pub sects: Sects<A>,
-    /// How many total lines of these differ from the section's own total.
+    /// How many lines of these don't fit the others of their section.
     pub odd: u64,
 }
 
@@ -51,17 +51,38 @@ impl<'a, A: Allocator + Copy> Reader<'a, A> {
     /// Takes what one line says.
     pub fn take(&mut self, alloc: A, line: TraceLine<'a>) -> Result<(), Misplaced>
         requires small { HasSmallNumbers (line_data line) }
-        requires room { self.old.odd + length (stated_in (held_data self.old).section) < 2 ^ 64 }
+        requires room { self.old.odd + length (kept_in (held_data self.old).section) < 2 ^ 64 }
         ensures { Steps result (held_data self.old) (held_data self.new) (line_data line.entry) }
     {
         match line {
             TraceLine::Test(name) => self.name_test(name),
             TraceLine::Path(path) => self.begin(alloc, path),
-            TraceLine::Line { line, count } => self.count(Item::Line {
+            TraceLine::FuncStart { line, name } => self.keep(Said::FuncStart { line, name }),
+            TraceLine::FuncCount { count, name } => self.keep(Said::FuncCount {
+                count: count as u64,
+                name,
+            }),
+            TraceLine::Branch {
+                line,
+                block,
+                branch,
+                taken,
+            } => self.keep(Said::Branch {
+                line,
+                block,
+                branch,
+                taken: taken.map(|taken| taken as u64),
+            }),
+            TraceLine::Line {
+                line,
+                count,
+                checksum,
+            } => self.keep(Said::Line {
                 line,
                 count: count as u64,
+                checksum,
             }),
-            TraceLine::Total { kind, value } => self.state(Stated { kind, value }),
+            TraceLine::Total { kind, value } => self.keep(Said::Total { kind, value }),
             TraceLine::End => self.end(alloc),
             TraceLine::Skip => Ok(()),
         }
@@ -87,49 +108,34 @@ impl<'a, A: Allocator + Copy> Reader<'a, A> {
         }
         self.section = Some(OpenSection {
             file: Bytes::of(alloc, path)?,
-            items: Items::new(alloc),
-            stated: Vec::new(alloc),
+            lines: Vec::new(alloc),
         });
         Ok(())
     }
 
-    /// A count of the open section.
-    fn count(&mut self, item: Item) -> Result<(), Misplaced>
-        ensures { Steps result (held_data self.old) (held_data self.new) (item_line item) }
+    /// A line of the open section, which is kept.
+    fn keep(&mut self, said: Said<'a>) -> Result<(), Misplaced>
+        ensures { Steps result (held_data self.old) (held_data self.new) (said_data said.entry) }
     {
         if let Some(section) = &mut self.section {
-            section.items.push(item)?;
+            section.lines.push(said)?;
             return Ok(());
         }
         Err(Misplaced::Outside)
     }
 
-    /// A total that the open section states.
-    fn state(&mut self, total: Stated) -> Result<(), Misplaced>
-        ensures { Steps result (held_data self.old) (held_data self.new) (Total total.kind total.value) }
-    {
-        if let Some(section) = &mut self.section {
-            section.stated.push(total)?;
-            return Ok(());
-        }
-        Err(Misplaced::Outside)
-    }
-
-    /// The open section ends: its totals are compared, and it is kept with the test's name.
+    /// The open section ends: it is settled, and kept with the test's name.
     fn end(&mut self, alloc: A) -> Result<(), Misplaced>
-        requires { self.old.odd + length (stated_in (held_data self.old).section) < 2 ^ 64 }
+        requires { self.old.odd + length (kept_in (held_data self.old).section) < 2 ^ 64 }
         ensures { Steps result (held_data self.old) (held_data self.new) End }
     {
         let Some(section) = self.section.take() else {
             return Err(Misplaced::Outside);
         };
-        let OpenSection {
-            file,
-            mut items,
-            stated,
-        } = section;
-        self.odd += odd_totals(alloc, items.get(), &stated)?;
-        items.shrink();
+        let OpenSection { file, lines } = section;
+        let Settled { items, odd } = settle(alloc, lines.as_slice())?;
+        drop(lines);
+        self.odd += odd;
         let test = Bytes::of(alloc, self.test)?;
         self.sects.push(Sect { test, file, items })?;
         Ok(())

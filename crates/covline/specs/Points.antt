@@ -1,0 +1,49 @@
+-- What items speak of: lines, functions and branches of a source file.
+use Rattle.std.specs.Prelude.{ℕ, Bool, false, nat_lt, min, List, [], ◌∷◌, Option, Some, None}
+use Rattle.std.specs.List.{flat_map, reduce}
+use Rattle.covline.specs.Row.{ItemData, LineItem, FuncItem, BranchItem}
+
+-- a branch: the line, the block and the number in it (geninfo(1), FILES: BRDA)
+pub record BranchPoint : Type 0 where
+  pub line : ℕ
+  pub block : ℕ
+  pub branch : ℕ
+
+-- the line of a line's item
+abbrev pub line_point : ItemData → List ℕ
+line_point (LineItem line count checksum) = line ∷ []
+line_point (FuncItem name line count) = []
+line_point (BranchItem line block branch taken) = []
+
+-- the name of a function's item
+abbrev pub func_point : ItemData → List (List ℕ)
+func_point (FuncItem name line count) = name ∷ []
+func_point (LineItem line count checksum) = []
+func_point (BranchItem line block branch taken) = []
+
+-- the branch of a branch's item
+abbrev pub branch_point : ItemData → List BranchPoint
+branch_point (BranchItem line block branch taken) = record { line = line; block = block; branch = branch } ∷ []
+branch_point (LineItem line count checksum) = []
+branch_point (FuncItem name line count) = []
+
+-- the lines, functions and branches that items speak of, as often as they do
+abbrev pub line_points : List ItemData → List ℕ
+line_points items = flat_map line_point items
+
+abbrev pub func_points : List ItemData → List (List ℕ)
+func_points items = flat_map func_point items
+
+abbrev pub branch_points : List ItemData → List BranchPoint
+branch_points items = flat_map branch_point items
+
+-- the item's count is above 0; a branch that was never reached has none
+abbrev pub is_hit : ItemData → Bool
+is_hit (LineItem line count checksum) = nat_lt 0 count
+is_hit (FuncItem name line count) = nat_lt 0 count
+is_hit (BranchItem line block branch None) = false
+is_hit (BranchItem line block branch (Some taken)) = nat_lt 0 taken
+
+-- the least number, where there is one
+abbrev pub least : List ℕ → Option ℕ
+least numbers = reduce min numbers
