@@ -1,4 +1,4 @@
--- Which names and submissions are lawful: those that a tracefile can hold.
+-- Which submissions are lawful: their names and checksums fit the lines of a tracefile, and their items aren't too many.
 use Rattle.std.specs.Prelude.{◌≡◌, ◌≢◌, ℕ, ◌<◌, ◌≤◌, ◌^◌, List, [], ◌∷◌, ◌++◌, length, Option, Some, None, All}
 use Rattle.std.specs.List.{AllByRecursion}
 use Rattle.covline.specs.declared.submission.BadSubmission.{BadSubmission}

@@ -123,7 +123,7 @@ pub record Spells (line : List ℕ) (says : LineData) : Type 0 where
   pub form : HasForm line says
   pub small : HasSmallNumbers says
 
--- the one fault of a line that says nothing
+-- the one fault of a line that spells no record
 abbrev pub HasFault : List ℕ → LineFault → Type 0
 HasFault line EmptyPath = line ≡ codes "SF:"
 HasFault line NumberTooLarge = (says : LineData) × HasForm line says × ¬ HasSmallNumbers says
