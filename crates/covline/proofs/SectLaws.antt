@@ -71,9 +71,10 @@ lawful_all items seen e lawful = subst (AllByRecursion IsLawfulItem) e (recursio
 
 -- a section with good names is lawful where the texts of its items are
 pub lawful_sect : {A : Type 0} (s : SectData) (test file : List ℕ) (items : List (Item A)) → test ≡ s.test → file ≡ s.file → map item_data items ≡ s.items → IsGoodTest test → IsGoodName file → HaveLawfulTexts items ↔ IsLawfulSect s
-lawful_sect s test file items same_test same_file same_items good_test good_file =
-    (λ lawful. record { test = subst IsGoodTest same_test good_test; file = subst IsGoodName same_file good_file; items = lawful_all items s.items same_items lawful },
-    λ lawful. lawful_each items (subst (AllByRecursion IsLawfulItem) (sym same_items) lawful.items))
+lawful_sect s test file items same_test same_file same_items good_test good_file = (
+  λ lawful. record { test = subst IsGoodTest same_test good_test; file = subst IsGoodName same_file good_file; items = lawful_all items s.items same_items lawful },
+  λ lawful. lawful_each items (subst (AllByRecursion IsLawfulItem) (sym same_items) lawful.items),
+)
 
 -- ---- submissions
 

@@ -11,14 +11,14 @@ pub fn good_test(name: &[u8]) -> bool
 }
 
 /// Whether a file or a function can have this name: a test can, and it isn't empty.
-pub fn good_name(name: &[u8]) -> bool
+pub(crate) fn good_name(name: &[u8]) -> bool
     ensures { IsTrue result ↔ IsGoodName name.now }
 {
     good_test(name) && !name.is_empty()
 }
 
 /// Whether a line can have this checksum: one or more bytes without comma, space, tab, carriage return and line feed.
-pub fn good_checksum(checksum: &[u8]) -> bool
+pub(crate) fn good_checksum(checksum: &[u8]) -> bool
     ensures { IsTrue result ↔ IsChecksum checksum.now }
 {
     !checksum.is_empty() && checksum.iter().all(|&byte| is_checksum_byte(byte))

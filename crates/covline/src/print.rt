@@ -168,7 +168,6 @@ fn append_total<A: Allocator>(
     ensures ok { OnOk result (text.new ≡ text.old ++ (key_of kind ++ decimal value ++ line_feed ∷ [])) }
     ensures err { OnErr result ((more : List ℕ) × (text.new ≡ text.old ++ more)) }
 {
-    let mut digits = Buffer::new();
     let key: &[u8] = match kind {
         TotalKind::FuncFound => b"FNF:",
         TotalKind::FuncHit => b"FNH:",
@@ -177,5 +176,7 @@ fn append_total<A: Allocator>(
         TotalKind::LineFound => b"LF:",
         TotalKind::LineHit => b"LH:",
     };
-    append_text(key, digits.format(value).as_bytes(), text)
+    text.append(key)?;
+    append_number(u128::from(value), text)?;
+    text.append(b"\n")
 }

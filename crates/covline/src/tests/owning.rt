@@ -56,7 +56,7 @@ fn is_in_order(items: &[Item]) -> bool {
                 branch: 7,
                 taken: Some(8),
             },
-        ] => checksum.get() == b"k" && name.get() == b"f",
+        ] => checksum.get() == b"k".as_slice() && name.get() == b"f".as_slice(),
         _ => false,
     }
 }

@@ -1,5 +1,12 @@
-use crate::{Bytes, TotalKind, TraceLine, put_line};
+use crate::{Bytes, Memory, TotalKind, TraceLine, put_line};
+use std::alloc::Global;
 use std::test::*;
+
+fn printed(alloc: Global, line: &TraceLine) -> Result<Bytes, Memory> {
+    let mut text = Bytes::new(alloc);
+    put_line(line, &mut text)?;
+    Ok(text)
+}
 
 #[test]
 fn texts_and_totals(rt: HostRuntime) -> Result<(), Fail> {
@@ -19,8 +26,7 @@ fn texts_and_totals(rt: HostRuntime) -> Result<(), Fail> {
         (TraceLine::End, "end_of_record\n"),
     ];
     for (line, wanted) in &cases {
-        let mut text = Bytes::new(rt.alloc());
-        put_line(line, &mut text)?;
+        let text = printed(rt.alloc(), line)?;
         assert_eq!(rt; text.get(), wanted.as_bytes(), "{wanted}");
     }
     Ok(())
@@ -33,8 +39,20 @@ fn total<'a>(kind: TotalKind, value: u64) -> TraceLine<'a> {
 #[test]
 fn functions_and_branches(rt: HostRuntime) -> Result<(), Fail> {
     let cases: [(TraceLine, &str); 6] = [
-        (TraceLine::FuncStart { line: 7, name: b"f" }, "FN:7,f\n"),
-        (TraceLine::FuncCount { count: 4, name: b"f" }, "FNDA:4,f\n"),
+        (
+            TraceLine::FuncStart {
+                line: 7,
+                name: b"f",
+            },
+            "FN:7,f\n",
+        ),
+        (
+            TraceLine::FuncCount {
+                count: 4,
+                name: b"f",
+            },
+            "FNDA:4,f\n",
+        ),
         (
             TraceLine::FuncCount {
                 count: u128::MAX,
@@ -43,12 +61,14 @@ fn functions_and_branches(rt: HostRuntime) -> Result<(), Fail> {
             "FNDA:340282366920938463463374607431768211455,g(int, int)\n",
         ),
         (branch(1, 0, None), "BRDA:1,0,0,-\n"),
-        (branch(1, u32::MAX.into(), Some(5)), "BRDA:1,4294967295,0,5\n"),
+        (
+            branch(1, u32::MAX.into(), Some(5)),
+            "BRDA:1,4294967295,0,5\n",
+        ),
         (branch(2, 0, Some(0)), "BRDA:2,0,0,0\n"),
     ];
     for (line, wanted) in &cases {
-        let mut text = Bytes::new(rt.alloc());
-        put_line(line, &mut text)?;
+        let text = printed(rt.alloc(), line)?;
         assert_eq!(rt; text.get(), wanted.as_bytes(), "{wanted}");
     }
     Ok(())
@@ -76,8 +96,7 @@ fn counts(rt: HostRuntime) -> Result<(), Fail> {
         ),
     ];
     for (line, wanted) in &cases {
-        let mut text = Bytes::new(rt.alloc());
-        put_line(line, &mut text)?;
+        let text = printed(rt.alloc(), line)?;
         assert_eq!(rt; text.get(), wanted.as_bytes(), "{wanted}");
     }
     Ok(())
