@@ -1,10 +1,11 @@
--- Which texts are checksums, as a test.
-use Rattle.std.proofs.Common.{◌≡◌, ◌≢◌, ◌↔◌, ◌⊎◌, inl, inr, ℕ, ◌<◌, Bool, true, false, ◌&&◌, not, eqb, List, [], ◌∷◌, length, All, refl, sym, ap, ◌∙◌, arith}
+-- Which texts are checksums, as a test, and how the checksum behind a count is read.
+use Rattle.std.proofs.Common.{◌≡◌, ◌≢◌, ◌↔◌, ◌⊎◌, inl, inr, ℕ, ◌<◌, Bool, true, false, ◌&&◌, not, eqb, List, [], ◌∷◌, length, All, Option, Some, None, refl, sym, ap, ◌∙◌, arith}
 use Rattle.std.specs.Prelude.{IsTrue}
-use Rattle.std.proofs.lemmas.Bool.{and_from, and_parts, ne_eqb, eq-eqb, cases_Bool, false≢true}
+use Rattle.std.proofs.lemmas.Bool.{and_from, and_parts, ne_eqb, eq-eqb, cases_eq, cases_Bool, false≢true}
 use Rattle.std.proofs.lemmas.List.Elements.{All-cons, All-nil, All-head, All-tail}
 use Rattle.covline.specs.Lawful.{IsChecksum, IsChecksumByte}
-use Rattle.covline.specs.Reading.{is_checksum_byte, all_checksum_bytes, is_checksum}
+use Rattle.covline.specs.Spells.{comma}
+use Rattle.covline.specs.Reading.{is_checksum_byte, all_checksum_bytes, is_checksum, checksum_of}
 
 differ : (a b : ℕ) → not (eqb a b) ≡ true → a ≢ b
 differ a b e same = false≢true (sym (ap not (eq-eqb a b same)) ∙ e)
@@ -47,4 +48,29 @@ checksum_test text false told =
     elim (cases_Bool (is_checksum text)) [
       | inl holds ↦ absurd (false≢true (told.1 (checksum_from text holds)))
       | inr fails ↦ fails
+    ]
+
+-- ---- behind a count
+
+-- nothing follows the count, or a comma and a checksum
+abbrev pub IsBehindCount : List ℕ → Option (List ℕ) → Type 0
+IsBehindCount rest None = rest ≡ []
+IsBehindCount rest (Some checksum) = (rest ≡ comma ∷ checksum) × IsChecksum checksum
+
+pub checksum_read : (rest : List ℕ) (checksum : Option (List ℕ)) → IsBehindCount rest checksum → checksum_of rest ≡ Some checksum
+checksum_read rest None behind = ap checksum_of behind
+checksum_read rest (Some checksum) behind =
+    let test : is_checksum checksum ≡ true = checksum_is checksum behind.1 in
+    ap checksum_of behind.0 ∙ rw test refl
+
+pub checksum_or_none : (rest : List ℕ) → ((checksum : Option (List ℕ)) × IsBehindCount rest checksum) ⊎ (checksum_of rest ≡ None)
+checksum_or_none [] = inl (None, refl)
+checksum_or_none (b ∷ bs) =
+    elim (cases_eq b comma) [
+      | inl same ↦ let behind : eqb b comma ≡ true = eq-eqb b comma same in
+          elim (cases_Bool (is_checksum bs)) [
+            | inl holds ↦ inl (Some bs, (ap (λ (c : ℕ). c ∷ bs) same, checksum_from bs holds))
+            | inr fails ↦ inr (rw (behind, fails) refl)
+          ]
+      | inr differs ↦ let behind : eqb b comma ≡ false = ne_eqb b comma differs in inr (rw behind refl)
     ]
