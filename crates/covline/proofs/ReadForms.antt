@@ -77,13 +77,13 @@ resized read there back (inr large) = inr (λ small. large.0 (back small), large
 branch_sized : (number block branch : ℕ) (taken : Option ℕ) → IsSized (HasSmallNumbers (Branch number block branch taken)) (sized (Branch number block branch taken))
 branch_sized number block branch None =
     resized (sized (Branch number block branch None)) (λ small. (small.0, small.1.0, small.1.1)) (λ small. (small.0, (small.1, small.2)))
-      (more_sized number (number_reads block branch None) ((block < 2 ^ 64) × (branch < 2 ^ 64))
-        (more_sized block (block_reads branch None number) (branch < 2 ^ 64) (last_sized branch (branch_reads None number block))))
+    (more_sized number (number_reads block branch None) ((block < 2 ^ 64) × (branch < 2 ^ 64))
+    (more_sized block (block_reads branch None number) (branch < 2 ^ 64) (last_sized branch (branch_reads None number block))))
 branch_sized number block branch (Some taken) =
     resized (sized (Branch number block branch (Some taken))) (λ small. (small.0, small.1.0, small.1.1.0, small.1.1.1)) (λ small. (small.0, (small.1, (small.2, small.3))))
-      (more_sized number (number_reads block branch (Some taken)) ((block < 2 ^ 64) × ((branch < 2 ^ 64) × (taken < 2 ^ 64)))
-        (more_sized block (block_reads branch (Some taken) number) ((branch < 2 ^ 64) × (taken < 2 ^ 64))
-          (more_sized branch (branch_reads (Some taken) number block) (taken < 2 ^ 64) (last_sized taken (λ t. Ok (Branch number block branch (Some t)))))))
+    (more_sized number (number_reads block branch (Some taken)) ((block < 2 ^ 64) × ((branch < 2 ^ 64) × (taken < 2 ^ 64)))
+    (more_sized block (block_reads branch (Some taken) number) ((branch < 2 ^ 64) × (taken < 2 ^ 64))
+    (more_sized branch (branch_reads (Some taken) number block) (taken < 2 ^ 64) (last_sized taken (λ t. Ok (Branch number block branch (Some t)))))))
 
 -- the numbers are small, or the record is read as too large
 pub small_or_large : (says : LineData) → IsSized (HasSmallNumbers says) (sized says)
@@ -115,7 +115,7 @@ branch_read digits blocks branches text number block branch taken numbers block_
       field_is digits (blocks ++ comma ∷ (branches ++ comma ∷ text)) number numbers,
       field_is blocks (branches ++ comma ∷ text) block block_is,
       field_is branches text branch branch_is,
-      taken_is text taken taken_so
+      taken_is text taken taken_so,
     ) refl
 
 -- behind the count of a line no digit follows
@@ -129,7 +129,7 @@ line_read digits text rest number count checksum numeral counts behind =
     rw (
       field_is digits (text ++ rest) number numeral,
       count_is text rest count counts (behind_stops rest checksum behind),
-      checksum_read rest checksum behind
+      checksum_read rest checksum behind,
     ) refl
 
 -- ---- fields have their key's form, or are refused
@@ -173,15 +173,17 @@ calls_formed fields =
 branch_parts : (fields : List ℕ) (line : BeginsWithField fields) (block : BeginsWithField line.rest) (branch : BeginsWithField block.rest) → codes "BRDA:" ++ fields ≡ codes "BRDA:" ++ line.digits ++ comma ∷ (block.digits ++ comma ∷ (branch.digits ++ comma ∷ branch.rest))
 branch_parts fields line block branch =
     ap (λ (t : List ℕ). codes "BRDA:" ++ t) (
-      line.parts
-      ∙ ap (λ (t : List ℕ). line.digits ++ comma ∷ t) (block.parts ∙ ap (λ (t : List ℕ). block.digits ++ comma ∷ t) branch.parts)
+    line.parts
+    ∙ ap (λ (t : List ℕ). line.digits ++ comma ∷ t) (block.parts ∙ ap (λ (t : List ℕ). block.digits ++ comma ∷ t) branch.parts)
     )
 
 branch_from : (fields : List ℕ) (line : BeginsWithField fields) (block : BeginsWithField line.rest) (branch : BeginsWithField block.rest) → IsFormed (codes "BRDA:") branch_fields fields
 branch_from fields line block branch =
     elim (taken_or_none branch.rest) [
-      | inl taken ↦ inl (Branch line.number block.number branch.number taken.0,
-          (line.digits, block.digits, branch.digits, branch.rest, branch_parts fields line block branch, line.numeral, block.numeral, branch.numeral, taken.1))
+      | inl taken ↦ inl (
+        Branch line.number block.number branch.number taken.0,
+        (line.digits, block.digits, branch.digits, branch.rest, branch_parts fields line block branch, line.numeral, block.numeral, branch.numeral, taken.1),
+      )
       | inr none ↦ inr (rw (field_read fields line, field_read line.rest block, field_read block.rest branch, none) refl)
     ]
 
@@ -199,14 +201,21 @@ branch_formed fields =
     ]
 
 line_form : (fields : List ℕ) (line : BeginsWithField fields) (front : BeginsWithCount line.rest) (checksum : Option (List ℕ)) → IsBehindCount front.rest checksum → HasForm (codes "DA:" ++ fields) (Line line.number front.count checksum)
-line_form fields line front None behind =
-    (line.digits, front.counted,
-     ap (λ (t : List ℕ). codes "DA:" ++ t) (line.parts ∙ ap (λ (t : List ℕ). line.digits ++ comma ∷ t) (front.parts ∙ ap (λ (t : List ℕ). front.counted ++ t) behind ∙ append-nil front.counted)),
-     line.numeral, front.counts)
-line_form fields line front (Some checksum) behind =
-    (line.digits, front.counted,
-     ap (λ (t : List ℕ). codes "DA:" ++ t) (line.parts ∙ ap (λ (t : List ℕ). line.digits ++ comma ∷ t) (front.parts ∙ ap (λ (t : List ℕ). front.counted ++ t) behind.0)),
-     line.numeral, front.counts, behind.1)
+line_form fields line front None behind = (
+  line.digits,
+  front.counted,
+  ap (λ (t : List ℕ). codes "DA:" ++ t) (line.parts ∙ ap (λ (t : List ℕ). line.digits ++ comma ∷ t) (front.parts ∙ ap (λ (t : List ℕ). front.counted ++ t) behind ∙ append-nil front.counted)),
+  line.numeral,
+  front.counts,
+)
+line_form fields line front (Some checksum) behind = (
+  line.digits,
+  front.counted,
+  ap (λ (t : List ℕ). codes "DA:" ++ t) (line.parts ∙ ap (λ (t : List ℕ). line.digits ++ comma ∷ t) (front.parts ∙ ap (λ (t : List ℕ). front.counted ++ t) behind.0)),
+  line.numeral,
+  front.counts,
+  behind.1,
+)
 
 line_from : (fields : List ℕ) (line : BeginsWithField fields) (front : BeginsWithCount line.rest) → IsFormed (codes "DA:") line_fields fields
 line_from fields line front =

@@ -150,7 +150,7 @@ branch_of line block branch taken = with_fit line (λ l. with_fit block (λ k. w
 abbrev pub branch_fields : Fields
 branch_fields fields =
     with_part (field_at fields) (λ line. with_part (field_at line.1) (λ block. with_part (field_at block.1) (λ branch.
-      with_part (taken_of branch.1) (λ taken. branch_of line.0 block.0 branch.0 taken))))
+    with_part (taken_of branch.1) (λ taken. branch_of line.0 block.0 branch.0 taken))))
 
 -- a line's number, its count and its checksum
 abbrev pub count_of : Number → Number → Option (List ℕ) → Result LineData LineFault

@@ -127,9 +127,7 @@ fn is_checksum(text: &[u8]) -> bool
     ensures { IsTrue result ↔ IsChecksum text.now }
 {
     !text.is_empty()
-        && text
-            .iter()
-            .all(|byte| !matches!(*byte, b',' | b' ' | b'\t' | b'\r' | b'\n'))
+        && text.iter().all(|byte| !matches!(*byte, b',' | b' ' | b'\t' | b'\r' | b'\n'))
 }
 
 /// The text, where it is a checksum.
