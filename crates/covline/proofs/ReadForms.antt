@@ -1,15 +1,13 @@
 -- The fields of each key: what has the key's form is read as what it says, its numbers' size considered, and what
 -- has not is refused.
-use Rattle.std.proofs.Common.{◌≡◌, ℕ, ◌^◌, ◌<◌, ◌≤◌, ◌⊎◌, inl, inr, List, [], ◌∷◌, ◌++◌, length, Option, Some, None, option_map, Result, Ok, Err, refl, ap, ◌∙◌, arith}
+use Rattle.std.proofs.Common.{◌≡◌, ℕ, ◌^◌, ◌<◌, ◌⊎◌, inl, inr, List, [], ◌∷◌, ◌++◌, length, Option, Some, None, option_map, Result, Ok, Err, refl, ap, ◌∙◌, arith}
 use Rattle.std.specs.Prelude.{codes}
 use Rattle.std.proofs.lemmas.Bool.{cases_lt}
 use Rattle.std.proofs.lemmas.List.{append-nil}
-use Rattle.covline.specs.declared.reader.Number.{Number}
 use Rattle.covline.specs.declared.trace_line.LineFault.{LineFault}
 use Rattle.covline.specs.declared.trace_line.LineFault.TheVariants.{BadLine, NumberTooLarge}
 use Rattle.covline.specs.Spells.{LineData, Test, Path, FuncStart, FuncCount, Branch, Line, Total, End, Skip, comma, IsNumeral, IsCount, IsTaken, HasForm, HasSmallNumbers}
-use Rattle.covline.specs.Lawful.{IsChecksum}
-use Rattle.covline.specs.Reading.{Fields, capped, with_part, with_fit, with_name, field_at, field_of, count_at, checksum_of, start_of, start_fields, calls_of, calls_fields, with_taken, branch_of, branch_fields, count_of, line_fields, total_of}
+use Rattle.covline.specs.Reading.{Fields, capped, with_fit, with_name, start_of, start_fields, calls_of, calls_fields, with_taken, branch_of, branch_fields, count_of, line_fields, total_of}
 use Rattle.covline.proofs.ReadNumbers.{Stops, capped_small, capped_large, field_is, BeginsWithField, field_or_none, field_read, count_is, BeginsWithCount, count_or_none, count_read, comma_or_none, taken_is, taken_or_none}
 use Rattle.covline.proofs.Checksums.{IsBehindCount, checksum_read, checksum_or_none}
 
