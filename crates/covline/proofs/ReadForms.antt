@@ -41,6 +41,7 @@ sized_small Skip small = refl
 abbrev IsSized : Type 0 → Result LineData LineFault → Type 0
 IsSized small read = small ⊎ ((¬ small) × (read ≡ Err NumberTooLarge))
 
+-- the last number of a record, and one before others
 last_sized : (n : ℕ) (says : ℕ → Result LineData LineFault) → IsSized (n < 2 ^ 64) (with_fit (capped n) says)
 last_sized n says =
     elim (cases_lt n (2 ^ 64)) [
@@ -58,30 +59,32 @@ more_sized n says small others =
       | inr le ↦ inr (λ all. omega (arith, all.0), rw (capped_large n le) refl)
     ]
 
--- behind the line and the block of a branch
-abbrev branch_reads : Option ℕ → ℕ → ℕ → ℕ → Result LineData LineFault
-branch_reads taken number block b = with_taken number block b (option_map capped taken)
+-- what a branch is read as behind its small numbers
+abbrev behind_branch : Option ℕ → ℕ → ℕ → ℕ → Result LineData LineFault
+behind_branch taken number block b = with_taken number block b (option_map capped taken)
 
-abbrev block_reads : ℕ → Option ℕ → ℕ → ℕ → Result LineData LineFault
-block_reads branch taken number k = with_fit (capped branch) (branch_reads taken number k)
+abbrev behind_block : ℕ → Option ℕ → ℕ → ℕ → Result LineData LineFault
+behind_block branch taken number k = with_fit (capped branch) (behind_branch taken number k)
 
-abbrev number_reads : ℕ → ℕ → Option ℕ → ℕ → Result LineData LineFault
-number_reads block branch taken l = with_fit (capped block) (block_reads branch taken l)
+abbrev behind_number : ℕ → ℕ → Option ℕ → ℕ → Result LineData LineFault
+behind_number block branch taken l = with_fit (capped block) (behind_block branch taken l)
 
+-- the same for a fact that says the same
 resized : {P Q : Type 0} (read : Result LineData LineFault) → (P → Q) → (Q → P) → IsSized P read → IsSized Q read
 resized read there back (inl small) = inl (there small)
 resized read there back (inr large) = inr (λ small. large.0 (back small), large.1)
 
+-- a branch's numbers one by one
 branch_sized : (number block branch : ℕ) (taken : Option ℕ) → IsSized (HasSmallNumbers (Branch number block branch taken)) (sized (Branch number block branch taken))
 branch_sized number block branch None =
     resized (sized (Branch number block branch None)) (λ small. (small.0, small.1.0, small.1.1)) (λ small. (small.0, (small.1, small.2)))
-    (more_sized number (number_reads block branch None) ((block < 2 ^ 64) × (branch < 2 ^ 64))
-    (more_sized block (block_reads branch None number) (branch < 2 ^ 64) (last_sized branch (branch_reads None number block))))
+    (more_sized number (behind_number block branch None) ((block < 2 ^ 64) × (branch < 2 ^ 64))
+    (more_sized block (behind_block branch None number) (branch < 2 ^ 64) (last_sized branch (behind_branch None number block))))
 branch_sized number block branch (Some taken) =
     resized (sized (Branch number block branch (Some taken))) (λ small. (small.0, small.1.0, small.1.1.0, small.1.1.1)) (λ small. (small.0, (small.1, (small.2, small.3))))
-    (more_sized number (number_reads block branch (Some taken)) ((block < 2 ^ 64) × ((branch < 2 ^ 64) × (taken < 2 ^ 64)))
-    (more_sized block (block_reads branch (Some taken) number) ((branch < 2 ^ 64) × (taken < 2 ^ 64))
-    (more_sized branch (branch_reads (Some taken) number block) (taken < 2 ^ 64) (last_sized taken (λ t. Ok (Branch number block branch (Some t)))))))
+    (more_sized number (behind_number block branch (Some taken)) ((block < 2 ^ 64) × ((branch < 2 ^ 64) × (taken < 2 ^ 64)))
+    (more_sized block (behind_block branch (Some taken) number) ((branch < 2 ^ 64) × (taken < 2 ^ 64))
+    (more_sized branch (behind_branch (Some taken) number block) (taken < 2 ^ 64) (last_sized taken (λ t. Ok (Branch number block branch (Some t)))))))
 
 -- the numbers are small, or the record is read as too large
 pub small_or_large : (says : LineData) → IsSized (HasSmallNumbers says) (sized says)
