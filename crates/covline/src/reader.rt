@@ -1,12 +1,12 @@
 //! Reading one line of a tracefile: its key, then the key's fields from left to right, each key by a function of
 //! its own. Nothing is copied, and each byte is looked at once behind the key.
 
-ghost use Rattle.std.specs.Prelude.{◌≡◌, ◌≤◌, ◌++◌, ℕ, Some, option_map, Err, ◌↔◌, IsTrue, MatchOption, MatchResult, IfOk, IfErr};
+ghost use Rattle.std.specs.Prelude.{◌≡◌, ◌≤◌, ◌++◌, ℕ, Some, option_map, Err, MatchOption, MatchResult, IfOk, IfErr};
 ghost use Rattle.covline.specs.declared.trace_line.LineFault.{LineFault};
 ghost use Rattle.covline.specs.Spells.{LineData, line_data, Spells, HasFault, Begins};
-ghost use Rattle.covline.specs.Lawful.{IsChecksum};
 ghost use Rattle.covline.specs.Reading.{Gives, with_digit, digits_from, number_at, number_of, count_at, before_comma, field_at, taken_of, only_checksum, checksum_of, fit, start_fields, calls_fields, branch_of, branch_fields, line_fields, total_fields, path_fields, Lacks, line_keys, function_keys, branch_keys, read_of};
 
+use crate::names::good_checksum;
 use crate::trace_line::{LineFault, TotalKind, TraceLine};
 
 /// What digits say.
@@ -122,19 +122,11 @@ fn read_taken(text: &[u8]) -> Option<Option<Number>>
     }
 }
 
-/// Whether the text is a checksum: one or more bytes without comma, space, tab, carriage return and line feed.
-fn is_checksum(text: &[u8]) -> bool
-    ensures { IsTrue result ↔ IsChecksum text.now }
-{
-    !text.is_empty()
-        && text.iter().all(|byte| !matches!(*byte, b',' | b' ' | b'\t' | b'\r' | b'\n'))
-}
-
 /// The text, where it is a checksum.
 fn whole_checksum(text: &[u8]) -> Option<&[u8]>
     ensures { option_map (λ c. c.now) result ≡ only_checksum text.now }
 {
-    is_checksum(text).then_some(text)
+    good_checksum(text).then_some(text)
 }
 
 /// The checksum behind a line's count, where there is one: nothing follows the count, or a comma and a checksum.

@@ -5,5 +5,5 @@ use Rattle.covline.proofs.reader.whole_checksum.Goals as goal
 
 pub returns : goal.returns
 returns c =
-    let test : is_checksum c.args.text.now ≡ c.is_checksum.result = checksum_test c.args.text.now c.is_checksum.result c.is_checksum.ensures in
+    let test : is_checksum c.args.text.now ≡ c.good_checksum.result = checksum_test c.args.text.now c.good_checksum.result c.good_checksum.ensures in
     rw test (search rules)
