@@ -1,5 +1,5 @@
 -- A printed record reads back: its text is one line, and that line spells the record.
-use Rattle.std.proofs.Common.{◌≡◌, ℕ, ◌+◌, ◌-◌, ◌*◌, ◌/◌, ◌%◌, ◌^◌, ◌<◌, ◌≤◌, List, [], ◌∷◌, ◌++◌, refl, sym, ap, ◌∙◌, lit<, arith, inl}
+use Rattle.std.proofs.Common.{◌≡◌, ℕ, ◌+◌, ◌-◌, ◌*◌, ◌/◌, ◌%◌, ◌^◌, ◌<◌, ◌≤◌, List, [], ◌∷◌, ◌++◌, Some, None, refl, sym, ap, ◌∙◌, lit<, arith, inl}
 use Rattle.std.specs.Prelude.{All, codes, decimal}
 use Rattle.std.proofs.lemmas.Fmt.{decimal_by_steps}
 use Rattle.std.proofs.lemmas.List.{append-nil, length_push}
@@ -8,8 +8,8 @@ use Rattle.std.proofs.lemmas.List.Sums.{fold_push}
 use Rattle.covline.specs.Lines.{line_feed, lines_of}
 use Rattle.covline.specs.Lawful.{IsGoodTest}
 use Rattle.covline.specs.declared.trace_line.TotalKind.{TotalKind}
-use Rattle.covline.specs.declared.trace_line.TotalKind.TheVariants.{LineFound, LineHit}
-use Rattle.covline.specs.Spells.{LineData, Test, Path, Line, Total, End, Skip, comma, key_of, IsDigit, IsNumeral, Spells}
+use Rattle.covline.specs.declared.trace_line.TotalKind.TheVariants.{FuncFound, FuncHit, BranchFound, BranchHit, LineFound, LineHit}
+use Rattle.covline.specs.Spells.{LineData, Test, Path, FuncStart, FuncCount, Branch, Line, Total, End, Skip, comma, key_of, IsDigit, IsNumeral, Spells}
 use Rattle.covline.specs.Printed.{line_text, printed, IsReadable}
 use Rattle.covline.proofs.GoodTexts.{IsPlain, IsGoodTest-append, IsGoodTest-plain}
 use Rattle.covline.proofs.Cut.{lines_at, strip-none}
@@ -46,6 +46,10 @@ plain_key : (a b : ℕ) → IsPlain a → IsPlain b → All IsPlain (a ∷ b ∷
 plain_key a b first second = All-cons IsPlain a (b ∷ 58 ∷ []) first (All-cons IsPlain b (58 ∷ []) second (All-cons IsPlain 58 [] (lit< tt) (All-nil IsPlain)))
 
 plain_total : (kind : TotalKind) → All IsPlain (key_of kind)
+plain_total FuncFound = All-from_recursion IsPlain (codes "FNF:") (lit< tt, (lit< tt, (lit< tt, (lit< tt, tt))))
+plain_total FuncHit = All-from_recursion IsPlain (codes "FNH:") (lit< tt, (lit< tt, (lit< tt, (lit< tt, tt))))
+plain_total BranchFound = All-from_recursion IsPlain (codes "BRF:") (lit< tt, (lit< tt, (lit< tt, (lit< tt, tt))))
+plain_total BranchHit = All-from_recursion IsPlain (codes "BRH:") (lit< tt, (lit< tt, (lit< tt, (lit< tt, tt))))
 plain_total LineFound = plain_key 76 70 (lit< tt) (lit< tt)
 plain_total LineHit = plain_key 76 72 (lit< tt) (lit< tt)
 
@@ -59,9 +63,12 @@ one_line text good = lines_at text [] good.one_line ∙ ap (λ (t : List ℕ). t
 
 good_text : (says : LineData) → IsReadable says → IsGoodTest (line_text says)
 good_text (Test name) reads = IsGoodTest-append (codes "TN:") name (IsGoodTest-plain (codes "TN:") (plain_key 84 78 (lit< tt) (lit< tt))) reads.texts
-good_text (Path path) reads = IsGoodTest-append (codes "SF:") path (IsGoodTest-plain (codes "SF:") (plain_key 83 70 (lit< tt) (lit< tt))) reads.texts.0
-good_text (Line number count) reads =
-    IsGoodTest-plain (line_text (Line number count)) (All-append IsPlain (codes "DA:" ++ decimal number) (comma ∷ decimal count) (All-append IsPlain (codes "DA:") (decimal number) (plain_key 68 65 (lit< tt) (lit< tt)) (plain_decimal number reads.small.0)) (All-cons IsPlain comma (decimal count) (lit< tt) (plain_decimal count reads.small.1)))
+good_text (Path path) reads = IsGoodTest-append (codes "SF:") path (IsGoodTest-plain (codes "SF:") (plain_key 83 70 (lit< tt) (lit< tt))) reads.texts.fits
+good_text (FuncStart number name) reads = absurd reads.texts
+good_text (FuncCount count name) reads = absurd reads.texts
+good_text (Branch number block branch taken) reads = absurd reads.texts
+good_text (Line number count (Some checksum)) reads = absurd reads.texts
+good_text (Line number count None) reads = absurd reads.texts
 good_text (Total kind value) reads =
     IsGoodTest-plain (line_text (Total kind value)) (All-append IsPlain (key_of kind) (decimal value) (plain_total kind) (plain_decimal value reads.small))
 good_text End reads = IsGoodTest-plain (codes "end_of_record") plain_end
@@ -70,18 +77,23 @@ good_text Skip reads = absurd reads.texts
 lines_printed : (says : LineData) → IsReadable says → lines_of (printed says) ≡ line_text says ∷ []
 lines_printed (Test name) reads = one_line (line_text (Test name)) (good_text (Test name) reads)
 lines_printed (Path path) reads = one_line (line_text (Path path)) (good_text (Path path) reads)
-lines_printed (Line number count) reads = one_line (line_text (Line number count)) (good_text (Line number count) reads)
+lines_printed (FuncStart number name) reads = absurd reads.texts
+lines_printed (FuncCount count name) reads = absurd reads.texts
+lines_printed (Branch number block branch taken) reads = absurd reads.texts
+lines_printed (Line number count (Some checksum)) reads = absurd reads.texts
+lines_printed (Line number count None) reads = absurd reads.texts
 lines_printed (Total kind value) reads = one_line (line_text (Total kind value)) (good_text (Total kind value) reads)
 lines_printed End reads = one_line (line_text End) (good_text End reads)
 lines_printed Skip reads = absurd reads.texts
 
 spells_printed : (says : LineData) → IsReadable says → Spells (line_text says) says
 spells_printed (Test name) reads = record { form = refl; small = tt }
-spells_printed (Path path) reads = record { form = (refl, reads.texts.1); small = tt }
-spells_printed (Line number count) reads = record {
-  form = (decimal number, decimal count, refl, IsNumeral-decimal number reads.small.0, inl (IsNumeral-decimal count reads.small.1));
-  small = reads.small;
-}
+spells_printed (Path path) reads = record { form = (refl, reads.texts.some); small = tt }
+spells_printed (FuncStart number name) reads = absurd reads.texts
+spells_printed (FuncCount count name) reads = absurd reads.texts
+spells_printed (Branch number block branch taken) reads = absurd reads.texts
+spells_printed (Line number count (Some checksum)) reads = absurd reads.texts
+spells_printed (Line number count None) reads = absurd reads.texts
 spells_printed (Total kind value) reads = record {
   form = (decimal value, refl, IsNumeral-decimal value reads.small);
   small = reads.small;

@@ -1,16 +1,16 @@
 -- The laws of reading a line: a line of some form is read as what the form says, its numbers' size considered, and a
 -- line without a form is refused as the definitions ask. So each line has one meaning or one fault.
-use Rattle.std.proofs.Common.{◌≡◌, ◌≢◌, ℕ, ◌<◌, ◌⊎◌, inl, inr, Bool, true, false, List, [], ◌∷◌, ◌++◌, length, Option, None, Result, Ok, Err, refl, sym, ap, subst, ◌∙◌, arith}
+use Rattle.std.proofs.Common.{◌≡◌, ◌≢◌, ℕ, ◌<◌, ◌⊎◌, inl, inr, Bool, true, false, List, [], ◌∷◌, ◌++◌, length, Option, Some, None, Result, Ok, Err, refl, sym, ap, subst, ◌∙◌, arith}
 use Rattle.std.proofs.lemmas.Option.{none-some}
 use Rattle.std.specs.Prelude.{codes, map, MatchResult, IfOk, IfErr}
 use Rattle.std.specs.List.{AllByRecursion}
 use Rattle.std.proofs.lemmas.Bool.{false≢true}
 use Rattle.covline.specs.declared.trace_line.TraceLine.{TraceLine}
 use Rattle.covline.specs.declared.trace_line.TotalKind.{TotalKind}
-use Rattle.covline.specs.declared.trace_line.TotalKind.TheVariants.{LineFound, LineHit}
+use Rattle.covline.specs.declared.trace_line.TotalKind.TheVariants.{FuncFound, FuncHit, BranchFound, BranchHit, LineFound, LineHit}
 use Rattle.covline.specs.declared.trace_line.LineFault.{LineFault}
 use Rattle.covline.specs.declared.trace_line.LineFault.TheVariants.{BadLine, NumberTooLarge, EmptyPath}
-use Rattle.covline.specs.Spells.{LineData, Test, Path, Line, Total, End, Skip, line_data, Begins, BeginsWithOneOf, HasKey, key_of, IsNumeral, HasForm, HasSmallNumbers, Spells, HasFault}
+use Rattle.covline.specs.Spells.{LineData, Test, Path, FuncStart, FuncCount, Branch, Line, Total, End, Skip, line_data, Begins, BeginsWithOneOf, HasKey, key_of, IsNumeral, HasForm, HasSmallNumbers, Spells, HasFault}
 use Rattle.covline.specs.Reading.{Gives, Fields, behind_key, keyed, read_by, forms, read_of, line_fields, total_with, total_fields, path_fields}
 use Rattle.covline.proofs.ReadKeys.{begins_or_not, behind_key-none, behind_key-same}
 use Rattle.covline.proofs.ReadNumbers.{whole_is, whole_or_none}
@@ -33,6 +33,10 @@ path_read (b ∷ bs) some = refl
 
 total_read : (kind : TotalKind) (digits : List ℕ) (value : ℕ) → IsNumeral digits value → read_of (key_of kind ++ digits) ≡ sized (Total kind value)
 unfolding read_of
+total_read FuncFound digits value numeral = ap (total_with FuncFound) (whole_is digits value numeral)
+total_read FuncHit digits value numeral = ap (total_with FuncHit) (whole_is digits value numeral)
+total_read BranchFound digits value numeral = ap (total_with BranchFound) (whole_is digits value numeral)
+total_read BranchHit digits value numeral = ap (total_with BranchHit) (whole_is digits value numeral)
 total_read LineFound digits value numeral = ap (total_with LineFound) (whole_is digits value numeral)
 total_read LineHit digits value numeral = ap (total_with LineHit) (whole_is digits value numeral)
 
@@ -40,7 +44,11 @@ pub form_read : (line : List ℕ) (says : LineData) → HasForm line says → re
 unfolding read_of
 form_read line (Test name) form = ap read_of form
 form_read line (Path path) form = ap read_of form.0 ∙ path_read path form.1
-form_read line (Line number count) form = ap read_of form.2 ∙ line_fields-is form.0 form.1 number count form.3 form.4
+form_read line (FuncStart number name) form = absurd form
+form_read line (FuncCount count name) form = absurd form
+form_read line (Branch number block branch taken) form = absurd form
+form_read line (Line number count (Some checksum)) form = absurd form
+form_read line (Line number count None) form = ap read_of form.2 ∙ line_fields-is form.0 form.1 number count form.3 form.4
 form_read line (Total kind value) form = ap read_of form.1 ∙ total_read kind form.0 value form.2
 form_read line End form = ap read_of form.1
 form_read line Skip form = skip_read forms line form.0 form.1
@@ -103,7 +111,7 @@ path_judged (b ∷ bs) = inl (Path (b ∷ bs), (refl, omega arith))
 line_judged : (rest : List ℕ) → IsJudged (codes "DA:" ++ rest) (line_fields rest)
 line_judged rest =
     elim (line_fields-or_bad rest) [
-      | inl found ↦ inl (Line found.number found.count, (found.digits, found.text, ap (λ (t : List ℕ). codes "DA:" ++ t) found.parts, found.numeral, found.counts))
+      | inl found ↦ inl (Line found.number found.count None, (found.digits, found.text, ap (λ (t : List ℕ). codes "DA:" ++ t) found.parts, found.numeral, found.counts))
       | inr bad ↦ inr (inl (bad, not_path (codes "DA:" ++ rest) refl))
     ]
 
@@ -124,15 +132,15 @@ forms_judge = (
       (
         λ rest. inr (inl (refl, not_path (codes "FNDA:" ++ rest) refl)),
         (
-          λ rest. inr (inl (refl, not_path (codes "FNF:" ++ rest) refl)),
+          λ rest. total_judged FuncFound rest refl,
           (
-            λ rest. inr (inl (refl, not_path (codes "FNH:" ++ rest) refl)),
+            λ rest. total_judged FuncHit rest refl,
             (
               λ rest. inr (inl (refl, not_path (codes "BRDA:" ++ rest) refl)),
               (
-                λ rest. inr (inl (refl, not_path (codes "BRF:" ++ rest) refl)),
+                λ rest. total_judged BranchFound rest refl,
                 (
-                  λ rest. inr (inl (refl, not_path (codes "BRH:" ++ rest) refl)),
+                  λ rest. total_judged BranchHit rest refl,
                   (
                     line_judged,
                     (
@@ -177,7 +185,7 @@ meaning_at line meaning same means = let P : Result LineData LineFault → Type 
 
 form_means : (line : List ℕ) (says : LineData) → HasForm line says → HasMeaning line (read_of line)
 form_means line says form =
-    elim (small_or_large says) [
+    elim (small_or_large line says form) [
       | inl small ↦ meaning_at line (Ok says) (form_read line says form ∙ sized_small says small) (record { form = form; small = small })
       | inr large ↦ meaning_at line (Err NumberTooLarge) (form_read line says form ∙ large.1) (says, form, large.0)
     ]
@@ -189,15 +197,15 @@ is_bad (Err BadLine) = true
 is_bad (Err NumberTooLarge) = false
 is_bad (Err EmptyPath) = false
 
-sized_isnt_bad : (says : LineData) → sized says ≢ Err BadLine
-sized_isnt_bad says e =
-    elim (small_or_large says) [
+sized_isnt_bad : (line : List ℕ) (says : LineData) → HasForm line says → sized says ≢ Err BadLine
+sized_isnt_bad line says form e =
+    elim (small_or_large line says form) [
       | inl small ↦ false≢true (ap is_bad (sym (sized_small says small) ∙ e))
       | inr large ↦ false≢true (ap is_bad (sym large.1 ∙ e))
     ]
 
 bad_has_no_form : (line : List ℕ) (says : LineData) → read_of line ≡ Err BadLine → ¬ HasForm line says
-bad_has_no_form line says bad form = sized_isnt_bad says (sym (form_read line says form) ∙ bad)
+bad_has_no_form line says bad form = sized_isnt_bad line says form (sym (form_read line says form) ∙ bad)
 
 -- what is read is what the line says, or its fault
 pub meaning_of : (line : List ℕ) → HasMeaning line (read_of line)
@@ -214,7 +222,7 @@ spelled_read line says spelled = form_read line says spelled.form ∙ sized_smal
 
 large_read : (line : List ℕ) (says : LineData) → HasForm line says → ¬ HasSmallNumbers says → read_of line ≡ Err NumberTooLarge
 large_read line says form large =
-    elim (small_or_large says) [
+    elim (small_or_large line says form) [
       | inl small ↦ absurd (large small)
       | inr too ↦ form_read line says form ∙ too.1
     ]

@@ -5,7 +5,7 @@ use Rattle.covline.specs.declared.reader.Number.{Number}
 use Rattle.covline.specs.declared.reader.Number.TheVariants.{Value, TooLarge}
 use Rattle.covline.specs.declared.trace_line.TraceLine.{TraceLine}
 use Rattle.covline.specs.declared.trace_line.TotalKind.{TotalKind}
-use Rattle.covline.specs.declared.trace_line.TotalKind.TheVariants.{LineFound, LineHit}
+use Rattle.covline.specs.declared.trace_line.TotalKind.TheVariants.{FuncFound, FuncHit, BranchFound, BranchHit, LineFound, LineHit}
 use Rattle.covline.specs.declared.trace_line.LineFault.{LineFault}
 use Rattle.covline.specs.declared.trace_line.LineFault.TheVariants.{BadLine, NumberTooLarge, EmptyPath}
 use Rattle.covline.specs.Spells.{LineData, Test, Path, FuncStart, FuncCount, Branch, Line, Total, End, Skip, line_data, comma, minus, BeginsWithOneOf}
@@ -123,8 +123,8 @@ keyed (Some rest) fields otherwise = fields rest
 -- the keys with the readers of their fields
 abbrev pub forms : List (List ℕ × Fields)
 forms =
-    (codes "TN:", test_fields) ∷ (codes "SF:", path_fields) ∷ (codes "FN:", no_fields) ∷ (codes "FNDA:", no_fields) ∷ (codes "FNF:", no_fields)
-    ∷ (codes "FNH:", no_fields) ∷ (codes "BRDA:", no_fields) ∷ (codes "BRF:", no_fields) ∷ (codes "BRH:", no_fields)
+    (codes "TN:", test_fields) ∷ (codes "SF:", path_fields) ∷ (codes "FN:", no_fields) ∷ (codes "FNDA:", no_fields) ∷ (codes "FNF:", total_fields FuncFound)
+    ∷ (codes "FNH:", total_fields FuncHit) ∷ (codes "BRDA:", no_fields) ∷ (codes "BRF:", total_fields BranchFound) ∷ (codes "BRH:", total_fields BranchHit)
     ∷ (codes "DA:", line_fields) ∷ (codes "LF:", total_fields LineFound) ∷ (codes "LH:", total_fields LineHit) ∷ []
 
 abbrev pub read_by : List (List ℕ × Fields) → List ℕ → Result LineData LineFault

@@ -168,10 +168,10 @@ fn read_function_key(line: &[u8]) -> Option<Result<TraceLine<'_>, LineFault>>
         return Some(unread_record(fields));
     }
     if let Some(fields) = behind(line, b"FNF:") {
-        return Some(unread_record(fields));
+        return Some(total_record(TotalKind::FuncFound, fields));
     }
     if let Some(fields) = behind(line, b"FNH:") {
-        return Some(unread_record(fields));
+        return Some(total_record(TotalKind::FuncHit, fields));
     }
     None
 }
@@ -184,10 +184,10 @@ fn read_branch_key(line: &[u8]) -> Option<Result<TraceLine<'_>, LineFault>>
         return Some(unread_record(fields));
     }
     if let Some(fields) = behind(line, b"BRF:") {
-        return Some(unread_record(fields));
+        return Some(total_record(TotalKind::BranchFound, fields));
     }
     if let Some(fields) = behind(line, b"BRH:") {
-        return Some(unread_record(fields));
+        return Some(total_record(TotalKind::BranchHit, fields));
     }
     None
 }

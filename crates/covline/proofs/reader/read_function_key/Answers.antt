@@ -1,6 +1,7 @@
 use Rattle.std.proofs.Common.{refl}
 use Rattle.std.specs.Prelude.{codes}
-use Rattle.covline.specs.Reading.{no_fields, read_of}
+use Rattle.covline.specs.declared.trace_line.TotalKind.TheVariants.{FuncFound, FuncHit}
+use Rattle.covline.specs.Reading.{no_fields, total_fields, read_of}
 use Rattle.covline.proofs.ReadDispatch.{gives_by}
 use Rattle.covline.proofs.reader.read_function_key.Goals as goal
 
@@ -14,8 +15,8 @@ returns-in-Some-behind c = gives_by (codes "FN:") no_fields c.args.line.now c.in
 
 pub returns-in-Some-behind-2 : goal.returns-in-Some-behind-2
 unfolding read_of
-returns-in-Some-behind-2 c = gives_by (codes "FNF:") no_fields c.args.line.now c.in-Some-behind-2.fields.now c.unread_record-in-Some-behind-2.result refl c.in-Some-behind-2.ensures c.unread_record-in-Some-behind-2.ensures
+returns-in-Some-behind-2 c = gives_by (codes "FNF:") (total_fields FuncFound) c.args.line.now c.in-Some-behind-2.fields.now c.total_record.result refl c.in-Some-behind-2.ensures c.total_record.ensures
 
 pub returns-in-Some-behind-3 : goal.returns-in-Some-behind-3
 unfolding read_of
-returns-in-Some-behind-3 c = gives_by (codes "FNH:") no_fields c.args.line.now c.in-Some-behind-3.fields.now c.unread_record-in-Some-behind-3.result refl c.in-Some-behind-3.ensures c.unread_record-in-Some-behind-3.ensures
+returns-in-Some-behind-3 c = gives_by (codes "FNH:") (total_fields FuncHit) c.args.line.now c.in-Some-behind-3.fields.now c.total_record-in-Some-behind-3.result refl c.in-Some-behind-3.ensures c.total_record-in-Some-behind-3.ensures
