@@ -120,7 +120,6 @@ impl<A: Allocator + Copy> Book<A> {
         ensures entry { IfOk result (λ r. self.new ≡ self.old ++ record { job = job; op = SubmitOp submission.now; answer = answer_data r.answer } ∷ []) }
         ensures refused { OnErr result (self.new ≡ self.old) }
     {
-        let _ = (alloc, job, submission);
         Err(Memory)
     }
 

@@ -28,7 +28,7 @@ pub(crate) fn next_branch<A: Allocator>(
     key: SectKey<'_>,
     last: Option<BranchKey>,
 ) -> Option<BranchKey>
-    ensures { IsNext branch_cmp (option_map branch_data last.entry) (branch_points (items_at (key_data key.entry) (all_rows (map rows_of held.now)))) (option_map branch_data result) }
+    ensures { IsNext branch_cmp (option_map branch_data last) (branch_points (items_at (key_data key.entry) (all_rows (map rows_of held.now)))) (option_map branch_data result) }
 {
     None
 }

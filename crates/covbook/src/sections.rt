@@ -2,18 +2,17 @@
 //! memory, and each look costs a pass.
 
 ghost use Rattle.std.specs.Prelude.{◌≡◌, map, option_map};
-ghost use Rattle.std.specs.Ordering.{is_lt, nat_cmp};
-ghost use Rattle.covline.specs.Row.{item_data, rows_of, rows_of_sect};
+ghost use Rattle.std.specs.Ordering.{is_lt};
+ghost use Rattle.covline.specs.Row.{rows_of, rows_of_sect};
 ghost use Rattle.covline.specs.SectView.{sect_data};
 ghost use Rattle.std.specs.List.{flat_map};
-ghost use Rattle.covbook.specs.Held.{IsHeld};
 ghost use Rattle.covbook.specs.KeyView.{key_data, is_sect_of};
 ghost use Rattle.covbook.specs.Next.{IsNext, nearer, nearest};
 ghost use Rattle.covbook.specs.Step.{all_rows};
-ghost use Rattle.covbook.specs.Value.{key_cmp, key_of_row, items_at, line_number, line_value};
+ghost use Rattle.covbook.specs.Value.{key_cmp, key_of_row};
 
 use crate::shared::SubRef;
-use covline::{Item, Sect};
+use covline::Sect;
 use std::alloc::Allocator;
 
 /// The file and the test that a section is of.

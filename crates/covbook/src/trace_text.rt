@@ -60,7 +60,6 @@ fn put_functions<A: Allocator + Copy>(
     requires { IsHeld held.now }
     ensures { OnOk result (text.new ≡ text.old ++ flat_map printed (function_records (items_at (key_data key.entry) (all_rows (map rows_of held.now))))) }
 {
-    let _ = (alloc, held, key, text);
     Err(Memory)
 }
 
@@ -73,7 +72,6 @@ fn put_branches<A: Allocator>(
     requires { IsHeld held.now }
     ensures { OnOk result (text.new ≡ text.old ++ flat_map printed (branch_records (items_at (key_data key.entry) (all_rows (map rows_of held.now))))) }
 {
-    let _ = (held, key, text);
     Err(Memory)
 }
 
@@ -86,6 +84,5 @@ fn put_lines<A: Allocator>(
     requires { IsHeld held.now }
     ensures { OnOk result (text.new ≡ text.old ++ flat_map printed (line_records (items_at (key_data key.entry) (all_rows (map rows_of held.now))))) }
 {
-    let _ = (held, key, text);
     Err(Memory)
 }

@@ -24,6 +24,5 @@ pub fn settle<A: Allocator + Copy>(alloc: A, lines: &[Said<'_>]) -> Result<Settl
     ensures items { IfOk result (λ s. s.items ≡ items_of (records_kept lines.now)) }
     ensures odd { IfOk result (λ s. s.odd ≡ count_by (is_odd (records_kept lines.now)) (records_kept lines.now)) }
 {
-    let _ = (alloc, lines);
     Err(Memory)
 }
