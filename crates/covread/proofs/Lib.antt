@@ -1,7 +1,6 @@
 pub mod TraceGrammar
 pub mod TraceStands
 pub mod TraceOutcome
-pub mod TraceDistinct
 pub mod TraceLaw
 pub mod TraceRun
 pub mod TraceLawful
