@@ -10,7 +10,7 @@ use Rattle.covline.specs.Lines.{line_feed, carriage_return}
 use Rattle.covline.specs.Points.{least}
 use Rattle.covline.specs.Row.{ItemData, LineItem, BranchItem, SectData, items_in}
 use Rattle.covline.specs.Lawful.{IsGoodTest, IsGoodName, IsLawfulItem, IsLawfulSect, Fits64, AllFit64, IsLawful}
-use Rattle.covline.specs.Spells.{LineData, Test, Path, FuncStart, FuncCount, Branch, Line, End, comma, HasForm, HasSmallNumbers, Spells}
+use Rattle.covline.specs.Spells.{LineData, Test, Path, FuncStart, FuncCount, Branch, Line, End, comma, HasForm, HasSmallNumbers}
 use Rattle.covline.proofs.LineLaws.{good_rest}
 use Rattle.covread.specs.Reads.{AllSpell, Part, Outside, Section, records_of, start_said, start_in, counted, items_said, items_of, is_odd, odd_in, test_after, sects_from}
 use Rattle.covread.specs.Outcome.{most_bytes}
@@ -124,8 +124,7 @@ good_sects test [] good h = tt
 good_sects test (Outside says ∷ parts) good h = good_sects (test_after test says) parts (test_good test says good h.0) h.1
 good_sects test (Section path inside ∷ parts) good h =
     let rest = flat_map records_of parts in
-    let items = good_items inside (all_front IsGood inside (End ∷ []) (all_front IsGood (inside ++ End ∷ []) rest h.1)) in
-    (
+    let items = good_items inside (all_front IsGood inside (End ∷ []) (all_front IsGood (inside ++ End ∷ []) rest h.1)) in (
       record {
         fit = all_weaker IsGoodItem Fits64 (λ item good. good.fits) (items_of inside) items;
         lawful = record { test = good; file = h.0.texts; items = all_weaker IsGoodItem IsLawfulItem (λ item good. good.lawful) (items_of inside) items };
