@@ -1,5 +1,5 @@
 -- When a submission clashes: two different checksums of one line of one file come from two versions of the source, and
--- their counts are never mixed, in whatever tests they are.
+-- their counts are never mixed, in whatever tests the two checksums stand.
 use Rattle.std.specs.Prelude.{◌≡◌, ℕ, Bool, true, false, ◌==◌, ◌&&◌, not, List, [], ◌∷◌, ◌++◌, Option, Some, None, Contains}
 use Rattle.std.specs.Str.{bytes_eq}
 use Rattle.std.specs.List.{flat_map, find}

@@ -4,7 +4,7 @@ use Rattle.std.specs.Prelude.{All}
 use Rattle.std.proofs.lemmas.List.{append-nil, drop_at}
 use Rattle.std.proofs.lemmas.List.Elements.{All-head, All-append, All-drop, All-same, All-weaker}
 use Rattle.covline.specs.Lines.{line_feed, carriage_return}
-use Rattle.covline.specs.Lawful.{IsGoodTest}
+use Rattle.covline.specs.Lawful.{IsChecksum, IsChecksumByte, IsGoodTest}
 
 -- where a text ends in a byte, so does each part of it that is its end and isn't empty
 last_of_part : (front : List ℕ) (b : ℕ) (bs whole : List ℕ) (c : ℕ) → front ++ b ∷ bs ≡ whole ++ c ∷ [] → (rest : List ℕ) × (b ∷ bs ≡ rest ++ c ∷ [])
@@ -50,4 +50,16 @@ IsGoodTest-plain text plain = record {
   no_return = λ before e.
       let last = All-head IsPlain carriage_return [] (All-part IsPlain before (carriage_return ∷ []) (All-same IsPlain (before ++ carriage_return ∷ []) text (sym e) plain)) in
       omega (arith, last);
+}
+
+checksum_feed : (b : ℕ) → IsChecksumByte b → b ≢ line_feed
+checksum_feed b lawful = lawful.no_feed
+
+-- a checksum fits into one line
+pub IsGoodTest-checksum : (checksum : List ℕ) → IsChecksum checksum → IsGoodTest checksum
+IsGoodTest-checksum checksum lawful = record {
+  one_line = All-weaker IsChecksumByte (λ b. b ≢ line_feed) checksum_feed checksum lawful.each;
+  no_return = λ before e.
+      let last = All-head IsChecksumByte carriage_return [] (All-part IsChecksumByte before (carriage_return ∷ []) (All-same IsChecksumByte (before ++ carriage_return ∷ []) checksum (sym e) lawful.each)) in
+      last.no_return refl;
 }

@@ -5,6 +5,7 @@ pub mod PrintedLaws
 pub mod LineLaws
 pub mod ReadKeys
 pub mod ReadNumbers
+pub mod Checksums
 pub mod ReadForms
 pub mod ReadLaws
 pub mod ReadDispatch

@@ -11,7 +11,7 @@ use Rattle.covline.specs.declared.trace_line.TotalKind.{TotalKind}
 use Rattle.covline.specs.declared.trace_line.TotalKind.TheVariants.{FuncFound, FuncHit, BranchFound, BranchHit, LineFound, LineHit}
 use Rattle.covline.specs.Spells.{LineData, Test, Path, FuncStart, FuncCount, Branch, Line, Total, End, Skip, comma, key_of, IsDigit, IsNumeral, Spells}
 use Rattle.covline.specs.Printed.{line_text, printed, IsReadable}
-use Rattle.covline.proofs.GoodTexts.{IsPlain, IsGoodTest-append, IsGoodTest-plain}
+use Rattle.covline.proofs.GoodTexts.{IsPlain, IsGoodTest-append, IsGoodTest-plain, IsGoodTest-checksum}
 use Rattle.covline.proofs.Cut.{lines_at, strip-none}
 
 -- ---- numbers
@@ -42,19 +42,63 @@ plain_decimal n small = All-weaker IsDigit IsPlain digit_plain (decimal n) (IsNu
 
 -- ---- keys
 
-plain_key : (a b : ℕ) → IsPlain a → IsPlain b → All IsPlain (a ∷ b ∷ 58 ∷ [])
-plain_key a b first second = All-cons IsPlain a (b ∷ 58 ∷ []) first (All-cons IsPlain b (58 ∷ []) second (All-cons IsPlain 58 [] (lit< tt) (All-nil IsPlain)))
-
 plain_total : (kind : TotalKind) → All IsPlain (key_of kind)
 plain_total FuncFound = All-from_recursion IsPlain (codes "FNF:") (lit< tt, (lit< tt, (lit< tt, (lit< tt, tt))))
 plain_total FuncHit = All-from_recursion IsPlain (codes "FNH:") (lit< tt, (lit< tt, (lit< tt, (lit< tt, tt))))
 plain_total BranchFound = All-from_recursion IsPlain (codes "BRF:") (lit< tt, (lit< tt, (lit< tt, (lit< tt, tt))))
 plain_total BranchHit = All-from_recursion IsPlain (codes "BRH:") (lit< tt, (lit< tt, (lit< tt, (lit< tt, tt))))
-plain_total LineFound = plain_key 76 70 (lit< tt) (lit< tt)
-plain_total LineHit = plain_key 76 72 (lit< tt) (lit< tt)
+plain_total LineFound = All-from_recursion IsPlain (codes "LF:") (lit< tt, (lit< tt, (lit< tt, tt)))
+plain_total LineHit = All-from_recursion IsPlain (codes "LH:") (lit< tt, (lit< tt, (lit< tt, tt)))
+
+plain_test : All IsPlain (codes "TN:")
+plain_test = All-from_recursion IsPlain (codes "TN:") (lit< tt, (lit< tt, (lit< tt, tt)))
+
+plain_path : All IsPlain (codes "SF:")
+plain_path = All-from_recursion IsPlain (codes "SF:") (lit< tt, (lit< tt, (lit< tt, tt)))
+
+plain_start : All IsPlain (codes "FN:")
+plain_start = All-from_recursion IsPlain (codes "FN:") (lit< tt, (lit< tt, (lit< tt, tt)))
+
+plain_count : All IsPlain (codes "FNDA:")
+plain_count = All-from_recursion IsPlain (codes "FNDA:") (lit< tt, (lit< tt, (lit< tt, (lit< tt, (lit< tt, tt)))))
+
+plain_branch : All IsPlain (codes "BRDA:")
+plain_branch = All-from_recursion IsPlain (codes "BRDA:") (lit< tt, (lit< tt, (lit< tt, (lit< tt, (lit< tt, tt)))))
+
+plain_line : All IsPlain (codes "DA:")
+plain_line = All-from_recursion IsPlain (codes "DA:") (lit< tt, (lit< tt, (lit< tt, tt)))
 
 plain_end : All IsPlain (codes "end_of_record")
 plain_end = All-from_recursion IsPlain (codes "end_of_record") (lit< tt, (lit< tt, (lit< tt, (lit< tt, (lit< tt, (lit< tt, (lit< tt, (lit< tt, (lit< tt, (lit< tt, (lit< tt, (lit< tt, (lit< tt, tt)))))))))))))
+
+-- ---- fields
+
+good_number : (front : List ℕ) (n : ℕ) → All IsPlain front → n < 2 ^ 64 → IsGoodTest (front ++ decimal n)
+good_number front n plain small = IsGoodTest-plain (front ++ decimal n) (All-append IsPlain front (decimal n) plain (plain_decimal n small))
+
+good_behind_comma : (rest : List ℕ) → IsGoodTest rest → IsGoodTest (comma ∷ rest)
+good_behind_comma rest good = IsGoodTest-append (comma ∷ []) rest (IsGoodTest-plain (comma ∷ []) (All-cons IsPlain comma [] (lit< tt) (All-nil IsPlain))) good
+
+-- a number, a comma, and what stands behind it
+good_field : (front : List ℕ) (n : ℕ) (rest : List ℕ) → All IsPlain front → n < 2 ^ 64 → IsGoodTest rest → IsGoodTest ((front ++ decimal n) ++ comma ∷ rest)
+good_field front n rest plain small good =
+    IsGoodTest-append (front ++ decimal n) (comma ∷ rest) (good_number front n plain small) (good_behind_comma rest good)
+
+-- no front: the number comes first
+good_first : (n : ℕ) (rest : List ℕ) → n < 2 ^ 64 → IsGoodTest rest → IsGoodTest (decimal n ++ comma ∷ rest)
+good_first n rest small good = good_field [] n rest (All-nil IsPlain) small good
+
+-- where a branch's block was never executed, and where it was
+good_branch : (number block branch : ℕ) (text : List ℕ) → number < 2 ^ 64 → block < 2 ^ 64 → branch < 2 ^ 64 → IsGoodTest text → IsGoodTest (codes "BRDA:" ++ decimal number ++ comma ∷ (decimal block ++ comma ∷ (decimal branch ++ comma ∷ text)))
+good_branch number block branch text first second third good =
+    good_field (codes "BRDA:") number (decimal block ++ comma ∷ (decimal branch ++ comma ∷ text)) plain_branch first
+    (good_first block (decimal branch ++ comma ∷ text) second (good_first branch text third good))
+
+good_minus : IsGoodTest (codes "-")
+good_minus = IsGoodTest-plain (codes "-") (All-from_recursion IsPlain (codes "-") (lit< tt, tt))
+
+good_decimal : (n : ℕ) → n < 2 ^ 64 → IsGoodTest (decimal n)
+good_decimal n small = IsGoodTest-plain (decimal n) (plain_decimal n small)
 
 -- ---- lines
 
@@ -62,26 +106,33 @@ one_line : (text : List ℕ) → IsGoodTest text → lines_of (text ++ line_feed
 one_line text good = lines_at text [] good.one_line ∙ ap (λ (t : List ℕ). t ∷ []) (strip-none text good.no_return)
 
 good_text : (says : LineData) → IsReadable says → IsGoodTest (line_text says)
-good_text (Test name) reads = IsGoodTest-append (codes "TN:") name (IsGoodTest-plain (codes "TN:") (plain_key 84 78 (lit< tt) (lit< tt))) reads.texts
-good_text (Path path) reads = IsGoodTest-append (codes "SF:") path (IsGoodTest-plain (codes "SF:") (plain_key 83 70 (lit< tt) (lit< tt))) reads.texts.fits
-good_text (FuncStart number name) reads = absurd reads.texts
-good_text (FuncCount count name) reads = absurd reads.texts
-good_text (Branch number block branch taken) reads = absurd reads.texts
-good_text (Line number count (Some checksum)) reads = absurd reads.texts
-good_text (Line number count None) reads = absurd reads.texts
-good_text (Total kind value) reads =
-    IsGoodTest-plain (line_text (Total kind value)) (All-append IsPlain (key_of kind) (decimal value) (plain_total kind) (plain_decimal value reads.small))
+good_text (Test name) reads = IsGoodTest-append (codes "TN:") name (IsGoodTest-plain (codes "TN:") plain_test) reads.texts
+good_text (Path path) reads = IsGoodTest-append (codes "SF:") path (IsGoodTest-plain (codes "SF:") plain_path) reads.texts.fits
+good_text (FuncStart number name) reads = good_field (codes "FN:") number name plain_start reads.small reads.texts.fits
+good_text (FuncCount count name) reads = good_field (codes "FNDA:") count name plain_count reads.small reads.texts.fits
+good_text (Branch number block branch None) reads =
+    good_branch number block branch (codes "-") reads.small.0 reads.small.1 reads.small.2 good_minus
+good_text (Branch number block branch (Some taken)) reads =
+    good_branch number block branch (decimal taken) reads.small.0 reads.small.1 reads.small.2 (good_decimal taken reads.small.3)
+good_text (Line number count None) reads =
+    good_field (codes "DA:") number (decimal count ++ []) plain_line reads.small.0
+    (IsGoodTest-append (decimal count) [] (good_decimal count reads.small.1) (IsGoodTest-plain [] (All-nil IsPlain)))
+good_text (Line number count (Some checksum)) reads =
+    good_field (codes "DA:") number (decimal count ++ comma ∷ checksum) plain_line reads.small.0
+    (good_first count checksum reads.small.1 (IsGoodTest-checksum checksum reads.texts))
+good_text (Total kind value) reads = good_number (key_of kind) value (plain_total kind) reads.small
 good_text End reads = IsGoodTest-plain (codes "end_of_record") plain_end
 good_text Skip reads = absurd reads.texts
 
 lines_printed : (says : LineData) → IsReadable says → lines_of (printed says) ≡ line_text says ∷ []
 lines_printed (Test name) reads = one_line (line_text (Test name)) (good_text (Test name) reads)
 lines_printed (Path path) reads = one_line (line_text (Path path)) (good_text (Path path) reads)
-lines_printed (FuncStart number name) reads = absurd reads.texts
-lines_printed (FuncCount count name) reads = absurd reads.texts
-lines_printed (Branch number block branch taken) reads = absurd reads.texts
-lines_printed (Line number count (Some checksum)) reads = absurd reads.texts
-lines_printed (Line number count None) reads = absurd reads.texts
+lines_printed (FuncStart number name) reads = one_line (line_text (FuncStart number name)) (good_text (FuncStart number name) reads)
+lines_printed (FuncCount count name) reads = one_line (line_text (FuncCount count name)) (good_text (FuncCount count name) reads)
+lines_printed (Branch number block branch taken) reads =
+    one_line (line_text (Branch number block branch taken)) (good_text (Branch number block branch taken) reads)
+lines_printed (Line number count checksum) reads =
+    one_line (line_text (Line number count checksum)) (good_text (Line number count checksum) reads)
 lines_printed (Total kind value) reads = one_line (line_text (Total kind value)) (good_text (Total kind value) reads)
 lines_printed End reads = one_line (line_text End) (good_text End reads)
 lines_printed Skip reads = absurd reads.texts
@@ -89,11 +140,30 @@ lines_printed Skip reads = absurd reads.texts
 spells_printed : (says : LineData) → IsReadable says → Spells (line_text says) says
 spells_printed (Test name) reads = record { form = refl; small = tt }
 spells_printed (Path path) reads = record { form = (refl, reads.texts.some); small = tt }
-spells_printed (FuncStart number name) reads = absurd reads.texts
-spells_printed (FuncCount count name) reads = absurd reads.texts
-spells_printed (Branch number block branch taken) reads = absurd reads.texts
-spells_printed (Line number count (Some checksum)) reads = absurd reads.texts
-spells_printed (Line number count None) reads = absurd reads.texts
+spells_printed (FuncStart number name) reads = record {
+  form = (decimal number, refl, IsNumeral-decimal number reads.small, reads.texts.some);
+  small = reads.small;
+}
+spells_printed (FuncCount count name) reads = record {
+  form = (decimal count, refl, inl (IsNumeral-decimal count reads.small), reads.texts.some);
+  small = reads.small;
+}
+spells_printed (Branch number block branch None) reads = record {
+  form = (decimal number, decimal block, decimal branch, codes "-", refl, IsNumeral-decimal number reads.small.0, IsNumeral-decimal block reads.small.1, IsNumeral-decimal branch reads.small.2, refl);
+  small = reads.small;
+}
+spells_printed (Branch number block branch (Some taken)) reads = record {
+  form = (decimal number, decimal block, decimal branch, decimal taken, refl, IsNumeral-decimal number reads.small.0, IsNumeral-decimal block reads.small.1, IsNumeral-decimal branch reads.small.2, IsNumeral-decimal taken reads.small.3);
+  small = reads.small;
+}
+spells_printed (Line number count None) reads = record {
+  form = (decimal number, decimal count, ap (λ (t : List ℕ). codes "DA:" ++ decimal number ++ comma ∷ t) (append-nil (decimal count)), IsNumeral-decimal number reads.small.0, inl (IsNumeral-decimal count reads.small.1));
+  small = reads.small;
+}
+spells_printed (Line number count (Some checksum)) reads = record {
+  form = (decimal number, decimal count, refl, IsNumeral-decimal number reads.small.0, inl (IsNumeral-decimal count reads.small.1), reads.texts);
+  small = reads.small;
+}
 spells_printed (Total kind value) reads = record {
   form = (decimal value, refl, IsNumeral-decimal value reads.small);
   small = reads.small;

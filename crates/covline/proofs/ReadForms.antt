@@ -1,107 +1,236 @@
 -- The fields of each key: what has the key's form is read as what it says, its numbers' size considered, and what
 -- has not is refused.
-use Rattle.std.proofs.Common.{◌≡◌, ℕ, ◌^◌, ◌⊎◌, inl, inr, true, false, eqb, List, [], ◌∷◌, ◌++◌, Some, None, Option, Result, Ok, Err, refl, ap, ◌∙◌, arith}
-use Rattle.std.proofs.lemmas.Bool.{cases_lt, cases_eq, ne_eqb, eq-eqb}
-use Rattle.covline.specs.declared.reader.Number.{Number}
-use Rattle.covline.specs.declared.reader.Number.TheVariants.{Value, TooLarge}
+use Rattle.std.proofs.Common.{◌≡◌, ℕ, ◌^◌, ◌<◌, ◌⊎◌, inl, inr, List, [], ◌∷◌, ◌++◌, length, Option, Some, None, option_map, Result, Ok, Err, refl, ap, ◌∙◌, arith}
+use Rattle.std.specs.Prelude.{codes}
+use Rattle.std.proofs.lemmas.Bool.{cases_lt}
+use Rattle.std.proofs.lemmas.List.{append-nil}
 use Rattle.covline.specs.declared.trace_line.LineFault.{LineFault}
 use Rattle.covline.specs.declared.trace_line.LineFault.TheVariants.{BadLine, NumberTooLarge}
-use Rattle.covline.specs.Spells.{LineData, Test, Path, FuncStart, FuncCount, Branch, Line, Total, End, Skip, comma, digits_value, IsNumeral, IsCount, HasForm, HasSmallNumbers}
-use Rattle.covline.specs.Reading.{capped, number_at, line_and_count, behind_line, from_line, line_fields, total_with}
-use Rattle.covline.proofs.ReadNumbers.{capped_small, capped_large, number_is, numeral_or_none, BeginsWithNumeral, count_is, count_or_none}
+use Rattle.covline.specs.Spells.{LineData, Test, Path, FuncStart, FuncCount, Branch, Line, Total, End, Skip, comma, IsNumeral, IsCount, IsTaken, HasForm, HasSmallNumbers}
+use Rattle.covline.specs.Reading.{Fields, capped, with_fit, with_name, start_of, start_fields, calls_of, calls_fields, with_taken, branch_of, branch_fields, count_of, line_fields, total_of}
+use Rattle.covline.proofs.ReadNumbers.{Stops, capped_small, capped_large, field_is, BeginsWithField, field_or_none, field_read, count_is, BeginsWithCount, count_or_none, count_read, comma_or_none, taken_is, taken_or_none}
+use Rattle.covline.proofs.Checksums.{IsBehindCount, checksum_read, checksum_or_none}
 
 -- what a record of this form is read as, by the size of its numbers
 abbrev pub sized : LineData → Result LineData LineFault
 sized (Test name) = Ok (Test name)
 sized (Path path) = Ok (Path path)
-sized (FuncStart number name) = Ok (FuncStart number name)
-sized (FuncCount count name) = Ok (FuncCount count name)
-sized (Branch number block branch taken) = Ok (Branch number block branch taken)
-sized (Line number count None) = line_and_count (capped number) (Some (capped count))
-sized (Line number count (Some checksum)) = Ok (Line number count (Some checksum))
-sized (Total kind value) = total_with kind (Some (capped value))
+sized (FuncStart number name) = start_of (capped number) name
+sized (FuncCount count name) = calls_of (capped count) name
+sized (Branch number block branch taken) = branch_of (capped number) (capped block) (capped branch) (option_map capped taken)
+sized (Line number count checksum) = count_of (capped number) (capped count) checksum
+sized (Total kind value) = total_of kind (capped value)
 sized End = Ok End
 sized Skip = Ok Skip
 
 pub sized_small : (says : LineData) → HasSmallNumbers says → sized says ≡ Ok says
 sized_small (Test name) small = refl
 sized_small (Path path) small = refl
-sized_small (FuncStart number name) small = refl
-sized_small (FuncCount count name) small = refl
-sized_small (Branch number block branch taken) small = refl
-sized_small (Line number count (Some checksum)) small = refl
-sized_small (Line number count None) small = rw (capped_small number small.0, capped_small count small.1) refl
+sized_small (FuncStart number name) small = rw (capped_small number small) refl
+sized_small (FuncCount count name) small = rw (capped_small count small) refl
+sized_small (Branch number block branch None) small =
+    rw (capped_small number small.0, capped_small block small.1, capped_small branch small.2) refl
+sized_small (Branch number block branch (Some taken)) small =
+    rw (capped_small number small.0, capped_small block small.1, capped_small branch small.2, capped_small taken small.3) refl
+sized_small (Line number count checksum) small = rw (capped_small number small.0, capped_small count small.1) refl
 sized_small (Total kind value) small = rw (capped_small value small) refl
 sized_small End small = refl
 sized_small Skip small = refl
 
-large_line : (number : Number) → line_and_count number (Some TooLarge) ≡ Err NumberTooLarge
-large_line TooLarge = refl
-large_line (Value number) = refl
+-- numbers are small, or what is read is too large
+abbrev IsSized : Type 0 → Result LineData LineFault → Type 0
+IsSized small read = small ⊎ ((¬ small) × (read ≡ Err NumberTooLarge))
+
+-- the last number of a record, and one before others
+last_sized : (n : ℕ) (says : ℕ → Result LineData LineFault) → IsSized (n < 2 ^ 64) (with_fit (capped n) says)
+last_sized n says =
+    elim (cases_lt n (2 ^ 64)) [
+      | inl lt ↦ inl lt
+      | inr le ↦ inr (λ lt. omega (arith, lt), rw (capped_large n le) refl)
+    ]
+
+more_sized : (n : ℕ) (says : ℕ → Result LineData LineFault) (small : Type 0) → IsSized small (says n) → IsSized ((n < 2 ^ 64) × small) (with_fit (capped n) says)
+more_sized n says small others =
+    elim (cases_lt n (2 ^ 64)) [
+      | inl lt ↦ elim others [
+        | inl all ↦ inl (lt, all)
+        | inr large ↦ inr (λ all. large.0 all.1, rw (capped_small n lt) large.1)
+      ]
+      | inr le ↦ inr (λ all. omega (arith, all.0), rw (capped_large n le) refl)
+    ]
+
+-- what a branch is read as behind its small numbers
+abbrev behind_branch : Option ℕ → ℕ → ℕ → ℕ → Result LineData LineFault
+behind_branch taken number block b = with_taken number block b (option_map capped taken)
+
+abbrev behind_block : ℕ → Option ℕ → ℕ → ℕ → Result LineData LineFault
+behind_block branch taken number k = with_fit (capped branch) (behind_branch taken number k)
+
+abbrev behind_number : ℕ → ℕ → Option ℕ → ℕ → Result LineData LineFault
+behind_number block branch taken l = with_fit (capped block) (behind_block branch taken l)
+
+-- the same for a fact that says the same
+resized : {P Q : Type 0} (read : Result LineData LineFault) → (P → Q) → (Q → P) → IsSized P read → IsSized Q read
+resized read there back (inl small) = inl (there small)
+resized read there back (inr large) = inr (λ small. large.0 (back small), large.1)
+
+-- a branch's numbers one by one
+branch_sized : (number block branch : ℕ) (taken : Option ℕ) → IsSized (HasSmallNumbers (Branch number block branch taken)) (sized (Branch number block branch taken))
+branch_sized number block branch None =
+    resized (sized (Branch number block branch None)) (λ small. (small.0, small.1.0, small.1.1)) (λ small. (small.0, (small.1, small.2)))
+    (more_sized number (behind_number block branch None) ((block < 2 ^ 64) × (branch < 2 ^ 64))
+    (more_sized block (behind_block branch None number) (branch < 2 ^ 64) (last_sized branch (behind_branch None number block))))
+branch_sized number block branch (Some taken) =
+    resized (sized (Branch number block branch (Some taken))) (λ small. (small.0, small.1.0, small.1.1.0, small.1.1.1)) (λ small. (small.0, (small.1, (small.2, small.3))))
+    (more_sized number (behind_number block branch (Some taken)) ((block < 2 ^ 64) × ((branch < 2 ^ 64) × (taken < 2 ^ 64)))
+    (more_sized block (behind_block branch (Some taken) number) ((branch < 2 ^ 64) × (taken < 2 ^ 64))
+    (more_sized branch (behind_branch (Some taken) number block) (taken < 2 ^ 64) (last_sized taken (λ t. Ok (Branch number block branch (Some t)))))))
 
 -- the numbers are small, or the record is read as too large
-pub small_or_large : (line : List ℕ) (says : LineData) → HasForm line says → HasSmallNumbers says ⊎ ((¬ HasSmallNumbers says) × (sized says ≡ Err NumberTooLarge))
-small_or_large line (Test name) form = inl tt
-small_or_large line (Path path) form = inl tt
-small_or_large line (FuncStart number name) form = absurd form
-small_or_large line (FuncCount count name) form = absurd form
-small_or_large line (Branch number block branch taken) form = absurd form
-small_or_large line (Line number count (Some checksum)) form = absurd form
-small_or_large line (Line number count None) form =
-    elim (cases_lt number (2 ^ 64)) [
-      | inl line_lt ↦ elim (cases_lt count (2 ^ 64)) [
-        | inl lt ↦ inl (line_lt, lt)
-        | inr le ↦ inr (λ small. omega (arith, small.1), rw (capped_large count le) (large_line (capped number)))
+pub small_or_large : (says : LineData) → IsSized (HasSmallNumbers says) (sized says)
+small_or_large (Test name) = inl tt
+small_or_large (Path path) = inl tt
+small_or_large (FuncStart number name) = last_sized number (λ n. Ok (FuncStart n name))
+small_or_large (FuncCount count name) = last_sized count (λ n. Ok (FuncCount n name))
+small_or_large (Branch number block branch taken) = branch_sized number block branch taken
+small_or_large (Line number count checksum) = more_sized number (λ l. with_fit (capped count) (λ n. Ok (Line l n checksum))) (count < 2 ^ 64) (last_sized count (λ n. Ok (Line number n checksum)))
+small_or_large (Total kind value) = last_sized value (λ n. Ok (Total kind n))
+small_or_large End = inl tt
+small_or_large Skip = inl tt
+
+-- ---- what has a form is read as what it says
+
+named : (name : List ℕ) (says : Result LineData LineFault) → 0 < length name → with_name name says ≡ says
+named [] says some = absurd (omega (arith, some))
+named (b ∷ bs) says some = refl
+
+pub start_read : (digits name : List ℕ) (number : ℕ) → IsNumeral digits number → 0 < length name → start_fields (digits ++ comma ∷ name) ≡ sized (FuncStart number name)
+start_read digits name number numeral some = rw (field_is digits name number numeral) (named name (sized (FuncStart number name)) some)
+
+pub calls_read : (text name : List ℕ) (count : ℕ) → IsCount text count → 0 < length name → calls_fields (text ++ comma ∷ name) ≡ sized (FuncCount count name)
+calls_read text name count counts some = rw (count_is text (comma ∷ name) count counts refl) (named name (sized (FuncCount count name)) some)
+
+pub branch_read : (digits blocks branches text : List ℕ) (number block branch : ℕ) (taken : Option ℕ) → IsNumeral digits number → IsNumeral blocks block → IsNumeral branches branch → IsTaken text taken → branch_fields (digits ++ comma ∷ (blocks ++ comma ∷ (branches ++ comma ∷ text))) ≡ sized (Branch number block branch taken)
+branch_read digits blocks branches text number block branch taken numbers block_is branch_is taken_so =
+    rw (
+      field_is digits (blocks ++ comma ∷ (branches ++ comma ∷ text)) number numbers,
+      field_is blocks (branches ++ comma ∷ text) block block_is,
+      field_is branches text branch branch_is,
+      taken_is text taken taken_so,
+    ) refl
+
+-- behind the count of a line no digit follows
+behind_stops : (rest : List ℕ) (checksum : Option (List ℕ)) → IsBehindCount rest checksum → Stops rest
+behind_stops [] checksum behind = tt
+behind_stops (b ∷ bs) None behind = absurd cc
+behind_stops (b ∷ bs) (Some checksum) behind = let e : b ≡ comma = cc in rw e refl
+
+pub line_read : (digits text rest : List ℕ) (number count : ℕ) (checksum : Option (List ℕ)) → IsNumeral digits number → IsCount text count → IsBehindCount rest checksum → line_fields (digits ++ comma ∷ (text ++ rest)) ≡ sized (Line number count checksum)
+line_read digits text rest number count checksum numeral counts behind =
+    rw (
+      field_is digits (text ++ rest) number numeral,
+      count_is text rest count counts (behind_stops rest checksum behind),
+      checksum_read rest checksum behind,
+    ) refl
+
+-- ---- fields have their key's form, or are refused
+
+-- the line of this key and these fields has a form, or its fields are refused
+abbrev pub IsFormed : List ℕ → Fields → List ℕ → Type 0
+IsFormed key reader fields = ((says : LineData) × HasForm (key ++ fields) says) ⊎ (reader fields ≡ Err BadLine)
+
+name_or_none : (name : List ℕ) (says : Result LineData LineFault) → (0 < length name) ⊎ (with_name name says ≡ Err BadLine)
+name_or_none [] says = inr refl
+name_or_none (b ∷ bs) says = inl (omega arith)
+
+pub start_formed : (fields : List ℕ) → IsFormed (codes "FN:") start_fields fields
+start_formed fields =
+    elim (field_or_none fields) [
+      | inl line ↦ elim (name_or_none line.rest (start_of (capped line.number) line.rest)) [
+        | inl some ↦ inl (FuncStart line.number line.rest, (line.digits, ap (λ (t : List ℕ). codes "FN:" ++ t) line.parts, line.numeral, some))
+        | inr none ↦ inr (rw (field_read fields line) none)
       ]
-      | inr le ↦ inr (λ small. omega (arith, small.0), rw (capped_large number le) refl)
+      | inr none ↦ inr (rw none refl)
     ]
-small_or_large line (Total kind value) form =
-    elim (cases_lt value (2 ^ 64)) [
-      | inl lt ↦ inl lt
-      | inr le ↦ inr (λ small. omega (arith, small), rw (capped_large value le) refl)
+
+calls_from : (fields : List ℕ) (front : BeginsWithCount fields) (name : List ℕ) → front.rest ≡ comma ∷ name → IsFormed (codes "FNDA:") calls_fields fields
+calls_from fields front name behind =
+    let parts : fields ≡ front.counted ++ comma ∷ name = front.parts ∙ ap (λ (t : List ℕ). front.counted ++ t) behind in
+    elim (name_or_none name (calls_of (capped front.count) name)) [
+      | inl some ↦ inl (FuncCount front.count name, (front.counted, ap (λ (t : List ℕ). codes "FNDA:" ++ t) parts, front.counts, some))
+      | inr none ↦ inr (rw (count_read fields front, behind) none)
     ]
-small_or_large line End form = inl tt
-small_or_large line Skip form = inl tt
 
--- ---- a line's number and its count
-
-pub line_fields-is : (digits text : List ℕ) (number count : ℕ) → IsNumeral digits number → IsCount text count → line_fields (digits ++ comma ∷ text) ≡ sized (Line number count None)
-line_fields-is digits text number count numeral counts =
-    ap from_line (number_is digits (comma ∷ text) number numeral refl) ∙ ap (line_and_count (capped number)) (count_is text count counts)
-
--- the fields of `DA:`
-pub record IsLineFields (fields : List ℕ) : Type 0 where
-  pub digits : List ℕ
-  pub text : List ℕ
-  pub number : ℕ
-  pub count : ℕ
-  pub parts : fields ≡ digits ++ comma ∷ text
-  pub numeral : IsNumeral digits number
-  pub counts : IsCount text count
-
-behind_line-or_bad : (fields digits rest : List ℕ) (number : ℕ) → fields ≡ digits ++ rest → IsNumeral digits number → IsLineFields fields ⊎ (behind_line (capped number) rest ≡ Err BadLine)
-behind_line-or_bad fields digits [] number parts numeral = inr refl
-behind_line-or_bad fields digits (b ∷ bs) number parts numeral =
-    elim (cases_eq b comma) [
-      | inl same ↦ elim (count_or_none bs) [
-        | inl found ↦ inl (record { digits = digits; text = bs; number = number; count = found.0; parts = parts ∙ ap (λ (c : ℕ). digits ++ c ∷ bs) same; numeral = numeral; counts = found.1 })
-        | inr none ↦ let test : eqb b comma ≡ true = eq-eqb b comma same in inr (rw (test, none) refl)
+pub calls_formed : (fields : List ℕ) → IsFormed (codes "FNDA:") calls_fields fields
+calls_formed fields =
+    elim (count_or_none fields) [
+      | inl front ↦ elim (comma_or_none (capped front.count) front.rest) [
+        | inl found ↦ calls_from fields front found.0 found.1
+        | inr none ↦ inr (rw (count_read fields front, none) refl)
       ]
-      | inr differ ↦ let test : eqb b comma ≡ false = ne_eqb b comma differ in inr (rw test refl)
+      | inr none ↦ inr (rw none refl)
     ]
 
-line_fields-from : (fields : List ℕ) (front : BeginsWithNumeral fields) → IsLineFields fields ⊎ (line_fields fields ≡ Err BadLine)
-line_fields-from fields front =
-    let number = digits_value front.digits in
-    let read : number_at fields ≡ Some (capped number, front.rest) = ap number_at front.parts ∙ number_is front.digits front.rest number front.numeral front.stops in
-    elim (behind_line-or_bad fields front.digits front.rest number front.parts front.numeral) [
-      | inl found ↦ inl found
-      | inr bad ↦ inr (ap from_line read ∙ bad)
+branch_parts : (fields : List ℕ) (line : BeginsWithField fields) (block : BeginsWithField line.rest) (branch : BeginsWithField block.rest) → codes "BRDA:" ++ fields ≡ codes "BRDA:" ++ line.digits ++ comma ∷ (block.digits ++ comma ∷ (branch.digits ++ comma ∷ branch.rest))
+branch_parts fields line block branch =
+    ap (λ (t : List ℕ). codes "BRDA:" ++ t) (
+    line.parts
+    ∙ ap (λ (t : List ℕ). line.digits ++ comma ∷ t) (block.parts ∙ ap (λ (t : List ℕ). block.digits ++ comma ∷ t) branch.parts)
+    )
+
+branch_from : (fields : List ℕ) (line : BeginsWithField fields) (block : BeginsWithField line.rest) (branch : BeginsWithField block.rest) → IsFormed (codes "BRDA:") branch_fields fields
+branch_from fields line block branch =
+    elim (taken_or_none branch.rest) [
+      | inl taken ↦ inl (
+        Branch line.number block.number branch.number taken.0,
+        (line.digits, block.digits, branch.digits, branch.rest, branch_parts fields line block branch, line.numeral, block.numeral, branch.numeral, taken.1),
+      )
+      | inr none ↦ inr (rw (field_read fields line, field_read line.rest block, field_read block.rest branch, none) refl)
     ]
 
-pub line_fields-or_bad : (fields : List ℕ) → IsLineFields fields ⊎ (line_fields fields ≡ Err BadLine)
-line_fields-or_bad fields =
-    elim (numeral_or_none fields) [
-      | inl front ↦ line_fields-from fields front
-      | inr none ↦ inr (ap from_line none)
+pub branch_formed : (fields : List ℕ) → IsFormed (codes "BRDA:") branch_fields fields
+branch_formed fields =
+    elim (field_or_none fields) [
+      | inl line ↦ elim (field_or_none line.rest) [
+        | inl block ↦ elim (field_or_none block.rest) [
+          | inl branch ↦ branch_from fields line block branch
+          | inr none ↦ inr (rw (field_read fields line, field_read line.rest block, none) refl)
+        ]
+        | inr none ↦ inr (rw (field_read fields line, none) refl)
+      ]
+      | inr none ↦ inr (rw none refl)
+    ]
+
+line_form : (fields : List ℕ) (line : BeginsWithField fields) (front : BeginsWithCount line.rest) (checksum : Option (List ℕ)) → IsBehindCount front.rest checksum → HasForm (codes "DA:" ++ fields) (Line line.number front.count checksum)
+line_form fields line front None behind = (
+  line.digits,
+  front.counted,
+  ap (λ (t : List ℕ). codes "DA:" ++ t) (line.parts ∙ ap (λ (t : List ℕ). line.digits ++ comma ∷ t) (front.parts ∙ ap (λ (t : List ℕ). front.counted ++ t) behind ∙ append-nil front.counted)),
+  line.numeral,
+  front.counts,
+)
+line_form fields line front (Some checksum) behind = (
+  line.digits,
+  front.counted,
+  ap (λ (t : List ℕ). codes "DA:" ++ t) (line.parts ∙ ap (λ (t : List ℕ). line.digits ++ comma ∷ t) (front.parts ∙ ap (λ (t : List ℕ). front.counted ++ t) behind.0)),
+  line.numeral,
+  front.counts,
+  behind.1,
+)
+
+line_from : (fields : List ℕ) (line : BeginsWithField fields) (front : BeginsWithCount line.rest) → IsFormed (codes "DA:") line_fields fields
+line_from fields line front =
+    elim (checksum_or_none front.rest) [
+      | inl found ↦ inl (Line line.number front.count found.0, line_form fields line front found.0 found.1)
+      | inr none ↦ inr (rw (field_read fields line, count_read line.rest front, none) refl)
+    ]
+
+pub line_formed : (fields : List ℕ) → IsFormed (codes "DA:") line_fields fields
+line_formed fields =
+    elim (field_or_none fields) [
+      | inl line ↦ elim (count_or_none line.rest) [
+        | inl front ↦ line_from fields line front
+        | inr none ↦ inr (rw (field_read fields line, none) refl)
+      ]
+      | inr none ↦ inr (rw none refl)
     ]

@@ -1,20 +1,22 @@
 -- The laws of reading a line: a line of some form is read as what the form says, its numbers' size considered, and a
 -- line without a form is refused as the definitions ask. So each line has one meaning or one fault.
 use Rattle.std.proofs.Common.{◌≡◌, ◌≢◌, ℕ, ◌<◌, ◌⊎◌, inl, inr, Bool, true, false, List, [], ◌∷◌, ◌++◌, length, Option, Some, None, Result, Ok, Err, refl, sym, ap, subst, ◌∙◌, arith}
+use Rattle.std.proofs.lemmas.List.{append-nil}
 use Rattle.std.proofs.lemmas.Option.{none-some}
 use Rattle.std.specs.Prelude.{codes, map, MatchResult, IfOk, IfErr}
 use Rattle.std.specs.List.{AllByRecursion}
 use Rattle.std.proofs.lemmas.Bool.{false≢true}
+use Rattle.covline.specs.declared.reader.Number.{Number}
 use Rattle.covline.specs.declared.trace_line.TraceLine.{TraceLine}
 use Rattle.covline.specs.declared.trace_line.TotalKind.{TotalKind}
 use Rattle.covline.specs.declared.trace_line.TotalKind.TheVariants.{FuncFound, FuncHit, BranchFound, BranchHit, LineFound, LineHit}
 use Rattle.covline.specs.declared.trace_line.LineFault.{LineFault}
 use Rattle.covline.specs.declared.trace_line.LineFault.TheVariants.{BadLine, NumberTooLarge, EmptyPath}
-use Rattle.covline.specs.Spells.{LineData, Test, Path, FuncStart, FuncCount, Branch, Line, Total, End, Skip, line_data, Begins, BeginsWithOneOf, HasKey, key_of, IsNumeral, HasForm, HasSmallNumbers, Spells, HasFault}
-use Rattle.covline.specs.Reading.{Gives, Fields, behind_key, keyed, read_by, forms, read_of, line_fields, total_with, total_fields, path_fields}
+use Rattle.covline.specs.Spells.{LineData, Test, Path, FuncStart, FuncCount, Branch, Line, Total, End, Skip, line_data, comma, Begins, BeginsWithOneOf, HasKey, key_of, IsNumeral, HasForm, HasSmallNumbers, Spells, HasFault}
+use Rattle.covline.specs.Reading.{Gives, Fields, behind_key, keyed, read_by, forms, read_of, with_part, start_fields, calls_fields, branch_fields, line_fields, total_of, total_fields, path_fields}
 use Rattle.covline.proofs.ReadKeys.{begins_or_not, behind_key-none, behind_key-same}
 use Rattle.covline.proofs.ReadNumbers.{whole_is, whole_or_none}
-use Rattle.covline.proofs.ReadForms.{sized, sized_small, small_or_large, line_fields-is, line_fields-or_bad}
+use Rattle.covline.proofs.ReadForms.{sized, sized_small, small_or_large, start_read, calls_read, branch_read, line_read, IsFormed, start_formed, calls_formed, branch_formed, line_formed}
 
 abbrev keys_in : List (List ℕ × Fields) → List (List ℕ)
 keys_in table = map (λ form. form.0) table
@@ -31,24 +33,30 @@ path_read : (path : List ℕ) → 0 < length path → path_fields path ≡ Ok (P
 path_read [] some = absurd (omega (arith, some))
 path_read (b ∷ bs) some = refl
 
+whole_read : (kind : TotalKind) (digits : List ℕ) (value : ℕ) → IsNumeral digits value → total_fields kind digits ≡ sized (Total kind value)
+whole_read kind digits value numeral = ap (λ (n : Option Number). with_part n (total_of kind)) (whole_is digits value numeral)
+
 total_read : (kind : TotalKind) (digits : List ℕ) (value : ℕ) → IsNumeral digits value → read_of (key_of kind ++ digits) ≡ sized (Total kind value)
 unfolding read_of
-total_read FuncFound digits value numeral = ap (total_with FuncFound) (whole_is digits value numeral)
-total_read FuncHit digits value numeral = ap (total_with FuncHit) (whole_is digits value numeral)
-total_read BranchFound digits value numeral = ap (total_with BranchFound) (whole_is digits value numeral)
-total_read BranchHit digits value numeral = ap (total_with BranchHit) (whole_is digits value numeral)
-total_read LineFound digits value numeral = ap (total_with LineFound) (whole_is digits value numeral)
-total_read LineHit digits value numeral = ap (total_with LineHit) (whole_is digits value numeral)
+total_read FuncFound digits value numeral = whole_read FuncFound digits value numeral
+total_read FuncHit digits value numeral = whole_read FuncHit digits value numeral
+total_read BranchFound digits value numeral = whole_read BranchFound digits value numeral
+total_read BranchHit digits value numeral = whole_read BranchHit digits value numeral
+total_read LineFound digits value numeral = whole_read LineFound digits value numeral
+total_read LineHit digits value numeral = whole_read LineHit digits value numeral
 
 pub form_read : (line : List ℕ) (says : LineData) → HasForm line says → read_of line ≡ sized says
 unfolding read_of
 form_read line (Test name) form = ap read_of form
 form_read line (Path path) form = ap read_of form.0 ∙ path_read path form.1
-form_read line (FuncStart number name) form = absurd form
-form_read line (FuncCount count name) form = absurd form
-form_read line (Branch number block branch taken) form = absurd form
-form_read line (Line number count (Some checksum)) form = absurd form
-form_read line (Line number count None) form = ap read_of form.2 ∙ line_fields-is form.0 form.1 number count form.3 form.4
+form_read line (FuncStart number name) form = ap read_of form.1 ∙ start_read form.0 name number form.2 form.3
+form_read line (FuncCount count name) form = ap read_of form.1 ∙ calls_read form.0 name count form.2 form.3
+form_read line (Branch number block branch taken) form =
+    ap read_of form.4 ∙ branch_read form.0 form.1 form.2 form.3 number block branch taken form.5 form.6 form.7 form.8
+form_read line (Line number count None) form =
+    ap read_of (form.2 ∙ ap (λ (t : List ℕ). codes "DA:" ++ form.0 ++ comma ∷ t) (sym (append-nil form.1))) ∙ line_read form.0 form.1 [] number count None form.3 form.4 refl
+form_read line (Line number count (Some checksum)) form =
+    ap read_of form.2 ∙ line_read form.0 form.1 (comma ∷ checksum) number count (Some checksum) form.3 form.4 (refl, form.5)
 form_read line (Total kind value) form = ap read_of form.1 ∙ total_read kind form.0 value form.2
 form_read line End form = ap read_of form.1
 form_read line Skip form = skip_read forms line form.0 form.1
@@ -108,18 +116,15 @@ path_judged : (rest : List ℕ) → IsJudged (codes "SF:" ++ rest) (path_fields 
 path_judged [] = inr (inr refl)
 path_judged (b ∷ bs) = inl (Path (b ∷ bs), (refl, omega arith))
 
-line_judged : (rest : List ℕ) → IsJudged (codes "DA:" ++ rest) (line_fields rest)
-line_judged rest =
-    elim (line_fields-or_bad rest) [
-      | inl found ↦ inl (Line found.number found.count None, (found.digits, found.text, ap (λ (t : List ℕ). codes "DA:" ++ t) found.parts, found.numeral, found.counts))
-      | inr bad ↦ inr (inl (bad, not_path (codes "DA:" ++ rest) refl))
-    ]
+formed_judged : (key : List ℕ) (reader : Fields) (rest : List ℕ) → behind_key (codes "SF:") (key ++ rest) ≡ None → IsFormed key reader rest → IsJudged (key ++ rest) (reader rest)
+formed_judged key reader rest other (inl says) = inl says
+formed_judged key reader rest other (inr bad) = inr (inl (bad, not_path (key ++ rest) other))
 
 total_judged : (kind : TotalKind) (rest : List ℕ) → behind_key (codes "SF:") (key_of kind ++ rest) ≡ None → IsJudged (key_of kind ++ rest) (total_fields kind rest)
 total_judged kind rest other =
     elim (whole_or_none rest) [
       | inl found ↦ inl (Total kind found.0, (rest, refl, found.1))
-      | inr none ↦ inr (inl (ap (total_with kind) none, not_path (key_of kind ++ rest) other))
+      | inr none ↦ inr (inl (rw none refl, not_path (key_of kind ++ rest) other))
     ]
 
 forms_judge : AllByRecursion Judges forms
@@ -128,21 +133,21 @@ forms_judge = (
   (
     path_judged,
     (
-      λ rest. inr (inl (refl, not_path (codes "FN:" ++ rest) refl)),
+      λ rest. formed_judged (codes "FN:") start_fields rest refl (start_formed rest),
       (
-        λ rest. inr (inl (refl, not_path (codes "FNDA:" ++ rest) refl)),
+        λ rest. formed_judged (codes "FNDA:") calls_fields rest refl (calls_formed rest),
         (
           λ rest. total_judged FuncFound rest refl,
           (
             λ rest. total_judged FuncHit rest refl,
             (
-              λ rest. inr (inl (refl, not_path (codes "BRDA:" ++ rest) refl)),
+              λ rest. formed_judged (codes "BRDA:") branch_fields rest refl (branch_formed rest),
               (
                 λ rest. total_judged BranchFound rest refl,
                 (
                   λ rest. total_judged BranchHit rest refl,
                   (
-                    line_judged,
+                    λ rest. formed_judged (codes "DA:") line_fields rest refl (line_formed rest),
                     (
                       λ rest. total_judged LineFound rest refl,
                       (λ rest. total_judged LineHit rest refl, tt),
@@ -185,7 +190,7 @@ meaning_at line meaning same means = let P : Result LineData LineFault → Type 
 
 form_means : (line : List ℕ) (says : LineData) → HasForm line says → HasMeaning line (read_of line)
 form_means line says form =
-    elim (small_or_large line says form) [
+    elim (small_or_large says) [
       | inl small ↦ meaning_at line (Ok says) (form_read line says form ∙ sized_small says small) (record { form = form; small = small })
       | inr large ↦ meaning_at line (Err NumberTooLarge) (form_read line says form ∙ large.1) (says, form, large.0)
     ]
@@ -197,15 +202,15 @@ is_bad (Err BadLine) = true
 is_bad (Err NumberTooLarge) = false
 is_bad (Err EmptyPath) = false
 
-sized_isnt_bad : (line : List ℕ) (says : LineData) → HasForm line says → sized says ≢ Err BadLine
-sized_isnt_bad line says form e =
-    elim (small_or_large line says form) [
+sized_isnt_bad : (says : LineData) → sized says ≢ Err BadLine
+sized_isnt_bad says e =
+    elim (small_or_large says) [
       | inl small ↦ false≢true (ap is_bad (sym (sized_small says small) ∙ e))
       | inr large ↦ false≢true (ap is_bad (sym large.1 ∙ e))
     ]
 
 bad_has_no_form : (line : List ℕ) (says : LineData) → read_of line ≡ Err BadLine → ¬ HasForm line says
-bad_has_no_form line says bad form = sized_isnt_bad line says form (sym (form_read line says form) ∙ bad)
+bad_has_no_form line says bad form = sized_isnt_bad says (sym (form_read line says form) ∙ bad)
 
 -- what is read is what the line says, or its fault
 pub meaning_of : (line : List ℕ) → HasMeaning line (read_of line)
@@ -222,7 +227,7 @@ spelled_read line says spelled = form_read line says spelled.form ∙ sized_smal
 
 large_read : (line : List ℕ) (says : LineData) → HasForm line says → ¬ HasSmallNumbers says → read_of line ≡ Err NumberTooLarge
 large_read line says form large =
-    elim (small_or_large line says form) [
+    elim (small_or_large says) [
       | inl small ↦ absurd (large small)
       | inr too ↦ form_read line says form ∙ too.1
     ]

@@ -1,12 +1,13 @@
--- Reading a number and a count: what a numeral is read as, and that each text begins with a numeral or isn't read.
-use Rattle.std.proofs.Common.{◌≡◌, ◌≢◌, ℕ, ◌+◌, ◌-◌, ◌*◌, ◌^◌, ◌<◌, ◌≤◌, ◌⊎◌, inl, inr, Bool, true, false, cond, eqb, ltb, leb, List, [], ◌∷◌, ◌++◌, All, Some, None, refl, sym, ap, subst, ◌∙◌, arith, fold, option_map}
+-- Reading a number and a count, alone or before a comma: what a numeral is read as, and that each text begins with a
+-- numeral or isn't read.
+use Rattle.std.proofs.Common.{◌≡◌, ◌≢◌, ℕ, ◌+◌, ◌-◌, ◌*◌, ◌^◌, ◌<◌, ◌≤◌, ◌⊎◌, inl, inr, Bool, true, false, cond, eqb, ltb, leb, List, [], ◌∷◌, ◌++◌, All, Option, Some, None, refl, sym, ap, subst, ◌∙◌, arith, fold, option_map}
 use Rattle.std.proofs.lemmas.Bool.{lt-ltb, le-ltb, le-leb, and_from, and_parts, leb-true, cases_lt, cases_eq, cases_Bool, eq-eqb, ne_eqb}
 use Rattle.std.proofs.lemmas.List.{append-nil}
 use Rattle.std.proofs.lemmas.List.Elements.{All-cons, All-nil, All-head, All-tail}
 use Rattle.covline.specs.declared.reader.Number.{Number}
 use Rattle.covline.specs.declared.reader.Number.TheVariants.{Value, TooLarge}
-use Rattle.covline.specs.Spells.{IsDigit, IsNumeral, IsCount, digits_value, minus}
-use Rattle.covline.specs.Reading.{is_digit, capped, with_digit, digits_from, number_at, number_of, count_of, whole}
+use Rattle.covline.specs.Spells.{IsDigit, IsNumeral, IsCount, IsTaken, digits_value, comma, minus}
+use Rattle.covline.specs.Reading.{is_digit, capped, with_digit, digits_from, number_at, number_of, as_zero, count_at, before_comma, field_of, field_at, taken_of, whole}
 
 pub digit_is : (b : ℕ) → IsDigit b → is_digit b ≡ true
 digit_is b d = and_from (leb 48 b) (leb b 57) (le-leb 48 b d.0) (le-leb b 57 d.1)
@@ -121,36 +122,138 @@ whole_or_none text =
 
 -- ---- a count
 
-count_of-plain : (b : ℕ) (bs : List ℕ) → b ≢ minus → count_of (b ∷ bs) ≡ number_of (b ∷ bs)
-count_of-plain b bs differ = let test : eqb b minus ≡ false = ne_eqb b minus differ in rw test refl
+count_at-plain : (b : ℕ) (bs : List ℕ) → b ≢ minus → count_at (b ∷ bs) ≡ number_at (b ∷ bs)
+count_at-plain b bs differ = let test : eqb b minus ≡ false = ne_eqb b minus differ in rw test refl
 
-count_of-minus : (b : ℕ) (bs : List ℕ) → b ≡ minus → count_of (b ∷ bs) ≡ option_map (λ (v : Number). Value 0) (number_of bs)
-count_of-minus b bs same = let test : eqb b minus ≡ true = eq-eqb b minus same in rw test refl
+count_at-minus : (b : ℕ) (bs : List ℕ) → b ≡ minus → count_at (b ∷ bs) ≡ option_map as_zero (number_at bs)
+count_at-minus b bs same = let test : eqb b minus ≡ true = eq-eqb b minus same in rw test refl
 
-numeral_count : (text : List ℕ) (n : ℕ) → IsNumeral text n → count_of text ≡ Some (capped n)
-numeral_count [] n numeral = absurd (omega (arith, numeral.some))
-numeral_count (d ∷ ds) n numeral =
+numeral_count : (text rest : List ℕ) (n : ℕ) → IsNumeral text n → Stops rest → count_at (text ++ rest) ≡ Some (capped n, rest)
+numeral_count [] rest n numeral stops = absurd (omega (arith, numeral.some))
+numeral_count (d ∷ ds) rest n numeral stops =
     let digit = All-head IsDigit d ds numeral.each in
     let differ : d ≢ minus = λ e. omega (arith, digit.0) in
-    count_of-plain d ds differ ∙ whole_is (d ∷ ds) n numeral
+    count_at-plain d (ds ++ rest) differ ∙ number_is (d ∷ ds) rest n numeral stops
 
 -- a count is read as its number
-pub count_is : (text : List ℕ) (n : ℕ) → IsCount text n → count_of text ≡ Some (capped n)
-count_is text n (inl numeral) = numeral_count text n numeral
-count_is text n (inr below) =
+pub count_is : (text rest : List ℕ) (n : ℕ) → IsCount text n → Stops rest → count_at (text ++ rest) ≡ Some (capped n, rest)
+count_is text rest n (inl numeral) stops = numeral_count text rest n numeral stops
+count_is text rest n (inr below) stops =
     let zero_is : Value 0 ≡ capped n = ap capped (sym below.4) in
-    ap count_of below.2 ∙ ap (option_map (λ (v : Number). Value 0)) (whole_is below.0 below.1 below.3) ∙ ap Some zero_is
+    ap (λ (t : List ℕ). count_at (t ++ rest)) below.2
+    ∙ ap (option_map as_zero) (number_is below.0 rest below.1 below.3 stops)
+    ∙ ap (λ (v : Number). Some (v, rest)) zero_is
 
-pub count_or_none : (text : List ℕ) → ((n : ℕ) × IsCount text n) ⊎ (count_of text ≡ None)
+-- the text begins with a count
+pub record BeginsWithCount (text : List ℕ) : Type 0 where
+  pub counted : List ℕ
+  pub rest : List ℕ
+  pub count : ℕ
+  pub parts : text ≡ counted ++ rest
+  pub counts : IsCount counted count
+  pub stops : Stops rest
+
+from_minus : (b : ℕ) (bs : List ℕ) → b ≡ minus → BeginsWithNumeral bs → BeginsWithCount (b ∷ bs)
+from_minus b bs same front = record {
+  counted = minus ∷ front.digits;
+  rest = front.rest;
+  count = 0;
+  parts = ap (λ (c : ℕ). c ∷ bs) same ∙ ap (λ (t : List ℕ). minus ∷ t) front.parts;
+  counts = inr (front.digits, digits_value front.digits, refl, front.numeral, refl);
+  stops = front.stops;
+}
+
+from_plain : (text : List ℕ) → BeginsWithNumeral text → BeginsWithCount text
+from_plain text front =
+    record { counted = front.digits; rest = front.rest; count = digits_value front.digits; parts = front.parts; counts = inl front.numeral; stops = front.stops }
+
+-- each text begins with a count, or isn't read
+pub count_or_none : (text : List ℕ) → BeginsWithCount text ⊎ (count_at text ≡ None)
 count_or_none [] = inr refl
 count_or_none (b ∷ bs) =
     elim (cases_eq b minus) [
-      | inl same ↦ elim (whole_or_none bs) [
-        | inl found ↦ inl (0, inr (bs, found.0, ap (λ (c : ℕ). c ∷ bs) same, found.1, refl))
-        | inr none ↦ inr (count_of-minus b bs same ∙ ap (option_map (λ (v : Number). Value 0)) none)
+      | inl same ↦ elim (numeral_or_none bs) [
+        | inl front ↦ inl (from_minus b bs same front)
+        | inr none ↦ inr (count_at-minus b bs same ∙ ap (option_map as_zero) none)
       ]
-      | inr differ ↦ elim (whole_or_none (b ∷ bs)) [
-        | inl found ↦ inl (found.0, inl found.1)
-        | inr none ↦ inr (count_of-plain b bs differ ∙ none)
+      | inr differ ↦ elim (numeral_or_none (b ∷ bs)) [
+        | inl front ↦ inl (from_plain (b ∷ bs) front)
+        | inr none ↦ inr (count_at-plain b bs differ ∙ none)
       ]
     ]
+
+-- ---- a number or a count, and the comma behind it
+
+pub field_is : (digits rest : List ℕ) (n : ℕ) → IsNumeral digits n → field_at (digits ++ comma ∷ rest) ≡ Some (capped n, rest)
+field_is digits rest n numeral = ap field_of (number_is digits (comma ∷ rest) n numeral refl)
+
+-- the text has a comma at its front
+abbrev pub HasComma : List ℕ → Type 0
+HasComma text = (rest : List ℕ) × (text ≡ comma ∷ rest)
+
+pub comma_or_none : (number : Number) (text : List ℕ) → HasComma text ⊎ (before_comma number text ≡ None)
+comma_or_none number [] = inr refl
+comma_or_none number (b ∷ bs) =
+    elim (cases_eq b comma) [
+      | inl same ↦ inl (bs, ap (λ (c : ℕ). c ∷ bs) same)
+      | inr differ ↦ let test : eqb b comma ≡ false = ne_eqb b comma differ in inr (rw test refl)
+    ]
+
+-- the text begins with a numeral and a comma
+pub record BeginsWithField (text : List ℕ) : Type 0 where
+  pub digits : List ℕ
+  pub rest : List ℕ
+  pub number : ℕ
+  pub parts : text ≡ digits ++ comma ∷ rest
+  pub numeral : IsNumeral digits number
+
+field_from : (text : List ℕ) (front : BeginsWithNumeral text) → BeginsWithField text ⊎ (field_at text ≡ None)
+field_from text front =
+    let number = digits_value front.digits in
+    let read : number_at text ≡ Some (capped number, front.rest) = ap number_at front.parts ∙ number_is front.digits front.rest number front.numeral front.stops in
+    elim (comma_or_none (capped number) front.rest) [
+      | inl found ↦ inl (record { digits = front.digits; rest = found.0; number = number; parts = front.parts ∙ ap (λ (t : List ℕ). front.digits ++ t) found.1; numeral = front.numeral })
+      | inr none ↦ inr (ap field_of read ∙ none)
+    ]
+
+pub field_or_none : (text : List ℕ) → BeginsWithField text ⊎ (field_at text ≡ None)
+field_or_none text =
+    elim (numeral_or_none text) [
+      | inl front ↦ field_from text front
+      | inr none ↦ inr (ap field_of none)
+    ]
+
+pub field_read : (text : List ℕ) (field : BeginsWithField text) → field_at text ≡ Some (capped field.number, field.rest)
+field_read text field = ap field_at field.parts ∙ field_is field.digits field.rest field.number field.numeral
+
+pub count_read : (text : List ℕ) (front : BeginsWithCount text) → count_at text ≡ Some (capped front.count, front.rest)
+count_read text front = ap count_at front.parts ∙ count_is front.counted front.rest front.count front.counts front.stops
+
+-- ---- how often a branch was taken
+
+pub taken_is : (text : List ℕ) (taken : Option ℕ) → IsTaken text taken → taken_of text ≡ Some (option_map capped taken)
+taken_is text None same = ap taken_of same
+taken_is [] (Some n) numeral = absurd (omega (arith, numeral.some))
+taken_is (b ∷ []) (Some n) numeral =
+    let digit = All-head IsDigit b [] numeral.each in
+    let differ : b ≢ minus = λ e. omega (arith, digit.0) in
+    let test : eqb b minus ≡ false = ne_eqb b minus differ in
+    rw test (ap (option_map (λ (v : Number). Some v)) (whole_is (b ∷ []) n numeral))
+taken_is (b ∷ c ∷ cs) (Some n) numeral = ap (option_map (λ (v : Number). Some v)) (whole_is (b ∷ c ∷ cs) n numeral)
+
+-- what isn't a numeral isn't read
+taken_from : (text : List ℕ) → taken_of text ≡ option_map (λ (v : Number). Some v) (number_of text) → ((taken : Option ℕ) × IsTaken text taken) ⊎ (taken_of text ≡ None)
+taken_from text plain =
+    elim (whole_or_none text) [
+      | inl found ↦ inl (Some found.0, found.1)
+      | inr none ↦ inr (plain ∙ ap (option_map (λ (v : Number). Some v)) none)
+    ]
+
+pub taken_or_none : (text : List ℕ) → ((taken : Option ℕ) × IsTaken text taken) ⊎ (taken_of text ≡ None)
+taken_or_none [] = inr refl
+taken_or_none (b ∷ []) =
+    elim (cases_eq b minus) [
+      | inl same ↦ inl (None, ap (λ (c : ℕ). c ∷ []) same)
+      | inr differ ↦ let test : eqb b minus ≡ false = ne_eqb b minus differ in taken_from (b ∷ []) (rw test refl)
+    ]
+taken_or_none (b ∷ c ∷ cs) = taken_from (b ∷ c ∷ cs) refl

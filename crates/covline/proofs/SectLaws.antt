@@ -1,14 +1,15 @@
 -- Steps of a walk over sections, seen as plain data: how many items there are so far, and the first unlawful text.
-use Rattle.std.proofs.Common.{◌≡◌, ℕ, ◌+◌, ◌^◌, ◌<◌, ◌≤◌, List, ◌∷◌, ◌++◌, length, get_or, take, drop, map, sym, ap, subst, ◌∙◌, arith}
-use Rattle.std.specs.Prelude.{All}
+use Rattle.std.proofs.Common.{◌≡◌, ℕ, ◌+◌, ◌^◌, ◌<◌, ◌≤◌, List, [], ◌∷◌, ◌++◌, length, get_or, take, drop, map, sym, ap, subst, ◌∙◌, arith}
+use Rattle.std.specs.Prelude.{All, ◌↔◌}
 use Rattle.std.specs.List.{AllByRecursion}
 use Rattle.std.proofs.lemmas.List.{get_or-map, length-map, length-take, take-append-drop, drop_more, take_all}
-use Rattle.std.proofs.lemmas.List.Elements.{All-head, All-more, All-same, recursion_from_All}
+use Rattle.std.proofs.lemmas.List.Elements.{All-nil, All-cons, All-map, All-head, All-more, All-same, recursion_from_All}
 use Rattle.std.proofs.lemmas.List.Sums.{sum_by_more, sum_by_more_le}
+use Rattle.covline.specs.declared.item.Item.{Item}
 use Rattle.covline.specs.declared.sect.Sect.{Sect}
-use Rattle.covline.specs.Row.{SectData, SubmissionData, items_in}
+use Rattle.covline.specs.Row.{ItemData, SectData, SubmissionData, item_data, items_in}
 use Rattle.covline.specs.SectView.{sect_data}
-use Rattle.covline.specs.Lawful.{most_items, AllFit64, IsLawful, IsLawfulSect, IsFirstUnlawful}
+use Rattle.covline.specs.Lawful.{most_items, AllFit64, IsGoodTest, IsGoodName, IsLawful, IsLawfulItem, IsLawfulSect, IsFirstUnlawful}
 use Rattle.covline.proofs.GoodTexts.{All-part}
 
 -- the section that the code reads at this place
@@ -54,6 +55,26 @@ pub unlawful_among : (sects : List SectData) (k : ℕ) → IsFirstUnlawful sects
 unlawful_among sects k first all =
     let whole : All IsLawfulSect (first.0 ++ first.1 ∷ first.2) = All-same IsLawfulSect (first.0 ++ first.1 ∷ first.2) sects (sym first.3) all in
     first.6 (All-head IsLawfulSect first.1 first.2 (All-part IsLawfulSect first.0 (first.1 ∷ first.2) whole))
+
+-- ---- texts of items
+
+-- each item of the code has lawful texts
+abbrev pub HaveLawfulTexts : {A : Type 0} → List (Item A) → Type 0
+HaveLawfulTexts items = All (λ item. IsLawfulItem (item_data item)) items
+
+lawful_each : {A : Type 0} (items : List (Item A)) → AllByRecursion IsLawfulItem (map item_data items) → HaveLawfulTexts items
+lawful_each [] lawful = All-nil (λ item. IsLawfulItem (item_data item))
+lawful_each (item ∷ items) lawful = All-cons (λ i. IsLawfulItem (item_data i)) item items lawful.0 (lawful_each items lawful.1)
+
+lawful_all : {A : Type 0} (items : List (Item A)) (seen : List ItemData) → map item_data items ≡ seen → HaveLawfulTexts items → AllByRecursion IsLawfulItem seen
+lawful_all items seen e lawful = subst (AllByRecursion IsLawfulItem) e (recursion_from_All IsLawfulItem (map item_data items) (All-map IsLawfulItem item_data items lawful))
+
+-- a section with good names is lawful where the texts of its items are
+pub lawful_sect : {A : Type 0} (s : SectData) (test file : List ℕ) (items : List (Item A)) → test ≡ s.test → file ≡ s.file → map item_data items ≡ s.items → IsGoodTest test → IsGoodName file → HaveLawfulTexts items ↔ IsLawfulSect s
+lawful_sect s test file items same_test same_file same_items good_test good_file = (
+  λ lawful. record { test = subst IsGoodTest same_test good_test; file = subst IsGoodName same_file good_file; items = lawful_all items s.items same_items lawful },
+  λ lawful. lawful_each items (subst (AllByRecursion IsLawfulItem) (sym same_items) lawful.items),
+)
 
 -- ---- submissions
 

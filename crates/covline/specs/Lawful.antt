@@ -1,4 +1,4 @@
--- Which names and submissions are lawful: those that a tracefile can hold.
+-- Which submissions are lawful: their names and checksums fit the lines of a tracefile, and their items aren't too many.
 use Rattle.std.specs.Prelude.{◌≡◌, ◌≢◌, ℕ, ◌<◌, ◌≤◌, ◌^◌, List, [], ◌∷◌, ◌++◌, length, Option, Some, None, All}
 use Rattle.std.specs.List.{AllByRecursion}
 use Rattle.covline.specs.declared.submission.BadSubmission.{BadSubmission}
@@ -35,7 +35,10 @@ pub record IsChecksum (checksum : List ℕ) : Type 0 where
 
 -- the texts of an item are lawful: the name of a function, and the checksum of a line where it has one
 abbrev pub IsLawfulItem : ItemData → Type 0
-IsLawfulItem item = Unit {0}
+IsLawfulItem (LineItem line count (Some checksum)) = IsChecksum checksum
+IsLawfulItem (LineItem line count None) = Unit {0}
+IsLawfulItem (FuncItem name line count) = IsGoodName name
+IsLawfulItem (BranchItem line block branch taken) = Unit {0}
 
 -- the texts of a section and of its items are lawful
 pub record IsLawfulSect (s : SectData) : Type 0 where

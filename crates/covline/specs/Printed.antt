@@ -43,11 +43,11 @@ printed Skip = []
 abbrev pub HasLawfulTexts : LineData → Type 0
 HasLawfulTexts (Test name) = IsGoodTest name
 HasLawfulTexts (Path path) = IsGoodName path
-HasLawfulTexts (FuncStart number name) = ⊥
-HasLawfulTexts (FuncCount count name) = ⊥
-HasLawfulTexts (Branch number block branch taken) = ⊥
-HasLawfulTexts (Line number count None) = ⊥
-HasLawfulTexts (Line number count (Some checksum)) = ⊥
+HasLawfulTexts (FuncStart number name) = IsGoodName name
+HasLawfulTexts (FuncCount count name) = IsGoodName name
+HasLawfulTexts (Branch number block branch taken) = Unit {0}
+HasLawfulTexts (Line number count None) = Unit {0}
+HasLawfulTexts (Line number count (Some checksum)) = IsChecksum checksum
 HasLawfulTexts (Total kind value) = Unit {0}
 HasLawfulTexts End = Unit {0}
 HasLawfulTexts Skip = ⊥

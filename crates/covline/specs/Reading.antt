@@ -1,6 +1,6 @@
 -- How a line is read: its key, and then the key's fields from left to right. The laws above it say that this is what
 -- the definitions of a spelled line and of its fault ask for.
-use Rattle.std.specs.Prelude.{ℕ, ◌+◌, ◌-◌, ◌*◌, ◌^◌, ◌≡◌, Bool, ◌&&◌, ◌==◌, nat_lt, nat_le, if◌then◌else◌, List, [], ◌∷◌, Option, Some, None, Result, Ok, Err, codes, option_map}
+use Rattle.std.specs.Prelude.{ℕ, ◌+◌, ◌-◌, ◌*◌, ◌^◌, ◌≡◌, Bool, true, false, not, ◌&&◌, ◌==◌, nat_lt, nat_le, if◌then◌else◌, List, [], ◌∷◌, Option, Some, None, Result, Ok, Err, codes, option_map}
 use Rattle.covline.specs.declared.reader.Number.{Number}
 use Rattle.covline.specs.declared.reader.Number.TheVariants.{Value, TooLarge}
 use Rattle.covline.specs.declared.trace_line.TraceLine.{TraceLine}
@@ -51,39 +51,120 @@ whole (Some front) = if_last front.0 front.1
 abbrev pub number_of : List ℕ → Option Number
 number_of text = whole (number_at text)
 
--- the text as an execution count
-abbrev pub count_of : List ℕ → Option Number
-count_of [] = None
-count_of (b ∷ bs) = if b == minus then option_map (λ value. Value 0) (number_of bs) else number_of (b ∷ bs)
+-- a count below 0 counts as 0
+abbrev pub as_zero : Number × List ℕ → Number × List ℕ
+as_zero front = (Value 0, front.1)
+
+-- the execution count at the front, and what follows it
+abbrev pub count_at : List ℕ → Option (Number × List ℕ)
+count_at [] = None
+count_at (b ∷ bs) = if b == minus then option_map as_zero (number_at bs) else number_at (b ∷ bs)
+
+-- the number before a comma, and what follows the comma
+abbrev pub before_comma : Number → List ℕ → Option (Number × List ℕ)
+before_comma number [] = None
+before_comma number (b ∷ bs) = if b == comma then Some (number, bs) else None
+
+abbrev pub field_of : Option (Number × List ℕ) → Option (Number × List ℕ)
+field_of None = None
+field_of (Some front) = before_comma front.0 front.1
+
+abbrev pub field_at : List ℕ → Option (Number × List ℕ)
+field_at text = field_of (number_at text)
+
+-- how often a branch was taken: no number for `-`
+abbrev pub taken_of : List ℕ → Option (Option Number)
+taken_of [] = None
+taken_of (b ∷ []) = if b == minus then Some None else option_map Some (number_of (b ∷ []))
+taken_of (b ∷ c ∷ cs) = option_map Some (number_of (b ∷ c ∷ cs))
+
+-- whether a checksum may have the byte: all but comma, space, tab, carriage return and line feed
+abbrev pub is_checksum_byte : ℕ → Bool
+is_checksum_byte b = not (b == 44) && (not (b == 32) && (not (b == 9) && (not (b == 13) && not (b == 10))))
+
+abbrev pub all_checksum_bytes : List ℕ → Bool
+all_checksum_bytes [] = true
+all_checksum_bytes (b ∷ bs) = is_checksum_byte b && all_checksum_bytes bs
+
+abbrev pub is_checksum : List ℕ → Bool
+is_checksum [] = false
+is_checksum (b ∷ bs) = all_checksum_bytes (b ∷ bs)
+
+-- the text, where it is a checksum
+abbrev pub only_checksum : List ℕ → Option (List ℕ)
+only_checksum text = if is_checksum text then Some text else None
+
+-- the checksum behind a count, where there is one
+abbrev pub checksum_of : List ℕ → Option (Option (List ℕ))
+checksum_of [] = Some None
+checksum_of (b ∷ bs) = if b == comma then option_map Some (only_checksum bs) else None
 
 -- what the fields behind a key say
 abbrev pub Fields : Type 0
 Fields = List ℕ → Result LineData LineFault
 
-abbrev pub line_and_count : Number → Option Number → Result LineData LineFault
-line_and_count line None = Err BadLine
-line_and_count TooLarge (Some count) = Err NumberTooLarge
-line_and_count (Value line) (Some TooLarge) = Err NumberTooLarge
-line_and_count (Value line) (Some (Value count)) = Ok (Line line count None)
+-- a part that isn't there makes another form
+abbrev pub with_part : {A : Type 0} → Option A → (A → Result LineData LineFault) → Result LineData LineFault
+with_part None says = Err BadLine
+with_part (Some part) says = says part
 
-abbrev pub behind_line : Number → List ℕ → Result LineData LineFault
-behind_line line [] = Err BadLine
-behind_line line (b ∷ bs) = if b == comma then line_and_count line (count_of bs) else Err BadLine
+-- the number, where it is one of 64 bits
+abbrev pub fit : Number → Result ℕ LineFault
+fit TooLarge = Err NumberTooLarge
+fit (Value n) = Ok n
 
-abbrev pub from_line : Option (Number × List ℕ) → Result LineData LineFault
-from_line None = Err BadLine
-from_line (Some front) = behind_line front.0 front.1
+abbrev pub if_ok : Result ℕ LineFault → (ℕ → Result LineData LineFault) → Result LineData LineFault
+if_ok (Err fault) says = Err fault
+if_ok (Ok n) says = says n
+
+abbrev pub with_fit : Number → (ℕ → Result LineData LineFault) → Result LineData LineFault
+with_fit number says = if_ok (fit number) says
+
+-- a name isn't empty
+abbrev pub with_name : List ℕ → Result LineData LineFault → Result LineData LineFault
+with_name [] says = Err BadLine
+with_name (b ∷ bs) says = says
+
+-- a function's start line and its name
+abbrev pub start_of : Number → List ℕ → Result LineData LineFault
+start_of line name = with_fit line (λ n. Ok (FuncStart n name))
+
+abbrev pub start_fields : Fields
+start_fields fields = with_part (field_at fields) (λ line. with_name line.1 (start_of line.0 line.1))
+
+-- a function's count and its name
+abbrev pub calls_of : Number → List ℕ → Result LineData LineFault
+calls_of count name = with_fit count (λ n. Ok (FuncCount n name))
+
+abbrev pub calls_fields : Fields
+calls_fields fields = with_part (field_of (count_at fields)) (λ count. with_name count.1 (calls_of count.0 count.1))
+
+-- a branch's three numbers, and how often it was taken
+abbrev pub with_taken : ℕ → ℕ → ℕ → Option Number → Result LineData LineFault
+with_taken line block branch None = Ok (Branch line block branch None)
+with_taken line block branch (Some taken) = with_fit taken (λ n. Ok (Branch line block branch (Some n)))
+
+abbrev pub branch_of : Number → Number → Number → Option Number → Result LineData LineFault
+branch_of line block branch taken = with_fit line (λ l. with_fit block (λ k. with_fit branch (λ b. with_taken l k b taken)))
+
+abbrev pub branch_fields : Fields
+branch_fields fields =
+    with_part (field_at fields) (λ line. with_part (field_at line.1) (λ block. with_part (field_at block.1) (λ branch.
+    with_part (taken_of branch.1) (λ taken. branch_of line.0 block.0 branch.0 taken))))
+
+-- a line's number, its count and its checksum
+abbrev pub count_of : Number → Number → Option (List ℕ) → Result LineData LineFault
+count_of line count checksum = with_fit line (λ l. with_fit count (λ n. Ok (Line l n checksum)))
 
 abbrev pub line_fields : Fields
-line_fields fields = from_line (number_at fields)
+line_fields fields =
+    with_part (field_at fields) (λ line. with_part (count_at line.1) (λ count. with_part (checksum_of count.1) (λ checksum. count_of line.0 count.0 checksum)))
 
-abbrev pub total_with : TotalKind → Option Number → Result LineData LineFault
-total_with kind None = Err BadLine
-total_with kind (Some TooLarge) = Err NumberTooLarge
-total_with kind (Some (Value value)) = Ok (Total kind value)
+abbrev pub total_of : TotalKind → Number → Result LineData LineFault
+total_of kind value = with_fit value (λ n. Ok (Total kind n))
 
 abbrev pub total_fields : TotalKind → Fields
-total_fields kind fields = total_with kind (number_of fields)
+total_fields kind fields = with_part (number_of fields) (λ value. total_of kind value)
 
 abbrev pub test_fields : Fields
 test_fields name = Ok (Test name)
@@ -92,11 +173,7 @@ abbrev pub path_fields : Fields
 path_fields [] = Err EmptyPath
 path_fields (b ∷ bs) = Ok (Path (b ∷ bs))
 
--- no form is known for this key
-abbrev pub no_fields : Fields
-no_fields fields = Err BadLine
-
--- the keys by what they tell of: tests, files and lines, then functions and branches, whose forms aren't read
+-- the keys by what they tell of: tests, files and lines, then functions, then branches
 abbrev pub line_keys : List (List ℕ)
 line_keys = codes "DA:" ∷ codes "SF:" ∷ codes "TN:" ∷ codes "LF:" ∷ codes "LH:" ∷ []
 
@@ -123,8 +200,8 @@ keyed (Some rest) fields otherwise = fields rest
 -- the keys with the readers of their fields
 abbrev pub forms : List (List ℕ × Fields)
 forms =
-    (codes "TN:", test_fields) ∷ (codes "SF:", path_fields) ∷ (codes "FN:", no_fields) ∷ (codes "FNDA:", no_fields) ∷ (codes "FNF:", total_fields FuncFound)
-    ∷ (codes "FNH:", total_fields FuncHit) ∷ (codes "BRDA:", no_fields) ∷ (codes "BRF:", total_fields BranchFound) ∷ (codes "BRH:", total_fields BranchHit)
+    (codes "TN:", test_fields) ∷ (codes "SF:", path_fields) ∷ (codes "FN:", start_fields) ∷ (codes "FNDA:", calls_fields) ∷ (codes "FNF:", total_fields FuncFound)
+    ∷ (codes "FNH:", total_fields FuncHit) ∷ (codes "BRDA:", branch_fields) ∷ (codes "BRF:", total_fields BranchFound) ∷ (codes "BRH:", total_fields BranchHit)
     ∷ (codes "DA:", line_fields) ∷ (codes "LF:", total_fields LineFound) ∷ (codes "LH:", total_fields LineHit) ∷ []
 
 abbrev pub read_by : List (List ℕ × Fields) → List ℕ → Result LineData LineFault

@@ -89,12 +89,18 @@ HasKey line = BeginsWithOneOf keys line
 abbrev pub HasForm : List ℕ → LineData → Type 0
 HasForm line (Test name) = line ≡ codes "TN:" ++ name
 HasForm line (Path path) = (line ≡ codes "SF:" ++ path) × (0 < length path)
-HasForm line (FuncStart number name) = ⊥
-HasForm line (FuncCount count name) = ⊥
-HasForm line (Branch number block branch taken) = ⊥
+HasForm line (FuncStart number name) =
+    (digits : List ℕ) × (line ≡ codes "FN:" ++ digits ++ comma ∷ name) × IsNumeral digits number × (0 < length name)
+HasForm line (FuncCount count name) =
+    (text : List ℕ) × (line ≡ codes "FNDA:" ++ text ++ comma ∷ name) × IsCount text count × (0 < length name)
+HasForm line (Branch number block branch taken) =
+    (digits blocks branches text : List ℕ) × (line ≡ codes "BRDA:" ++ digits ++ comma ∷ (blocks ++ comma ∷ (branches ++ comma ∷ text)))
+    × IsNumeral digits number × IsNumeral blocks block × IsNumeral branches branch × IsTaken text taken
 HasForm line (Line number count None) =
     (digits text : List ℕ) × (line ≡ codes "DA:" ++ digits ++ comma ∷ text) × IsNumeral digits number × IsCount text count
-HasForm line (Line number count (Some checksum)) = ⊥
+HasForm line (Line number count (Some checksum)) =
+    (digits text : List ℕ) × (line ≡ codes "DA:" ++ digits ++ comma ∷ (text ++ comma ∷ checksum))
+    × IsNumeral digits number × IsCount text count × IsChecksum checksum
 HasForm line (Total kind value) = (digits : List ℕ) × (line ≡ key_of kind ++ digits) × IsNumeral digits value
 HasForm line End = Begins line (codes "end_of_record")
 HasForm line Skip = ¬ HasKey line × ¬ Begins line (codes "end_of_record")
@@ -117,7 +123,7 @@ pub record Spells (line : List ℕ) (says : LineData) : Type 0 where
   pub form : HasForm line says
   pub small : HasSmallNumbers says
 
--- the one fault of a line that says nothing
+-- the one fault of a line that spells no record
 abbrev pub HasFault : List ℕ → LineFault → Type 0
 HasFault line EmptyPath = line ≡ codes "SF:"
 HasFault line NumberTooLarge = (says : LineData) × HasForm line says × ¬ HasSmallNumbers says

@@ -2,11 +2,12 @@
 
 ghost use Rattle.std.specs.Prelude.{◌≡◌, ◌<◌, ◌≤◌, ◌↔◌, IsTrue, IsSome, MatchOption, All, map};
 ghost use Rattle.std.specs.List.{AllByRecursion};
-ghost use Rattle.covline.specs.Row.{items_in};
+ghost use Rattle.covline.specs.Row.{item_data, items_in};
 ghost use Rattle.covline.specs.SectView.{sect_data};
-ghost use Rattle.covline.specs.Lawful.{most_items, AllFit64, IsFirstUnlawful, IsLawfulSect};
+ghost use Rattle.covline.specs.Lawful.{most_items, AllFit64, IsFirstUnlawful, IsLawfulItem, IsLawfulSect};
 
-use crate::names::good_test;
+use crate::item::Item;
+use crate::names::{good_checksum, good_name, good_test};
 use crate::sect::Sect;
 use std::alloc::Allocator;
 
@@ -47,6 +48,26 @@ pub fn first_unlawful<A: Allocator>(sects: &[Sect<A>]) -> Option<usize>
 fn is_lawful<A: Allocator>(sect: &Sect<A>) -> bool
     ensures { IsTrue result ↔ IsLawfulSect (sect_data sect.now) }
 {
-    let file = sect.file.get();
-    good_test(sect.test.get()) && good_test(file) && !file.is_empty()
+    good_test(sect.test.get()) && good_name(sect.file.get()) && are_lawful(sect.items.get())
+}
+
+/// Whether the texts of the items are lawful.
+fn are_lawful<A: Allocator>(items: &[Item<A>]) -> bool
+    ensures { IsTrue result ↔ All (λ item. IsLawfulItem (item_data item)) items.now }
+{
+    items.iter().all(|item| is_lawful_item(item))
+}
+
+/// Whether the text of the item is lawful, where it has one.
+fn is_lawful_item<A: Allocator>(item: &Item<A>) -> bool
+    ensures { IsTrue result ↔ IsLawfulItem (item_data item.now) }
+{
+    match item {
+        Item::Line {
+            checksum: Some(checksum),
+            ..
+        } => good_checksum(checksum.get()),
+        Item::Func { name, .. } => good_name(name.get()),
+        Item::Line { checksum: None, .. } | Item::Branch { .. } => true,
+    }
 }

@@ -1,9 +1,9 @@
 //! Printing one line of a tracefile.
 
-ghost use Rattle.std.specs.Prelude.{◌≡◌, ◌++◌, ◌∷◌, [], OnOk, OnErr, ℕ, List, codes, decimal};
+ghost use Rattle.std.specs.Prelude.{◌≡◌, ◌++◌, ◌∷◌, [], OnOk, OnErr, ℕ, List, decimal, option_map};
 ghost use Rattle.covline.specs.Lines.{line_feed, lines_of};
-ghost use Rattle.covline.specs.Spells.{line_data, comma, key_of, Spells};
-ghost use Rattle.covline.specs.Printed.{line_text, printed, IsReadable};
+ghost use Rattle.covline.specs.Spells.{Branch, Line, line_data, comma, key_of, Spells};
+ghost use Rattle.covline.specs.Printed.{checksum_text, line_text, printed, taken_text, IsReadable};
 
 use crate::bytes::Bytes;
 use crate::memory::Memory;
@@ -36,10 +36,19 @@ fn append_line<A: Allocator>(line: &TraceLine<'_>, text: &mut Bytes<A>) -> Resul
     match *line {
         TraceLine::Test(name) => append_text(b"TN:", name, text),
         TraceLine::Path(path) => append_text(b"SF:", path, text),
-        TraceLine::FuncStart { .. }
-        | TraceLine::FuncCount { .. }
-        | TraceLine::Branch { .. }
-        | TraceLine::Line { .. } => Err(Memory),
+        TraceLine::FuncStart { line, name } => append_named(b"FN:", u128::from(line), name, text),
+        TraceLine::FuncCount { count, name } => append_named(b"FNDA:", count, name, text),
+        TraceLine::Branch {
+            line,
+            block,
+            branch,
+            taken,
+        } => append_branch(line, block, branch, taken, text),
+        TraceLine::Line {
+            line,
+            count,
+            checksum,
+        } => append_count(line, count, checksum, text),
         TraceLine::Total { kind, value } => append_total(kind, value, text),
         TraceLine::End => append_text(b"end_of_record", b"", text),
         TraceLine::Skip => Ok(()),
@@ -56,6 +65,100 @@ fn append_text<A: Allocator>(key: &[u8], field: &[u8], text: &mut Bytes<A>) -> R
     text.append(b"\n")
 }
 
+/// Appends the record of a function: a key, a number and a name.
+fn append_named<A: Allocator>(
+    key: &[u8],
+    number: u128,
+    name: &[u8],
+    text: &mut Bytes<A>,
+) -> Result<(), Memory>
+    ensures ok { OnOk result
+        (text.new ≡ text.old ++ (key.now ++ decimal number ++ comma ∷ name.now ++ line_feed ∷ [])) }
+    ensures err { OnErr result ((more : List ℕ) × (text.new ≡ text.old ++ more)) }
+{
+    text.append(key)?;
+    append_field(number, text)?;
+    append_text(b"", name, text)
+}
+
+/// Appends the record of a branch.
+fn append_branch<A: Allocator>(
+    line: u64,
+    block: u64,
+    branch: u64,
+    taken: Option<u128>,
+    text: &mut Bytes<A>,
+) -> Result<(), Memory>
+    ensures ok { OnOk result (text.new ≡ text.old ++ printed (Branch line block branch taken)) }
+    ensures err { OnErr result ((more : List ℕ) × (text.new ≡ text.old ++ more)) }
+{
+    text.append(b"BRDA:")?;
+    append_field(u128::from(line), text)?;
+    append_field(u128::from(block), text)?;
+    append_field(u128::from(branch), text)?;
+    append_taken(taken, text)?;
+    text.append(b"\n")
+}
+
+/// Appends how often a branch was taken.
+fn append_taken<A: Allocator>(taken: Option<u128>, text: &mut Bytes<A>) -> Result<(), Memory>
+    ensures ok { OnOk result (text.new ≡ text.old ++ taken_text taken) }
+    ensures err { OnErr result (text.new ≡ text.old) }
+{
+    match taken {
+        Some(taken) => append_number(taken, text),
+        None => text.append(b"-"),
+    }
+}
+
+/// Appends the record of an instrumented line.
+fn append_count<A: Allocator>(
+    line: u64,
+    count: u128,
+    checksum: Option<&[u8]>,
+    text: &mut Bytes<A>,
+) -> Result<(), Memory>
+    ensures ok { OnOk result
+        (text.new ≡ text.old ++ printed (Line line count (option_map (λ c. c.now) checksum.entry))) }
+    ensures err { OnErr result ((more : List ℕ) × (text.new ≡ text.old ++ more)) }
+{
+    text.append(b"DA:")?;
+    append_field(u128::from(line), text)?;
+    append_number(count, text)?;
+    append_checksum(checksum, text)?;
+    text.append(b"\n")
+}
+
+/// Appends a comma and the checksum, where there is one.
+fn append_checksum<A: Allocator>(checksum: Option<&[u8]>, text: &mut Bytes<A>) -> Result<(), Memory>
+    ensures ok { OnOk result (text.new ≡ text.old ++ checksum_text (option_map (λ c. c.now) checksum.entry)) }
+    ensures err { OnErr result ((more : List ℕ) × (text.new ≡ text.old ++ more)) }
+{
+    let Some(checksum) = checksum else {
+        return Ok(());
+    };
+    text.append(b",")?;
+    text.append(checksum)
+}
+
+/// Appends a number and a comma.
+fn append_field<A: Allocator>(number: u128, text: &mut Bytes<A>) -> Result<(), Memory>
+    ensures ok { OnOk result (text.new ≡ text.old ++ (decimal number ++ comma ∷ [])) }
+    ensures err { OnErr result ((more : List ℕ) × (text.new ≡ text.old ++ more)) }
+{
+    append_number(number, text)?;
+    text.append(b",")
+}
+
+/// Appends a number in decimal.
+fn append_number<A: Allocator>(number: u128, text: &mut Bytes<A>) -> Result<(), Memory>
+    ensures ok { OnOk result (text.new ≡ text.old ++ decimal number) }
+    ensures err { OnErr result (text.new ≡ text.old) }
+{
+    let mut digits = Buffer::new();
+    text.append(digits.format(number).as_bytes())
+}
+
 /// Appends a total.
 fn append_total<A: Allocator>(
     kind: TotalKind,
@@ -65,7 +168,6 @@ fn append_total<A: Allocator>(
     ensures ok { OnOk result (text.new ≡ text.old ++ (key_of kind ++ decimal value ++ line_feed ∷ [])) }
     ensures err { OnErr result ((more : List ℕ) × (text.new ≡ text.old ++ more)) }
 {
-    let mut digits = Buffer::new();
     let key: &[u8] = match kind {
         TotalKind::FuncFound => b"FNF:",
         TotalKind::FuncHit => b"FNH:",
@@ -74,5 +176,7 @@ fn append_total<A: Allocator>(
         TotalKind::LineFound => b"LF:",
         TotalKind::LineHit => b"LH:",
     };
-    append_text(key, digits.format(value).as_bytes(), text)
+    text.append(key)?;
+    append_number(u128::from(value), text)?;
+    text.append(b"\n")
 }

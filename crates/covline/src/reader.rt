@@ -1,10 +1,11 @@
 //! Reading one line of a tracefile: its key, then the key's fields from left to right, each key by a function of
 //! its own. Nothing is copied, and each byte is looked at once behind the key.
 
-ghost use Rattle.std.specs.Prelude.{◌≡◌, ◌≤◌, ◌++◌, ℕ, Some, option_map, Err, MatchOption, MatchResult, IfOk, IfErr};
+ghost use Rattle.std.specs.Prelude.{◌≡◌, ◌≤◌, ◌++◌, ℕ, Some, option_map, Err, ◌↔◌, IsTrue, MatchOption, MatchResult, IfOk, IfErr};
 ghost use Rattle.covline.specs.declared.trace_line.LineFault.{LineFault};
 ghost use Rattle.covline.specs.Spells.{LineData, line_data, Spells, HasFault, Begins};
-ghost use Rattle.covline.specs.Reading.{Gives, with_digit, digits_from, number_at, number_of, count_of, line_fields, total_fields, path_fields, no_fields, Lacks, line_keys, function_keys, branch_keys, read_of};
+ghost use Rattle.covline.specs.Lawful.{IsChecksum};
+ghost use Rattle.covline.specs.Reading.{Gives, with_digit, digits_from, number_at, number_of, count_at, before_comma, field_at, taken_of, only_checksum, checksum_of, fit, start_fields, calls_fields, branch_of, branch_fields, line_fields, total_fields, path_fields, Lacks, line_keys, function_keys, branch_keys, read_of};
 
 use crate::trace_line::{LineFault, TotalKind, TraceLine};
 
@@ -15,6 +16,18 @@ enum Number {
     Value(u64),
     /// 2^64 or more.
     TooLarge,
+}
+
+impl Number {
+    /// The number, where it is one of 64 bits.
+    fn fit(self) -> Result<u64, LineFault>
+        ensures { result ≡ fit self }
+    {
+        match self {
+            Number::Value(value) => Ok(value),
+            Number::TooLarge => Err(LineFault::NumberTooLarge),
+        }
+    }
 }
 
 /// The number with one more digit behind it.
@@ -69,46 +82,171 @@ fn read_whole(text: &[u8]) -> Option<Number>
     }
 }
 
-/// The text as an execution count. One with a minus counts as 0, whatever its digits are.
-fn read_count(text: &[u8]) -> Option<Number>
-    ensures { result ≡ count_of text.now }
+/// The execution count at the front of the text, and what follows it. One with a minus counts as 0, whatever its
+/// digits are.
+fn read_count(text: &[u8]) -> Option<(Number, &[u8])>
+    ensures { option_map (λ front. (front.0, front.1.now)) result ≡ count_at text.now }
+{
+    let [b'-', digits @ ..] = text else {
+        return read_number(text);
+    };
+    let (_, rest) = read_number(digits)?;
+    Some((Number::Value(0), rest))
+}
+
+/// A number, and what follows the comma behind it.
+fn split_comma(number: Number, rest: &[u8]) -> Option<(Number, &[u8])>
+    ensures { option_map (λ front. (front.0, front.1.now)) result ≡ before_comma number rest.now }
+{
+    match rest {
+        [b',', rest @ ..] => Some((number, rest)),
+        _ => None,
+    }
+}
+
+/// The number at the front of the text, and what follows the comma behind it.
+fn read_field(text: &[u8]) -> Option<(Number, &[u8])>
+    ensures { option_map (λ front. (front.0, front.1.now)) result ≡ field_at text.now }
+{
+    let (number, rest) = read_number(text)?;
+    split_comma(number, rest)
+}
+
+/// How often a branch was taken: no number for `-`.
+fn read_taken(text: &[u8]) -> Option<Option<Number>>
+    ensures { result ≡ taken_of text.now }
 {
     match text {
-        [b'-', digits @ ..] => read_whole(digits).map(|_| Number::Value(0)),
-        _ => read_whole(text),
+        [b'-'] => Some(None),
+        _ => Some(Some(read_whole(text)?)),
     }
+}
+
+/// Whether the text is a checksum: one or more bytes without comma, space, tab, carriage return and line feed.
+fn is_checksum(text: &[u8]) -> bool
+    ensures { IsTrue result ↔ IsChecksum text.now }
+{
+    !text.is_empty()
+        && text.iter().all(|byte| !matches!(*byte, b',' | b' ' | b'\t' | b'\r' | b'\n'))
+}
+
+/// The text, where it is a checksum.
+fn whole_checksum(text: &[u8]) -> Option<&[u8]>
+    ensures { option_map (λ c. c.now) result ≡ only_checksum text.now }
+{
+    is_checksum(text).then_some(text)
+}
+
+/// The checksum behind a line's count, where there is one: nothing follows the count, or a comma and a checksum.
+fn read_checksum(text: &[u8]) -> Option<Option<&[u8]>>
+    ensures { option_map (option_map (λ c. c.now)) result ≡ checksum_of text.now }
+{
+    match text {
+        [] => Some(None),
+        [b',', checksum @ ..] => Some(Some(whole_checksum(checksum)?)),
+        _ => None,
+    }
+}
+
+/// The fields of `FN:`.
+fn start_record(fields: &[u8]) -> Result<TraceLine<'_>, LineFault>
+    ensures { Gives result (start_fields fields.now) }
+{
+    let Some((line, name @ [_, ..])) = read_field(fields) else {
+        return Err(LineFault::BadLine);
+    };
+    let line = line.fit()?;
+    Ok(TraceLine::FuncStart { line, name })
+}
+
+/// The fields of `FNDA:`.
+fn calls_record(fields: &[u8]) -> Result<TraceLine<'_>, LineFault>
+    ensures { Gives result (calls_fields fields.now) }
+{
+    let Some((count, rest)) = read_count(fields) else {
+        return Err(LineFault::BadLine);
+    };
+    let Some((count, name @ [_, ..])) = split_comma(count, rest) else {
+        return Err(LineFault::BadLine);
+    };
+    let count = u128::from(count.fit()?);
+    Ok(TraceLine::FuncCount { count, name })
+}
+
+/// The fields of `BRDA:`.
+fn branch_record(fields: &[u8]) -> Result<TraceLine<'_>, LineFault>
+    ensures { Gives result (branch_fields fields.now) }
+{
+    let Some((line, rest)) = read_field(fields) else {
+        return Err(LineFault::BadLine);
+    };
+    let Some((block, rest)) = read_field(rest) else {
+        return Err(LineFault::BadLine);
+    };
+    let Some((branch, rest)) = read_field(rest) else {
+        return Err(LineFault::BadLine);
+    };
+    match read_taken(rest) {
+        None => Err(LineFault::BadLine),
+        Some(taken) => fit_branch(line, block, branch, taken),
+    }
+}
+
+/// A branch, where its numbers are of 64 bits.
+fn fit_branch<'a>(
+    line: Number,
+    block: Number,
+    branch: Number,
+    taken: Option<Number>,
+) -> Result<TraceLine<'a>, LineFault>
+    ensures { Gives result (branch_of line block branch taken) }
+{
+    let line = line.fit()?;
+    let block = block.fit()?;
+    let branch = branch.fit()?;
+    let taken = match taken {
+        Some(taken) => Some(u128::from(taken.fit()?)),
+        None => None,
+    };
+    Ok(TraceLine::Branch {
+        line,
+        block,
+        branch,
+        taken,
+    })
 }
 
 /// The fields of `DA:`.
 fn line_record(fields: &[u8]) -> Result<TraceLine<'_>, LineFault>
     ensures { Gives result (line_fields fields.now) }
 {
-    let Some((line, rest)) = read_number(fields) else {
+    let Some((line, rest)) = read_field(fields) else {
         return Err(LineFault::BadLine);
     };
-    let [b',', count @ ..] = rest else {
+    let Some((count, rest)) = read_count(rest) else {
         return Err(LineFault::BadLine);
     };
-    match (line, read_count(count)) {
-        (_, None) => Err(LineFault::BadLine),
-        (Number::Value(line), Some(Number::Value(count))) => Ok(TraceLine::Line {
-            line,
-            count: u128::from(count),
-            checksum: None,
-        }),
-        _ => Err(LineFault::NumberTooLarge),
-    }
+    let Some(checksum) = read_checksum(rest) else {
+        return Err(LineFault::BadLine);
+    };
+    let line = line.fit()?;
+    let count = u128::from(count.fit()?);
+    Ok(TraceLine::Line {
+        line,
+        count,
+        checksum,
+    })
 }
 
 /// The field of a total.
 fn total_record(kind: TotalKind, field: &[u8]) -> Result<TraceLine<'_>, LineFault>
     ensures { Gives result (total_fields kind field.now) }
 {
-    match read_whole(field) {
-        None => Err(LineFault::BadLine),
-        Some(Number::TooLarge) => Err(LineFault::NumberTooLarge),
-        Some(Number::Value(value)) => Ok(TraceLine::Total { kind, value }),
-    }
+    let Some(value) = read_whole(field) else {
+        return Err(LineFault::BadLine);
+    };
+    let value = value.fit()?;
+    Ok(TraceLine::Total { kind, value })
 }
 
 /// The field of `SF:`.
@@ -119,13 +257,6 @@ fn path_record(path: &[u8]) -> Result<TraceLine<'_>, LineFault>
         return Err(LineFault::EmptyPath);
     }
     Ok(TraceLine::Path(path))
-}
-
-/// The fields of a key whose form isn't read.
-fn unread_record(_fields: &[u8]) -> Result<TraceLine<'_>, LineFault>
-    ensures { Gives result (no_fields _fields.now) }
-{
-    Err(LineFault::BadLine)
 }
 
 /// What follows the key, where the line begins with it.
@@ -157,37 +288,37 @@ fn read_line_key(line: &[u8]) -> Option<Result<TraceLine<'_>, LineFault>>
     None
 }
 
-/// A line with a key of functions. Their forms aren't read.
+/// A line with a key of functions.
 fn read_function_key(line: &[u8]) -> Option<Result<TraceLine<'_>, LineFault>>
     ensures { MatchOption result (Lacks function_keys line.now) (λ read. Gives read (read_of line.now)) }
 {
     if let Some(fields) = behind(line, b"FNDA:") {
-        return Some(unread_record(fields));
+        return Some(calls_record(fields));
     }
     if let Some(fields) = behind(line, b"FN:") {
-        return Some(unread_record(fields));
+        return Some(start_record(fields));
     }
-    if let Some(fields) = behind(line, b"FNF:") {
-        return Some(total_record(TotalKind::FuncFound, fields));
+    if let Some(found) = behind(line, b"FNF:") {
+        return Some(total_record(TotalKind::FuncFound, found));
     }
-    if let Some(fields) = behind(line, b"FNH:") {
-        return Some(total_record(TotalKind::FuncHit, fields));
+    if let Some(hit) = behind(line, b"FNH:") {
+        return Some(total_record(TotalKind::FuncHit, hit));
     }
     None
 }
 
-/// A line with a key of branches. Their forms aren't read.
+/// A line with a key of branches.
 fn read_branch_key(line: &[u8]) -> Option<Result<TraceLine<'_>, LineFault>>
     ensures { MatchOption result (Lacks branch_keys line.now) (λ read. Gives read (read_of line.now)) }
 {
     if let Some(fields) = behind(line, b"BRDA:") {
-        return Some(unread_record(fields));
+        return Some(branch_record(fields));
     }
-    if let Some(fields) = behind(line, b"BRF:") {
-        return Some(total_record(TotalKind::BranchFound, fields));
+    if let Some(found) = behind(line, b"BRF:") {
+        return Some(total_record(TotalKind::BranchFound, found));
     }
-    if let Some(fields) = behind(line, b"BRH:") {
-        return Some(total_record(TotalKind::BranchHit, fields));
+    if let Some(hit) = behind(line, b"BRH:") {
+        return Some(total_record(TotalKind::BranchHit, hit));
     }
     None
 }

@@ -92,7 +92,8 @@ impl<A: Allocator> Submission<A> {
         self.items
     }
 
-    /// How many lines of the text don't fit the others: totals that differ from the section's own.
+    /// How many lines of the text don't fit the others: counts of functions without a start line, and totals that differ
+    /// from the section's own.
     pub fn odd(&self) -> u64
         ensures { result ≡ self.now.odd }
     {

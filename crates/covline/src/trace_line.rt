@@ -30,9 +30,15 @@ pub enum TraceLine<'a> {
     /// `SF:<path>`, a source file's section begins.
     Path(&'a [u8]),
     /// `FN:<line>,<name>`, the line that a function starts at. The name isn't empty.
-    FuncStart { line: u64, name: &'a [u8] },
+    FuncStart {
+        line: u64,
+        name: &'a [u8],
+    },
     /// `FNDA:<count>,<name>`, the execution count of a function. The name isn't empty.
-    FuncCount { count: u128, name: &'a [u8] },
+    FuncCount {
+        count: u128,
+        name: &'a [u8],
+    },
     /// `BRDA:<line>,<block>,<branch>,<taken>`, how often a branch was taken: none for `-`, which says that its block
     /// was never executed.
     Branch {
@@ -49,7 +55,10 @@ pub enum TraceLine<'a> {
         checksum: Option<&'a [u8]>,
     },
     /// `FNF:`, `FNH:`, `BRF:`, `BRH:`, `LF:` or `LH:` and a number.
-    Total { kind: TotalKind, value: u64 },
+    Total {
+        kind: TotalKind,
+        value: u64,
+    },
     /// `end_of_record`, the section ends.
     End,
     /// Any other line, which says nothing.

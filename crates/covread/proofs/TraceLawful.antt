@@ -44,9 +44,9 @@ good_behind key number rest line e good =
 texts_good : (line : List ℕ) (says : LineData) → IsGoodTest line → HasForm line says → HasGoodTexts says
 texts_good line (Test name) good form = good_rest (codes "TN:") name (subst (λ (x : List ℕ). IsGoodTest x) form good)
 texts_good line (Path path) good form = record { fits = good_rest (codes "SF:") path (subst (λ (x : List ℕ). IsGoodTest x) form.0 good); some = form.1 }
-texts_good line (FuncStart number name) good form = absurd form
-texts_good line (FuncCount count name) good form = absurd form
-texts_good line (Line number count (Some checksum)) good form = tt
+texts_good line (FuncStart number name) good form = record { fits = good_behind (codes "FN:") form.0 name line form.1 good; some = form.3 }
+texts_good line (FuncCount count name) good form = record { fits = good_behind (codes "FNDA:") form.0 name line form.1 good; some = form.3 }
+texts_good line (Line number count (Some checksum)) good form = form.5
 texts_good line says good form = tt
 
 all_good : (lines : List (List ℕ)) (says : List LineData) → AllByRecursion IsGoodTest lines → AllSpell lines says → AllByRecursion IsGood says
@@ -86,17 +86,17 @@ record IsGoodItem (item : ItemData) : Type 0 where
 
 counted_good : (name : List ℕ) (count : ℕ) (start : Option ℕ) → IfSome start IsSmall → IsGood (FuncCount count name) → AllByRecursion IsGoodItem (counted name count start)
 counted_good name count None small good = tt
-counted_good name count (Some line) small good = (record { fits = (small, good.small); lawful = tt }, tt)
+counted_good name count (Some line) small good = (record { fits = (small, good.small); lawful = good.texts }, tt)
 
 branch_fits : (line block branch : ℕ) (taken : Option ℕ) → HasSmallNumbers (Branch line block branch taken) → Fits64 (BranchItem line block branch taken)
 branch_fits line block branch None small = small
 branch_fits line block branch (Some taken) small = small
 
 said_good : (inside : List LineData) → AllByRecursion IsGood inside → (says : LineData) → IsGood says → AllByRecursion IsGoodItem (items_said inside says)
-said_good inside all (FuncStart line name) good = (record { fits = (good.small, omega arith); lawful = tt }, tt)
+said_good inside all (FuncStart line name) good = (record { fits = (good.small, omega arith); lawful = good.texts }, tt)
 said_good inside all (FuncCount count name) good = counted_good name count (start_in name inside) (start_small name inside all) good
 said_good inside all (Branch line block branch taken) good = (record { fits = branch_fits line block branch taken good.small; lawful = tt }, tt)
-said_good inside all (Line line count checksum) good = (record { fits = good.small; lawful = tt }, tt)
+said_good inside all (Line line count checksum) good = (record { fits = good.small; lawful = good.texts }, tt)
 said_good inside all says good = tt
 
 good_items : (inside : List LineData) → AllByRecursion IsGood inside → AllByRecursion IsGoodItem (items_of inside)

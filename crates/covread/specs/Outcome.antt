@@ -27,7 +27,7 @@ pub record IsFirstFaulty (lines : List (List ℕ)) (at : ℕ) (line : List ℕ) 
   pub goes_on : MayGoOn before
   pub ends_here : ¬ MayGoOn (before ++ line ∷ [])
 
--- counts, totals and ends stand in sections alone; test names and paths stand outside of them alone
+-- start lines, counts, totals and ends stand in sections alone; test names and paths stand outside of them alone
 abbrev pub NeedsSection : LineData → Type 0
 NeedsSection (FuncStart line name) = Unit {0}
 NeedsSection (FuncCount count name) = Unit {0}

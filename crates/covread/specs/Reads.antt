@@ -33,7 +33,7 @@ IsOutside (Line line count checksum) = ⊥
 IsOutside (Total kind value) = ⊥
 IsOutside End = ⊥
 
--- inside of a section stand counts, totals and skipped lines
+-- inside of a section stand start lines, counts, totals and skipped lines
 abbrev pub IsInside : LineData → Type 0
 IsInside (FuncStart line name) = Unit {0}
 IsInside (FuncCount count name) = Unit {0}

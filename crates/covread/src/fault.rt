@@ -15,7 +15,7 @@ pub enum ReadFault {
     /// Fault 2: the line itself is faulty.
     #[error("{fault} at {at}")]
     Line { at: u64, fault: LineFault },
-    /// Fault 3: a count, a total or `end_of_record` where no section is open.
+    /// Fault 3: a start line, a count, a total or `end_of_record` where no section is open.
     #[error("Outside at {at}")]
     Outside { at: u64 },
     /// Fault 4: a test name or a path in an open section.

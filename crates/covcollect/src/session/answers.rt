@@ -2,7 +2,7 @@
 
 ghost use Rattle.std.specs.Prelude.{◌≡◌, ◌^◌, ◌<◌, codes, decimal, IfOk, OnOk, ◌++◌};
 ghost use Rattle.std.specs.Io.KnownBytes.{Appends};
-ghost use Rattle.covbook.specs.Op.{AcceptedAnswer};
+ghost use Rattle.covbook.specs.Op.{AcceptedAnswer, ClashAnswer};
 ghost use Rattle.covbook.specs.View.{answer_data};
 ghost use Rattle.covcollect.specs.Session.{said, answer_text, line_fault_name, fault_text, refused_text};
 ghost use Rattle.covcollect.specs.Streams.{said_so_far};
@@ -33,6 +33,28 @@ pub fn accepted_line<A: Allocator>(
     line.extend_from_slice(Buffer::new().format(odd).as_bytes())?;
     line.extend_from_slice(b"\n")?;
     Ok(line)
+}
+
+/// The line that says that a submission clashes: the file, the line, the checksum that is held and the given one.
+pub fn clash_line<A: Allocator>(
+    alloc: A,
+    file: &[u8],
+    line: u64,
+    held: &[u8],
+    given: &[u8],
+) -> Result<Vec<u8, A>, SessionFault>
+    ensures { IfOk result (λ text. text.items ≡ answer_text (ClashAnswer (record { file = file.now; line = line; held = held.now; given = given.now }))) }
+{
+    let mut text = Vec::from_slice(alloc, b"clash ")?;
+    text.extend_from_slice(file)?;
+    text.extend_from_slice(b" ")?;
+    text.extend_from_slice(Buffer::new().format(line).as_bytes())?;
+    text.extend_from_slice(b" ")?;
+    text.extend_from_slice(held)?;
+    text.extend_from_slice(b" ")?;
+    text.extend_from_slice(given)?;
+    text.extend_from_slice(b"\n")?;
+    Ok(text)
 }
 
 // The name of a line's own fault.
@@ -108,7 +130,15 @@ pub fn say_answer<O: Sink, A: Allocator + Copy>(
             let line = accepted_line(alloc, *number, *items, *odd)?;
             say(line.as_slice(), waiting, sink)
         }
-        Answer::Clash { .. } => Err(SessionFault::Memory),
+        Answer::Clash {
+            file,
+            line,
+            held,
+            given,
+        } => {
+            let text = clash_line(alloc, file.get(), *line, held.get(), given.get())?;
+            say(text.as_slice(), waiting, sink)
+        }
         Answer::Text(text) => {
             say(text.get().get(), waiting, sink)?;
             say(b".\n", waiting, sink)

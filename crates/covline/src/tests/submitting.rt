@@ -2,28 +2,46 @@ use crate::{BadSubmission, Bytes, Item, Items, Memory, Sect, Sects, Submission};
 use std::alloc::Global;
 use std::test::*;
 
-/// Sections of two items each with this test's name and these files.
-fn sects_of(alloc: Global, test: &str, files: &[&str]) -> Result<Sects, Memory> {
-    let mut sects = Sects::new(alloc);
-    for file in files {
-        let mut items = Items::new(alloc);
-        items.push(Item::Line { line: 1, count: 2 })?;
-        items.push(Item::Line { line: 2, count: 0 })?;
-        sects.push(Sect {
-            test: Bytes::of(alloc, test.as_bytes())?,
-            file: Bytes::of(alloc, file.as_bytes())?,
-            items,
-        })?;
-    }
-    Ok(sects)
+/// A section of a line, a function and a branch.
+fn sect_of(
+    alloc: Global,
+    names: (&str, &str),
+    function: &str,
+    checksum: &str,
+) -> Result<Sect, Memory> {
+    let mut items = Items::new(alloc);
+    items.push(Item::Line {
+        line: 1,
+        count: 2,
+        checksum: Some(Bytes::of(alloc, checksum.as_bytes())?),
+    })?;
+    items.push(Item::Func {
+        name: Bytes::of(alloc, function.as_bytes())?,
+        line: 1,
+        count: 0,
+    })?;
+    items.push(Item::Branch {
+        line: 2,
+        block: 0,
+        branch: 1,
+        taken: None,
+    })?;
+    let (test, file) = names;
+    Ok(Sect {
+        test: Bytes::of(alloc, test.as_bytes())?,
+        file: Bytes::of(alloc, file.as_bytes())?,
+        items,
+    })
 }
 
 #[test]
 fn lawful_texts(rt: HostRuntime) -> Result<(), Fail> {
-    let sects = sects_of(rt.alloc(), "", &["a.c", "a\rb.c"])?;
+    let mut sects = Sects::new(rt.alloc());
+    sects.push(sect_of(rt.alloc(), ("", "a.c"), "f", "k")?)?;
+    sects.push(sect_of(rt.alloc(), ("t", "a\rb.c"), "g(int, int)", "+/==")?)?;
     match Submission::of(sects, 3) {
         Ok(submission) => {
-            assert_eq!(rt; submission.items(), 4);
+            assert_eq!(rt; submission.items(), 6);
             assert_eq!(rt; submission.odd(), 3);
             assert_eq!(rt; submission.sects().len(), 2);
         }
@@ -34,21 +52,29 @@ fn lawful_texts(rt: HostRuntime) -> Result<(), Fail> {
 
 #[test]
 fn unlawful_texts(rt: HostRuntime) -> Result<(), Fail> {
-    let cases: [(&str, &str, [&str; 2], usize); 5] = [
-        ("an empty file", "t", ["", ""], 0),
-        ("an empty file behind another", "t", ["a.c", ""], 1),
-        ("a line feed in a file", "t", ["a.c", "b\n"], 1),
-        ("a carriage return in a file's end", "t", ["a\r", "b"], 0),
-        ("a line feed in a test", "t\n", ["a", "b"], 0),
+    let cases: [(&str, (&str, &str), &str, &str); 11] = [
+        ("an empty file", ("t", ""), "f", "k"),
+        ("a line feed in a file", ("t", "b\n"), "f", "k"),
+        ("a carriage return in a file's end", ("t", "a\r"), "f", "k"),
+        ("a line feed in a test", ("t\n", "b"), "f", "k"),
+        ("an empty function name", ("t", "b"), "", "k"),
+        ("a line feed in a function name", ("t", "b"), "f\ng", "k"),
+        ("an empty checksum", ("t", "b"), "f", ""),
+        ("a comma in a checksum", ("t", "b"), "f", "k,"),
+        ("a space in a checksum", ("t", "b"), "f", " k"),
+        ("a tab in a checksum", ("t", "b"), "f", "k\tk"),
+        ("a carriage return in a checksum", ("t", "b"), "f", "k\rk"),
     ];
-    for (name, test, files, wanted) in &cases {
-        let sects = sects_of(rt.alloc(), test, files)?;
+    for (name, names, function, checksum) in &cases {
+        let mut sects = Sects::new(rt.alloc());
+        sects.push(sect_of(rt.alloc(), ("t", "a"), "f", "k")?)?;
+        sects.push(sect_of(rt.alloc(), *names, function, checksum)?)?;
+        sects.push(sect_of(rt.alloc(), ("\n", ""), "", "")?)?;
         match Submission::of(sects, 0) {
             Ok(_submission) => assert!(rt; false, "{name}"),
             Err((sects, fault)) => {
-                let wanted = BadSubmission::BadText { sect: *wanted };
-                assert_eq!(rt; fault, wanted, "{name}");
-                assert_eq!(rt; sects.len(), 2, "{name}");
+                assert_eq!(rt; fault, BadSubmission::BadText { sect: 1 }, "{name}");
+                assert_eq!(rt; sects.len(), 3, "{name}");
             }
         }
     }
