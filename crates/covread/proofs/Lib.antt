@@ -1,7 +1,10 @@
+pub mod AllOf
 pub mod TraceGrammar
 pub mod TraceStands
 pub mod TraceOutcome
 pub mod TraceLaw
+pub mod TraceKept
+pub mod TraceEnd
 pub mod TraceRun
 pub mod TraceLawful
 pub mod TraceLoop

@@ -1,9 +1,9 @@
 -- Lawful texts as a grammar of records, read from left to right: what may follow, and that a text has one reading.
-use Rattle.std.proofs.Common.{◌≡◌, ℕ, Bool, true, false, List, [], ◌∷◌, ◌++◌, refl, sym, ap, subst, ◌∙◌, append_assoc}
+use Rattle.std.proofs.Common.{◌≡◌, ℕ, List, [], ◌∷◌, ◌++◌, refl, sym, ap, subst, ◌∙◌, append_assoc}
 use Rattle.std.specs.Prelude.{◌⊎◌}
 use Rattle.std.specs.List.{flat_map, AllByRecursion}
 use Rattle.std.proofs.lemmas.List.{append-nil}
-use Rattle.covline.specs.Spells.{LineData, Test, Path, Line, Total, End, Skip, Spells, HasFault}
+use Rattle.covline.specs.Spells.{LineData, Test, Path, End, Skip, Spells, HasFault}
 use Rattle.covline.specs.declared.trace_line.LineFault.{LineFault}
 use Rattle.covread.specs.Reads.{Part, Outside, Section, IsInside, IsLawfulPart, records_of}
 
@@ -24,54 +24,41 @@ abbrev pub Accepts : Place → List LineData → Type 0
 Accepts Between [] = Unit {0}
 Accepts Between (Test name ∷ more) = Accepts Between more
 Accepts Between (Path path ∷ more) = Accepts (Within path []) more
-Accepts Between (Line line count ∷ more) = ⊥
-Accepts Between (Total kind value ∷ more) = ⊥
-Accepts Between (End ∷ more) = ⊥
 Accepts Between (Skip ∷ more) = Accepts Between more
+Accepts Between (says ∷ more) = ⊥
 Accepts (Within path inside) [] = ⊥
 Accepts (Within path inside) (Test name ∷ more) = ⊥
 Accepts (Within path inside) (Path other ∷ more) = ⊥
-Accepts (Within path inside) (Line line count ∷ more) = Accepts (Within path (inside ++ Line line count ∷ [])) more
-Accepts (Within path inside) (Total kind value ∷ more) = Accepts (Within path (inside ++ Total kind value ∷ [])) more
 Accepts (Within path inside) (End ∷ more) = Accepts Between more
-Accepts (Within path inside) (Skip ∷ more) = Accepts (Within path (inside ++ Skip ∷ [])) more
+Accepts (Within path inside) (says ∷ more) = Accepts (Within path (inside ++ says ∷ [])) more
 
 -- the parts that records are, from a place
 abbrev pub parts_from : Place → List LineData → List Part
 parts_from Between [] = []
 parts_from Between (Test name ∷ more) = Outside (Test name) ∷ parts_from Between more
 parts_from Between (Path path ∷ more) = parts_from (Within path []) more
-parts_from Between (Line line count ∷ more) = []
-parts_from Between (Total kind value ∷ more) = []
-parts_from Between (End ∷ more) = []
 parts_from Between (Skip ∷ more) = Outside Skip ∷ parts_from Between more
+parts_from Between (says ∷ more) = []
 parts_from (Within path inside) [] = []
 parts_from (Within path inside) (Test name ∷ more) = []
 parts_from (Within path inside) (Path other ∷ more) = []
-parts_from (Within path inside) (Line line count ∷ more) = parts_from (Within path (inside ++ Line line count ∷ [])) more
-parts_from (Within path inside) (Total kind value ∷ more) = parts_from (Within path (inside ++ Total kind value ∷ [])) more
 parts_from (Within path inside) (End ∷ more) = Section path inside ∷ parts_from Between more
-parts_from (Within path inside) (Skip ∷ more) = parts_from (Within path (inside ++ Skip ∷ [])) more
+parts_from (Within path inside) (says ∷ more) = parts_from (Within path (inside ++ says ∷ [])) more
 
 -- inner records lead on in their section
 pub within : (path : List ℕ) (front inside : List LineData) (more : List LineData) → AllByRecursion IsInside inside
     → parts_from (Within path front) (inside ++ more) ≡ parts_from (Within path (front ++ inside)) more
 within path front [] more h = ap (λ (x : List LineData). parts_from (Within path x) more) (sym (append-nil front))
-within path front (Line line count ∷ inside) more h = within path (front ++ Line line count ∷ []) inside more h.1 ∙ ap (λ (x : List LineData). parts_from (Within path x) more) (append_assoc front (Line line count ∷ []) inside)
-within path front (Total kind value ∷ inside) more h = within path (front ++ Total kind value ∷ []) inside more h.1 ∙ ap (λ (x : List LineData). parts_from (Within path x) more) (append_assoc front (Total kind value ∷ []) inside)
-within path front (Skip ∷ inside) more h = within path (front ++ Skip ∷ []) inside more h.1 ∙ ap (λ (x : List LineData). parts_from (Within path x) more) (append_assoc front (Skip ∷ []) inside)
 within path front (Test name ∷ inside) more h = absurd h.0
 within path front (Path other ∷ inside) more h = absurd h.0
 within path front (End ∷ inside) more h = absurd h.0
+within path front (says ∷ inside) more h = within path (front ++ says ∷ []) inside more h.1 ∙ ap (λ (x : List LineData). parts_from (Within path x) more) (append_assoc front (says ∷ []) inside)
 
 -- the parts of a lawful part's records, and of what follows
 pub parts_from-part : (part : Part) (more : List LineData) → IsLawfulPart part → parts_from Between (records_of part ++ more) ≡ part ∷ parts_from Between more
 parts_from-part (Outside (Test name)) more h = refl
 parts_from-part (Outside Skip) more h = refl
-parts_from-part (Outside (Path path)) more h = absurd h
-parts_from-part (Outside (Line line count)) more h = absurd h
-parts_from-part (Outside (Total kind value)) more h = absurd h
-parts_from-part (Outside End) more h = absurd h
+parts_from-part (Outside says) more h = absurd h
 parts_from-part (Section path inside) more h = ap (λ (x : List LineData). parts_from (Within path []) x) (append_assoc inside (End ∷ []) more) ∙ within path [] inside (End ∷ more) h
 
 pub parts_from-parts : (parts : List Part) → AllByRecursion IsLawfulPart parts → parts_from Between (flat_map records_of parts) ≡ parts
@@ -83,56 +70,40 @@ pub one_parts : (a b : List Part) → AllByRecursion IsLawfulPart a → AllByRec
 one_parts a b la lb e = sym (parts_from-parts a la) ∙ ap (parts_from Between) e ∙ parts_from-parts b lb
 
 -- whether the rest is accepted doesn't hang on what the open section said
-abbrev pub IsOpen : Place → Bool
-IsOpen Between = false
-IsOpen (Within path inside) = true
-
 pub accepts_open : (more : List LineData) (p q : List ℕ) (a b : List LineData) → Accepts (Within p a) more → Accepts (Within q b) more
 accepts_open [] p q a b h = h
 accepts_open (Test name ∷ more) p q a b h = h
 accepts_open (Path path ∷ more) p q a b h = h
-accepts_open (Line line count ∷ more) p q a b h = accepts_open more p q (a ++ Line line count ∷ []) (b ++ Line line count ∷ []) h
-accepts_open (Total kind value ∷ more) p q a b h = accepts_open more p q (a ++ Total kind value ∷ []) (b ++ Total kind value ∷ []) h
 accepts_open (End ∷ more) p q a b h = h
-accepts_open (Skip ∷ more) p q a b h = accepts_open more p q (a ++ Skip ∷ []) (b ++ Skip ∷ []) h
+accepts_open (says ∷ more) p q a b h = accepts_open more p q (a ++ says ∷ []) (b ++ says ∷ []) h
 
 -- inner records are passed over in both directions
 pub accepts_inside : (path : List ℕ) (front inside more : List LineData) → AllByRecursion IsInside inside → Accepts (Within path front) more → Accepts (Within path front) (inside ++ more)
 accepts_inside path front [] more h a = a
-accepts_inside path front (Line line count ∷ inside) more h a = accepts_open (inside ++ more) path path front (front ++ Line line count ∷ []) (accepts_inside path front inside more h.1 a)
-accepts_inside path front (Total kind value ∷ inside) more h a = accepts_open (inside ++ more) path path front (front ++ Total kind value ∷ []) (accepts_inside path front inside more h.1 a)
-accepts_inside path front (Skip ∷ inside) more h a = accepts_open (inside ++ more) path path front (front ++ Skip ∷ []) (accepts_inside path front inside more h.1 a)
 accepts_inside path front (Test name ∷ inside) more h a = absurd h.0
 accepts_inside path front (Path other ∷ inside) more h a = absurd h.0
 accepts_inside path front (End ∷ inside) more h a = absurd h.0
+accepts_inside path front (says ∷ inside) more h a = accepts_open (inside ++ more) path path front (front ++ says ∷ []) (accepts_inside path front inside more h.1 a)
 
 pub accepts_after_inside : (path : List ℕ) (front inside more : List LineData) → AllByRecursion IsInside inside → Accepts (Within path front) (inside ++ more) → Accepts (Within path front) more
 accepts_after_inside path front [] more h a = a
-accepts_after_inside path front (Line line count ∷ inside) more h a = accepts_after_inside path front inside more h.1 (accepts_open (inside ++ more) path path (front ++ Line line count ∷ []) front a)
-accepts_after_inside path front (Total kind value ∷ inside) more h a = accepts_after_inside path front inside more h.1 (accepts_open (inside ++ more) path path (front ++ Total kind value ∷ []) front a)
-accepts_after_inside path front (Skip ∷ inside) more h a = accepts_after_inside path front inside more h.1 (accepts_open (inside ++ more) path path (front ++ Skip ∷ []) front a)
 accepts_after_inside path front (Test name ∷ inside) more h a = absurd h.0
 accepts_after_inside path front (Path other ∷ inside) more h a = absurd h.0
 accepts_after_inside path front (End ∷ inside) more h a = absurd h.0
+accepts_after_inside path front (says ∷ inside) more h a = accepts_after_inside path front inside more h.1 (accepts_open (inside ++ more) path path (front ++ says ∷ []) front a)
 
 -- so are lawful parts
 pub accepts_part : (part : Part) (more : List LineData) → IsLawfulPart part → Accepts Between more → Accepts Between (records_of part ++ more)
 accepts_part (Outside (Test name)) more h a = a
 accepts_part (Outside Skip) more h a = a
-accepts_part (Outside (Path path)) more h a = absurd h
-accepts_part (Outside (Line line count)) more h a = absurd h
-accepts_part (Outside (Total kind value)) more h a = absurd h
-accepts_part (Outside End) more h a = absurd h
+accepts_part (Outside says) more h a = absurd h
 accepts_part (Section path inside) more h a =
     subst (λ (x : List LineData). Accepts (Within path []) x) (sym (append_assoc inside (End ∷ []) more)) (accepts_inside path [] inside (End ∷ more) h a)
 
 pub accepts_after_part : (part : Part) (more : List LineData) → IsLawfulPart part → Accepts Between (records_of part ++ more) → Accepts Between more
 accepts_after_part (Outside (Test name)) more h a = a
 accepts_after_part (Outside Skip) more h a = a
-accepts_after_part (Outside (Path path)) more h a = absurd h
-accepts_after_part (Outside (Line line count)) more h a = absurd h
-accepts_after_part (Outside (Total kind value)) more h a = absurd h
-accepts_after_part (Outside End) more h a = absurd h
+accepts_after_part (Outside says) more h a = absurd h
 accepts_after_part (Section path inside) more h a =
     accepts_after_inside path [] inside (End ∷ more) h (subst (λ (x : List LineData). Accepts (Within path []) x) (append_assoc inside (End ∷ []) more) a)
 

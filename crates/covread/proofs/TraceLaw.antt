@@ -4,7 +4,7 @@ use Rattle.std.proofs.lemmas.Bool.{cases_lt}
 use Rattle.std.proofs.lemmas.List.{append-nil}
 use Rattle.covline.specs.Row.{SubmissionData}
 use Rattle.covline.specs.Lines.{lines_of}
-use Rattle.covline.specs.Spells.{LineData, Test, Path, Line, Total, End, Skip, Spells}
+use Rattle.covline.specs.Spells.{LineData, Test, Path, End, Skip, Spells}
 use Rattle.covline.proofs.ReadLaws.{one_meaning, no_fault_beside, one_fault, some_meaning}
 use Rattle.covread.specs.declared.fault.ReadFault.{ReadFault}
 use Rattle.covread.specs.declared.fault.ReadFault.TheVariants as faults
@@ -34,15 +34,11 @@ verdict : (lines : List (List ℕ)) (parts : List Part) (place : Place) (line : 
 verdict lines parts Between line after all (Test name) s e spells = On _ Between (stands_outside lines parts line (Test name) s tt spells)
 verdict lines parts Between line after all Skip s e spells = On _ Between (stands_outside lines parts line Skip s tt spells)
 verdict lines parts Between line after all (Path path) s e spells = On _ _ (stands_path lines parts line path s spells)
-verdict lines parts Between line after all (Line number count) s e spells = Off (faults.Outside (length lines + 1)) (stop_outside line_law lines parts line after all (Line number count) s e spells tt)
-verdict lines parts Between line after all (Total kind value) s e spells = Off (faults.Outside (length lines + 1)) (stop_outside line_law lines parts line after all (Total kind value) s e spells tt)
-verdict lines parts Between line after all End s e spells = Off (faults.Outside (length lines + 1)) (stop_outside line_law lines parts line after all End s e spells tt)
+verdict lines parts Between line after all says s e spells = Off (faults.Outside (length lines + 1)) (stop_outside line_law lines parts line after all says s e spells tt)
 verdict lines parts (Within path inside) line after all (Test name) s e spells = Off (faults.Inside (length lines + 1)) (stop_inside line_law lines parts path inside line after all (Test name) s e spells tt)
 verdict lines parts (Within path inside) line after all (Path other) s e spells = Off (faults.Inside (length lines + 1)) (stop_inside line_law lines parts path inside line after all (Path other) s e spells tt)
-verdict lines parts (Within path inside) line after all (Line number count) s e spells = On _ _ (stands_inside lines parts line path inside (Line number count) s tt spells)
-verdict lines parts (Within path inside) line after all (Total kind value) s e spells = On _ _ (stands_inside lines parts line path inside (Total kind value) s tt spells)
-verdict lines parts (Within path inside) line after all Skip s e spells = On _ _ (stands_inside lines parts line path inside Skip s tt spells)
 verdict lines parts (Within path inside) line after all End s e spells = On _ _ (stands_end lines parts line path inside s spells)
+verdict lines parts (Within path inside) line after all says s e spells = On _ _ (stands_inside lines parts line path inside says s tt spells)
 
 line_verdict : (lines : List (List ℕ)) (parts : List Part) (place : Place) (line : List ℕ) (after all : List (List ℕ))
     → Stands lines parts place → all ≡ lines ++ line ∷ after → Verdict (lines ++ line ∷ []) all

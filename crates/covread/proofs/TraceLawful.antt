@@ -1,53 +1,106 @@
 -- What was read makes a submission, and its numbers fit 64 bits.
-use Rattle.std.proofs.Common.{◌≡◌, ◌≢◌, ℕ, ◌+◌, ◌<◌, ◌≤◌, ◌^◌, List, [], ◌∷◌, ◌++◌, length, sym, subst, arith}
-use Rattle.std.specs.Prelude.{codes, All}
+use Rattle.std.proofs.Common.{◌≡◌, ◌≢◌, ℕ, ◌+◌, ◌<◌, ◌≤◌, ◌^◌, Bool, true, false, List, [], ◌∷◌, ◌++◌, length, Option, Some, None, sym, subst, arith}
+use Rattle.std.specs.Prelude.{codes, All, IfSome, fold, min, if◌then◌else◌}
 use Rattle.std.specs.List.{flat_map, sum_by, AllByRecursion}
+use Rattle.std.specs.Str.{bytes_eq}
 use Rattle.std.proofs.lemmas.List.{append-nil, length-append}
 use Rattle.std.proofs.lemmas.List.Elements.{All-from_recursion, recursion_from_All, All-nil}
 use Rattle.std.proofs.lemmas.List.Sums.{sum_by-cons, count_by-le-length}
 use Rattle.covline.specs.Lines.{line_feed, carriage_return}
-use Rattle.covline.specs.Row.{SectData, items_in}
-use Rattle.covline.specs.Lawful.{IsGoodTest, IsLawfulSect, AllFit64, IsLawful}
-use Rattle.covline.specs.Spells.{LineData, Test, Path, Line, Total, End, Skip, Spells}
+use Rattle.covline.specs.Points.{least}
+use Rattle.covline.specs.Row.{ItemData, LineItem, BranchItem, SectData, items_in}
+use Rattle.covline.specs.Lawful.{IsGoodTest, IsGoodName, IsLawfulItem, IsLawfulSect, Fits64, AllFit64, IsLawful}
+use Rattle.covline.specs.Spells.{LineData, Test, Path, FuncStart, FuncCount, Branch, Line, End, comma, HasForm, HasSmallNumbers}
 use Rattle.covline.proofs.LineLaws.{good_rest}
-use Rattle.covread.specs.Reads.{AllSpell, Part, Outside, Section, records_of, items_of, is_odd, odd_in, sects_from}
+use Rattle.covread.specs.Reads.{AllSpell, Part, Outside, Section, records_of, start_said, start_in, counted, items_said, items_of, is_odd, odd_in, test_after, sects_from}
 use Rattle.covread.specs.Outcome.{most_bytes}
-use Rattle.covread.specs.TraceSteps.{HeldData, stated_in}
+use Rattle.covread.specs.TraceSteps.{HeldData, kept_in}
+use Rattle.covread.proofs.AllOf.{all_front, all_back, all_weaker, all_flat}
 use Rattle.covread.proofs.TraceGrammar.{Place, Between, Within}
+use Rattle.covread.proofs.TraceKept.{without_skips-length}
 use Rattle.covread.proofs.TraceStands.{Stands, AllSpell-length, begun}
-use Rattle.covread.proofs.TraceRun.{Holds, section_of, stated_of}
+use Rattle.covread.proofs.TraceRun.{Holds, section_of}
 
--- ---- what a lawful line says
+-- ---- what a line of a text says
 
-abbrev GoodSays : LineData → Type 0
-GoodSays (Test name) = IsGoodTest name
-GoodSays (Path path) = IsGoodTest path × (0 < length path)
-GoodSays (Line line count) = (line < 2 ^ 64) × (count < 2 ^ 64)
-GoodSays (Total kind value) = Unit {0}
-GoodSays End = Unit {0}
-GoodSays Skip = Unit {0}
+-- its texts fit into a line
+abbrev HasGoodTexts : LineData → Type 0
+HasGoodTexts (Test name) = IsGoodTest name
+HasGoodTexts (Path path) = IsGoodName path
+HasGoodTexts (FuncStart line name) = IsGoodName name
+HasGoodTexts (FuncCount count name) = IsGoodName name
+HasGoodTexts (Line line count checksum) = IsLawfulItem (LineItem line count checksum)
+HasGoodTexts says = Unit {0}
 
-says_good : (line : List ℕ) (says : LineData) → IsGoodTest line → Spells line says → GoodSays says
-says_good line (Test name) good spells = good_rest (codes "TN:") name (subst (λ (x : List ℕ). IsGoodTest x) spells.form good)
-says_good line (Path path) good spells = (good_rest (codes "SF:") path (subst (λ (x : List ℕ). IsGoodTest x) spells.form.0 good), spells.form.1)
-says_good line (Line number count) good spells = spells.small
-says_good line (Total kind value) good spells = tt
-says_good line End good spells = tt
-says_good line Skip good spells = tt
+record IsGood (says : LineData) : Type 0 where
+  small : HasSmallNumbers says
+  texts : HasGoodTexts says
 
-all_good : (lines : List (List ℕ)) (says : List LineData) → AllByRecursion IsGoodTest lines → AllSpell lines says → AllByRecursion GoodSays says
+-- a text behind a key, a number and a comma
+good_behind : (key number rest line : List ℕ) → line ≡ key ++ number ++ comma ∷ rest → IsGoodTest line → IsGoodTest rest
+good_behind key number rest line e good =
+    good_rest (comma ∷ []) rest (good_rest (key ++ number) (comma ∷ rest) (subst (λ (x : List ℕ). IsGoodTest x) e good))
+
+texts_good : (line : List ℕ) (says : LineData) → IsGoodTest line → HasForm line says → HasGoodTexts says
+texts_good line (Test name) good form = good_rest (codes "TN:") name (subst (λ (x : List ℕ). IsGoodTest x) form good)
+texts_good line (Path path) good form = record { fits = good_rest (codes "SF:") path (subst (λ (x : List ℕ). IsGoodTest x) form.0 good); some = form.1 }
+texts_good line (FuncStart number name) good form = record { fits = good_behind (codes "FN:") form.0 name line form.1 good; some = form.3 }
+texts_good line (FuncCount count name) good form = record { fits = good_behind (codes "FNDA:") form.0 name line form.1 good; some = form.3 }
+texts_good line (Line number count (Some checksum)) good form = form.5
+texts_good line says good form = tt
+
+all_good : (lines : List (List ℕ)) (says : List LineData) → AllByRecursion IsGoodTest lines → AllSpell lines says → AllByRecursion IsGood says
 all_good [] [] good spelled = tt
 all_good [] (s ∷ says) good spelled = absurd spelled
 all_good (line ∷ lines) [] good spelled = absurd spelled
-all_good (line ∷ lines) (s ∷ says) good spelled = (says_good line s good.0 spelled.0, all_good lines says good.1 spelled.1)
+all_good (line ∷ lines) (s ∷ says) good spelled =
+    (record { small = spelled.0.small; texts = texts_good line s good.0 spelled.0.form }, all_good lines says good.1 spelled.1)
 
-all_front : {X : Type 0} (P : X → Type 0) (xs ys : List X) → AllByRecursion P (xs ++ ys) → AllByRecursion P xs
-all_front P [] ys h = tt
-all_front P (x ∷ xs) ys h = (h.0, all_front P xs ys h.1)
+-- ---- the items of a section
 
-all_back : {X : Type 0} (P : X → Type 0) (xs ys : List X) → AllByRecursion P (xs ++ ys) → AllByRecursion P ys
-all_back P [] ys h = h
-all_back P (x ∷ xs) ys h = all_back P xs ys h.1
+abbrev IsSmall : ℕ → Type 0
+IsSmall n = n < 2 ^ 64
+
+fold_small : (n : ℕ) (ns : List ℕ) → IsSmall n → AllByRecursion IsSmall ns → IsSmall (fold min n ns)
+fold_small n [] h k = h
+fold_small n (m ∷ ns) h k = fold_small (min n m) ns (omega arith) k.1
+
+least_small : (ns : List ℕ) → AllByRecursion IsSmall ns → IfSome (least ns) IsSmall
+least_small [] h = tt
+least_small (n ∷ ns) h = fold_small n ns h.0 h.1
+
+small_if : (same : Bool) (line : ℕ) → IsSmall line → AllByRecursion IsSmall (if same then line ∷ [] else [])
+small_if true line h = (h, tt)
+small_if false line h = tt
+
+start_said_small : (name : List ℕ) (says : LineData) → IsGood says → AllByRecursion IsSmall (start_said name says)
+start_said_small name (FuncStart line other) good = small_if (bytes_eq other name) line good.small
+start_said_small name says good = tt
+
+start_small : (name : List ℕ) (inside : List LineData) → AllByRecursion IsGood inside → IfSome (start_in name inside) IsSmall
+start_small name inside good = least_small (flat_map (start_said name) inside) (all_flat IsGood IsSmall (start_said name) (start_said_small name) inside good)
+
+record IsGoodItem (item : ItemData) : Type 0 where
+  fits : Fits64 item
+  lawful : IsLawfulItem item
+
+counted_good : (name : List ℕ) (count : ℕ) (start : Option ℕ) → IfSome start IsSmall → IsGood (FuncCount count name) → AllByRecursion IsGoodItem (counted name count start)
+counted_good name count None small good = tt
+counted_good name count (Some line) small good = (record { fits = (small, good.small); lawful = good.texts }, tt)
+
+branch_fits : (line block branch : ℕ) (taken : Option ℕ) → HasSmallNumbers (Branch line block branch taken) → Fits64 (BranchItem line block branch taken)
+branch_fits line block branch None small = small
+branch_fits line block branch (Some taken) small = small
+
+said_good : (inside : List LineData) → AllByRecursion IsGood inside → (says : LineData) → IsGood says → AllByRecursion IsGoodItem (items_said inside says)
+said_good inside all (FuncStart line name) good = (record { fits = (good.small, omega arith); lawful = good.texts }, tt)
+said_good inside all (FuncCount count name) good = counted_good name count (start_in name inside) (start_small name inside all) good
+said_good inside all (Branch line block branch taken) good = (record { fits = branch_fits line block branch taken good.small; lawful = tt }, tt)
+said_good inside all (Line line count checksum) good = (record { fits = good.small; lawful = good.texts }, tt)
+said_good inside all says good = tt
+
+good_items : (inside : List LineData) → AllByRecursion IsGood inside → AllByRecursion IsGoodItem (items_of inside)
+good_items inside all = all_flat IsGood IsGoodItem (items_said inside) (said_good inside all) inside all
 
 -- ---- the sections
 
@@ -58,61 +111,43 @@ no_end (b ∷ front) = λ e. absurd cc
 empty_good : IsGoodTest []
 empty_good = record { one_line = All-nil (λ b. b ≢ line_feed); no_return = no_end }
 
-lawful_texts : (test : List ℕ) (parts : List Part) → IsGoodTest test → AllByRecursion GoodSays (flat_map records_of parts) → AllByRecursion IsLawfulSect (sects_from test parts)
-lawful_texts test [] good h = tt
-lawful_texts test (Outside (Test name) ∷ parts) good h = lawful_texts name parts h.0 h.1
-lawful_texts test (Outside (Path path) ∷ parts) good h = lawful_texts test parts good h.1
-lawful_texts test (Outside (Line line count) ∷ parts) good h = lawful_texts test parts good h.1
-lawful_texts test (Outside (Total kind value) ∷ parts) good h = lawful_texts test parts good h.1
-lawful_texts test (Outside End ∷ parts) good h = lawful_texts test parts good h.1
-lawful_texts test (Outside Skip ∷ parts) good h = lawful_texts test parts good h.1
-lawful_texts test (Section path inside ∷ parts) good h =
-    (record { test = good; file = h.0.0; named = h.0.1 }, lawful_texts test parts good (all_back GoodSays (inside ++ End ∷ []) (flat_map records_of parts) h.1))
+test_good : (test : List ℕ) (says : LineData) → IsGoodTest test → IsGood says → IsGoodTest (test_after test says)
+test_good test (Test name) good h = h.texts
+test_good test says good h = good
 
-items_fit : (inside : List LineData) → AllByRecursion GoodSays inside → AllFit64 (items_of inside)
-items_fit [] h = tt
-items_fit (Line line count ∷ inside) h = (h.0, items_fit inside h.1)
-items_fit (Test name ∷ inside) h = items_fit inside h.1
-items_fit (Path path ∷ inside) h = items_fit inside h.1
-items_fit (Total kind value ∷ inside) h = items_fit inside h.1
-items_fit (End ∷ inside) h = items_fit inside h.1
-items_fit (Skip ∷ inside) h = items_fit inside h.1
+record IsGoodSect (sect : SectData) : Type 0 where
+  fit : AllFit64 sect.items
+  lawful : IsLawfulSect sect
 
-abbrev SectFits : SectData → Type 0
-SectFits s = AllFit64 s.items
-
-sects_fit : (test : List ℕ) (parts : List Part) → AllByRecursion GoodSays (flat_map records_of parts) → AllByRecursion SectFits (sects_from test parts)
-sects_fit test [] h = tt
-sects_fit test (Outside (Test name) ∷ parts) h = sects_fit name parts h.1
-sects_fit test (Outside (Path path) ∷ parts) h = sects_fit test parts h.1
-sects_fit test (Outside (Line line count) ∷ parts) h = sects_fit test parts h.1
-sects_fit test (Outside (Total kind value) ∷ parts) h = sects_fit test parts h.1
-sects_fit test (Outside End ∷ parts) h = sects_fit test parts h.1
-sects_fit test (Outside Skip ∷ parts) h = sects_fit test parts h.1
-sects_fit test (Section path inside ∷ parts) h = (
-  items_fit inside (all_front GoodSays inside (End ∷ []) (all_front GoodSays (inside ++ End ∷ []) (flat_map records_of parts) h.1)),
-  sects_fit test parts (all_back GoodSays (inside ++ End ∷ []) (flat_map records_of parts) h.1),
-)
+good_sects : (test : List ℕ) (parts : List Part) → IsGoodTest test → AllByRecursion IsGood (flat_map records_of parts) → AllByRecursion IsGoodSect (sects_from test parts)
+good_sects test [] good h = tt
+good_sects test (Outside says ∷ parts) good h = good_sects (test_after test says) parts (test_good test says good h.0) h.1
+good_sects test (Section path inside ∷ parts) good h =
+    let rest = flat_map records_of parts in
+    let items = good_items inside (all_front IsGood inside (End ∷ []) (all_front IsGood (inside ++ End ∷ []) rest h.1)) in (
+      record {
+        fit = all_weaker IsGoodItem Fits64 (λ item good. good.fits) (items_of inside) items;
+        lawful = record { test = good; file = h.0.texts; items = all_weaker IsGoodItem IsLawfulItem (λ item good. good.lawful) (items_of inside) items };
+      },
+      good_sects test parts good (all_back IsGood (inside ++ End ∷ []) rest h.1),
+    )
 
 -- ---- how many
 
-few_items : (inside : List LineData) → length (items_of inside) ≤ length inside
-few_items [] = omega arith
-few_items (Line line count ∷ inside) = omega (arith, few_items inside)
-few_items (Test name ∷ inside) = omega (arith, few_items inside)
-few_items (Path path ∷ inside) = omega (arith, few_items inside)
-few_items (Total kind value ∷ inside) = omega (arith, few_items inside)
-few_items (End ∷ inside) = omega (arith, few_items inside)
-few_items (Skip ∷ inside) = omega (arith, few_items inside)
+few_counted : (name : List ℕ) (count : ℕ) (start : Option ℕ) → length (counted name count start) ≤ 1
+few_counted name count None = omega arith
+few_counted name count (Some line) = omega arith
 
-few_stated : (inside : List LineData) → length (stated_of inside) ≤ length inside
-few_stated [] = omega arith
-few_stated (Total kind value ∷ inside) = omega (arith, few_stated inside)
-few_stated (Line line count ∷ inside) = omega (arith, few_stated inside)
-few_stated (Test name ∷ inside) = omega (arith, few_stated inside)
-few_stated (Path path ∷ inside) = omega (arith, few_stated inside)
-few_stated (End ∷ inside) = omega (arith, few_stated inside)
-few_stated (Skip ∷ inside) = omega (arith, few_stated inside)
+few_said : (inside : List LineData) (says : LineData) → length (items_said inside says) ≤ 1
+few_said inside (FuncCount count name) = few_counted name count (start_in name inside)
+few_said inside says = omega arith
+
+few_flat : {X Y : Type 0} (f : X → List Y) → ((x : X) → length (f x) ≤ 1) → (xs : List X) → length (flat_map f xs) ≤ length xs
+few_flat f few [] = omega arith
+few_flat f few (x ∷ xs) = omega (arith, few x, few_flat f few xs, length-append (f x) (flat_map f xs))
+
+few_items : (inside : List LineData) → length (items_of inside) ≤ length inside
+few_items inside = few_flat (items_said inside) (few_said inside) inside
 
 abbrev records : List Part → List LineData
 records parts = flat_map records_of parts
@@ -123,12 +158,7 @@ section_length path inside parts =
 
 few_in_sects : (test : List ℕ) (parts : List Part) → items_in (sects_from test parts) ≤ length (records parts)
 few_in_sects test [] = omega arith
-few_in_sects test (Outside (Test name) ∷ parts) = omega (arith, few_in_sects name parts)
-few_in_sects test (Outside (Path path) ∷ parts) = omega (arith, few_in_sects test parts)
-few_in_sects test (Outside (Line line count) ∷ parts) = omega (arith, few_in_sects test parts)
-few_in_sects test (Outside (Total kind value) ∷ parts) = omega (arith, few_in_sects test parts)
-few_in_sects test (Outside End ∷ parts) = omega (arith, few_in_sects test parts)
-few_in_sects test (Outside Skip ∷ parts) = omega (arith, few_in_sects test parts)
+few_in_sects test (Outside says ∷ parts) = omega (arith, few_in_sects (test_after test says) parts)
 few_in_sects test (Section path inside ∷ parts) =
     let one : SectData = record { test = test; file = path; items = items_of inside } in
     let k = sum_by-cons (λ (s : SectData). length s.items) one (sects_from test parts) in
@@ -139,21 +169,21 @@ few_odd [] = omega arith
 few_odd (Outside says ∷ parts) = let k = sum_by-cons odd_in (Outside says) parts in omega (arith, k, few_odd parts)
 few_odd (Section path inside ∷ parts) =
     let k = sum_by-cons odd_in (Section path inside) parts in
-    omega (arith, k, few_odd parts, count_by-le-length (is_odd (items_of inside)) inside, section_length path inside parts)
+    omega (arith, k, few_odd parts, count_by-le-length (is_odd inside) inside, section_length path inside parts)
 
-few_stated_in : (place : Place) → length (stated_in (section_of place)) ≤ length (begun place)
-few_stated_in Between = omega arith
-few_stated_in (Within path inside) = omega (arith, few_stated inside)
+few_kept : (place : Place) → length (kept_in (section_of place)) ≤ length (begun place)
+few_kept Between = omega arith
+few_kept (Within path inside) = omega (arith, without_skips-length inside)
 
 room : (lines : List (List ℕ)) (parts : List Part) (place : Place) → Stands lines parts place
-    → sum_by odd_in parts + length (stated_in (section_of place)) ≤ length lines
+    → sum_by odd_in parts + length (kept_in (section_of place)) ≤ length lines
 room lines parts place s =
-    omega (arith, few_odd parts, few_stated_in place, AllSpell-length lines (records parts ++ begun place) s.spelled, length-append (records parts) (begun place))
+    omega (arith, few_odd parts, few_kept place, AllSpell-length lines (records parts ++ begun place) s.spelled, length-append (records parts) (begun place))
 
 -- what is odd, and may become so at the end of the section, is at most as much as there are lines
-pub held_room : (lines : List (List ℕ)) (held : HeldData) → Holds lines held → held.odd + length (stated_in held.section) ≤ length lines
+pub held_room : (lines : List (List ℕ)) (held : HeldData) → Holds lines held → held.odd + length (kept_in held.section) ≤ length lines
 held_room lines held h =
-    subst (λ (x : HeldData). x.odd + length (stated_in x.section) ≤ length lines) (sym h.is) (room lines h.parts h.place h.stands)
+    subst (λ (x : HeldData). x.odd + length (kept_in x.section) ≤ length lines) (sym h.is) (room lines h.parts h.place h.stands)
 
 -- ---- the submission
 
@@ -162,10 +192,11 @@ pub lawful_parts : (lines : List (List ℕ)) (parts : List Part) → Stands line
 lawful_parts lines parts s good short =
     let spelled : AllSpell lines (records parts) = subst (λ (x : List LineData). AllSpell lines x) (append-nil (records parts)) s.spelled in
     let says = all_good lines (records parts) (recursion_from_All IsGoodTest lines good) spelled in
+    let sects = good_sects [] parts empty_good says in
     let len = AllSpell-length lines (records parts) spelled in
     record {
       few = omega (arith, few_in_sects [] parts, len, short);
-      texts = All-from_recursion IsLawfulSect (sects_from [] parts) (lawful_texts [] parts empty_good says);
-      fit = sects_fit [] parts says;
+      texts = All-from_recursion IsLawfulSect (sects_from [] parts) (all_weaker IsGoodSect IsLawfulSect (λ sect good. good.lawful) (sects_from [] parts) sects);
+      fit = all_weaker IsGoodSect (λ sect. AllFit64 sect.items) (λ sect good. good.fit) (sects_from [] parts) sects;
       odd_fits = omega (arith, few_odd parts, len, short);
     }

@@ -10,7 +10,7 @@ use Rattle.covread.specs.declared.fault.ReadFault.{ReadFault}
 use Rattle.covread.specs.declared.fault.ReadFault.TheVariants as faults
 use Rattle.covread.specs.Reads.{Part}
 use Rattle.covread.specs.Outcome.{most_bytes, IsFirstFault, Answers}
-use Rattle.covread.specs.TraceSteps.{SectionData, HeldData, submission_held, IsLawfulAt, empty, stated_in, step, TakesLine, ends, EndsLawfully}
+use Rattle.covread.specs.TraceSteps.{SectionData, HeldData, submission_held, IsLawfulAt, empty, kept_in, step, TakesLine, ends, EndsLawfully}
 use Rattle.covread.proofs.TraceGrammar.{Place, Between, Within}
 use Rattle.covread.proofs.TraceStands.{Stands, stands_reads, stop_by_fault, stop_open}
 use Rattle.covread.proofs.TraceLaw.{line_law}
@@ -48,7 +48,7 @@ pub reading_number : (text rest line left : List ℕ) (held : HeldData) (at : �
 reading_number text rest line left held at short r f =
     omega (arith, short, few_lines text, r.number, ap length (place_is text rest line left held at r f), length-append r.before (line ∷ lines_of left))
 
-pub reading_room : (text rest : List ℕ) (held : HeldData) (at : ℕ) → length text ≤ most_bytes → Reading text rest held at → held.odd + length (stated_in held.section) < 2 ^ 64
+pub reading_room : (text rest : List ℕ) (held : HeldData) (at : ℕ) → length text ≤ most_bytes → Reading text rest held at → held.odd + length (kept_in held.section) < 2 ^ 64
 reading_room text rest held at short r =
     omega (arith, short, few_lines text, held_room r.before held r.holds, ap length r.whole, length-append r.before (lines_of rest))
 

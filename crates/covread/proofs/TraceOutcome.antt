@@ -4,7 +4,7 @@ use Rattle.std.specs.List.{flat_map, sum_by}
 use Rattle.std.proofs.lemmas.List.{append-nil}
 use Rattle.covline.specs.Row.{SectData, SubmissionData}
 use Rattle.covline.specs.Lines.{lines_of}
-use Rattle.covline.specs.Spells.{LineData, Test, Path, Line, Total, End, Skip, Spells, HasFault}
+use Rattle.covline.specs.Spells.{LineData, Test, Path, Skip, Spells, HasFault}
 use Rattle.covread.specs.declared.fault.ReadFault.{ReadFault}
 use Rattle.covread.specs.declared.fault.ReadFault.TheVariants as faults
 use Rattle.covread.specs.Reads.{odd_in, records_of, sects_from, Reads}
@@ -67,10 +67,8 @@ may_go_on lines text = ([], subst (λ (w : List (List ℕ)). IsLawfulText w) (sy
 needs_one : (says : LineData) → NeedsSection says → NeedsOutside says → ⊥
 needs_one (Test name) a b = a
 needs_one (Path path) a b = a
-needs_one (Line line count) a b = b
-needs_one (Total kind value) a b = b
-needs_one End a b = b
 needs_one Skip a b = a
+needs_one says a b = b
 
 pub one_fault : LineLaw → (lines : List (List ℕ)) (a b : ReadFault) → IsFirstFault lines a → IsFirstFault lines b → a ≡ b
 one_fault law lines (faults.Line at f) (faults.Line bt g) a b =

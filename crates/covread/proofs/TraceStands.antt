@@ -4,11 +4,12 @@ use Rattle.std.specs.Prelude.{codes}
 use Rattle.std.specs.List.{flat_map, sum_by, AllByRecursion}
 use Rattle.std.proofs.lemmas.List.{append-nil}
 use Rattle.std.proofs.lemmas.List.Concat.{flat_map-append}
-use Rattle.covline.specs.Spells.{LineData, Test, Path, Line, Total, End, Skip, Spells, HasFault}
+use Rattle.covline.specs.Spells.{LineData, Test, Path, End, Skip, Spells, HasFault}
 use Rattle.covline.specs.declared.trace_line.LineFault.{LineFault}
 use Rattle.covread.specs.declared.fault.ReadFault.TheVariants as faults
 use Rattle.covread.specs.Reads.{AllSpell, Part, Outside, Section, IsOutside, IsInside, IsLawfulPart, records_of, odd_in, sects_from, Reads}
 use Rattle.covread.specs.Outcome.{IsLawfulText, MayGoOn, IsFirstFaulty, NeedsSection, NeedsOutside, IsFirstFault}
+use Rattle.covread.proofs.AllOf.{all_push}
 use Rattle.covread.proofs.TraceGrammar.{LineLaw, Place, Between, Within, Accepts, accepts_open, accepts_after_inside, accepts_parts, accepts_after_parts}
 
 -- ---- lines and what they say
@@ -65,10 +66,6 @@ pub record Stands (lines : List (List ℕ)) (parts : List Part) (place : Place) 
 
 pub stands_at_first : Stands [] [] Between
 stands_at_first = record { lawful = tt; inside = tt; spelled = tt }
-
-all_push : {X : Type 0} (P : X → Type 0) (xs : List X) (x : X) → AllByRecursion P xs → P x → AllByRecursion P (xs ++ x ∷ [])
-all_push P [] x h k = (k, tt)
-all_push P (y ∷ xs) x h k = (h.0, all_push P xs x h.1 k)
 
 -- one part more
 flat_push : (parts : List Part) (part : Part) → flat_map records_of (parts ++ part ∷ []) ≡ flat_map records_of parts ++ records_of part
@@ -187,20 +184,15 @@ stop_by_fault law place line lines parts after all s e f has =
     (line, first_faulty law lines parts place line after all s (λ says more spells a. law.never_both line says f spells has) e, has)
 
 no_section : (says : LineData) (more : List LineData) → NeedsSection says → Accepts Between (says ∷ more) → ⊥
-no_section (Line line count) more n a = a
-no_section (Total kind value) more n a = a
-no_section End more n a = a
 no_section (Test name) more n a = n
 no_section (Path path) more n a = n
 no_section Skip more n a = n
+no_section says more n a = a
 
 in_section : (says : LineData) (path : List ℕ) (inside more : List LineData) → NeedsOutside says → Accepts (Within path inside) (says ∷ more) → ⊥
 in_section (Test name) path inside more n a = a
 in_section (Path other) path inside more n a = a
-in_section (Line line count) path inside more n a = n
-in_section (Total kind value) path inside more n a = n
-in_section End path inside more n a = n
-in_section Skip path inside more n a = n
+in_section says path inside more n a = n
 
 -- a line that needs a section, where none is open
 pub stop_outside : LineLaw → (lines : List (List ℕ)) (parts : List Part) (line : List ℕ) (after all : List (List ℕ)) (says : LineData)

@@ -2,7 +2,7 @@
 -- steps speak of it; what a text is read as is said in Reads and Outcome.
 use Rattle.std.specs.Prelude.{◌≡◌, ℕ, ◌+◌, List, [], ◌∷◌, ◌++◌, Option, Some, None, Result, Ok, Err, count_by, option_map}
 use Rattle.covline.specs.Row.{SectData, SubmissionData}
-use Rattle.covline.specs.Spells.{LineData, Test, Path, FuncStart, FuncCount, Branch, Line, Total, End, Skip, Spells, HasFault}
+use Rattle.covline.specs.Spells.{LineData, Test, Path, End, Skip, Spells, HasFault}
 use Rattle.covline.specs.Lawful.{IsLawful}
 use Rattle.covread.specs.declared.trace.reader.OpenSection.{OpenSection}
 use Rattle.covread.specs.declared.trace.reader.Reader.{Reader}
@@ -52,24 +52,15 @@ closed s held = record {
 abbrev pub step_between : HeldData → LineData → Result HeldData Misplaced
 step_between held (Test name) = Ok (record { test = name; section = None; sects = held.sects; odd = held.odd })
 step_between held (Path path) = Ok (record { test = held.test; section = Some (record { file = path; lines = [] }); sects = held.sects; odd = held.odd })
-step_between held (FuncStart line name) = Err misplaced.Outside
-step_between held (FuncCount count name) = Err misplaced.Outside
-step_between held (Branch line block branch taken) = Err misplaced.Outside
-step_between held (Line line count checksum) = Err misplaced.Outside
-step_between held (Total kind value) = Err misplaced.Outside
-step_between held End = Err misplaced.Outside
 step_between held Skip = Ok held
+step_between held says = Err misplaced.Outside
 
 abbrev pub step_within : SectionData → HeldData → LineData → Result HeldData Misplaced
 step_within s held (Test name) = Err misplaced.Inside
 step_within s held (Path path) = Err misplaced.Inside
-step_within s held (FuncStart line name) = Ok (kept s held (FuncStart line name))
-step_within s held (FuncCount count name) = Ok (kept s held (FuncCount count name))
-step_within s held (Branch line block branch taken) = Ok (kept s held (Branch line block branch taken))
-step_within s held (Line line count checksum) = Ok (kept s held (Line line count checksum))
-step_within s held (Total kind value) = Ok (kept s held (Total kind value))
 step_within s held End = Ok (closed s held)
 step_within s held Skip = Ok held
+step_within s held says = Ok (kept s held says)
 
 abbrev pub step_at : Option SectionData → HeldData → LineData → Result HeldData Misplaced
 step_at None held says = step_between held says

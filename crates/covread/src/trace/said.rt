@@ -6,9 +6,15 @@ use covline::TotalKind;
 #[derive(Clone, Copy)]
 pub enum Said<'a> {
     /// `FN:`, the line that a function starts at.
-    FuncStart { line: u64, name: &'a [u8] },
+    FuncStart {
+        line: u64,
+        name: &'a [u8],
+    },
     /// `FNDA:`, the execution count of a function.
-    FuncCount { count: u64, name: &'a [u8] },
+    FuncCount {
+        count: u64,
+        name: &'a [u8],
+    },
     /// `BRDA:`, how often a branch was taken.
     Branch {
         line: u64,
@@ -23,5 +29,8 @@ pub enum Said<'a> {
         checksum: Option<&'a [u8]>,
     },
     /// A total of the section. It counts all lines of it, also those behind it.
-    Total { kind: TotalKind, value: u64 },
+    Total {
+        kind: TotalKind,
+        value: u64,
+    },
 }

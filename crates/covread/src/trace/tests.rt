@@ -3,7 +3,7 @@ use covline::{Item, LineFault};
 use std::alloc::Global;
 use std::test::*;
 
-/// What is looked at: how many items the sections have and how many totals are odd, or the fault.
+/// What is looked at: how many items the sections have and how many lines are odd, or the fault.
 type Wanted = Result<(u64, u64), ReadFault>;
 
 fn read(alloc: Global, text: &[u8]) -> Wanted {
@@ -17,24 +17,49 @@ fn line(at: u64, fault: LineFault) -> Wanted {
     Err(ReadFault::Line { at, fault })
 }
 
+/// Whether there is the count of line 1 alone, and it is this one.
+fn is_one_line(items: &[Item], wanted: u64) -> bool {
+    match items {
+        [Item::Line { line: 1, count, .. }] => *count == wanted,
+        _ => false,
+    }
+}
+
 #[test]
 fn lawful_texts(rt: HostRuntime) {
-    let texts: [(&str, &[u8], u64, u64); 11] = [
-        ("nothing", b"", 0, 0),
-        ("one section", SMALL, 2, 0),
-        ("a section without items", b"SF:/a.c\nend_of_record\n", 0, 0),
+    let texts: [(&str, &[u8], u64); 7] = [
+        ("nothing", b"", 0),
+        ("one section", SMALL, 2),
+        ("a section without items", b"SF:/a.c\nend_of_record\n", 0),
         (
             "the same line twice",
             b"SF:/a.c\nDA:1,18446744073709551615\nDA:1,18446744073709551615\nLF:1\nLH:1\nend_of_record\n",
             2,
-            0,
         ),
         (
             "a count below zero",
             b"SF:/a.c\nDA:1,-7\nLF:1\nLH:0\nend_of_record\n",
             1,
-            0,
         ),
+        (
+            "lines that don't ascend",
+            b"SF:/a.c\nDA:7,0\nDA:2,1\nDA:7,3\nLF:2\nLH:2\nend_of_record\n",
+            3,
+        ),
+        (
+            "skipped lines everywhere",
+            b"# x\n\nSF:a\nVER:x\n\nDA:1,1\nend_of_recordly\n\n",
+            1,
+        ),
+    ];
+    for (name, text, items) in texts {
+        assert_eq!(rt; read(rt.alloc(), text), Ok((items, 0)), "{name}");
+    }
+}
+
+#[test]
+fn totals(rt: HostRuntime) {
+    let texts: [(&str, &[u8], u64, u64); 4] = [
         (
             "another found total",
             b"TN:t\nSF:/a.c\nDA:1,2\nDA:2,0\nLF:9\nLH:1\nend_of_record\n",
@@ -54,22 +79,10 @@ fn lawful_texts(rt: HostRuntime) {
             0,
         ),
         (
-            "lines that don't ascend",
-            b"SF:/a.c\nDA:7,0\nDA:2,1\nDA:7,3\nLF:2\nLH:2\nend_of_record\n",
-            3,
-            0,
-        ),
-        (
             "totals of one section alone",
             b"SF:a\nDA:1,1\nLF:1\nend_of_record\nSF:a\nDA:2,1\nLF:2\nend_of_record\n",
             2,
             1,
-        ),
-        (
-            "skipped lines everywhere",
-            b"# x\n\nSF:a\nVER:x\n\nDA:1,1\nend_of_recordly\n\n",
-            1,
-            0,
         ),
     ];
     for (name, text, items, odd) in texts {
@@ -78,67 +91,75 @@ fn lawful_texts(rt: HostRuntime) {
 }
 
 #[test]
-fn texts_that_stop(rt: HostRuntime) {
-    let texts: [(&str, &[u8], Wanted); 12] = [
-        (
-            "an open section",
-            b"SF:/a.c\nDA:1,1",
-            Err(ReadFault::OpenEnd),
-        ),
-        (
-            "a count without a section",
-            b"DA:1,1",
-            Err(ReadFault::Outside { at: 1 }),
-        ),
-        (
-            "a total without a section",
-            b"\nLF:0\n",
-            Err(ReadFault::Outside { at: 2 }),
-        ),
-        (
-            "an end without a section",
-            b"SF:a\nend_of_record\nend_of_record\n",
-            Err(ReadFault::Outside { at: 3 }),
-        ),
-        (
-            "a malformed count without a section",
-            b"DA:x",
-            line(1, LineFault::BadLine),
-        ),
+fn lines_outside_of_sections(rt: HostRuntime) {
+    let texts: [(&str, &[u8], u64); 8] = [
+        ("a line's count", b"DA:1,1", 1),
+        ("a function's start line", b"FN:1,f", 1),
+        ("a function's count", b"FNDA:1,f", 1),
+        ("a branch", b"BRDA:1,0,0,-", 1),
+        ("a total of functions", b"FNF:0", 1),
+        ("a total of lines", b"\nLF:0\n", 2),
+        ("an end", b"SF:a\nend_of_record\nend_of_record\n", 3),
+        ("the first of two faults", b"LF:0\nDA:x\n", 1),
+    ];
+    for (name, text, at) in texts {
+        assert_eq!(rt;
+            read(rt.alloc(), text),
+            Err(ReadFault::Outside { at }),
+            "{name}"
+        );
+    }
+}
+
+#[test]
+fn open_sections(rt: HostRuntime) {
+    let texts: [(&str, &[u8], ReadFault); 3] = [
         (
             "a test name in a section",
             b"TN:t\nSF:/a.c\nTN:u\n",
-            Err(ReadFault::Inside { at: 3 }),
+            ReadFault::Inside { at: 3 },
         ),
         (
             "a path in a section",
             b"SF:/a.c\nSF:/b.c\n",
-            Err(ReadFault::Inside { at: 2 }),
+            ReadFault::Inside { at: 2 },
         ),
-        ("an empty path", b"SF:", line(1, LineFault::EmptyPath)),
+        (
+            "a section without an end",
+            b"SF:/a.c\nDA:1,1",
+            ReadFault::OpenEnd,
+        ),
+    ];
+    for (name, text, fault) in texts {
+        assert_eq!(rt; read(rt.alloc(), text), Err(fault), "{name}");
+    }
+}
+
+#[test]
+fn faulty_lines(rt: HostRuntime) {
+    let texts: [(&str, &[u8], u64, LineFault); 4] = [
+        (
+            "a malformed count outside of sections",
+            b"DA:x",
+            1,
+            LineFault::BadLine,
+        ),
+        ("an empty path", b"SF:", 1, LineFault::EmptyPath),
         (
             "an empty path in a section",
             b"SF:/a.c\nSF:\n",
-            line(2, LineFault::EmptyPath),
+            2,
+            LineFault::EmptyPath,
         ),
         (
             "a count of 2^64",
             b"SF:/a.c\nDA:1,18446744073709551616",
-            line(2, LineFault::NumberTooLarge),
-        ),
-        (
-            "a later key without a section",
-            b"FN:1,f",
-            line(1, LineFault::BadLine),
-        ),
-        (
-            "the first of two faults",
-            b"LF:0\nDA:x\n",
-            Err(ReadFault::Outside { at: 1 }),
+            2,
+            LineFault::NumberTooLarge,
         ),
     ];
-    for (name, text, wanted) in texts {
-        assert_eq!(rt; read(rt.alloc(), text), wanted, "{name}");
+    for (name, text, at, fault) in texts {
+        assert_eq!(rt; read(rt.alloc(), text), line(at, fault), "{name}");
     }
 }
 
@@ -172,10 +193,7 @@ fn carriage_returns(rt: HostRuntime) {
             [sect] => {
                 assert_eq!(rt; sect.test.get(), b"".as_slice());
                 assert_eq!(rt; sect.file.get(), b"/a.c".as_slice());
-                assert_eq!(rt;
-                    sect.items.get(),
-                    [Item::Line { line: 1, count: 1 }].as_slice()
-                );
+                assert!(rt; is_one_line(sect.items.get(), 1));
             }
             sects => assert_eq!(rt; sects.len(), 1),
         },
@@ -227,10 +245,7 @@ fn long_lines(rt: HostRuntime) -> Result<(), Fail> {
         Ok(submission) => match submission.sects() {
             [sect] => {
                 assert!(rt; sect.file.get() == zeros.as_slice(), "the path");
-                assert_eq!(rt;
-                    sect.items.get(),
-                    [Item::Line { line: 1, count: 2 }].as_slice()
-                );
+                assert!(rt; is_one_line(sect.items.get(), 2));
             }
             sects => assert_eq!(rt; sects.len(), 1),
         },
