@@ -34,7 +34,7 @@ impl SectKey<'_> {
     }
 
     /// Whether the section is of this file and this test.
-    fn is_of<A: Allocator>(&self, sect: &Sect<A>) -> bool
+    pub(crate) fn is_of<A: Allocator>(&self, sect: &Sect<A>) -> bool
         ensures { result ≡ is_sect_of (key_data self.now) (sect_data sect.now) }
     {
         sect.file.get() == self.file && sect.test.get() == self.test
