@@ -24,13 +24,13 @@ pub(crate) fn next_of<P: Ord + Copy, I: Iterator<Item = P> + Drop>(
 fn nearer<P: Ord + Copy>(point: P, last: Option<P>, best: Option<P>) -> Option<P>
     ensures { result ≡ nearer P.cmp last best point }
 {
-    let is_behind = match last {
+    let is_behind = match &last {
         None => true,
-        Some(taken) => taken < point,
+        Some(taken) => *taken < point,
     };
-    let is_nearer = match best {
+    let is_nearer = match &best {
         None => true,
-        Some(found) => point < found,
+        Some(found) => point < *found,
     };
     if is_behind && is_nearer {
         Some(point)
