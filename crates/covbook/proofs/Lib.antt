@@ -3,6 +3,7 @@ pub mod Ascend
 pub mod Nearest
 pub mod Orders
 pub mod Walks
+pub mod Roads
 pub mod Bounds
 pub mod Texts
 pub mod Runs
