@@ -26,7 +26,7 @@ pub(crate) fn next_name<'a, A: Allocator>(
 ) -> Option<&'a [u8]>
     ensures { IsNext (slice_cmp nat_cmp) (option_map (λ n. n.now) last.entry) (func_points (items_at (key_data key.entry) (all_rows (map rows_of held.now)))) (option_map (λ n. n.now) result) }
 {
-    next_of(ItemsAt::of(held, key).flat_map(name_of), last)
+    next_of(ItemsAt::of(held, key).flat_map(|item| name_of(item)), last)
 }
 
 /// The name of the function that a function's item speaks of.
