@@ -1,16 +1,19 @@
 -- How large a sum and how long a list of items can get.
-use Rattle.std.proofs.Common.{◌≡◌, ℕ, ◌+◌, ◌*◌, ◌^◌, ◌<◌, ◌≤◌, Bool, true, false, if◌then◌else◌, ◌==◌, None, Some, List, [], ◌∷◌, ◌++◌, length, map, filter, refl, sym, ap, ◌∙◌, subst, arith}
+use Rattle.std.proofs.Common.{◌≡◌, ℕ, ◌+◌, ◌*◌, ◌^◌, ◌<◌, ◌≤◌, Bool, true, false, if◌then◌else◌, ◌==◌, Option, None, Some, unwrap_or, List, [], ◌∷◌, ◌++◌, length, take, drop, map, filter, refl, sym, ap, ◌∙◌, subst, arith}
+use Rattle.std.specs.Iterator.{Yields}
 use Rattle.std.specs.Str.{bytes_eq}
 use Rattle.std.specs.List.{sum_by, flat_map, AllByRecursion}
-use Rattle.std.proofs.lemmas.List.{length-append, length-map}
+use Rattle.std.proofs.lemmas.List.{length-append, length-map, map-id, take-append-drop}
 use Rattle.std.proofs.lemmas.List.Sums.{sum_by-cons, sum_by-append, length-filter, count_by-le-length}
+use Rattle.std.proofs.lemmas.Iterator.{YieldsList}
+use Rattle.std.proofs.lemmas.Iterator.Consumers.{YieldsList-so_far}
 use Rattle.covline.specs.Row.{ItemData, LineItem, FuncItem, BranchItem, SectData, SubmissionData, Row, rows_of, rows_of_sect, items_in}
 use Rattle.covline.specs.Points.{BranchPoint}
 use Rattle.covline.specs.Lawful.{IsLawful, Fits64, AllFit64}
 use Rattle.covbook.specs.Held.{IsHeld}
 use Rattle.covbook.specs.KeyView.{is_sect_of}
 use Rattle.covbook.specs.Step.{all_rows}
-use Rattle.covbook.specs.Value.{Key, has_key, items_at, is_branch, line_added, function_added, taken_said}
+use Rattle.covbook.specs.Value.{Key, has_key, items_at, is_branch, line_added, function_added, sum_if_any, taken_said}
 use Rattle.covbook.specs.Walk.{sects_of, items_if, items_of_sects}
 use Rattle.covbook.proofs.Walks.{items_in_table}
 
@@ -87,10 +90,12 @@ function_added_fits name (FuncItem other line count) fit = few_if (bytes_eq othe
 function_added_fits name (LineItem line count checksum) fit = omega arith
 function_added_fits name (BranchItem line block branch taken) fit = omega arith
 
--- the numbers of a branch, item by item
-abbrev sum_of : List ℕ → ℕ
+-- ---- sums of numbers
+
+abbrev pub sum_of : List ℕ → ℕ
 sum_of numbers = sum_by (λ n. n) numbers
 
+-- the numbers of a branch, item by item
 sum_said : (point : BranchPoint) → ItemData → ℕ
 sum_said point item = sum_of (taken_said point item)
 
@@ -115,3 +120,23 @@ sum_joined point (item ∷ items) =
 pub taken_fits : (point : BranchPoint) (key : Key) (held : List SubmissionData) → IsHeld held → sum_of (flat_map (taken_said point) (items_at key (all_rows (map rows_of held)))) < 2 ^ 128
 taken_fits point key held h =
     omega (arith, sum_joined point (items_at key (all_rows (map rows_of held))), sum_fits (sum_said point) (sum_said_fits point) key held h)
+
+-- the numbers that came so far have no larger sum than all of them
+pub sum_so_far : {S : Type 0} {steps : S → Option ℕ → S → Type 0} {s : S} {all : List ℕ} (top : ℕ) (ns : List ℕ) (t : S) → Yields steps s ns t → YieldsList steps (λ n. n) s all → sum_of all < top → sum_of ns < top
+sum_so_far {all = all} top ns t yields road fits =
+    let front : ns ≡ take (length ns) all = sym (map-id ns) ∙ YieldsList-so_far road ns t yields in
+    let parts : sum_of all ≡ sum_of ns + sum_of (drop (length ns) all) =
+    ap sum_of (sym (take-append-drop (length ns) all)) ∙ sum_by-append (λ n. n) (take (length ns) all) (drop (length ns) all)
+    ∙ ap (λ (xs : List ℕ). sum_of xs + sum_of (drop (length ns) all)) (sym front) in
+    omega (arith, parts, fits)
+
+sum_or_zero : (ns : List ℕ) → unwrap_or (sum_if_any ns) 0 ≡ sum_of ns
+sum_or_zero [] = refl
+sum_or_zero (n ∷ ns) = refl
+
+-- one number more
+pub sum_more : (ns : List ℕ) (n : ℕ) (sum : Option ℕ) → sum ≡ sum_if_any ns → sum_of (ns ++ n ∷ []) ≡ unwrap_or sum 0 + n
+sum_more ns n sum is =
+    let so_far : unwrap_or sum 0 ≡ sum_of ns = ap (λ o. unwrap_or o 0) is ∙ sum_or_zero ns in
+    let last : sum_of (n ∷ []) ≡ 0 + n = refl in
+    omega (arith, sum_by-append (λ m. m) ns (n ∷ []), so_far, last)

@@ -71,6 +71,10 @@ module _ {S A : Type 0} {steps : S → Option A → S → Type 0} {s : S} where
   drained : {B : Type 0} {v : A → B} {all : List B} (xs : List A) → Drains steps s xs → YieldsList steps v s all → map v xs ≡ all
   drained xs drains road = (YieldsList-end road xs drains.1.0 drains.1.1 None drains.0 refl drains.1.2).0
 
+  -- all numbers of a chain
+  pub all_on_road : {all : List A} (xs : List A) → Drains steps s xs → YieldsList steps (λ n. n) s all → xs ≡ all
+  all_on_road xs drains road = sym (map-id xs) ∙ drained xs drains road
+
   -- what comes next, where v reads the members
   pub next_on_road : {X : Type 0} {v : A → X} {all : List X} (own : A → A → Ordering) (cmp : X → X → Ordering) → ((a b : A) → own a b ≡ cmp (v a) (v b)) → (last r : Option A)
       → (xs : List A) × Drains steps s xs × IsNext own last xs r → YieldsList steps v s all → IsNext cmp (option_map v last) all (option_map v r)
@@ -81,7 +85,7 @@ module _ {S A : Type 0} {steps : S → Option A → S → Type 0} {s : S} where
   pub next_number_on_road : {all : List A} (cmp : A → A → Ordering) (last r : Option A)
       → (xs : List A) × Drains steps s xs × IsNext cmp last xs r → YieldsList steps (λ n. n) s all → IsNext cmp last all r
   next_number_on_road cmp last r found road =
-      subst (λ (ys : List A). IsNext cmp last ys r) (sym (map-id found.0) ∙ drained found.0 found.1 road) found.2
+      subst (λ (ys : List A). IsNext cmp last ys r) (all_on_road found.0 found.1 road) found.2
 
 first_is : {S A B : Type 0} (steps : S → Option A → S → Type 0) (v : A → B) (s t : S) (r : Option A) (all : List B) → steps s r t → AlwaysYields steps v s all → option_map v r ≡ first_of all
 first_is steps v s t None [] step gives = refl

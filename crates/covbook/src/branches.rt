@@ -1,6 +1,8 @@
 //! Which branches the held rows of a file and a test have, and their values, found by passing over the rows.
 
-ghost use Rattle.std.specs.Prelude.{◌≡◌, map, option_map, option_to_list};
+ghost use Rattle.std.specs.Prelude.{◌≡◌, ◌<◌, ◌^◌, ℕ, List, map, option_map, option_to_list};
+ghost use Rattle.std.specs.Iterator.{Drains, IsFinite, Yields};
+ghost use Rattle.std.specs.List.{sum_by};
 ghost use Rattle.covline.specs.Points.{branch_point, branch_points};
 ghost use Rattle.covline.specs.Row.{item_data, rows_of};
 ghost use Rattle.covbook.specs.BranchView.{branch_data};
@@ -8,7 +10,7 @@ ghost use Rattle.covbook.specs.Held.{IsHeld};
 ghost use Rattle.covbook.specs.KeyView.{key_data};
 ghost use Rattle.covbook.specs.Next.{IsNext};
 ghost use Rattle.covbook.specs.Step.{all_rows};
-ghost use Rattle.covbook.specs.Value.{items_at, branch_cmp, branch_value, taken_said};
+ghost use Rattle.covbook.specs.Value.{items_at, branch_cmp, branch_value, sum_if_any, taken_said};
 
 use crate::next::next_of;
 use crate::rows::ItemsAt;
@@ -65,9 +67,19 @@ pub(crate) fn times_taken<A: Allocator>(
     requires { IsHeld held.now }
     ensures { result ≡ branch_value (branch_data branch) (items_at (key_data key.entry) (all_rows (map rows_of held.now))) }
 {
+    total(ItemsAt::of(held, key).flat_map(|item| taken_in(item, branch)))
+}
+
+/// The sum of the numbers, and none where there are none.
+fn total<I: Iterator<Item = u64> + Drop>(numbers: I) -> Option<u128>
+    requires can { I.can_next numbers }
+    requires ends { IsFinite (I.remaining numbers) }
+    requires fits { (ns : List ℕ) (rest : I) → Yields I.next_gives numbers ns rest → sum_by (λ n. n) ns < 2 ^ 128 }
+    ensures { (ns : List ℕ) × Drains I.next_gives numbers ns × (result ≡ sum_if_any ns) }
+{
     let mut sum = None;
-    for taken in ItemsAt::of(held, key).flat_map(|item| taken_in(item, branch)) {
-        sum = Some(sum.unwrap_or(0) + u128::from(taken));
+    for number in numbers {
+        sum = Some(sum.unwrap_or(0) + u128::from(number));
     }
     sum
 }
