@@ -176,9 +176,9 @@ module _ {P X : Type 0} (v : P → X) (own : P → P → Ordering) (cmp : X → 
     member = Contains-from (map v xs) (v next) (In-map v xs next (In-from xs next h.member));
     after = sym (after_mapped last next) ∙ h.after;
     least = λ y i after.
-      let found = In-unmap v xs y (In-from (map v xs) y i) in
-      let behind : is_after own last found.0 ≡ true = after_mapped last found.0 ∙ subst (λ (z : X). is_after cmp (option_map v last) z ≡ true) (sym found.2) after in
-      subst (λ (z : X). is_lt (cmp z (v next)) ≡ false) found.2 (sym (ap is_lt (same found.0 next)) ∙ h.least found.0 (Contains-from xs found.0 found.1) behind);
+        let found = In-unmap v xs y (In-from (map v xs) y i) in
+        let behind : is_after own last found.0 ≡ true = after_mapped last found.0 ∙ subst (λ (z : X). is_after cmp (option_map v last) z ≡ true) (sym found.2) after in
+        subst (λ (z : X). is_lt (cmp z (v next)) ≡ false) found.2 (sym (ap is_lt (same found.0 next)) ∙ h.least found.0 (Contains-from xs found.0 found.1) behind);
   }
 
 -- another list with the same members
