@@ -1,5 +1,5 @@
 -- What chains of iterators give that pick at most one thing of each item, and what is found along them.
-use Rattle.std.proofs.Common.{◌≡◌, ◌≤◌, true, false, Option, Some, None, List, [], ◌∷◌, map, option_map, option_to_list, refl, sym, ap, ◌∙◌, subst}
+use Rattle.std.proofs.Common.{◌≡◌, ◌≤◌, false, Option, Some, None, List, [], ◌∷◌, map, option_map, option_to_list, refl, sym, ap, ◌∙◌, subst}
 use Rattle.std.specs.declared.cmp.Ordering.{Ordering}
 use Rattle.std.specs.Fn.{Called}
 use Rattle.std.specs.Iterator.{Drains, AlwaysYields, YieldsFirstBy}

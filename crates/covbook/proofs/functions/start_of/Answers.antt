@@ -1,4 +1,4 @@
-use Rattle.std.proofs.Common.{◌≡◌, ℕ, Option, unwrap_or, option_map, rules, tests, sym, ap, ◌∙◌}
+use Rattle.std.proofs.Common.{ℕ, Option, unwrap_or, rules, tests, sym, ap, ◌∙◌}
 use Rattle.std.proofs.lemmas.Iterator.Adapters.{option_map_id}
 use Rattle.std.proofs.lemmas.Iterator.Consumers.{min_from_yields_List}
 use Rattle.covbook.specs.Value.{start_said}

@@ -1,4 +1,4 @@
-use Rattle.std.proofs.Common.{◌≡◌, None, Option, sym, subst}
+use Rattle.std.proofs.Common.{sym, subst}
 use Rattle.std.specs.Iterator.{Yields}
 use Rattle.covbook.specs.Next.{IsNext}
 use Rattle.covbook.proofs.Nearest.{nearest_is}

@@ -1,6 +1,6 @@
-use Rattle.std.proofs.Common.{rules, tests, refl, map, option_map, sym, ap, List, subst}
+use Rattle.std.proofs.Common.{rules, tests, refl, map, option_map, sym, List, subst}
 use Rattle.std.specs.List.{flat_map}
-use Rattle.covline.specs.Row.{Row, rows_of, rows_of_sect}
+use Rattle.covline.specs.Row.{Row, rows_of_sect}
 use Rattle.covline.specs.SectView.{sect_data}
 use Rattle.std.proofs.lemmas.Iterator.Consumers.{YieldsList-at, YieldsList-from_first}
 use Rattle.covbook.specs.KeyView.{key_data}
