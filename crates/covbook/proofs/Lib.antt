@@ -2,8 +2,8 @@ pub mod Members
 pub mod Ascend
 pub mod Nearest
 pub mod Orders
-pub mod Rows
-pub mod Passes
+pub mod Walks
+pub mod Roads
 pub mod Bounds
 pub mod Texts
 pub mod Runs

@@ -1,5 +1,5 @@
 -- What comes next in an ascending list, and a pass that finds it.
-use Rattle.std.proofs.Common.{◌≡◌, Bool, true, false, ◌&&◌, List, [], ◌∷◌, ◌++◌, filter, Option, Some, None, refl, sym, ap, ◌∙◌, subst, inl, inr, ⊎_elim, append_assoc, arith}
+use Rattle.std.proofs.Common.{◌≡◌, Bool, true, false, ◌&&◌, List, [], ◌∷◌, ◌++◌, filter, Option, Some, None, map, option_map, refl, sym, ap, ◌∙◌, subst, inl, inr, ⊎_elim, append_assoc, arith}
 use Rattle.std.specs.Cmp.{IsTotalOrder}
 use Rattle.std.specs.declared.cmp.Ordering.{Ordering}
 use Rattle.std.specs.declared.cmp.Ordering.TheVariants.{Less, Equal, Greater}
@@ -12,7 +12,7 @@ use Rattle.std.proofs.lemmas.List.Elements.{Contains-push, Contains-push_cases, 
 use Rattle.std.proofs.lemmas.List.{append-nil}
 use Rattle.covbook.specs.Ascending.{ascending}
 use Rattle.covbook.specs.Next.{is_after, is_before, nearer, nearest, IsNext}
-use Rattle.covbook.proofs.Members.{In, In-from, Contains-from, All-in}
+use Rattle.covbook.proofs.Members.{In, In-from, Contains-from, In-map, In-unmap, All-in}
 use Rattle.covbook.proofs.Ascend.{IsExactOrder, ascending_is}
 
 -- the members behind the last one
@@ -159,3 +159,34 @@ none_yet cmp last x i = absurd (omega (arith, i.1))
 -- a pass over a list finds what comes next
 pub nearest_is : {X : Type 0} {cmp : X → X → Ordering} → IsTotalOrder cmp → (last : Option X) (xs : List X) → IsNext cmp last xs (nearest cmp last None xs)
 nearest_is {X} {cmp} t last xs = pass_goes_on t last None [] xs (none_yet cmp last)
+
+-- ---- other lists with the same answer
+
+-- the same list, as v reads it
+module _ {P X : Type 0} (v : P → X) (own : P → P → Ordering) (cmp : X → X → Ordering) (same : (a b : P) → own a b ≡ cmp (v a) (v b)) where
+  after_mapped : (last : Option P) (x : P) → is_after own last x ≡ is_after cmp (option_map v last) (v x)
+  after_mapped None x = refl
+  after_mapped (Some a) x = ap is_lt (same a x)
+
+  pub IsNext-mapped : (last : Option P) (xs : List P) (next : Option P) → IsNext own last xs next → IsNext cmp (option_map v last) (map v xs) (option_map v next)
+  IsNext-mapped last xs None h = λ y i.
+      let found = In-unmap v xs y (In-from (map v xs) y i) in
+      subst (λ (z : X). is_after cmp (option_map v last) z ≡ false) found.2 (sym (after_mapped last found.0) ∙ h found.0 (Contains-from xs found.0 found.1))
+  IsNext-mapped last xs (Some next) h = record {
+    member = Contains-from (map v xs) (v next) (In-map v xs next (In-from xs next h.member));
+    after = sym (after_mapped last next) ∙ h.after;
+    least = λ y i after.
+        let found = In-unmap v xs y (In-from (map v xs) y i) in
+        let behind : is_after own last found.0 ≡ true = after_mapped last found.0 ∙ subst (λ (z : X). is_after cmp (option_map v last) z ≡ true) (sym found.2) after in
+        subst (λ (z : X). is_lt (cmp z (v next)) ≡ false) found.2 (sym (ap is_lt (same found.0 next)) ∙ h.least found.0 (Contains-from xs found.0 found.1) behind);
+  }
+
+-- another list with the same members
+pub IsNext-same_members : {X : Type 0} (cmp : X → X → Ordering) (last : Option X) (xs ys : List X) → ((x : X) → In x xs → In x ys) → ((x : X) → In x ys → In x xs)
+    → (next : Option X) → IsNext cmp last xs next → IsNext cmp last ys next
+IsNext-same_members cmp last xs ys to from None h = λ y i. h y (Contains-from xs y (from y (In-from ys y i)))
+IsNext-same_members cmp last xs ys to from (Some next) h = record {
+  member = Contains-from ys next (to next (In-from xs next h.member));
+  after = h.after;
+  least = λ y i after. h.least y (Contains-from xs y (from y (In-from ys y i))) after;
+}

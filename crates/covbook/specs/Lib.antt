@@ -9,6 +9,7 @@ pub mod View
 pub mod EntryView
 pub mod Held
 pub mod KeyView
+pub mod Walk
 pub mod Fault
 pub mod BranchView
 pub mod ClashView

@@ -1,21 +1,26 @@
 //! Which branches the held rows of a file and a test have, and their values, found by passing over the rows.
 
-ghost use Rattle.std.specs.Prelude.{◌≡◌, map, option_map};
-ghost use Rattle.covline.specs.Points.{branch_points};
-ghost use Rattle.covline.specs.Row.{rows_of};
+ghost use Rattle.std.specs.Prelude.{◌≡◌, ◌<◌, ◌^◌, ℕ, List, map, option_map, option_to_list};
+ghost use Rattle.std.specs.Iterator.{Drains, IsFinite, Yields};
+ghost use Rattle.std.specs.List.{sum_by};
+ghost use Rattle.covline.specs.Points.{branch_point, branch_points};
+ghost use Rattle.covline.specs.Row.{item_data, rows_of};
 ghost use Rattle.covbook.specs.BranchView.{branch_data};
 ghost use Rattle.covbook.specs.Held.{IsHeld};
 ghost use Rattle.covbook.specs.KeyView.{key_data};
 ghost use Rattle.covbook.specs.Next.{IsNext};
 ghost use Rattle.covbook.specs.Step.{all_rows};
-ghost use Rattle.covbook.specs.Value.{items_at, branch_cmp, branch_value};
+ghost use Rattle.covbook.specs.Value.{items_at, branch_cmp, branch_value, sum_if_any, taken_said};
 
+use crate::next::next_of;
+use crate::rows::ItemsAt;
 use crate::sections::SectKey;
 use crate::shared::SubRef;
+use covline::Item;
 use std::alloc::Allocator;
 
-/// A branch: its line, its block and its number in the block.
-#[derive(Clone, Copy)]
+/// A branch: its line, its block and its number in the block. Branches stand in this order.
+#[derive(Clone, Copy, PartialEq, Eq, PartialOrd, Ord)]
 pub struct BranchKey {
     pub line: u64,
     pub block: u64,
@@ -30,7 +35,26 @@ pub(crate) fn next_branch<A: Allocator>(
 ) -> Option<BranchKey>
     ensures { IsNext branch_cmp (option_map branch_data last) (branch_points (items_at (key_data key.entry) (all_rows (map rows_of held.now)))) (option_map branch_data result) }
 {
-    None
+    next_of(ItemsAt::of(held, key).flat_map(branch_of), last)
+}
+
+/// The branch that a branch's item speaks of.
+fn branch_of<A: Allocator>(item: &Item<A>) -> Option<BranchKey>
+    ensures { option_to_list (option_map branch_data result) ≡ branch_point (item_data item.now) }
+{
+    match item {
+        Item::Branch {
+            line,
+            block,
+            branch,
+            ..
+        } => Some(BranchKey {
+            line: *line,
+            block: *block,
+            branch: *branch,
+        }),
+        Item::Line { .. } | Item::Func { .. } => None,
+    }
 }
 
 /// How often a branch was taken: the sum over the rows of this file and test that have a number for it, and none where
@@ -43,5 +67,29 @@ pub(crate) fn times_taken<A: Allocator>(
     requires { IsHeld held.now }
     ensures { result ≡ branch_value (branch_data branch) (items_at (key_data key.entry) (all_rows (map rows_of held.now))) }
 {
-    None
+    total(ItemsAt::of(held, key).flat_map(|item| taken_in(item, branch)))
+}
+
+/// The sum of the numbers, and none where there are none.
+fn total<I: Iterator<Item = u64> + Drop>(numbers: I) -> Option<u128>
+    requires can { I.can_next numbers }
+    requires ends { IsFinite (I.remaining numbers) }
+    requires fits { (ns : List ℕ) (rest : I) → Yields I.next_gives numbers ns rest → sum_by (λ n. n) ns < 2 ^ 128 }
+    ensures { (ns : List ℕ) × Drains I.next_gives numbers ns × (result ≡ sum_if_any ns) }
+{
+    let mut sum = None;
+    for number in numbers {
+        sum = Some(sum.unwrap_or(0) + u128::from(number));
+    }
+    sum
+}
+
+/// The number that an item has for this branch.
+fn taken_in<A: Allocator>(item: &Item<A>, branch: BranchKey) -> Option<u64>
+    ensures { option_to_list result ≡ taken_said (branch_data branch) (item_data item.now) }
+{
+    match item {
+        Item::Branch { taken, .. } if branch_of(item) == Some(branch) => *taken,
+        Item::Branch { .. } | Item::Line { .. } | Item::Func { .. } => None,
+    }
 }

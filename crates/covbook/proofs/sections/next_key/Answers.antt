@@ -1,18 +1,24 @@
-use Rattle.std.proofs.Common.{◌≡◌, None, map, take, option_map, sym, ap, ◌∙◌, subst, Option, List, arith}
-use Rattle.std.proofs.lemmas.List.{take_all}
-use Rattle.covline.specs.Row.{SubmissionData, rows_of}
+use Rattle.std.proofs.Common.{rules, tests, refl, map, option_map, sym, List, subst}
+use Rattle.std.specs.List.{flat_map}
+use Rattle.covline.specs.Row.{Row, rows_of_sect}
+use Rattle.covline.specs.SectView.{sect_data}
+use Rattle.std.proofs.lemmas.Iterator.Consumers.{YieldsList-at, YieldsList-from_first}
 use Rattle.covbook.specs.KeyView.{key_data}
-use Rattle.covbook.specs.Next.{IsNext, nearest}
-use Rattle.covbook.specs.Value.{Key, key_cmp}
-use Rattle.covbook.proofs.Nearest.{nearest_is}
-use Rattle.covbook.proofs.Orders.{key_cmp_total}
-use Rattle.covbook.proofs.Rows.{keys_in_table}
+use Rattle.covbook.specs.Next.{IsNext}
+use Rattle.covbook.specs.Value.{key_cmp, key_of_row}
+use Rattle.covbook.specs.Walk.{sects_of, key_point}
+use Rattle.covbook.proofs.Nearest.{IsNext-same_members}
+use Rattle.covbook.proofs.Roads.{points_road, next_on_road}
+use Rattle.covbook.proofs.Walks.{rows_of_table, keys_of_sects, sects_of_keys}
 use Rattle.covbook.proofs.sections.next_key.Goals as goal
 
 pub returns : goal.returns
 returns g c =
     let held = c.args.held.now in
     let last = option_map key_data c.args.last in
-    let all : take c.loop-submission.submission-index held ≡ held = take_all c.loop-submission.submission-index held (omega arith) in
-    let found : option_map key_data c.loop-submission.best ≡ nearest key_cmp last None (keys_in_table (map rows_of held)) = c.loop-submission.invariant ∙ ap (λ (xs : List SubmissionData). nearest key_cmp last None (keys_in_table (map rows_of xs))) all in
-    subst (λ (r : Option Key). IsNext key_cmp last (keys_in_table (map rows_of held)) r) (sym found) (nearest_is key_cmp_total last (keys_in_table (map rows_of held)))
+    let next = option_map key_data c.next_of.result in
+    let sects = sects_of held in
+    let of_sects = next_on_road _ key_cmp (λ a b. refl) c.args.last c.next_of.result c.next_of.ensures
+    (points_road _ key_data key_point (YieldsList-at c.flat_map.ensures.source (YieldsList-from_first (λ s. sect_data s.now) (λ s. s) _ c.of.ensures)) c.flat_map.ensures.closure c.flat_map.ensures.front c.flat_map.ensures.back c.flat_map.ensures.done (λ x r q k. search (rules, tests))) in
+    subst (λ (rows : List Row). IsNext key_cmp last (map key_of_row rows) next) (sym (rows_of_table held))
+    (IsNext-same_members key_cmp last (flat_map key_point sects) (map key_of_row (flat_map rows_of_sect sects)) (keys_of_sects sects) (sects_of_keys sects) next of_sects)
