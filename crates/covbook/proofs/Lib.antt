@@ -7,3 +7,4 @@ pub mod Passes
 pub mod Bounds
 pub mod Texts
 pub mod Runs
+pub mod Clashes
