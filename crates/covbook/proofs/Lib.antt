@@ -7,4 +7,5 @@ pub mod Passes
 pub mod Bounds
 pub mod Texts
 pub mod Runs
+pub mod Looks
 pub mod Clashes

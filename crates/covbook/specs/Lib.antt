@@ -12,3 +12,4 @@ pub mod KeyView
 pub mod Fault
 pub mod BranchView
 pub mod ClashView
+pub mod ChecksumView
