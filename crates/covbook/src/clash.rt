@@ -1,16 +1,19 @@
 //! Whether a submission has another checksum of a line than the one that is held, found by passing over the rows. It
 //! takes no memory. Each row with a checksum costs a pass over the sections of its file; the others cost nothing more.
 
-ghost use Rattle.std.specs.Prelude.{◌≡◌, ◌++◌, ◌∷◌, [], MatchOption, map, option_map};
+ghost use Rattle.std.specs.Prelude.{◌≡◌, ◌++◌, ◌∷◌, [], IfOk, MatchOption, map, option_map};
 ghost use Rattle.covline.specs.Row.{item_data, rows_of, rows_of_sect};
 ghost use Rattle.covline.specs.SectView.{sect_data};
 ghost use Rattle.covbook.specs.ChecksumView.{checksum_data, checksums_held, checksums_of_items, checksums_of_sects, other_checksum};
 ghost use Rattle.covbook.specs.Clash.{checksum_of as said_by, checksums_in, first_clash as first_told};
 ghost use Rattle.covbook.specs.ClashView.{clash_data};
+ghost use Rattle.covbook.specs.Op.{ClashAnswer};
 ghost use Rattle.covbook.specs.Step.{clash_at};
+ghost use Rattle.covbook.specs.View.{answer_data};
 
+use crate::op::Answer;
 use crate::shared::SubRef;
-use covline::{Item, Sect, Submission};
+use covline::{Bytes, Item, Memory, Sect, Submission};
 use std::alloc::Allocator;
 
 /// Two checksums of one line of one file that differ.
@@ -20,6 +23,20 @@ pub struct FoundClash<'a> {
     pub line: u64,
     pub held: &'a [u8],
     pub given: &'a [u8],
+}
+
+impl FoundClash<'_> {
+    /// The answer that tells of the clash, with texts of its own.
+    pub(crate) fn answer<A: Allocator + Copy>(&self, alloc: A) -> Result<Answer<A>, Memory>
+        ensures { IfOk result (λ a. answer_data a ≡ ClashAnswer (clash_data self.now)) }
+    {
+        Ok(Answer::Clash {
+            file: Bytes::of(alloc, self.file)?,
+            line: self.line,
+            held: Bytes::of(alloc, self.held)?,
+            given: Bytes::of(alloc, self.given)?,
+        })
+    }
 }
 
 /// The checksum of a line of a file.
