@@ -7,3 +7,5 @@ pub mod Roads
 pub mod Bounds
 pub mod Texts
 pub mod Runs
+pub mod Looks
+pub mod Clashes

@@ -1,13 +1,14 @@
 -- A run with one operation more, and a history with one entry more.
-use Rattle.std.proofs.Common.{◌≡◌, ℕ, ◌+◌, ◌<◌, List, [], ◌∷◌, ◌++◌, length, map, refl, sym, ap, ◌∙◌, subst, arith}
+use Rattle.std.proofs.Common.{◌≡◌, ℕ, ◌+◌, ◌<◌, List, [], ◌∷◌, ◌++◌, length, map, Option, Some, None, refl, sym, ap, ◌∙◌, subst, arith}
 use Rattle.std.specs.List.{AllByRecursion}
 use Rattle.std.proofs.lemmas.List.{map_push, length-map, length_push}
 use Rattle.covline.specs.Row.{SubmissionData, rows_of, items_in}
 use Rattle.covline.specs.Lawful.{IsLawful}
+use Rattle.covbook.specs.Clash.{ClashData}
 use Rattle.covbook.specs.Held.{IsBook, IsHeld}
-use Rattle.covbook.specs.Op.{OpData, SubmitOp, ReportOp, AnswerData, AcceptedAnswer, TextAnswer, EntryData}
+use Rattle.covbook.specs.Op.{OpData, SubmitOp, ReportOp, AnswerData, AcceptedAnswer, ClashAnswer, TextAnswer, EntryData}
 use Rattle.covbook.specs.Report.{report_text}
-use Rattle.covbook.specs.Step.{Table, all_rows, answer_of, table_after, answers_from, table_from, answers_to, table_of, ops_in, IsLegal, most_entries}
+use Rattle.covbook.specs.Step.{Table, all_rows, clash_at, answer_to_submit, table_after_submit, answer_of, table_after, answers_from, table_from, answers_to, table_of, ops_in, IsLegal, most_entries}
 
 pub answers_from-push : (table : Table) (ops : List OpData) (op : OpData) → answers_from table (ops ++ op ∷ []) ≡ answers_from table ops ++ answer_of (table_from table ops) op ∷ []
 answers_from-push table [] op = refl
@@ -38,30 +39,45 @@ book_none = record { legal = refl; stands = refl; few = omega arith; fewer = ome
 pub held_is : (held : List SubmissionData) (entries : List EntryData) → IsBook held entries → IsHeld held
 held_is held entries b = record { few = omega (arith, b.fewer, b.few); lawful = b.lawful }
 
--- the number of the next submission
-pub accepted_is : (held : List SubmissionData) (entries : List EntryData) (s : SubmissionData) → IsBook held entries → AcceptedAnswer (length held + 1) (items_in s.sects) s.odd ≡ answer_of (table_of (ops_in entries)) (SubmitOp s)
-accepted_is held entries s b =
-    let same : length held ≡ length (table_of (ops_in entries)) = sym (length-map held rows_of) ∙ ap length b.stands in
-    ap (λ (n : ℕ). AcceptedAnswer (n + 1) (items_in s.sects) s.odd) same
+-- the number of the next submission, which doesn't clash
+accepted_is : (held : List SubmissionData) (entries : List EntryData) (s : SubmissionData) → IsBook held entries → clash_at (table_of (ops_in entries)) s ≡ None
+    → AcceptedAnswer (length held + 1) (items_in s.sects) s.odd ≡ answer_of (table_of (ops_in entries)) (SubmitOp s)
+accepted_is held entries s b agrees =
+    let table = table_of (ops_in entries) in
+    let same : length held ≡ length table = sym (length-map held rows_of) ∙ ap length b.stands in
+    ap (λ (n : ℕ). AcceptedAnswer (n + 1) (items_in s.sects) s.odd) same ∙ sym (ap (answer_to_submit table s) agrees)
 
 pub printed_is : (held : List SubmissionData) (entries : List EntryData) → IsBook held entries → TextAnswer (report_text (all_rows (map rows_of held))) ≡ answer_of (table_of (ops_in entries)) ReportOp
 printed_is held entries b = ap (λ (table : Table). TextAnswer (report_text (all_rows table))) b.stands
 
-pub book_submitted : (held : List SubmissionData) (entries : List EntryData) (s : SubmissionData) (e : EntryData) → IsBook held entries → length entries < most_entries → IsLawful s → e.op ≡ SubmitOp s
-    → e.answer ≡ AcceptedAnswer (length held + 1) (items_in s.sects) s.odd → IsBook (held ++ s ∷ []) (entries ++ e ∷ [])
-book_submitted held entries s e b room lawful op answer = record {
-  legal = IsLegal-push entries e b.legal (answer ∙ accepted_is held entries s b ∙ ap (answer_of (table_of (ops_in entries))) (sym op));
-  stands = map_push rows_of held s ∙ ap (λ (table : Table). table ++ rows_of s ∷ []) b.stands ∙ ap (table_after (table_of (ops_in entries))) (sym op) ∙ sym (table-push entries e);
-  few = omega (arith, length_push entries e);
-  fewer = omega (arith, length_push entries e, length_push held s, b.fewer);
-  lawful = All-pushed IsLawful held s b.lawful lawful;
-}
+-- a submission that clashes is answered so, and leaves the table as it is
+pub clash_is : (held : List SubmissionData) (entries : List EntryData) (s : SubmissionData) (clash : ClashData) → IsBook held entries → Some clash ≡ clash_at (map rows_of held) s
+    → (ClashAnswer clash ≡ answer_of (table_of (ops_in entries)) (SubmitOp s)) × (table_after (table_of (ops_in entries)) (SubmitOp s) ≡ table_of (ops_in entries))
+clash_is held entries s clash b is =
+    let table = table_of (ops_in entries) in
+    let there : Some clash ≡ clash_at table s = is ∙ ap (λ (t : Table). clash_at t s) b.stands in
+    (ap (answer_to_submit table s) there, sym (ap (table_after_submit table s) there))
 
-pub book_reported : (held : List SubmissionData) (entries : List EntryData) (e : EntryData) → IsBook held entries → length entries < most_entries → e.op ≡ ReportOp
-    → e.answer ≡ TextAnswer (report_text (all_rows (map rows_of held))) → IsBook held (entries ++ e ∷ [])
-book_reported held entries e b room op answer = record {
-  legal = IsLegal-push entries e b.legal (answer ∙ printed_is held entries b ∙ ap (answer_of (table_of (ops_in entries))) (sym op));
-  stands = b.stands ∙ ap (table_after (table_of (ops_in entries))) (sym op) ∙ sym (table-push entries e);
+pub agrees_is : (held : List SubmissionData) (entries : List EntryData) (s : SubmissionData) → IsBook held entries → None ≡ clash_at (map rows_of held) s → clash_at (table_of (ops_in entries)) s ≡ None
+agrees_is held entries s b is = sym (is ∙ ap (λ (t : Table). clash_at t s) b.stands)
+
+book_submitted : (held : List SubmissionData) (entries : List EntryData) (s : SubmissionData) (e : EntryData) → IsBook held entries → length entries < most_entries → clash_at (table_of (ops_in entries)) s ≡ None
+    → IsLawful s → e.op ≡ SubmitOp s → e.answer ≡ AcceptedAnswer (length held + 1) (items_in s.sects) s.odd → IsBook (held ++ s ∷ []) (entries ++ e ∷ [])
+book_submitted held entries s e b room agrees lawful op answer =
+    let table = table_of (ops_in entries) in
+    record {
+      legal = IsLegal-push entries e b.legal (answer ∙ accepted_is held entries s b agrees ∙ ap (answer_of table) (sym op));
+      stands = map_push rows_of held s ∙ ap (λ (t : Table). t ++ rows_of s ∷ []) b.stands ∙ sym (ap (table_after_submit table s) agrees) ∙ ap (table_after table) (sym op) ∙ sym (table-push entries e);
+      few = omega (arith, length_push entries e);
+      fewer = omega (arith, length_push entries e, length_push held s, b.fewer);
+      lawful = All-pushed IsLawful held s b.lawful lawful;
+    }
+
+book_noted : (held : List SubmissionData) (entries : List EntryData) (e : EntryData) → IsBook held entries → length entries < most_entries → e.answer ≡ answer_of (table_of (ops_in entries)) e.op
+    → table_after (table_of (ops_in entries)) e.op ≡ table_of (ops_in entries) → IsBook held (entries ++ e ∷ [])
+book_noted held entries e b room answer still = record {
+  legal = IsLegal-push entries e b.legal answer;
+  stands = b.stands ∙ sym still ∙ sym (table-push entries e);
   few = omega (arith, length_push entries e);
   fewer = omega (arith, length_push entries e, b.fewer);
   lawful = b.lawful;
@@ -69,18 +85,20 @@ book_reported held entries e b room op answer = record {
 
 -- ---- what the steps of the code leave, over plain variables
 
-pub reported_book : (held : List SubmissionData) (entries old new : List EntryData) (e : EntryData) → IsBook held entries → entries ≡ old → length old < most_entries → new ≡ entries ++ e ∷ []
-    → e.op ≡ ReportOp → e.answer ≡ TextAnswer (report_text (all_rows (map rows_of held))) → IsBook held new
-reported_book held entries old new e b same room is op answer =
-    let few : length entries < most_entries = omega (arith, ap length same) in
-    subst (IsBook held) (sym is) (book_reported held entries e b few op answer)
+pub noted_book : (held : List SubmissionData) (entries old new : List EntryData) (e : EntryData) → IsBook held entries → entries ≡ old → length old < most_entries → new ≡ entries ++ e ∷ []
+    → e.answer ≡ answer_of (table_of (ops_in old)) e.op → table_after (table_of (ops_in old)) e.op ≡ table_of (ops_in old) → IsBook held new
+noted_book held entries old new e b same room is answer still =
+    let b_old : IsBook held old = subst (IsBook held) same b in
+    subst (IsBook held) (sym (is ∙ ap (λ (xs : List EntryData). xs ++ e ∷ []) same)) (book_noted held old e b_old room answer still)
 
 pub submitted_book : (held reserved new_held : List SubmissionData) (entries old new : List EntryData) (copy s : SubmissionData) (e : EntryData) → IsBook held entries → entries ≡ old → length old < most_entries
-    → reserved ≡ held → new_held ≡ reserved ++ copy ∷ [] → copy ≡ s → IsLawful s → new ≡ entries ++ e ∷ [] → e.op ≡ SubmitOp s → e.answer ≡ AcceptedAnswer (length held + 1) (items_in s.sects) s.odd → IsBook new_held new
-submitted_book held reserved new_held entries old new copy s e b same room kept put is_copy lawful is op answer =
-    let few : length entries < most_entries = omega (arith, ap length same) in
+    → clash_at (table_of (ops_in old)) s ≡ None → reserved ≡ held → new_held ≡ reserved ++ copy ∷ [] → copy ≡ s → IsLawful s → new ≡ entries ++ e ∷ [] → e.op ≡ SubmitOp s
+    → e.answer ≡ AcceptedAnswer (length held + 1) (items_in s.sects) s.odd → IsBook new_held new
+submitted_book held reserved new_held entries old new copy s e b same room agrees kept put is_copy lawful is op answer =
+    let b_old : IsBook held old = subst (IsBook held) same b in
     let held_is : new_held ≡ held ++ s ∷ [] = put ∙ ap (λ (xs : List SubmissionData). xs ++ copy ∷ []) kept ∙ ap (λ (x : SubmissionData). held ++ x ∷ []) is_copy in
-    subst (λ (xs : List SubmissionData). IsBook xs new) (sym held_is) (subst (IsBook (held ++ s ∷ [])) (sym is) (book_submitted held entries s e b few lawful op answer))
+    let new_is : new ≡ old ++ e ∷ [] = is ∙ ap (λ (xs : List EntryData). xs ++ e ∷ []) same in
+    subst (λ (xs : List SubmissionData). IsBook xs new) (sym held_is) (subst (IsBook (held ++ s ∷ [])) (sym new_is) (book_submitted held old s e b_old room agrees lawful op answer))
 
 pub accepted_equal : (number m items n odd o : ℕ) → number ≡ m → items ≡ n → odd ≡ o → AcceptedAnswer number items odd ≡ AcceptedAnswer m n o
 accepted_equal number m items n odd o a b c = cc

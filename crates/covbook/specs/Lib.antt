@@ -13,3 +13,4 @@ pub mod Walk
 pub mod Fault
 pub mod BranchView
 pub mod ClashView
+pub mod ChecksumView

@@ -1,5 +1,6 @@
 //! The book: what a table of counts was asked, in order, and what it answered.
 
+use crate::clash::first_clash;
 use crate::entry::{Entries, Entry, Receipt};
 use crate::op::{Answer, Op};
 use crate::shared::{SubRef, TextRef};
@@ -67,9 +68,9 @@ impl<A: Allocator> Model for Book<A> {
 }
 
 impl<A: Allocator + Copy> Book<A> {
-    ghost use Rattle.std.specs.Prelude.{◌≡◌, ◌↔◌, ◌<◌, ◌++◌, [], ◌∷◌, length, IfOk, OnErr, Err, map};
+    ghost use Rattle.std.specs.Prelude.{◌≡◌, ◌↔◌, ◌<◌, ◌++◌, [], ◌∷◌, length, IfOk, OnOk, OnErr, Err, None, map};
     ghost use Rattle.covbook.specs.Op.{SubmitOp, ReportOp};
-    ghost use Rattle.covbook.specs.Step.{IsLegal, answer_of, table_of, ops_in, most_entries};
+    ghost use Rattle.covbook.specs.Step.{IsLegal, answer_of, clash_at, table_after, table_of, ops_in, most_entries};
     ghost use Rattle.covbook.specs.View.{op_data, answer_data};
     ghost use Rattle.covbook.specs.EntryView.{entry_data};
 
@@ -111,7 +112,7 @@ impl<A: Allocator + Copy> Book<A> {
         }
     }
 
-    /// The submission is held too, unless it clashes. All growths come before the first change.
+    /// The submission is held too, unless it clashes.
     fn submit(&mut self, alloc: A, job: u32, submission: &SubRef<A>) -> Result<Receipt<A>, Memory>
         requires { length self.old < most_entries }
         ensures answer { IfOk result (λ r. answer_data r.answer ≡ answer_of (table_of (ops_in self.old)) (SubmitOp submission.now)) }
@@ -120,7 +121,42 @@ impl<A: Allocator + Copy> Book<A> {
         ensures entry { IfOk result (λ r. self.new ≡ self.old ++ record { job = job; op = SubmitOp submission.now; answer = answer_data r.answer } ∷ []) }
         ensures refused { OnErr result (self.new ≡ self.old) }
     {
-        Err(Memory)
+        let Some(clash) = first_clash(self.held.as_slice(), submission.get()) else {
+            return self.accept(job, submission);
+        };
+        let answer = clash.answer(alloc)?;
+        self.note(alloc, job, Op::Submit(submission.copy()?), answer)
+    }
+
+    /// The submission, which doesn't clash, is held too. All growths come before the first change.
+    fn accept(&mut self, job: u32, submission: &SubRef<A>) -> Result<Receipt<A>, Memory>
+        requires room { length self.old < most_entries }
+        requires agrees { clash_at (table_of (ops_in self.old)) submission.now ≡ None }
+        ensures answer { IfOk result (λ r. answer_data r.answer ≡ answer_of (table_of (ops_in self.old)) (SubmitOp submission.now)) }
+        ensures place { IfOk result (λ r. r.place ≡ length self.old) }
+        ensures asked { IfOk result (λ r. op_data r.op ≡ SubmitOp submission.now) }
+        ensures entry { IfOk result (λ r. self.new ≡ self.old ++ record { job = job; op = SubmitOp submission.now; answer = answer_data r.answer } ∷ []) }
+        ensures refused { OnErr result (self.new ≡ self.old) }
+    {
+        let place = self.entries.get().len() as u64;
+        let number = self.held.len() as u64 + 1;
+        let items = submission.get().items();
+        let odd = submission.get().odd();
+        let entry = Entry {
+            job,
+            op: Op::Submit(submission.copy()?),
+            answer: Answer::Accepted { number, items, odd },
+        };
+        let receipt = Receipt {
+            place,
+            op: Op::Submit(submission.copy()?),
+            answer: Answer::Accepted { number, items, odd },
+        };
+        let held = submission.copy()?;
+        self.held.reserve(1)?;
+        self.entries.push(entry)?;
+        self.held.push_reserved(held);
+        Ok(receipt)
     }
 
     /// The merged tracefile is printed, and shared between the entry and the receipt.
@@ -132,18 +168,28 @@ impl<A: Allocator + Copy> Book<A> {
         ensures entry { IfOk result (λ r. self.new ≡ self.old ++ record { job = job; op = ReportOp; answer = answer_data r.answer } ∷ []) }
         ensures refused { OnErr result (self.new ≡ self.old) }
     {
-        let place = self.entries.get().len() as u64;
         let text = TextRef::of(alloc, trace_text(alloc, self.held.as_slice())?)?;
-        let reported = Entry {
+        self.note(alloc, job, Op::Report, Answer::Text(text))
+    }
+
+    /// Appends the entry of an operation that leaves the table as it is, with a copy of its answer.
+    fn note(&mut self, alloc: A, job: u32, op: Op<A>, answer: Answer<A>) -> Result<Receipt<A>, Memory>
+        requires room { length self.old < most_entries }
+        requires answered { answer_data answer ≡ answer_of (table_of (ops_in self.old)) (op_data op) }
+        requires still { table_after (table_of (ops_in self.old)) (op_data op) ≡ table_of (ops_in self.old) }
+        ensures answer { IfOk result (λ r. answer_data r.answer ≡ answer_data answer) }
+        ensures place { IfOk result (λ r. r.place ≡ length self.old) }
+        ensures asked { IfOk result (λ r. op_data r.op ≡ op_data op) }
+        ensures entry { OnOk result (self.new ≡ self.old ++ record { job = job; op = op_data op; answer = answer_data answer } ∷ []) }
+        ensures refused { OnErr result (self.new ≡ self.old) }
+    {
+        let place = self.entries.get().len() as u64;
+        let entry = Entry {
             job,
-            op: Op::Report,
-            answer: Answer::Text(text.copy()?),
+            op: op.copy()?,
+            answer: answer.copy(alloc)?,
         };
-        self.entries.push(reported)?;
-        Ok(Receipt {
-            place,
-            op: Op::Report,
-            answer: Answer::Text(text),
-        })
+        self.entries.push(entry)?;
+        Ok(Receipt { place, op, answer })
     }
 }

@@ -1,0 +1,5 @@
+use Rattle.covbook.proofs.Clashes.{tables_agree}
+use Rattle.covbook.proofs.laws.no_versions_are_mixed.Goals as goal
+
+pub returns : goal.returns
+returns c = tables_agree

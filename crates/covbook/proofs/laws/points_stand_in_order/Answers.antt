@@ -1,0 +1,15 @@
+use Rattle.std.proofs.Common.{map}
+use Rattle.covline.specs.Points.{line_points, branch_points}
+use Rattle.covbook.specs.Value.{function_of, names_in}
+use Rattle.covbook.proofs.Ascend.{ascending_is}
+use Rattle.covbook.proofs.Orders.{functions_order, branches_order, lines_order}
+use Rattle.covbook.proofs.laws.points_stand_in_order.Goals as goal
+
+pub returns-clause-functions : goal.returns-clause-functions
+returns-clause-functions c = λ items. ascending_is functions_order (map (function_of items) (names_in items))
+
+pub returns-clause-branches : goal.returns-clause-branches
+returns-clause-branches c = λ items. ascending_is branches_order (branch_points items)
+
+pub returns-clause-lines : goal.returns-clause-lines
+returns-clause-lines c = λ items. ascending_is lines_order (line_points items)
