@@ -5,5 +5,8 @@ pub mod Orders
 pub mod Rows
 pub mod Passes
 pub mod Bounds
+pub mod Few
+pub mod PointOrders
+pub mod Sorting
 pub mod Texts
 pub mod Runs

@@ -12,3 +12,5 @@ pub mod KeyView
 pub mod Fault
 pub mod BranchView
 pub mod ClashView
+pub mod Printing
+pub mod FunctionView
