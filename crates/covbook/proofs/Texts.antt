@@ -5,7 +5,7 @@ use Rattle.std.proofs.lemmas.Bool.{cond-false, ne_eqb}
 use Rattle.std.proofs.lemmas.List.{append-nil}
 use Rattle.std.proofs.lemmas.List.Concat.{flat_map-append}
 use Rattle.std.proofs.lemmas.List.Folds.{flat_map-map}
-use Rattle.std.proofs.lemmas.List.Sums.{sum_by-cons, count_by-le-length}
+use Rattle.std.proofs.lemmas.List.Sums.{sum_by-cons}
 use Rattle.covline.specs.Row.{Row}
 use Rattle.covline.specs.declared.trace_line.TotalKind.{TotalKind}
 use Rattle.covline.specs.Spells.{LineData, Test, Path, End}
@@ -57,13 +57,11 @@ module _ {X : Type 0} (part : X → List ℕ) (is_hit : X → Bool) (all : List 
   printed_all left text found hit none so_far =
       (ends part (before ++ flat_map part all) text left none so_far.written, omega (arith, ap length none, so_far.counted), omega (arith, ap (count_by is_hit) none, so_far.hits))
 
-  -- as many points as there are can be counted
-  pub counters_fit : (x : X) (left more : List X) (text : List ℕ) (found hit : ℕ) → length all < 2 ^ 64 → left ≡ x ∷ more → IsPrinted part is_hit all left before text found hit
-      → (found + 1 < 2 ^ 64) × (hit + 1 < 2 ^ 64)
-  counters_fit x left more text found hit few next so_far =
+  -- one point more can be counted
+  pub count_fits : (x : X) (left more : List X) (text : List ℕ) (found hit : ℕ) → length all < 2 ^ 64 → left ≡ x ∷ more → IsPrinted part is_hit all left before text found hit → found + 1 < 2 ^ 64
+  count_fits x left more text found hit few next so_far =
       let size : length left ≡ length (x ∷ more) = ap length next in
-      let one : count_by is_hit left ≡ cond (is_hit x) 1 0 + count_by is_hit more = ap (count_by is_hit) next ∙ sum_by-cons (λ (y : X). cond (is_hit y) 1 0) x more in
-      (omega (arith, size, so_far.counted), omega (arith, size, one, so_far.hits, count_by-le-length is_hit all))
+      omega (arith, size, so_far.counted)
 
 -- ---- records with what follows them
 

@@ -1,6 +1,6 @@
 //! The totals of a section.
 
-ghost use Rattle.std.specs.Prelude.{◌≡◌, ℕ, ◌+◌, ◌<◌, ◌^◌, ◌++◌, OnOk, if◌then◌else◌};
+ghost use Rattle.std.specs.Prelude.{◌≡◌, ℕ, ◌+◌, ◌<◌, ◌≤◌, ◌^◌, ◌++◌, OnOk, if◌then◌else◌};
 ghost use Rattle.std.specs.List.{flat_map};
 ghost use Rattle.covline.specs.Printed.{printed};
 ghost use Rattle.covline.specs.Spells.{Total};
@@ -14,6 +14,7 @@ use std::alloc::Allocator;
 pub(super) struct Tally {
     found: u64,
     hit: u64,
+    ghost fewer: { hit ≤ found },
 }
 
 impl Tally {
@@ -27,8 +28,7 @@ impl Tally {
 
     /// With one point more.
     pub(super) fn and(self, is_hit: bool) -> Tally
-        requires found { self.found + 1 < 2 ^ 64 }
-        requires hit { self.hit + 1 < 2 ^ 64 }
+        requires { self.found + 1 < 2 ^ 64 }
         ensures found { result.found ≡ self.found + 1 }
         ensures hit { result.hit ≡ self.hit + (if is_hit then 1 else 0) }
     {
