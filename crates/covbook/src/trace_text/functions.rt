@@ -36,9 +36,10 @@ pub(super) fn put_functions<A: Allocator + Copy>(
     requires { IsHeld held.now }
     ensures { OnOk result (text.new ≡ text.old ++ flat_map printed (function_records (items_at (key_data key.entry) (all_rows (map rows_of held.now))))) }
 {
-    let functions = functions_of(alloc, held, key)?;
-    put_starts(functions.as_slice(), text)?;
-    let tally = put_counts(held, key, functions.as_slice(), text)?;
+    let sorted = functions_of(alloc, held, key)?;
+    let functions = sorted.as_slice();
+    put_starts(functions, text)?;
+    let tally = put_counts(held, key, functions, text)?;
     tally.put_if_any(TotalKind::FuncFound, TotalKind::FuncHit, text)
 }
 
