@@ -5,6 +5,9 @@ pub mod Orders
 pub mod Walks
 pub mod Roads
 pub mod Bounds
+pub mod Few
+pub mod PointOrders
+pub mod Sorting
 pub mod Texts
 pub mod Runs
 pub mod Looks

@@ -1,131 +1,84 @@
--- The printed text, one section and one line at a time.
-use Rattle.std.proofs.Common.{◌≡◌, ℕ, ◌+◌, ◌^◌, ◌<◌, ◌≤◌, Bool, cond, List, [], ◌∷◌, ◌++◌, length, map, count_by, Option, Some, None, sym, ap, ◌∙◌, append_assoc, arith}
-use Rattle.std.specs.Prelude.{nat_lt}
+-- A text that is printed part by part, and counted; the parts of a section.
+use Rattle.std.proofs.Common.{◌≡◌, ℕ, ◌+◌, ◌^◌, ◌<◌, Bool, cond, eqb, List, [], ◌∷◌, ◌++◌, length, map, count_by, sym, ap, ap₂, ◌∙◌, append_assoc, arith}
 use Rattle.std.specs.List.{flat_map}
-use Rattle.std.specs.Ordering.{nat_cmp}
-use Rattle.std.proofs.lemmas.Bool.{lt-ltb, le-ltb}
-use Rattle.std.proofs.lemmas.List.{append-nil, length-map}
+use Rattle.std.proofs.lemmas.Bool.{cond-false, ne_eqb}
+use Rattle.std.proofs.lemmas.List.{append-nil}
 use Rattle.std.proofs.lemmas.List.Concat.{flat_map-append}
-use Rattle.std.proofs.lemmas.List.Sums.{sum_by-cons, count_by-le-length}
-use Rattle.covline.specs.Row.{ItemData, SubmissionData, Row, rows_of}
-use Rattle.covline.specs.declared.trace_line.TotalKind.TheVariants.{LineFound, LineHit}
-use Rattle.covline.specs.Spells.{LineData, Test, Path, Line, Total, End}
+use Rattle.std.proofs.lemmas.List.Folds.{flat_map-map}
+use Rattle.std.proofs.lemmas.List.Sums.{sum_by-cons}
+use Rattle.covline.specs.Row.{Row}
+use Rattle.covline.specs.declared.trace_line.TotalKind.{TotalKind}
+use Rattle.covline.specs.Spells.{LineData, Test, Path, End}
 use Rattle.covline.specs.Printed.{printed}
-use Rattle.covbook.specs.Held.{IsHeld}
-use Rattle.covbook.specs.Next.{IsNext}
-use Rattle.covbook.specs.Report.{line_records, lines_found, lines_hit, section_text, report_text}
-use Rattle.covbook.specs.Step.{all_rows}
-use Rattle.covbook.specs.Value.{Key, key_cmp, key_of_row, keys_of, items_at, lines_in, line_number, line_value}
-use Rattle.covbook.proofs.Ascend.{length-ascending}
-use Rattle.covbook.proofs.Bounds.{items_fit}
-use Rattle.covbook.proofs.Nearest.{rest_after, rest_after-none, next_is, none_is}
-use Rattle.covbook.proofs.Orders.{keys_order, lines_order}
+use Rattle.covbook.specs.Printing.{totals, totals_if_any}
+use Rattle.covbook.specs.Report.{where_any, function_records, branch_records, line_records, section_text}
+use Rattle.covbook.specs.Value.{Key, items_at}
 
--- ---- sections
+-- ---- one part more
 
--- the sections that are still to be printed, as text
-abbrev pub text_after : Option Key → List Row → List ℕ
-text_after last rows = flat_map (section_text rows) (rest_after key_cmp last (keys_of rows))
+module _ {X Y : Type 0} (part : X → List Y) (whole text : List Y) where
+  pub goes_on : (new : List Y) (x : X) (left more : List X) → left ≡ x ∷ more → text ++ flat_map part left ≡ whole → new ≡ text ++ part x → new ++ flat_map part more ≡ whole
+  goes_on new x left more next so_far put =
+      ap (λ (t : List Y). t ++ flat_map part more) put
+      ∙ append_assoc text (part x) (flat_map part more)
+      ∙ ap (λ (xs : List X). text ++ flat_map part xs) (sym next)
+      ∙ so_far
 
-abbrev pub sections_after : Option Key → List Row → ℕ
-sections_after last rows = length (rest_after key_cmp last (keys_of rows))
-
-pub text_none : (rows : List Row) → text_after None rows ≡ report_text rows
-text_none rows = ap (flat_map (section_text rows)) (rest_after-none key_cmp (keys_of rows))
-
-pub text_more : (rows : List Row) (last : Option Key) (key : Key) (text new : List ℕ) → IsNext key_cmp last (map key_of_row rows) (Some key) → text ++ text_after last rows ≡ report_text rows
-    → new ≡ text ++ section_text rows key → new ++ text_after (Some key) rows ≡ report_text rows
-text_more rows last key text new next so_far is =
-    ap (λ (t : List ℕ). t ++ text_after (Some key) rows) is
-    ∙ append_assoc text (section_text rows key) (text_after (Some key) rows)
-    ∙ ap (λ (keys : List Key). text ++ flat_map (section_text rows) keys) (sym (next_is keys_order last (map key_of_row rows) key next))
-    ∙ so_far
-
-pub text_all : (rows : List Row) (last : Option Key) (text : List ℕ) → IsNext key_cmp last (map key_of_row rows) None → text ++ text_after last rows ≡ report_text rows → text ≡ report_text rows
-text_all rows last text next so_far =
-    sym (append-nil text)
-    ∙ ap (λ (keys : List Key). text ++ flat_map (section_text rows) keys) (sym (none_is keys_order last (map key_of_row rows) next))
-    ∙ so_far
-
-pub sections_fewer : (rows : List Row) (last : Option Key) (key : Key) → IsNext key_cmp last (map key_of_row rows) (Some key) → sections_after (Some key) rows < sections_after last rows
-sections_fewer rows last key next =
-    let is : sections_after last rows ≡ length (key ∷ rest_after key_cmp (Some key) (keys_of rows)) = ap length (next_is keys_order last (map key_of_row rows) key next) in
-    omega (arith, is)
-
--- ---- lines
-
-abbrev pub record_of : List ItemData → ℕ → LineData
-record_of items line = Line line (line_value line items)
-
-abbrev pub is_hit : List ItemData → ℕ → Bool
-is_hit items line = nat_lt 0 (line_value line items)
-
--- a line with this count is one more that is hit, or none
-abbrev pub hit_of : ℕ → ℕ
-hit_of count = cond (nat_lt 0 count) 1 0
-
-pub hit_more : (hit count : ℕ) → 0 < count → hit + 1 ≡ hit + hit_of count
-hit_more hit count some = ap (λ (b : Bool). hit + cond b 1 0) (sym (lt-ltb 0 count some))
-
-pub hit_stays : (hit count : ℕ) → count ≤ 0 → hit ≡ hit + hit_of count
-hit_stays hit count none = let same : hit + hit_of count ≡ hit + 0 = ap (λ (b : Bool). hit + cond b 1 0) (le-ltb 0 count none) in omega (arith, same)
-
-abbrev pub lines_after : Option ℕ → List ItemData → List ℕ
-lines_after last items = rest_after nat_cmp last (lines_in items)
-
-abbrev pub counts_after : Option ℕ → List ItemData → List ℕ
-counts_after last items = flat_map printed (map (record_of items) (lines_after last items))
+  pub ends : (left : List X) → left ≡ [] → text ++ flat_map part left ≡ whole → text ≡ whole
+  ends left none so_far = sym (append-nil text) ∙ ap (λ (xs : List X). text ++ flat_map part xs) (sym none) ∙ so_far
 
 -- what is printed and counted so far, with what is left
-pub record IsCounted (items : List ItemData) (last : Option ℕ) (before text : List ℕ) (found hit : ℕ) : Type 0 where
-  pub written : text ++ counts_after last items ≡ before ++ flat_map printed (line_records items)
-  pub lines : found + length (lines_after last items) ≡ lines_found items
-  pub hits : hit + count_by (is_hit items) (lines_after last items) ≡ lines_hit items
+pub record IsPrinted {X : Type 0} (part : X → List ℕ) (is_hit : X → Bool) (all left : List X) (before text : List ℕ) (found hit : ℕ) : Type 0 where
+  pub written : text ++ flat_map part left ≡ before ++ flat_map part all
+  pub counted : found + length left ≡ length all
+  pub hits : hit + count_by is_hit left ≡ count_by is_hit all
 
-pub counted_none : (items : List ItemData) (before : List ℕ) → IsCounted items None before before 0 0
-counted_none items before =
-    let all = rest_after-none nat_cmp (lines_in items) in
-    record {
-      written = ap (λ (lines : List ℕ). before ++ flat_map printed (map (record_of items) lines)) all;
-      lines = omega (arith, ap length all);
-      hits = omega (arith, ap (count_by (is_hit items)) all);
-    }
+module _ {X : Type 0} (part : X → List ℕ) (is_hit : X → Bool) (all : List X) (before : List ℕ) where
+  pub printed_none : (left : List X) (found hit : ℕ) → left ≡ all → found ≡ 0 → hit ≡ 0 → IsPrinted part is_hit all left before before found hit
+  printed_none left found hit is f h = record {
+    written = ap (λ (xs : List X). before ++ flat_map part xs) is;
+    counted = omega (arith, ap length is, f);
+    hits = omega (arith, ap (count_by is_hit) is, h);
+  }
 
-pub counted_more : (items : List ItemData) (last : Option ℕ) (before text new : List ℕ) (found hit line count now : ℕ) → IsNext nat_cmp last (map line_number items) (Some line) → count ≡ line_value line items
-    → IsCounted items last before text found hit → new ≡ text ++ printed (Line line count) → now ≡ hit + hit_of count → IsCounted items (Some line) before new (found + 1) now
-counted_more items last before text new found hit line count now next value so_far is one_more =
-    let rest : lines_after last items ≡ line ∷ lines_after (Some line) items = next_is lines_order last (map line_number items) line next in
-    let one : printed (Line line count) ≡ printed (record_of items line) = ap (λ (n : ℕ). printed (Line line n)) value in
-    let counted : count_by (is_hit items) (line ∷ lines_after (Some line) items) ≡ cond (is_hit items line) 1 0 + count_by (is_hit items) (lines_after (Some line) items) =
-    sum_by-cons (λ (l : ℕ). cond (is_hit items l) 1 0) line (lines_after (Some line) items) in
-    let same : hit_of count ≡ hit_of (line_value line items) = ap hit_of value in
-    record {
-      written = ap (λ (t : List ℕ). t ++ counts_after (Some line) items) (is ∙ ap (λ (t : List ℕ). text ++ t) one)
-          ∙ append_assoc text (printed (record_of items line)) (counts_after (Some line) items)
-          ∙ ap (λ (lines : List ℕ). text ++ flat_map printed (map (record_of items) lines)) (sym rest)
-          ∙ so_far.written;
-      lines = omega (arith, ap length rest, so_far.lines);
-      hits = omega (arith, ap (count_by (is_hit items)) rest, counted, same, so_far.hits, one_more);
-    }
+  pub printed_more : (x : X) (b : Bool) (left more : List X) (text new : List ℕ) (found hit found_now hit_now : ℕ) → left ≡ x ∷ more → IsPrinted part is_hit all left before text found hit → new ≡ text ++ part x
+      → b ≡ is_hit x → found_now ≡ found + 1 → hit_now ≡ hit + cond b 1 0 → IsPrinted part is_hit all more before new found_now hit_now
+  printed_more x b left more text new found hit found_now hit_now next so_far put is f h =
+      let one : count_by is_hit (x ∷ more) ≡ cond b 1 0 + count_by is_hit more =
+      sum_by-cons (λ (y : X). cond (is_hit y) 1 0) x more ∙ ap (λ (a : Bool). cond a 1 0 + count_by is_hit more) (sym is) in
+      record {
+        written = goes_on part (before ++ flat_map part all) text new x left more next so_far.written put;
+        counted = omega (arith, ap length next, so_far.counted, f);
+        hits = omega (arith, ap (count_by is_hit) next, one, so_far.hits, h);
+      }
 
-pub counted_all : (items : List ItemData) (last : Option ℕ) (before text : List ℕ) (found hit : ℕ) → IsNext nat_cmp last (map line_number items) None → IsCounted items last before text found hit
-    → (text ≡ before ++ flat_map printed (line_records items)) × (found ≡ lines_found items) × (hit ≡ lines_hit items)
-counted_all items last before text found hit next so_far =
-    let rest : lines_after last items ≡ [] = none_is lines_order last (map line_number items) next in
-    (sym (append-nil text) ∙ ap (λ (lines : List ℕ). text ++ flat_map printed (map (record_of items) lines)) (sym rest) ∙ so_far.written, omega (arith, ap length rest, so_far.lines), omega (arith, ap (count_by (is_hit items)) rest, so_far.hits))
+  pub printed_all : (left : List X) (text : List ℕ) (found hit : ℕ) → left ≡ [] → IsPrinted part is_hit all left before text found hit
+      → (text ≡ before ++ flat_map part all) × (found ≡ length all) × (hit ≡ count_by is_hit all)
+  printed_all left text found hit none so_far =
+      (ends part (before ++ flat_map part all) text left none so_far.written, omega (arith, ap length none, so_far.counted), omega (arith, ap (count_by is_hit) none, so_far.hits))
 
-pub lines_fewer : (items : List ItemData) (last : Option ℕ) (line : ℕ) → IsNext nat_cmp last (map line_number items) (Some line) → length (lines_after (Some line) items) < length (lines_after last items)
-lines_fewer items last line next =
-    let is : length (lines_after last items) ≡ length (line ∷ lines_after (Some line) items) = ap length (next_is lines_order last (map line_number items) line next) in
-    omega (arith, is)
+  -- one point more can be counted
+  pub count_fits : (x : X) (left more : List X) (text : List ℕ) (found hit : ℕ) → length all < 2 ^ 64 → left ≡ x ∷ more → IsPrinted part is_hit all left before text found hit → found + 1 < 2 ^ 64
+  count_fits x left more text found hit few next so_far =
+      let size : length left ≡ length (x ∷ more) = ap length next in
+      omega (arith, size, so_far.counted)
 
--- the counters fit, since no section has more lines than the table has rows
-pub counters_fit : (held : List SubmissionData) (key : Key) (last : Option ℕ) (before text : List ℕ) (found hit : ℕ) → IsHeld held
-    → IsCounted (items_at key (all_rows (map rows_of held))) last before text found hit → (found + 1 < 2 ^ 64) × (hit + 1 < 2 ^ 64)
-counters_fit held key last before text found hit h so_far =
-    let items = items_at key (all_rows (map rows_of held)) in
-    let few : length (lines_in items) < 2 ^ 63 = omega (arith, items_fit key held h, length-ascending nat_cmp (map line_number items), length-map items line_number) in
-    (omega (arith, so_far.lines), omega (arith, so_far.hits, count_by-le-length (is_hit items) (lines_in items)))
+-- ---- records with what follows them
+
+pub with_tail : {X : Type 0} (record_of : X → LineData) (all : List X) (tail : List LineData) (t t1 t2 : List ℕ) → t1 ≡ t ++ flat_map (λ x. printed (record_of x)) all → t2 ≡ t1 ++ flat_map printed tail
+    → t2 ≡ t ++ flat_map printed (map record_of all ++ tail)
+with_tail {X} record_of all tail t t1 t2 first second =
+    second
+    ∙ ap (λ (x : List ℕ). x ++ flat_map printed tail) (first ∙ ap (λ (x : List ℕ). t ++ x) (sym (flat_map-map printed record_of all)))
+    ∙ append_assoc t (flat_map printed (map record_of all)) (flat_map printed tail)
+    ∙ ap (λ (x : List ℕ). t ++ x) (sym (flat_map-append printed (map record_of all) tail))
+
+pub any_is : {X : Type 0} (found_kind hit_kind : TotalKind) (all : List X) (found hit hits : ℕ) → found ≡ length all → hit ≡ hits
+    → totals_if_any found_kind hit_kind found hit ≡ where_any all (totals found_kind hit_kind (length all) hits)
+any_is found_kind hit_kind [] found hit hits f h = ap (λ (n : ℕ). totals_if_any found_kind hit_kind n hit) f
+any_is found_kind hit_kind (x ∷ xs) found hit hits f h =
+    ap₂ (totals_if_any found_kind hit_kind) f h
+    ∙ cond-false (eqb (length (x ∷ xs)) 0) [] (totals found_kind hit_kind (length (x ∷ xs)) hits) (ne_eqb (length (x ∷ xs)) 0 (λ e. omega (arith, e)))
 
 -- ---- the parts of a section
 
@@ -133,16 +86,17 @@ joined : (t t1 t2 t3 t4 t5 t6 a b c d e f : List ℕ) → t1 ≡ t ++ a → t2 �
 joined t t1 t2 t3 t4 t5 t6 a b c d e f e1 e2 e3 e4 e5 e6 =
     e6 ∙ ap (λ (x : List ℕ). x ++ f) (e5 ∙ ap (λ (x : List ℕ). x ++ e) (e4 ∙ ap (λ (x : List ℕ). x ++ d) (e3 ∙ ap (λ (x : List ℕ). x ++ c) (e2 ∙ ap (λ (x : List ℕ). x ++ b) e1)))) ∙ simp (append_assoc, append-nil)
 
-pub section_is : (rows : List Row) (key : Key) (t t1 t2 t3 t4 t5 t6 : List ℕ) (found hit : ℕ) → t1 ≡ t ++ printed (Test key.test) → t2 ≡ t1 ++ printed (Path key.file)
-    → t3 ≡ t2 ++ flat_map printed (line_records (items_at key rows)) → t4 ≡ t3 ++ printed (Total LineFound found) → found ≡ lines_found (items_at key rows) → t5 ≡ t4 ++ printed (Total LineHit hit) → hit ≡ lines_hit (items_at key rows)
+pub section_is : (rows : List Row) (key : Key) (t t1 t2 t3 t4 t5 t6 : List ℕ) → t1 ≡ t ++ printed (Test key.test) → t2 ≡ t1 ++ printed (Path key.file)
+    → t3 ≡ t2 ++ flat_map printed (function_records (items_at key rows)) → t4 ≡ t3 ++ flat_map printed (branch_records (items_at key rows)) → t5 ≡ t4 ++ flat_map printed (line_records (items_at key rows))
     → t6 ≡ t5 ++ printed End → t6 ≡ t ++ section_text rows key
-section_is rows key t t1 t2 t3 t4 t5 t6 found hit e1 e2 e3 e4 f e5 h e6 =
+section_is rows key t t1 t2 t3 t4 t5 t6 e1 e2 e3 e4 e5 e6 =
     let items = items_at key rows in
-    let tail : List LineData = Total LineFound (lines_found items) ∷ Total LineHit (lines_hit items) ∷ End ∷ [] in
-    let lf : printed (Total LineFound found) ≡ printed (Total LineFound (lines_found items)) = ap (λ (n : ℕ). printed (Total LineFound n)) f in
-    let lh : printed (Total LineHit hit) ≡ printed (Total LineHit (lines_hit items)) = ap (λ (n : ℕ). printed (Total LineHit n)) h in
-    let whole : section_text rows key ≡ printed (Test key.test) ++ (printed (Path key.file) ++ (flat_map printed (line_records items) ++ flat_map printed tail)) =
-    ap (λ (x : List ℕ). printed (Test key.test) ++ (printed (Path key.file) ++ x)) (flat_map-append printed (line_records items) tail) in
-    joined t t1 t2 t3 t4 t5 t6 (printed (Test key.test)) (printed (Path key.file)) (flat_map printed (line_records items)) (printed (Total LineFound (lines_found items))) (printed (Total LineHit (lines_hit items))) (printed End)
-    e1 e2 e3 (e4 ∙ ap (λ (x : List ℕ). t3 ++ x) lf) (e5 ∙ ap (λ (x : List ℕ). t4 ++ x) lh) e6
+    let functions = function_records items in
+    let branches = branch_records items in
+    let lines = line_records items in
+    let whole : section_text rows key ≡ printed (Test key.test) ++ (printed (Path key.file) ++ (flat_map printed functions ++ (flat_map printed branches ++ (flat_map printed lines ++ (printed End ++ []))))) =
+    ap (λ (x : List ℕ). printed (Test key.test) ++ (printed (Path key.file) ++ x)) (flat_map-append printed functions (branches ++ (lines ++ (End ∷ [])))
+    ∙ ap (λ (x : List ℕ). flat_map printed functions ++ x) (flat_map-append printed branches (lines ++ (End ∷ []))
+    ∙ ap (λ (x : List ℕ). flat_map printed branches ++ x) (flat_map-append printed lines (End ∷ [])))) in
+    joined t t1 t2 t3 t4 t5 t6 (printed (Test key.test)) (printed (Path key.file)) (flat_map printed functions) (flat_map printed branches) (flat_map printed lines) (printed End) e1 e2 e3 e4 e5 e6
     ∙ ap (λ (x : List ℕ). t ++ x) (sym whole)

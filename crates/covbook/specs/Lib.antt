@@ -14,3 +14,5 @@ pub mod Fault
 pub mod BranchView
 pub mod ClashView
 pub mod ChecksumView
+pub mod Printing
+pub mod FunctionView

@@ -1,3 +1,5 @@
+mod printing;
+
 use crate::{Answer, Book, BookFault, Entries, Entry, Op, Receipt, Receipts, SubRef, TextRef};
 use covline::{Bytes, Item, Items, Sect, Sects, Submission};
 use std::alloc::Global;

@@ -8,7 +8,7 @@ use Rattle.covbook.proofs.trace_text.put_section.Goals as goal
 
 pub returns : goal.returns
 returns g c =
-    on_ok_weaker c.put_line-5.result
-    (λ e. section_is (all_rows (map rows_of c.args.held.now)) (key_data c.args.key) c.args.text.now c.put_line.new.text c.put_line-2.new.text c.put_counts.new.text c.put_line-3.new.text c.put_line-4.new.text c.put_line-5.new.text c.in_ok-totals.totals.found c.in_ok-totals.totals.hit
-    c.in_ok-put_line.ensures.ok c.in_ok-put_line-2.ensures.ok c.in_ok-totals.ensures.text c.in_ok-put_line-3.ensures.ok c.in_ok-totals.ensures.found c.in_ok-put_line-4.ensures.ok c.in_ok-totals.ensures.hit e)
-    c.put_line-5.ensures.ok
+    on_ok_weaker c.put_line-3.result
+    (λ e. section_is (all_rows (map rows_of c.args.held.now)) (key_data c.args.key) c.args.text.now c.put_line.new.text c.put_line-2.new.text c.put_functions.new.text c.put_branches.new.text c.put_lines.new.text c.put_line-3.new.text
+    c.in_ok-put_line.ensures.ok c.in_ok-put_line-2.ensures.ok c.in_ok-put_functions.ensures c.in_ok-put_branches.ensures c.in_ok-put_lines.ensures e)
+    c.put_line-3.ensures.ok
