@@ -1,6 +1,6 @@
 //! The totals of a section.
 
-ghost use Rattle.std.specs.Prelude.{◌≡◌, ℕ, ◌+◌, ◌<◌, ◌≤◌, ◌^◌, ◌++◌, OnOk, if◌then◌else◌};
+ghost use Rattle.std.specs.Prelude.{◌≡◌, ◌+◌, ◌<◌, ◌≤◌, ◌^◌, ◌++◌, OnOk, if◌then◌else◌};
 ghost use Rattle.std.specs.List.{flat_map};
 ghost use Rattle.covline.specs.Printed.{printed};
 ghost use Rattle.covline.specs.Spells.{Total};
@@ -51,7 +51,7 @@ impl Tally {
         put_total(hit, self.hit, text)
     }
 
-    /// Appends the two totals where there is a point.
+    /// Appends the two totals where there is a point. A refusal leaves what was appended before it came.
     pub(super) fn put_if_any<A: Allocator>(
         self,
         found: TotalKind,

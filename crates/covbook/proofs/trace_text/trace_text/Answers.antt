@@ -4,7 +4,7 @@ use Rattle.covline.specs.Row.{rows_of}
 use Rattle.covbook.specs.KeyView.{key_data}
 use Rattle.covbook.specs.Report.{section_text, report_text}
 use Rattle.covbook.specs.Step.{all_rows}
-use Rattle.covbook.specs.Value.{Key, key_cmp, key_of_row, keys_of}
+use Rattle.covbook.specs.Value.{key_cmp, key_of_row, keys_of}
 use Rattle.covbook.proofs.Nearest.{rest_after, rest_after-none, next_is, none_is}
 use Rattle.covbook.proofs.Orders.{keys_order}
 use Rattle.covbook.proofs.Texts.{goes_on, ends}

@@ -12,7 +12,7 @@ use Rattle.covbook.specs.Report.{lines_found, lines_hit}
 use Rattle.covbook.specs.Step.{all_rows}
 use Rattle.covbook.specs.Value.{items_at, lines_in}
 use Rattle.covbook.proofs.Few.{one_line, points_fit}
-use Rattle.covbook.proofs.Nearest.{rest_after, rest_after-none, next_is, none_is}
+use Rattle.covbook.proofs.Nearest.{rest_after-none, next_is, none_is}
 use Rattle.covbook.proofs.Orders.{lines_order}
 use Rattle.covbook.proofs.Texts.{printed_none, printed_more, printed_all, count_fits, with_tail}
 use Rattle.covbook.proofs.trace_text.lines.put_lines.Goals as goal
