@@ -6,7 +6,6 @@ pub mod Walks
 pub mod Roads
 pub mod Bounds
 pub mod Few
-pub mod PointOrders
 pub mod Sorting
 pub mod Texts
 pub mod Runs

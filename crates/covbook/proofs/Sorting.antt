@@ -18,7 +18,7 @@ use Rattle.covline.specs.Row.{ItemData}
 use Rattle.covbook.specs.Ascending.{ascending}
 use Rattle.covbook.specs.Value.{Function, function_cmp, function_of, functions_in, names_in}
 use Rattle.covbook.proofs.Ascend.{IsExactOrder, ascending_is, ascending_sorted, one_ascending}
-use Rattle.covbook.proofs.PointOrders.{functions_order}
+use Rattle.covbook.proofs.Orders.{functions_order}
 
 -- what is not below, nor alike, is above
 less_from_apart : (o : Ordering) → is_lt (ordering_reverse o) ≡ false → is_eq o ≡ false → o ≡ Less

@@ -14,7 +14,7 @@ use Rattle.covbook.specs.Step.{all_rows}
 use Rattle.covbook.specs.Value.{items_at, branch_cmp, branches_in}
 use Rattle.covbook.proofs.Few.{one_branch, points_fit}
 use Rattle.covbook.proofs.Nearest.{rest_after-none, next_is, none_is}
-use Rattle.covbook.proofs.PointOrders.{branches_order}
+use Rattle.covbook.proofs.Orders.{branches_order}
 use Rattle.covbook.proofs.Texts.{printed_none, printed_more, printed_all, count_fits, with_tail, any_is}
 use Rattle.covbook.proofs.trace_text.branches.put_branches.Goals as goal
 
