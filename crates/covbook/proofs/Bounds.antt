@@ -31,7 +31,7 @@ length-table (s ∷ held) lawful =
     let few : items_in s.sects ≤ 67108864 = lawful.0.few in
     omega (arith, length-append (rows_of s) (all_rows (map rows_of held)), length-rows_of_sects s.sects, length-table held lawful.1)
 
-pub length-items_at : (key : Key) (rows : List Row) → length (items_at key rows) ≤ length rows
+length-items_at : (key : Key) (rows : List Row) → length (items_at key rows) ≤ length rows
 length-items_at key rows =
     omega (arith, length-map (filter (has_key key) rows) (λ (row : Row). row.item), length-filter (has_key key) rows, count_by-le-length (has_key key) rows)
 

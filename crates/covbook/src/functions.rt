@@ -26,6 +26,7 @@ pub(crate) fn next_name<'a, A: Allocator>(
 ) -> Option<&'a [u8]>
     ensures { IsNext (slice_cmp nat_cmp) (option_map (λ n. n.now) last.entry) (func_points (items_at (key_data key.entry) (all_rows (map rows_of held.now)))) (option_map (λ n. n.now) result) }
 {
+    // A closure: of the function's own name the prover doesn't know how long what it returns lives.
     next_of(ItemsAt::of(held, key).flat_map(|item| name_of(item)), last)
 }
 

@@ -39,6 +39,7 @@ pub(crate) fn next_key<'a, A: Allocator>(
 ) -> Option<SectKey<'a>>
     ensures { IsNext key_cmp (option_map key_data last.entry) (map key_of_row (all_rows (map rows_of held.now))) (option_map key_data result) }
 {
+    // A closure: of the function's own name the prover doesn't know how long what it returns lives.
     next_of(Sections::of(held).flat_map(|sect| key_of(sect)), last)
 }
 
