@@ -3,6 +3,8 @@ use covline::{Bytes, Item, Items, Sect, Sects, Submission};
 use std::alloc::Global;
 use std::test::*;
 
+mod clashes;
+
 const S1: &str = "TN:t\nSF:/a.c\nDA:1,2\nDA:2,0\nLF:2\nLH:1\nend_of_record\n";
 
 /// A submission of one section.
