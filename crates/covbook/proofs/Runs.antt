@@ -1,14 +1,12 @@
 -- A run with one operation more, and a history with one entry more.
-use Rattle.std.proofs.Common.{◌≡◌, ℕ, ◌+◌, ◌<◌, List, [], ◌∷◌, ◌++◌, length, map, Option, Some, None, refl, sym, ap, ◌∙◌, subst, arith}
+use Rattle.std.proofs.Common.{◌≡◌, ℕ, ◌+◌, ◌<◌, List, [], ◌∷◌, ◌++◌, length, map, None, refl, sym, ap, ◌∙◌, subst, arith}
 use Rattle.std.specs.List.{AllByRecursion}
 use Rattle.std.proofs.lemmas.List.{map_push, length-map, length_push}
 use Rattle.covline.specs.Row.{SubmissionData, rows_of, items_in}
 use Rattle.covline.specs.Lawful.{IsLawful}
-use Rattle.covbook.specs.Clash.{ClashData}
-use Rattle.covbook.specs.Held.{IsBook, IsHeld}
-use Rattle.covbook.specs.Op.{OpData, SubmitOp, ReportOp, AnswerData, AcceptedAnswer, ClashAnswer, TextAnswer, EntryData}
-use Rattle.covbook.specs.Report.{report_text}
-use Rattle.covbook.specs.Step.{Table, all_rows, clash_at, answer_to_submit, table_after_submit, answer_of, table_after, answers_from, table_from, answers_to, table_of, ops_in, IsLegal, most_entries}
+use Rattle.covbook.specs.Held.{IsBook}
+use Rattle.covbook.specs.Op.{OpData, SubmitOp, AnswerData, AcceptedAnswer, EntryData}
+use Rattle.covbook.specs.Step.{Table, clash_at, answer_to_submit, table_after_submit, answer_of, table_after, answers_from, table_from, answers_to, table_of, ops_in, IsLegal, most_entries}
 
 pub answers_from-push : (table : Table) (ops : List OpData) (op : OpData) → answers_from table (ops ++ op ∷ []) ≡ answers_from table ops ++ answer_of (table_from table ops) op ∷ []
 answers_from-push table [] op = refl
@@ -18,7 +16,7 @@ pub table_from-push : (table : Table) (ops : List OpData) (op : OpData) → tabl
 table_from-push table [] op = refl
 table_from-push table (first ∷ ops) op = table_from-push (table_after table first) ops op
 
-pub IsLegal-push : (entries : List EntryData) (e : EntryData) → IsLegal entries → e.answer ≡ answer_of (table_of (ops_in entries)) e.op → IsLegal (entries ++ e ∷ [])
+IsLegal-push : (entries : List EntryData) (e : EntryData) → IsLegal entries → e.answer ≡ answer_of (table_of (ops_in entries)) e.op → IsLegal (entries ++ e ∷ [])
 IsLegal-push entries e legal own =
     map_push (λ (x : EntryData). x.answer) entries e
     ∙ ap (λ (answers : List AnswerData). answers ++ e.answer ∷ []) legal
@@ -33,12 +31,6 @@ All-pushed : {X : Type 0} (P : X → Type 0) (xs : List X) (x : X) → AllByRecu
 All-pushed P [] x all h = (h, tt)
 All-pushed P (y ∷ ys) x all h = (all.0, All-pushed P ys x all.1 h)
 
-pub book_none : IsBook [] []
-book_none = record { legal = refl; stands = refl; few = omega arith; fewer = omega arith; lawful = tt }
-
-pub held_is : (held : List SubmissionData) (entries : List EntryData) → IsBook held entries → IsHeld held
-held_is held entries b = record { few = omega (arith, b.fewer, b.few); lawful = b.lawful }
-
 -- the number of the next submission, which doesn't clash
 accepted_is : (held : List SubmissionData) (entries : List EntryData) (s : SubmissionData) → IsBook held entries → clash_at (table_of (ops_in entries)) s ≡ None
     → AcceptedAnswer (length held + 1) (items_in s.sects) s.odd ≡ answer_of (table_of (ops_in entries)) (SubmitOp s)
@@ -46,20 +38,6 @@ accepted_is held entries s b agrees =
     let table = table_of (ops_in entries) in
     let same : length held ≡ length table = sym (length-map held rows_of) ∙ ap length b.stands in
     ap (λ (n : ℕ). AcceptedAnswer (n + 1) (items_in s.sects) s.odd) same ∙ sym (ap (answer_to_submit table s) agrees)
-
-pub printed_is : (held : List SubmissionData) (entries : List EntryData) → IsBook held entries → TextAnswer (report_text (all_rows (map rows_of held))) ≡ answer_of (table_of (ops_in entries)) ReportOp
-printed_is held entries b = ap (λ (table : Table). TextAnswer (report_text (all_rows table))) b.stands
-
--- a submission that clashes is answered so, and leaves the table as it is
-pub clash_is : (held : List SubmissionData) (entries : List EntryData) (s : SubmissionData) (clash : ClashData) → IsBook held entries → Some clash ≡ clash_at (map rows_of held) s
-    → (ClashAnswer clash ≡ answer_of (table_of (ops_in entries)) (SubmitOp s)) × (table_after (table_of (ops_in entries)) (SubmitOp s) ≡ table_of (ops_in entries))
-clash_is held entries s clash b is =
-    let table = table_of (ops_in entries) in
-    let there : Some clash ≡ clash_at table s = is ∙ ap (λ (t : Table). clash_at t s) b.stands in
-    (ap (answer_to_submit table s) there, sym (ap (table_after_submit table s) there))
-
-pub agrees_is : (held : List SubmissionData) (entries : List EntryData) (s : SubmissionData) → IsBook held entries → None ≡ clash_at (map rows_of held) s → clash_at (table_of (ops_in entries)) s ≡ None
-agrees_is held entries s b is = sym (is ∙ ap (λ (t : Table). clash_at t s) b.stands)
 
 book_submitted : (held : List SubmissionData) (entries : List EntryData) (s : SubmissionData) (e : EntryData) → IsBook held entries → length entries < most_entries → clash_at (table_of (ops_in entries)) s ≡ None
     → IsLawful s → e.op ≡ SubmitOp s → e.answer ≡ AcceptedAnswer (length held + 1) (items_in s.sects) s.odd → IsBook (held ++ s ∷ []) (entries ++ e ∷ [])

@@ -1,10 +1,10 @@
-mod printing;
-
 use crate::{Answer, Book, BookFault, Entries, Entry, Op, Receipt, Receipts, SubRef, TextRef};
 use covline::{Bytes, Item, Items, Sect, Sects, Submission};
 use std::alloc::Global;
 use std::test::*;
 
+mod clashes;
+mod printing;
 mod values;
 
 const S1: &str = "TN:t\nSF:/a.c\nDA:1,2\nDA:2,0\nLF:2\nLH:1\nend_of_record\n";
