@@ -5,3 +5,5 @@ pub mod TraceLaw
 pub mod TraceRun
 pub mod TraceLawful
 pub mod TraceLoop
+pub mod TraceDistinct
+pub mod TracePoints
