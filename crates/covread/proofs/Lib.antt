@@ -7,3 +7,4 @@ pub mod TraceLawful
 pub mod TraceLoop
 pub mod TraceDistinct
 pub mod TracePoints
+pub mod TraceStarts

@@ -1,5 +1,5 @@
 -- The start lines of a section's functions as the code has them.
-use Rattle.std.specs.Prelude.{◌≡◌, ℕ, List, [], ◌∷◌, Option, None, cond, filter}
+use Rattle.std.specs.Prelude.{◌≡◌, ℕ, nat_lt, Bool, true, List, Option, None, Some, cond, filter}
 use Rattle.std.specs.BTreeMap.{BTreeMap, get_by}
 use Rattle.std.specs.Cmp.Lexicographic.{slice_cmp}
 use Rattle.std.specs.List.{flat_map, list_any}
@@ -15,6 +15,11 @@ use Rattle.covread.specs.Reads.{distinct, start_in, items_said, items_of, own_to
 -- the start line that the map has for a function
 abbrev pub start_at : BTreeMap (Bor (List ℕ)) ℕ → List ℕ → Option ℕ
 start_at starts name = get_by (λ k. slice_cmp nat_cmp name k.now) starts
+
+-- the line is before the other one, or the only one
+abbrev pub comes_first : ℕ → Option ℕ → Bool
+comes_first line None = true
+comes_first line (Some other) = nat_lt line other
 
 -- the map has the least start line of each function
 pub record AreStarts (starts : BTreeMap (Bor (List ℕ)) ℕ) (records : List LineData) : Type 0 where

@@ -1,9 +1,10 @@
 //! The start lines of a section's functions.
 
-ghost use Rattle.std.specs.Prelude.{◌≡◌, List, ℕ, IfOk, OnOk, map};
-ghost use Rattle.covline.specs.Spells.{FuncStart, LineData};
-ghost use Rattle.covread.specs.Said.{records_kept};
-ghost use Rattle.covread.specs.TraceStarts.{AreStarts};
+ghost use Rattle.std.specs.Prelude.{◌≡◌, ◌++◌, ◌∷◌, [], List, IfOk, OnOk};
+ghost use Rattle.std.specs.Option.{option_copied};
+ghost use Rattle.covline.specs.Spells.{LineData};
+ghost use Rattle.covread.specs.Said.{said_data, records_kept};
+ghost use Rattle.covread.specs.TraceStarts.{AreStarts, comes_first};
 
 use crate::trace::said::Said;
 use covline::Memory;
@@ -22,25 +23,33 @@ pub fn starts_of<'a, A: Allocator + Copy>(
 {
     let mut starts = BTreeMap::new(alloc);
     for line in lines {
-        if let Said::FuncStart { line, name } = *line {
-            note(&mut starts, name, line)?;
-        }
+        take_start(&mut starts, line)?;
     }
     Ok(starts)
 }
 
-/// Takes a start line of a function, of which the least is kept.
-fn note<'a, A: Allocator + Copy>(
+/// Takes the start line that the line gives to a function, of which the least is kept.
+fn take_start<'a, A: Allocator + Copy>(
     starts: &mut Starts<'a, A>,
-    name: &'a [u8],
-    line: u64,
+    line: &Said<'a>,
 ) -> Result<(), Memory>
-    ensures { OnOk result ((before : List LineData) → AreStarts starts.old before → AreStarts starts.new (before ++ FuncStart line name.now ∷ [])) }
+    ensures { OnOk result ((before : List LineData) → AreStarts starts.old before → AreStarts starts.new (before ++ said_data line.now ∷ [])) }
 {
-    let least = match starts.get(name) {
-        Some(other) => line.min(*other),
-        None => line,
+    let Said::FuncStart { line, name } = *line else {
+        return Ok(());
     };
-    starts.insert(name, least)?;
+    if comes_first(line, starts.get(name)) {
+        starts.insert(name, line)?;
+    }
     Ok(())
+}
+
+/// Whether the line is before the other one, or the only one.
+fn comes_first(line: u64, other: Option<&u64>) -> bool
+    ensures { result ≡ comes_first line (option_copied other.entry) }
+{
+    match other {
+        Some(other) => line < *other,
+        None => true,
+    }
 }
