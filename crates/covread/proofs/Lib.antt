@@ -8,3 +8,4 @@ pub mod TraceLoop
 pub mod TraceDistinct
 pub mod TracePoints
 pub mod TraceStarts
+pub mod TraceHits

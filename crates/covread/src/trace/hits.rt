@@ -19,9 +19,7 @@ pub fn function_totals<'a, A: Allocator>(lines: &[Said<'a>], starts: Starts<'a, 
     let mut waiting = starts;
     let mut hit: u64 = 0;
     for line in lines {
-        if take_hit(&mut waiting, line) {
-            hit += 1;
-        }
+        hit += u64::from(take_hit(&mut waiting, line));
     }
     Totals { found, hit }
 }
