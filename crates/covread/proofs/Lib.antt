@@ -9,3 +9,5 @@ pub mod TraceDistinct
 pub mod TracePoints
 pub mod TraceStarts
 pub mod TraceHits
+pub mod TraceTally
+pub mod TraceSettle

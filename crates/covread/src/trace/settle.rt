@@ -1,6 +1,7 @@
 //! What a section gives when it ends: its items, and how many of its lines don't fit the others.
 
-ghost use Rattle.std.specs.Prelude.{◌≡◌, count_by, IfOk, List};
+ghost use Rattle.std.specs.Prelude.{◌≡◌, count_by, option_map, IfOk, List};
+ghost use Rattle.covline.specs.Row.{FuncItem, LineItem, item_data};
 ghost use Rattle.covline.specs.Spells.{LineData};
 ghost use Rattle.covread.specs.Reads.{items_of, is_odd};
 ghost use Rattle.covread.specs.Said.{said_data, records_kept};
@@ -54,7 +55,11 @@ fn settle_items<'a, A: Allocator + Copy>(
     alloc: A,
     lines: &[Said<'a>],
     starts: &Starts<'a, A>,
-) -> Result<Settled<A>, Memory> {
+) -> Result<Settled<A>, Memory>
+    requires { AreStarts starts.now (records_kept lines.now) }
+    ensures items { IfOk result (λ s. s.items ≡ items_of (records_kept lines.now)) }
+    ensures odd { IfOk result (λ s. s.odd ≡ count_by (is_unstarted (records_kept lines.now)) (records_kept lines.now)) }
+{
     let mut items = Items::new(alloc);
     let mut odd: u64 = 0;
     for line in lines {
@@ -73,32 +78,33 @@ fn given_by<'a, A: Allocator + Copy>(
     alloc: A,
     line: &Said<'a>,
     starts: &Starts<'a, A>,
-) -> Result<Given<A>, Memory> {
-    let item = match *line {
-        Said::FuncStart { line, name } => func_item(alloc, name, line, 0)?,
+) -> Result<Given<A>, Memory>
+    ensures { IfOk result (λ given. (inside : List LineData) → AreStarts starts.now inside → Gives inside (said_data line.now) given) }
+{
+    match *line {
+        Said::FuncStart { line, name } => Ok(Given::Item(func_item(alloc, name, line, 0)?)),
         Said::FuncCount { count, name } => match starts.get(name) {
-            Some(start) => func_item(alloc, name, *start, count)?,
-            None => return Ok(Given::Unstarted),
+            Some(start) => Ok(Given::Item(func_item(alloc, name, *start, count)?)),
+            None => Ok(Given::Unstarted),
         },
         Said::Branch {
             line,
             block,
             branch,
             taken,
-        } => Item::Branch {
+        } => Ok(Given::Item(Item::Branch {
             line,
             block,
             branch,
             taken,
-        },
+        })),
         Said::Line {
             line,
             count,
             checksum,
-        } => line_item(alloc, line, count, checksum)?,
-        Said::Total { .. } => return Ok(Given::Total),
-    };
-    Ok(Given::Item(item))
+        } => Ok(Given::Item(line_item(alloc, line, count, checksum)?)),
+        Said::Total { .. } => Ok(Given::Total),
+    }
 }
 
 /// The item of a function. It owns its name.
@@ -107,7 +113,9 @@ fn func_item<A: Allocator>(
     name: &[u8],
     line: u64,
     count: u64,
-) -> Result<Item<A>, Memory> {
+) -> Result<Item<A>, Memory>
+    ensures { IfOk result (λ item. item_data item ≡ FuncItem name.now line count) }
+{
     Ok(Item::Func {
         name: Bytes::of(alloc, name)?,
         line,
@@ -121,7 +129,9 @@ fn line_item<A: Allocator>(
     line: u64,
     count: u64,
     checksum: Option<&[u8]>,
-) -> Result<Item<A>, Memory> {
+) -> Result<Item<A>, Memory>
+    ensures { IfOk result (λ item. item_data item ≡ LineItem line count (option_map (λ c. c.now) checksum.entry)) }
+{
     let checksum = match checksum {
         Some(text) => Some(Bytes::of(alloc, text)?),
         None => None,

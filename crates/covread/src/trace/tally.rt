@@ -5,7 +5,8 @@ ghost use Rattle.std.specs.List.{list_any};
 ghost use Rattle.covline.specs.Row.{item_data};
 ghost use Rattle.covread.specs.Reads.{items_of};
 ghost use Rattle.covread.specs.Said.{said_data, records_kept};
-ghost use Rattle.covread.specs.TraceStarts.{AreStarts};
+ghost use Rattle.covread.specs.TraceStarts.{AreStarts, AreFunctionTotals};
+ghost use Rattle.covread.specs.declared.trace.tally.Sort.TheVariants.{Functions};
 ghost use Rattle.covread.specs.TracePoints.{AreTotals};
 ghost use Rattle.covread.specs.TraceTally.{AreOwn, differs, has, is_other, own_value, states};
 
@@ -58,16 +59,23 @@ fn own_totals<'a, A: Allocator + Copy>(
     requires starts { AreStarts starts (records_kept lines.now) }
     ensures { IfOk result (λ own. AreOwn own (records_kept lines.now)) }
 {
-    let functions = if any_states(lines, Sort::Functions) {
-        function_totals(lines, starts)
-    } else {
-        Totals::NONE
-    };
     Ok(Own {
-        functions,
+        functions: stated_functions(lines, starts),
         branches: stated_totals::<BranchKey, A>(alloc, lines, Sort::Branches, items)?,
         lines: stated_totals::<u64, A>(alloc, lines, Sort::Lines, items)?,
     })
+}
+
+/// The totals of functions, where a line states one.
+fn stated_functions<'a, A: Allocator>(lines: &[Said<'a>], starts: Starts<'a, A>) -> Totals
+    requires { AreStarts starts (records_kept lines.now) }
+    ensures { list_any (states Functions) (records_kept lines.now) ≡ true → AreFunctionTotals result (records_kept lines.now) }
+{
+    if any_states(lines, Sort::Functions) {
+        function_totals(lines, starts)
+    } else {
+        Totals::NONE
+    }
 }
 
 /// The totals of points, where a line states a total of their sort.
