@@ -8,3 +8,9 @@ pub mod TraceEnd
 pub mod TraceRun
 pub mod TraceLawful
 pub mod TraceLoop
+pub mod TraceDistinct
+pub mod TracePoints
+pub mod TraceStarts
+pub mod TraceHits
+pub mod TraceTally
+pub mod TraceSettle

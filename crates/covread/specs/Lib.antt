@@ -3,3 +3,7 @@ pub mod Outcome
 pub mod Said
 pub mod TraceSteps
 pub mod Fault
+pub mod TracePoints
+pub mod TraceStarts
+pub mod TraceTally
+pub mod TraceSettle

@@ -3,6 +3,8 @@ use covline::{Item, LineFault};
 use std::alloc::Global;
 use std::test::*;
 
+mod sections;
+
 /// What is looked at: how many items the sections have and how many lines are odd, or the fault.
 type Wanted = Result<(u64, u64), ReadFault>;
 

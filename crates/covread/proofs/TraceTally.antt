@@ -1,0 +1,105 @@
+-- The own totals by the keys that the code counts, and the stated ones that differ.
+use Rattle.std.proofs.Common.{◌≡◌, ℕ, ◌+◌, Bool, true, false, cond, ◌&&◌, ◌||◌, not, List, [], ◌∷◌, ◌++◌, map, refl, sym, ap, ◌∙◌, arith}
+use Rattle.std.specs.Prelude.{count_by, nat_eq, filter}
+use Rattle.std.specs.List.{flat_map, list_any}
+use Rattle.std.specs.Ordering.{nat_cmp, eq_by_cmp, is_eq, ordering_then}
+use Rattle.std.specs.declared.cmp.Ordering.{Ordering}
+use Rattle.std.specs.declared.cmp.Ordering.TheVariants.{Less, Equal, Greater}
+use Rattle.std.proofs.lemmas.Bool.Decides.{nat_tests}
+use Rattle.std.proofs.lemmas.List.{map-id, map-append}
+use Rattle.std.proofs.lemmas.List.Sums.{sum_by-cons}
+use Rattle.covline.specs.declared.trace_line.TotalKind.{TotalKind}
+use Rattle.covline.specs.declared.trace_line.TotalKind.TheVariants.{FuncFound, FuncHit, BranchFound, BranchHit, LineFound, LineHit}
+use Rattle.covline.specs.Points.{BranchPoint, branch_point, branch_points, line_point, is_hit}
+use Rattle.covline.specs.Row.{ItemData, LineItem, FuncItem, BranchItem}
+use Rattle.covline.specs.Spells.{LineData, Test, Path, FuncStart, FuncCount, Branch, Line, Total, End, Skip}
+use Rattle.covread.specs.declared.trace.points.BranchKey.{BranchKey}
+use Rattle.covread.specs.declared.trace.tally.Own.{Own}
+use Rattle.covread.specs.declared.trace.tally.Sort.{Sort}
+use Rattle.covread.specs.declared.trace.tally.Sort.TheVariants.{Functions, Branches, Lines}
+use Rattle.covread.specs.Reads.{distinct, branch_eq, own_total, items_of}
+use Rattle.covread.specs.TracePoints.{branch_key}
+use Rattle.covread.specs.TraceTally.{has, states, own_value, differs, is_other, branch_cmp, AreOwn}
+use Rattle.covread.proofs.TraceDistinct.{distinct_on}
+
+-- ---- lines
+
+nat_same : (a b : ℕ) → is_eq (nat_cmp a b) ≡ nat_eq a b
+nat_same a b = grind (arith, nat_tests)
+
+lines_differ : (lines : List ℕ) → distinct (eq_by_cmp nat_cmp) lines ≡ distinct nat_eq lines
+lines_differ lines = sym (ap (distinct (eq_by_cmp nat_cmp)) (map-id lines)) ∙ distinct_on (λ (n : ℕ). n) (eq_by_cmp nat_cmp) nat_eq nat_same lines
+
+-- ---- branches
+
+abbrev point_at : BranchKey → BranchPoint
+point_at k = record { line = k.line; block = k.block; branch = k.branch }
+
+point_of : (i : ItemData) → map point_at (branch_key i) ≡ branch_point i
+point_of (LineItem line count checksum) = refl
+point_of (FuncItem name line count) = refl
+point_of (BranchItem line block branch taken) = refl
+
+points_of : (items : List ItemData) → map point_at (flat_map branch_key items) ≡ branch_points items
+points_of [] = refl
+points_of (i ∷ items) =
+    map-append point_at (branch_key i) (flat_map branch_key items) ∙ ap (λ (ps : List BranchPoint). ps ++ map point_at (flat_map branch_key items)) (point_of i)
+    ∙ ap (λ (ps : List BranchPoint). branch_point i ++ ps) (points_of items)
+
+both_eq : (o p : Ordering) → is_eq (ordering_then o p) ≡ (is_eq o && is_eq p)
+both_eq Less p = refl
+both_eq Equal p = refl
+both_eq Greater p = refl
+
+and_three : (a b c : Bool) → (a && (b && c)) ≡ ((a && b) && c)
+and_three true b c = refl
+and_three false b c = refl
+
+branch_same : (a b : BranchKey) → branch_eq (point_at a) (point_at b) ≡ eq_by_cmp branch_cmp a b
+branch_same a b =
+    let inner = both_eq (nat_cmp a.block b.block) (nat_cmp a.branch b.branch) ∙ ap (λ (x : Bool). x && is_eq (nat_cmp a.branch b.branch)) (nat_same a.block b.block) ∙ ap (λ (x : Bool). nat_eq a.block b.block && x) (nat_same a.branch b.branch) in
+    let outer = both_eq (nat_cmp a.line b.line) (ordering_then (nat_cmp a.block b.block) (nat_cmp a.branch b.branch)) in
+    let first = ap (λ (x : Bool). x && is_eq (ordering_then (nat_cmp a.block b.block) (nat_cmp a.branch b.branch))) (nat_same a.line b.line) in
+    sym (outer ∙ first ∙ ap (λ (x : Bool). nat_eq a.line b.line && x) inner ∙ and_three (nat_eq a.line b.line) (nat_eq a.block b.block) (nat_eq a.branch b.branch))
+
+branches_differ : (items : List ItemData) → distinct (eq_by_cmp branch_cmp) (flat_map branch_key items) ≡ distinct branch_eq (branch_points items)
+branches_differ items = sym (distinct_on point_at branch_eq (eq_by_cmp branch_cmp) branch_same (flat_map branch_key items)) ∙ ap (distinct branch_eq) (points_of items)
+
+-- ---- what the section states
+
+-- an own total of a sort that the section states
+own_is : (own : Own) (inside : List LineData) → AreOwn own inside → (kind : TotalKind) → ((sort : Sort) → has sort kind ≡ true → list_any (states sort) inside ≡ true) → own_value own kind ≡ own_total kind (items_of inside)
+own_is own inside h FuncFound stated = (h.functions (stated Functions refl)).found
+own_is own inside h FuncHit stated = (h.functions (stated Functions refl)).hit
+own_is own inside h BranchFound stated = (h.branches (stated Branches refl)).found ∙ branches_differ (items_of inside)
+own_is own inside h BranchHit stated = (h.branches (stated Branches refl)).hit ∙ branches_differ (filter is_hit (items_of inside))
+own_is own inside h LineFound stated = (h.lines (stated Lines refl)).found ∙ lines_differ (flat_map line_point (items_of inside))
+own_is own inside h LineHit stated = (h.lines (stated Lines refl)).hit ∙ lines_differ (flat_map line_point (filter is_hit (items_of inside)))
+
+differs_is : (own : Own) (inside : List LineData) → AreOwn own inside → (r : LineData) → ((sort : Sort) → states sort r ≡ true → list_any (states sort) inside ≡ true) → differs own r ≡ is_other inside r
+differs_is own inside h (Total kind value) stated = ap (λ (n : ℕ). not (nat_eq value n)) (own_is own inside h kind stated)
+differs_is own inside h (FuncStart line name) stated = refl
+differs_is own inside h (FuncCount count name) stated = refl
+differs_is own inside h (Branch line block branch taken) stated = refl
+differs_is own inside h (Line line count checksum) stated = refl
+differs_is own inside h (Test name) stated = refl
+differs_is own inside h (Path path) stated = refl
+differs_is own inside h End stated = refl
+differs_is own inside h Skip stated = refl
+
+or_last : (a b : Bool) → b ≡ true → (a || b) ≡ true
+or_last true b h = refl
+or_last false b h = h
+
+all_differ : (own : Own) (inside : List LineData) → AreOwn own inside → (records : List LineData) → ((sort : Sort) → list_any (states sort) records ≡ true → list_any (states sort) inside ≡ true) → count_by (differs own) records ≡ count_by (is_other inside) records
+all_differ own inside h [] stated = refl
+all_differ own inside h (r ∷ rs) stated =
+    let first : differs own r ≡ is_other inside r = differs_is own inside h r (λ sort e. stated sort (ap (λ (b : Bool). b || list_any (states sort) rs) e)) in
+    let others : count_by (differs own) rs ≡ count_by (is_other inside) rs = all_differ own inside h rs (λ sort e. stated sort (or_last (states sort r) (list_any (states sort) rs) e)) in
+    let a = sum_by-cons (λ (x : LineData). cond (differs own x) 1 0) r rs in
+    let b = sum_by-cons (λ (x : LineData). cond (is_other inside x) 1 0) r rs in
+    let one : cond {A = ℕ} (differs own r) 1 0 ≡ cond (is_other inside r) 1 0 = ap (λ (x : Bool). cond {A = ℕ} x 1 0) first in
+    omega (arith, a, b, one, others)
+
+pub odd_is : (own : Own) (inside : List LineData) → AreOwn own inside → count_by (differs own) inside ≡ count_by (is_other inside) inside
+odd_is own inside h = all_differ own inside h inside (λ sort e. e)
