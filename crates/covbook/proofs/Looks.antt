@@ -1,5 +1,5 @@
 -- Looks along a list that end at the first member where there is something to be found.
-use Rattle.std.proofs.Common.{◌≡◌, ℕ, ◌+◌, ◌<◌, ◌≤◌, Bool, true, false, ◌&&◌, not, eqb, cond, List, [], ◌∷◌, ◌++◌, length, get_or, take, drop, map, refl, sym, ap, ◌∙◌, append_assoc}
+use Rattle.std.proofs.Common.{◌≡◌, ℕ, ◌+◌, ◌<◌, ◌≤◌, false, ◌&&◌, not, eqb, List, [], ◌∷◌, ◌++◌, length, get_or, take, drop, map, refl, sym, ap, ◌∙◌, append_assoc}
 use Rattle.std.specs.Prelude.{Option, Some, None, option_map}
 use Rattle.std.specs.Str.{bytes_eq}
 use Rattle.std.specs.List.{flat_map, find}
@@ -9,8 +9,8 @@ use Rattle.std.proofs.lemmas.List.{append-nil, map-append, map_more, take-append
 use Rattle.std.proofs.lemmas.List.Concat.{flat_map-append}
 use Rattle.std.proofs.lemmas.List.Folds.{find-append, flat_map-map}
 use Rattle.std.proofs.lemmas.Option.{same_Some, none-some}
-use Rattle.covline.specs.Row.{ItemData, LineItem, FuncItem, BranchItem, SectData, Row, SubmissionData, rows_of_sect, rows_of}
-use Rattle.covbook.specs.ChecksumView.{checksums_held, checksums_of_sects, checksums_of_items, other_checksum}
+use Rattle.covline.specs.Row.{ItemData, LineItem, FuncItem, BranchItem, SectData, Row, rows_of_sect}
+use Rattle.covbook.specs.ChecksumView.{checksums_of_sects, checksums_of_items, other_checksum}
 use Rattle.covbook.specs.Clash.{Checksum, ClashData, differs, or_later, first_clash, checksum_of, checksum_of_row, checksums_in}
 use Rattle.covbook.specs.Step.{all_rows}
 
@@ -39,17 +39,24 @@ module _ {S D K C : Type 0} (look : List K → Option C) (rest : List K → List
       ∙ goes_on (g (map f (take j ss))) (g (map f (drop j ss)))
       ∙ ap (λ (o : Option C). option_or o (rest (g (map f (take j ss))) (g (map f (drop j ss))))) e
 
+  here : (i : ℕ) (e : S) (member : List K) → i < length ss → e ≡ get_or ss i e → g (f e ∷ []) ≡ member → look (g (map f (take i ss))) ≡ None → look (g (map f (take (i + 1) ss))) ≡ rest (g (map f (take i ss))) member
+  here i e member lt is own none =
+      found_more i e lt none
+      ∙ ap (λ (s : S). rest (g (map f (take i ss))) (g (f s ∷ []))) (sym is)
+      ∙ ap (rest (g (map f (take i ss)))) own
+
   -- what is found at a member is what the whole look finds, where nothing was found before it
-  pub found_at : (i : ℕ) (e : S) (x : C) → i < length ss → e ≡ get_or ss i e → look (g (map f (take i ss))) ≡ None → Some x ≡ rest (g (map f (take i ss))) (g (f e ∷ [])) → Some x ≡ look (g (map f ss))
-  found_at i e x lt is none here =
-      sym (found_early (i + 1) x (found_more i e lt none ∙ ap (λ (s : S). rest (g (map f (take i ss))) (g (f s ∷ []))) (sym is) ∙ sym here))
+  pub found_at : (i : ℕ) (e : S) (x : C) (member whole : List K) → i < length ss → e ≡ get_or ss i e → g (f e ∷ []) ≡ member → g (map f ss) ≡ whole → look (g (map f (take i ss))) ≡ None
+      → Some x ≡ rest (g (map f (take i ss))) member → Some x ≡ look whole
+  found_at i e x member whole lt is own all none found =
+      sym (found_early (i + 1) x (here i e member lt is own none ∙ sym found)) ∙ ap look all
 
-  pub none_past : (i : ℕ) (e : S) → i < length ss → e ≡ get_or ss i e → look (g (map f (take i ss))) ≡ None → None ≡ rest (g (map f (take i ss))) (g (f e ∷ [])) → look (g (map f (take (i + 1) ss))) ≡ None
-  none_past i e lt is none here =
-      found_more i e lt none ∙ ap (λ (s : S). rest (g (map f (take i ss))) (g (f s ∷ []))) (sym is) ∙ sym here
+  pub none_past : (i : ℕ) (e : S) (member : List K) → i < length ss → e ≡ get_or ss i e → g (f e ∷ []) ≡ member → look (g (map f (take i ss))) ≡ None
+      → None ≡ rest (g (map f (take i ss))) member → look (g (map f (take (i + 1) ss))) ≡ None
+  none_past i e member lt is own none found = here i e member lt is own none ∙ sym found
 
-  pub none_at_all : (i : ℕ) → length ss ≤ i → look (g (map f (take i ss))) ≡ None → None ≡ look (g (map f ss))
-  none_at_all i long none = sym (ap (λ (xs : List S). look (g (map f xs))) (sym (take_all i ss long)) ∙ none)
+  pub none_at_all : (i : ℕ) (whole : List K) → length ss ≤ i → g (map f ss) ≡ whole → look (g (map f (take i ss))) ≡ None → None ≡ look whole
+  none_at_all i whole long all none = sym (ap (λ (xs : List S). look (g (map f xs))) (sym (take_all i ss long)) ∙ none) ∙ ap look all
 
 -- ---- the look for another checksum, and that for a clash
 
@@ -110,6 +117,10 @@ rows_checksums s = flat_map-map checksum_of_row (λ (i : ItemData). record { tes
 pub sect_checksums : (s : SectData) (file : List ℕ) (items : List ItemData) → file ≡ s.file → items ≡ s.items → checksums_of_items file items ≡ checksums_in (rows_of_sect s)
 sect_checksums s file items is_file is_items =
     ap (λ (name : List ℕ). checksums_of_items name items) is_file ∙ ap (checksums_of_items s.file) is_items ∙ sym (rows_checksums s)
+
+pub sect_other : (given : Checksum) (s : SectData) (file : List ℕ) (items : List ItemData) (other : Option (List ℕ)) → file ≡ s.file → items ≡ s.items → other ≡ other_checksum given (checksums_of_items file items)
+    → other ≡ other_checksum given (checksums_in (rows_of_sect s))
+sect_other given s file items other is_file is_items found = found ∙ ap (other_checksum given) (sect_checksums s file items is_file is_items)
 
 -- checksums of another file don't differ
 other_file_item : (given : Checksum) (file : List ℕ) (item : ItemData) (rest : List Checksum) → bytes_eq given.file file ≡ false → find (differs given) rest ≡ None → find (differs given) (checksum_of file item ++ rest) ≡ None

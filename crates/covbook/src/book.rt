@@ -173,7 +173,13 @@ impl<A: Allocator + Copy> Book<A> {
     }
 
     /// Appends the entry of an operation that leaves the table as it is, with a copy of its answer.
-    fn note(&mut self, alloc: A, job: u32, op: Op<A>, answer: Answer<A>) -> Result<Receipt<A>, Memory>
+    fn note(
+        &mut self,
+        alloc: A,
+        job: u32,
+        op: Op<A>,
+        answer: Answer<A>,
+    ) -> Result<Receipt<A>, Memory>
         requires room { length self.old < most_entries }
         requires answered { answer_data answer ≡ answer_of (table_of (ops_in self.old)) (op_data op) }
         requires still { table_after (table_of (ops_in self.old)) (op_data op) ≡ table_of (ops_in self.old) }

@@ -139,10 +139,7 @@ fn checksum_of<'a, A: Allocator>(file: &'a [u8], item: &'a Item<A>) -> Option<Li
 }
 
 /// The first checksum among the held submissions from which this one differs.
-fn other_held<'a, A: Allocator>(
-    held: &'a [SubRef<A>],
-    given: LineChecksum<'_>,
-) -> Option<&'a [u8]>
+fn other_held<'a, A: Allocator>(held: &'a [SubRef<A>], given: LineChecksum<'_>) -> Option<&'a [u8]>
     ensures { option_map (λ c. c.now) result ≡ other_checksum (checksum_data given.entry) (checksums_held held.now) }
 {
     for submission in held {
@@ -169,10 +166,7 @@ fn other_in_sects<'a, A: Allocator>(
 }
 
 /// The first checksum in a section from which this one differs. A section of another file is passed over.
-fn other_in_sect<'a, A: Allocator>(
-    sect: &'a Sect<A>,
-    given: LineChecksum<'_>,
-) -> Option<&'a [u8]>
+fn other_in_sect<'a, A: Allocator>(sect: &'a Sect<A>, given: LineChecksum<'_>) -> Option<&'a [u8]>
     ensures { option_map (λ c. c.now) result ≡ other_checksum (checksum_data given.entry) (checksums_in (rows_of_sect (sect_data sect.now))) }
 {
     if sect.file.get() == given.file {
@@ -198,10 +192,7 @@ fn other_in_items<'a, A: Allocator>(
 }
 
 /// The checksum of an item of its own file, where this one differs from it.
-fn other_in_item<'a, A: Allocator>(
-    item: &'a Item<A>,
-    given: LineChecksum<'_>,
-) -> Option<&'a [u8]>
+fn other_in_item<'a, A: Allocator>(item: &'a Item<A>, given: LineChecksum<'_>) -> Option<&'a [u8]>
     ensures { option_map (λ c. c.now) result ≡ other_checksum (checksum_data given.entry) (said_by given.entry.file.now (item_data item.now)) }
 {
     let own = match item {

@@ -33,7 +33,11 @@ impl<A: Allocator> Op<A> {
 pub enum Answer<A: Allocator = Global> {
     /// The submission is the book's with this number, counted from 1; so many items it has, and so many of
     /// its text's lines don't fit the others.
-    Accepted { number: u64, items: u64, odd: u64 },
+    Accepted {
+        number: u64,
+        items: u64,
+        odd: u64,
+    },
     /// The submission brings another checksum of this line of this file than the one that is held, so it comes from
     /// another version of the source. Nothing of it is taken.
     Clash {

@@ -151,7 +151,12 @@ fn the_clash_that_is_told(rt: HostRuntime) -> Result<(), Fail> {
         ("the first of two, the other way", &[x, v], &[y, w], line_1),
         ("the first of three versions", &[x], &[x, y, z], line_1),
         ("behind rows that agree", &[v, x], &[none, v, x, y], line_1),
-        ("behind a row without checksum", &[none, x], &[none, y], line_1),
+        (
+            "behind a row without checksum",
+            &[none, x],
+            &[none, y],
+            line_1,
+        ),
     ];
     for (name, held, given, told) in &cases {
         let mut book = Book::new(rt.alloc());

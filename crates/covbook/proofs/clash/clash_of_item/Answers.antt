@@ -1,5 +1,4 @@
-use Rattle.std.proofs.Common.{◌≡◌, ◌++◌, map, option_map, List, ℕ, ap, sym, ◌∙◌}
-use Rattle.std.specs.Prelude.{Option, None}
+use Rattle.std.proofs.Common.{◌++◌, map, option_map, ap, sym, ◌∙◌}
 use Rattle.covline.specs.Row.{item_data}
 use Rattle.covline.specs.SectView.{sect_data}
 use Rattle.covbook.specs.ChecksumView.{checksum_data, checksums_held, checksums_of_sects}
