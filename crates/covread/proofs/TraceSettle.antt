@@ -1,7 +1,7 @@
 -- What records give to their section, and which of them are odd.
-use Rattle.std.proofs.Common.{◌≡◌, ℕ, ◌+◌, Bool, true, false, cond, List, [], ◌∷◌, ◌++◌, Option, None, Some, refl, sym, ap, subst, ◌∙◌, arith}
-use Rattle.std.specs.Prelude.{count_by, is_none, not}
-use Rattle.std.specs.List.{flat_map, sum_by}
+use Rattle.std.proofs.Common.{◌≡◌, ℕ, ◌+◌, Bool, true, false, cond, List, [], ◌∷◌, ◌++◌, Option, None, Some, refl, sym, ap, ◌∙◌, arith}
+use Rattle.std.specs.Prelude.{count_by, is_none}
+use Rattle.std.specs.List.{flat_map}
 use Rattle.std.proofs.lemmas.List.{append-nil}
 use Rattle.std.proofs.lemmas.List.Concat.{flat_map-append}
 use Rattle.std.proofs.lemmas.List.Sums.{sum_by-cons, sum_by_push}
@@ -9,7 +9,7 @@ use Rattle.covline.specs.Row.{ItemData, FuncItem, LineItem, item_data}
 use Rattle.covline.specs.Spells.{LineData, Test, Path, FuncStart, FuncCount, Branch, Line, Total, End, Skip}
 use Rattle.covline.specs.declared.item.Item.{Item}
 use Rattle.covread.specs.declared.trace.settle.Given.TheVariants as given
-use Rattle.covread.specs.Reads.{start_in, counted, items_said, items_of, is_odd, own_total}
+use Rattle.covread.specs.Reads.{start_in, counted, items_said, is_odd}
 use Rattle.covread.specs.TraceSettle.{is_unstarted, Gives}
 use Rattle.covread.specs.TraceTally.{is_other}
 

@@ -1,4 +1,4 @@
-use Rattle.std.proofs.Common.{◌≡◌, ℕ, ◌+◌, ◌≤◌, Bool, true, false, cond, List, ◌++◌, ◌∷◌, [], length, get_or, map, take, refl, sym, ap, subst, ◌∙◌, arith}
+use Rattle.std.proofs.Common.{◌≡◌, ℕ, ◌+◌, ◌≤◌, Bool, true, false, cond, List, length, map, take, refl, sym, ap, subst, ◌∙◌, arith}
 use Rattle.std.proofs.lemmas.List.{take_all, take_more, map_push}
 use mir.Val.{bool_byte}
 use Rattle.covline.specs.Spells.{LineData}
@@ -23,7 +23,7 @@ loop-line-preserved g c =
     let next = ap (map said_data) (take_more c.args.lines.now c.loop-line.line-index _ c.loop-line-test.true) ∙ map_push said_data (take c.loop-line.line-index c.args.lines.now) _ in
     record {
       waits = subst (λ (n : ℕ). Waits c.take_hit.new.waiting n inside (map said_data (take (c.loop-line.line-index + 1) c.args.lines.now))) sum
-      (subst (λ (rs : List LineData). Waits c.take_hit.new.waiting (c.loop-line.hit + cond c.take_hit.result 1 0) inside rs) (sym next) (c.take_hit.ensures inside before c.loop-line.hit c.loop-line.invariant.waits));
+          (subst (λ (rs : List LineData). Waits c.take_hit.new.waiting (c.loop-line.hit + cond c.take_hit.result 1 0) inside rs) (sym next) (c.take_hit.ensures inside before c.loop-line.hit c.loop-line.invariant.waits));
       few = omega (arith, c.loop-line.invariant.few, c.from-hit.ensures, byte_few c.take_hit.result);
     }
 
