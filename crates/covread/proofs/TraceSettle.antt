@@ -13,17 +13,11 @@ use Rattle.covread.specs.Reads.{start_in, counted, items_said, is_odd}
 use Rattle.covread.specs.TraceSettle.{is_unstarted, Gives}
 use Rattle.covread.specs.TraceTally.{is_other}
 
-pub start_gives : {A : Type 0} (inside : List LineData) (line : ℕ) (name : List ℕ) (item : Item A) → item_data item ≡ FuncItem name line 0 → Gives inside (FuncStart line name) (given.Item item)
-start_gives inside line name item e = (ap (λ (i : ItemData). i ∷ []) (sym e), refl)
-
 pub count_gives : {A : Type 0} (inside : List LineData) (count : ℕ) (name : List ℕ) (line : ℕ) (item : Item A) → start_in name inside ≡ Some line → item_data item ≡ FuncItem name line count → Gives inside (FuncCount count name) (given.Item item)
 count_gives inside count name line item s e = (ap (counted name count) s ∙ ap (λ (i : ItemData). i ∷ []) (sym e), ap is_none s)
 
 pub count_alone : (A : Type 0) (inside : List LineData) (count : ℕ) (name : List ℕ) → start_in name inside ≡ None → Gives {A = A} inside (FuncCount count name) given.Unstarted
 count_alone A inside count name s = (ap (counted name count) s, ap is_none s)
-
-pub line_gives : {A : Type 0} (inside : List LineData) (line count : ℕ) (checksum : Option (List ℕ)) (item : Item A) → item_data item ≡ LineItem line count checksum → Gives inside (Line line count checksum) (given.Item item)
-line_gives inside line count checksum item e = (ap (λ (i : ItemData). i ∷ []) (sym e), refl)
 
 -- ---- one more record
 

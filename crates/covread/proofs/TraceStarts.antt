@@ -76,9 +76,6 @@ starts_later starts records line name later h = record { at = λ q. by q (bytes_
         h.at q ∙ sym (start_here q records line name e ∙ later_push (flat_map (start_said q) records) line behind)
     by q false e = h.at q ∙ sym (start_same q records (FuncStart line name) (ap (λ b. cond b (line ∷ []) []) e))
 
-pub starts_same : (starts : BTreeMap (Bor (List ℕ)) ℕ) (records : List LineData) (r : LineData) → ((name : List ℕ) → start_said name r ≡ []) → AreStarts starts records → AreStarts starts (records ++ r ∷ [])
-starts_same starts records r none h = record { at = λ q. h.at q ∙ sym (start_same q records r (none q)) }
-
 -- ---- the functions that a section has
 
 -- the record gives a start line to the function

@@ -116,6 +116,10 @@ fn start_lines(rt: HostRuntime) {
         ],
         0,
     );
+}
+
+#[test]
+fn counts_without_start_line(rt: HostRuntime) {
     check(
         &rt,
         "a wrong total and a count alone",

@@ -2,6 +2,7 @@ use Rattle.std.proofs.Common.{◌≡◌, ℕ, ◌+◌, ◌≤◌, Bool, true, fa
 use Rattle.std.proofs.lemmas.List.{take_all, take_more, map_push}
 use mir.Val.{bool_byte}
 use Rattle.covline.specs.Spells.{LineData}
+use Rattle.covread.specs.declared.trace.said.Said.{Said}
 use Rattle.covread.specs.Said.{said_data, records_kept}
 use Rattle.covread.specs.TraceStarts.{Waits}
 use Rattle.covread.proofs.TraceHits.{hits_are}
@@ -29,6 +30,7 @@ loop-line-preserved g c =
 
 pub returns : goal.returns
 returns g c =
+    let inside = records_kept c.args.lines.now in
     let end : length c.args.lines.now ≤ c.loop-line.line-index = omega arith in
-    let waits = rw (take_all) at c.loop-line.invariant.waits in
-    hits_are c.args.starts c.loop-line.waiting (records_kept c.args.lines.now) (record { found = c.len-found.result; hit = c.loop-line.hit }) c.requires c.len-found.ensures.ordered c.len-found.ensures.len waits
+    let waits = subst (λ (lines : List Said). Waits c.loop-line.waiting c.loop-line.hit inside (map said_data lines)) (take_all c.loop-line.line-index c.args.lines.now end) c.loop-line.invariant.waits in
+    hits_are c.args.starts c.loop-line.waiting inside (record { found = c.len-found.result; hit = c.loop-line.hit }) c.requires c.len-found.ensures.ordered c.len-found.ensures.len waits
