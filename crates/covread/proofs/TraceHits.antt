@@ -1,5 +1,5 @@
 -- The functions that records count above 0, one record after another.
-use Rattle.std.proofs.Common.{◌≡◌, ℕ, ◌+◌, ◌<◌, Bool, true, false, cond, ◌||◌, List, [], ◌∷◌, ◌++◌, Option, None, Some, refl, sym, ap, subst, ◌∙◌, arith}
+use Rattle.std.proofs.Common.{◌≡◌, ℕ, ◌+◌, ◌<◌, Bool, true, false, cond, ◌||◌, List, [], ◌∷◌, ◌++◌, Option, None, Some, refl, sym, ap, ◌∙◌, arith}
 use Rattle.std.specs.Prelude.{filter, is_some, nat_lt}
 use Rattle.std.specs.BTreeMap.{BTreeMap, btree_map_len, IsOrdered, UpdatesBy}
 use Rattle.std.specs.Cmp.Lexicographic.{slice_cmp}
@@ -18,7 +18,7 @@ use Rattle.covline.specs.Points.{func_points, func_point, is_hit}
 use Rattle.covline.specs.Row.{ItemData}
 use Rattle.covline.specs.Spells.{LineData, FuncCount}
 use Rattle.covread.specs.declared.trace.points.Totals.{Totals}
-use Rattle.covread.specs.Reads.{distinct, start_in, counted, items_said, items_of}
+use Rattle.covread.specs.Reads.{distinct, start_in, counted, items_said}
 use Rattle.covread.specs.TraceStarts.{start_at, AreStarts, AreFunctionTotals, names_hit, Waits}
 use Rattle.covread.proofs.TraceDistinct.{none_if, distinct_push, list_any_push}
 use Rattle.covread.proofs.TraceStarts.{found_is}

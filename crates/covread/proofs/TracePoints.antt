@@ -1,5 +1,5 @@
 -- The points of items, one item after another, counted while they ascend or in a set.
-use Rattle.std.proofs.Common.{◌≡◌, ℕ, ◌+◌, ◌≤◌, Bool, true, false, cond, ◌||◌, List, [], ◌∷◌, ◌++◌, length, Option, None, Some, refl, sym, ap, subst, ◌∙◌, arith}
+use Rattle.std.proofs.Common.{◌≡◌, ℕ, ◌+◌, Bool, true, false, cond, ◌||◌, List, [], ◌∷◌, ◌++◌, Option, None, Some, refl, sym, ap, subst, ◌∙◌, arith}
 use Rattle.std.specs.Prelude.{filter}
 use Rattle.std.specs.BTreeSet.{BTreeSet, btree_set_len, contains, IsOrdered, Updates}
 use Rattle.std.specs.Cmp.{IsTotalOrder}
@@ -8,7 +8,7 @@ use Rattle.std.specs.Ordering.{ordering_reverse, eq_by_cmp, is_eq}
 use Rattle.std.specs.declared.cmp.Ordering.{Ordering}
 use Rattle.std.specs.declared.cmp.Ordering.TheVariants.{Less}
 use Rattle.std.proofs.lemmas.Cmp.{eq_by_cmp_equiv}
-use Rattle.std.proofs.lemmas.List.{append-nil, nil_from_length, length-append}
+use Rattle.std.proofs.lemmas.List.{append-nil, length-append}
 use Rattle.std.proofs.lemmas.List.Concat.{flat_map-append}
 use Rattle.std.proofs.lemmas.List.Elements.{filter-append}
 use Rattle.std.proofs.lemmas.Map.Views.{btree_set_len-from_list}
@@ -30,17 +30,6 @@ hit_push points items i is = ap (flat_map points) (filter-append is_hit items (i
 
 missed_push : {P : Type 0} (points : ItemData → List P) (items : List ItemData) (i : ItemData) → is_hit i ≡ false → hit_points points (items ++ i ∷ []) ≡ hit_points points items
 missed_push points items i isnt = ap (flat_map points) (filter-append is_hit items (i ∷ []) ∙ ap (λ (b : Bool). filter is_hit items ++ cond b (i ∷ []) []) isnt ∙ append-nil (filter is_hit items))
-
--- an item without a point changes neither list
-all_same : {P : Type 0} (points : ItemData → List P) (items : List ItemData) (i : ItemData) → points i ≡ [] → flat_map points (items ++ i ∷ []) ≡ flat_map points items
-all_same points items i none = all_push points items i ∙ ap (λ xs. flat_map points items ++ xs) none ∙ append-nil (flat_map points items)
-
-hit_same : {P : Type 0} (points : ItemData → List P) (items : List ItemData) (i : ItemData) → points i ≡ [] → hit_points points (items ++ i ∷ []) ≡ hit_points points items
-hit_same {P} points items i none = by (is_hit i) refl
-  where
-    by : (b : Bool) → is_hit i ≡ b → hit_points points (items ++ i ∷ []) ≡ hit_points points items
-    by true e = hit_push points items i e ∙ ap (λ xs. hit_points points items ++ xs) none ∙ append-nil (hit_points points items)
-    by false e = missed_push points items i e
 
 module _ {P : Type 0} {R : P → P → Ordering} (o : IsTotalOrder R) where
   -- ---- points that ascend
@@ -65,53 +54,8 @@ module _ {P : Type 0} {R : P → P → Ordering} (o : IsTotalOrder R) where
 
   -- ---- a set
 
-  or_flips : (a b : Bool) → cond a true b ≡ (b || a)
-  or_flips true true = refl
-  or_flips true false = refl
-  or_flips false true = refl
-  or_flips false false = refl
-
-  pub collects_more : (old new : BTreeSet P) (p : P) (seen : List P) → Collects R old seen → Updates R old new p true → Collects R new (seen ++ p ∷ [])
-  collects_more old new p seen h updates = record {
-    members = λ q.
-        updates.0 q ∙ ap (λ (b : Bool). cond b true (contains R old q)) ((eq_by_cmp_equiv o).symm p q) ∙ ap (λ (b : Bool). cond (eq_by_cmp R q p) true b) (h.members q)
-        ∙ or_flips (eq_by_cmp R q p) (list_any (eq_by_cmp R q) seen) ∙ sym (list_any_push (eq_by_cmp R q) seen p);
-  }
-
   pub collects_len : (set : BTreeSet P) (seen : List P) → Collects R set seen → IsOrdered R set → btree_set_len set ≡ distinct (eq_by_cmp R) seen
   collects_len set seen h ordered = btree_set_len-from_list o seen set (h.members, ordered) ∙ sym (distinct_is_count (eq_by_cmp R) seen)
-
-no_members : {P : Type 0} (R : P → P → Ordering) (ks : List P) (q : P) → ks ≡ [] → list_any (λ k. is_eq (R q k)) ks ≡ false
-no_members R ks q e = ap (list_any (λ k. is_eq (R q k))) e
-
-collects_none : {P : Type 0} (R : P → P → Ordering) (set : BTreeSet P) → set.keys ≡ [] → Collects R set []
-collects_none R set none = record { members = λ q. no_members R set.keys q none }
-
--- ---- both totals
-
-module _ {P : Type 0} (R : P → P → Ordering) (points : ItemData → List P) where
-  pub both_none : (found hit : BTreeSet P) → found.keys ≡ [] → hit.keys ≡ [] → CollectsBoth R points found hit []
-  both_none found hit f h = record { every = collects_none R found f; above = collects_none R hit h }
-
-  pub both_same : (found hit : BTreeSet P) (items : List ItemData) (i : ItemData) → points i ≡ [] → CollectsBoth R points found hit items → CollectsBoth R points found hit (items ++ i ∷ [])
-  both_same found hit items i none h = record {
-    every = subst (λ (x : List P). Collects R found x) (sym (all_same points items i none)) h.every;
-    above = subst (λ (x : List P). Collects R hit x) (sym (hit_same points items i none)) h.above;
-  }
-
-  pub ascent_none : IsAscent R points (record { last = None; own = record { found = 0; hit = 0 } }) []
-  ascent_none = record { few = omega arith; fewer = omega arith; every = record { each = refl; fresh = λ q up. refl }; above = record { each = refl; fresh = λ q up. refl } }
-
-  pub ascent_same : (a : Ascent P) (items : List ItemData) (i : ItemData) → points i ≡ [] → IsAscent R points a items → IsAscent R points a (items ++ i ∷ [])
-  ascent_same a items i none h = record {
-    few = omega (arith, h.few, length-append items (i ∷ []));
-    fewer = h.fewer;
-    every = subst (λ (x : List P). Ascends R x a.last a.own.found) (sym (all_same points items i none)) h.every;
-    above = subst (λ (x : List P). Ascends R x a.last a.own.hit) (sym (hit_same points items i none)) h.above;
-  }
-
-  pub ascent_totals : (a : Ascent P) (items : List ItemData) → IsAscent R points a items → AreTotals R points a.own items
-  ascent_totals a items h = record { found = h.every.each; hit = h.above.each }
 
 module _ {P : Type 0} {R : P → P → Ordering} (o : IsTotalOrder R) (points : ItemData → List P) where
   all_more : (items : List ItemData) (i : ItemData) (p : P) → points i ≡ p ∷ [] → flat_map points (items ++ i ∷ []) ≡ flat_map points items ++ p ∷ []
@@ -119,20 +63,6 @@ module _ {P : Type 0} {R : P → P → Ordering} (o : IsTotalOrder R) (points : 
 
   hit_more : (items : List ItemData) (i : ItemData) (p : P) → points i ≡ p ∷ [] → is_hit i ≡ true → hit_points points (items ++ i ∷ []) ≡ hit_points points items ++ p ∷ []
   hit_more items i p e is = hit_push points items i is ∙ ap (λ xs. hit_points points items ++ xs) e
-
-  pub both_hit : (found hit found2 hit2 : BTreeSet P) (items : List ItemData) (i : ItemData) (p : P) → points i ≡ p ∷ [] → is_hit i ≡ true → Updates R found found2 p true → Updates R hit hit2 p true
-      → CollectsBoth R points found hit items → CollectsBoth R points found2 hit2 (items ++ i ∷ [])
-  both_hit found hit found2 hit2 items i p e is u v h = record {
-    every = subst (λ (x : List P). Collects R found2 x) (sym (all_more items i p e)) (collects_more o found found2 p (flat_map points items) h.every u);
-    above = subst (λ (x : List P). Collects R hit2 x) (sym (hit_more items i p e is)) (collects_more o hit hit2 p (hit_points points items) h.above v);
-  }
-
-  pub both_missed : (found hit found2 : BTreeSet P) (items : List ItemData) (i : ItemData) (p : P) → points i ≡ p ∷ [] → is_hit i ≡ false → Updates R found found2 p true
-      → CollectsBoth R points found hit items → CollectsBoth R points found2 hit (items ++ i ∷ [])
-  both_missed found hit found2 items i p e isnt u h = record {
-    every = subst (λ (x : List P). Collects R found2 x) (sym (all_more items i p e)) (collects_more o found found2 p (flat_map points items) h.every u);
-    above = subst (λ (x : List P). Collects R hit x) (sym (missed_push points items i isnt)) h.above;
-  }
 
   pub both_totals : (found hit : BTreeSet P) (items : List ItemData) (own : Totals) → CollectsBoth R points found hit items → IsOrdered R found → IsOrdered R hit → own.found ≡ btree_set_len found → own.hit ≡ btree_set_len hit → AreTotals R points own items
   both_totals found hit items own h f g x y = record {

@@ -1,7 +1,7 @@
 -- What records give to their section, and which of them are odd.
-use Rattle.std.proofs.Common.{◌≡◌, ℕ, ◌+◌, Bool, true, false, cond, List, [], ◌∷◌, ◌++◌, Option, None, Some, refl, sym, ap, subst, ◌∙◌, arith}
-use Rattle.std.specs.Prelude.{count_by, is_none, not}
-use Rattle.std.specs.List.{flat_map, sum_by}
+use Rattle.std.proofs.Common.{◌≡◌, ℕ, ◌+◌, Bool, true, false, cond, List, [], ◌∷◌, ◌++◌, Option, None, Some, refl, sym, ap, ◌∙◌, arith}
+use Rattle.std.specs.Prelude.{count_by, is_none}
+use Rattle.std.specs.List.{flat_map}
 use Rattle.std.proofs.lemmas.List.{append-nil}
 use Rattle.std.proofs.lemmas.List.Concat.{flat_map-append}
 use Rattle.std.proofs.lemmas.List.Sums.{sum_by-cons, sum_by_push}
@@ -9,21 +9,15 @@ use Rattle.covline.specs.Row.{ItemData, FuncItem, LineItem, item_data}
 use Rattle.covline.specs.Spells.{LineData, Test, Path, FuncStart, FuncCount, Branch, Line, Total, End, Skip}
 use Rattle.covline.specs.declared.item.Item.{Item}
 use Rattle.covread.specs.declared.trace.settle.Given.TheVariants as given
-use Rattle.covread.specs.Reads.{start_in, counted, items_said, items_of, is_odd, own_total}
+use Rattle.covread.specs.Reads.{start_in, counted, items_said, is_odd}
 use Rattle.covread.specs.TraceSettle.{is_unstarted, Gives}
 use Rattle.covread.specs.TraceTally.{is_other}
-
-pub start_gives : {A : Type 0} (inside : List LineData) (line : ℕ) (name : List ℕ) (item : Item A) → item_data item ≡ FuncItem name line 0 → Gives inside (FuncStart line name) (given.Item item)
-start_gives inside line name item e = (ap (λ (i : ItemData). i ∷ []) (sym e), refl)
 
 pub count_gives : {A : Type 0} (inside : List LineData) (count : ℕ) (name : List ℕ) (line : ℕ) (item : Item A) → start_in name inside ≡ Some line → item_data item ≡ FuncItem name line count → Gives inside (FuncCount count name) (given.Item item)
 count_gives inside count name line item s e = (ap (counted name count) s ∙ ap (λ (i : ItemData). i ∷ []) (sym e), ap is_none s)
 
 pub count_alone : (A : Type 0) (inside : List LineData) (count : ℕ) (name : List ℕ) → start_in name inside ≡ None → Gives {A = A} inside (FuncCount count name) given.Unstarted
 count_alone A inside count name s = (ap (counted name count) s, ap is_none s)
-
-pub line_gives : {A : Type 0} (inside : List LineData) (line count : ℕ) (checksum : Option (List ℕ)) (item : Item A) → item_data item ≡ LineItem line count checksum → Gives inside (Line line count checksum) (given.Item item)
-line_gives inside line count checksum item e = (ap (λ (i : ItemData). i ∷ []) (sym e), refl)
 
 -- ---- one more record
 

@@ -1,10 +1,10 @@
 -- The start lines of functions, one record after another, and which functions a section has.
-use Rattle.std.proofs.Common.{◌≡◌, ℕ, ◌+◌, ◌<◌, Bool, true, false, cond, ◌||◌, not, List, [], ◌∷◌, ◌++◌, length, map, Option, None, Some, refl, sym, ap, subst, ◌∙◌, arith, inl, inr, min}
-use Rattle.std.specs.Prelude.{◌⊎◌, filter, is_some, fold, nat_lt}
+use Rattle.std.proofs.Common.{◌≡◌, ℕ, Bool, true, false, cond, ◌||◌, List, [], ◌∷◌, ◌++◌, map, Option, None, Some, refl, sym, ap, ◌∙◌, arith, min}
+use Rattle.std.specs.Prelude.{is_some, fold}
 use Rattle.std.specs.BTreeMap.{BTreeMap, btree_map_len, IsOrdered, UpdatesBy, is_at}
 use Rattle.std.specs.Cmp.Lexicographic.{slice_cmp}
 use Rattle.std.specs.List.{flat_map, list_any}
-use Rattle.std.specs.Map.{keys_of, update}
+use Rattle.std.specs.Map.{keys_of}
 use Rattle.std.specs.Ordering.{nat_cmp, eq_by_cmp}
 use Rattle.std.specs.Str.{bytes_eq}
 use Rattle.std.specs.declared.cmp.Ordering.{Ordering}
@@ -20,8 +20,7 @@ use Rattle.std.proofs.lemmas.Map.Keys.{IsDistinct-from_sorted}
 use Rattle.std.proofs.lemmas.Map.Made.{is_some-lookup, length-from_keys}
 use Rattle.std.proofs.lemmas.Map.Text.{btree_map_updates_str, is_eq-slice_cmp}
 use Rattle.std.proofs.lemmas.Slice.Eq.{bytes_eq-Decides}
-use Rattle.covline.specs.Points.{func_points, func_point, is_hit, least}
-use Rattle.covline.specs.Row.{ItemData}
+use Rattle.covline.specs.Points.{func_points, func_point, least}
 use Rattle.covline.specs.Spells.{LineData, Test, Path, FuncStart, FuncCount, Branch, Line, Total, End, Skip}
 use Rattle.covread.specs.Reads.{distinct, start_said, start_in, counted, items_said, items_of}
 use Rattle.covread.specs.TraceStarts.{start_at, comes_first, AreStarts}
@@ -76,9 +75,6 @@ starts_later starts records line name later h = record { at = λ q. by q (bytes_
         let behind : comes_first line (start_in q records) ≡ false = ap (comes_first line) (sym (ap (start_at starts) same ∙ h.at q)) ∙ later in
         h.at q ∙ sym (start_here q records line name e ∙ later_push (flat_map (start_said q) records) line behind)
     by q false e = h.at q ∙ sym (start_same q records (FuncStart line name) (ap (λ b. cond b (line ∷ []) []) e))
-
-pub starts_same : (starts : BTreeMap (Bor (List ℕ)) ℕ) (records : List LineData) (r : LineData) → ((name : List ℕ) → start_said name r ≡ []) → AreStarts starts records → AreStarts starts (records ++ r ∷ [])
-starts_same starts records r none h = record { at = λ q. h.at q ∙ sym (start_same q records r (none q)) }
 
 -- ---- the functions that a section has
 

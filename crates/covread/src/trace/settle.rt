@@ -108,12 +108,7 @@ fn given_by<'a, A: Allocator + Copy>(
 }
 
 /// The item of a function. It owns its name.
-fn func_item<A: Allocator>(
-    alloc: A,
-    name: &[u8],
-    line: u64,
-    count: u64,
-) -> Result<Item<A>, Memory>
+fn func_item<A: Allocator>(alloc: A, name: &[u8], line: u64, count: u64) -> Result<Item<A>, Memory>
     ensures { IfOk result (λ item. item_data item ≡ FuncItem name.now line count) }
 {
     Ok(Item::Func {

@@ -15,9 +15,6 @@ enum Row<'a> {
     Branch(u64, u64, u64, Option<u64>),
 }
 
-/// A section: what it shows, its lines, the wanted items and how many of its lines are odd.
-type Case<'a> = (&'a str, &'a [Said<'a>], &'a [Row<'a>], u64);
-
 fn seen(item: &Item) -> Row<'_> {
     match item {
         Item::Line {
@@ -35,18 +32,31 @@ fn seen(item: &Item) -> Row<'_> {
     }
 }
 
-fn check(rt: &(impl Abort + AllocGlobal), cases: &[Case<'_>]) {
-    for (name, lines, wanted, odd) in cases {
-        match settle(rt.alloc(), lines) {
-            Err(fault) => assert!(rt; false, "{name}: {fault}"),
-            Ok(settled) => {
-                assert_eq!(rt; settled.odd, *odd, "{name}");
-                assert_eq!(rt; settled.items.len(), wanted.len(), "{name}");
-                for (item, other) in settled.items.get().iter().zip(wanted.iter()) {
-                    assert_eq!(rt; seen(item), *other, "{name}");
-                }
+/// Settles a section, and compares its items and how many of its lines are odd. The name says what the case shows.
+fn check(
+    rt: &(impl Abort + AllocGlobal),
+    name: &str,
+    lines: &[Said<'_>],
+    wanted: &[Row<'_>],
+    odd: u64,
+) {
+    match settle(rt.alloc(), lines) {
+        Err(fault) => assert!(rt; false, "{name}: {fault}"),
+        Ok(settled) => {
+            assert_eq!(rt; settled.odd, odd, "{name}");
+            assert_eq!(rt; settled.items.len(), wanted.len(), "{name}");
+            for (item, other) in settled.items.get().iter().zip(wanted.iter()) {
+                assert_eq!(rt; seen(item), *other, "{name}");
             }
         }
+    }
+}
+
+/// The same without the items.
+fn check_odd(rt: &(impl Abort + AllocGlobal), name: &str, lines: &[Said<'_>], odd: u64) {
+    match settle(rt.alloc(), lines) {
+        Err(fault) => assert!(rt; false, "{name}: {fault}"),
+        Ok(settled) => assert_eq!(rt; settled.odd, odd, "{name}"),
     }
 }
 
@@ -81,90 +91,81 @@ fn total(kind: TotalKind, value: u64) -> Said<'static> {
 
 #[test]
 fn start_lines(rt: HostRuntime) {
-    let cases: [Case<'_>; 5] = [
-        ("nothing", &[], &[], 0),
-        (
-            "a count before its start line",
-            &[count(4, b"f"), start(7, b"f")],
-            &[Row::Func(b"f", 7, 4), Row::Func(b"f", 7, 0)],
-            0,
-        ),
-        (
-            "two start lines of one name",
-            &[
-                start(9, b"f"),
-                count(1, b"f"),
-                start(3, b"f"),
-                count(2, b"f"),
-            ],
-            &[
-                Row::Func(b"f", 9, 0),
-                Row::Func(b"f", 3, 1),
-                Row::Func(b"f", 3, 0),
-                Row::Func(b"f", 3, 2),
-            ],
-            0,
-        ),
-        (
-            "a wrong total and a count alone",
-            &[
-                start(7, b"f"),
-                total(TotalKind::FuncFound, 2),
-                count(1, b"g"),
-            ],
-            &[Row::Func(b"f", 7, 0)],
-            2,
-        ),
-        (
-            "counts alone, twice",
-            &[count(1, b"f"), count(0, b"f")],
-            &[],
-            2,
-        ),
-    ];
-    check(&rt, &cases);
+    check(&rt, "nothing", &[], &[], 0);
+    check(
+        &rt,
+        "a count before its start line",
+        &[count(4, b"f"), start(7, b"f")],
+        &[Row::Func(b"f", 7, 4), Row::Func(b"f", 7, 0)],
+        0,
+    );
+    check(
+        &rt,
+        "two start lines of one name",
+        &[
+            start(9, b"f"),
+            count(1, b"f"),
+            start(3, b"f"),
+            count(2, b"f"),
+        ],
+        &[
+            Row::Func(b"f", 9, 0),
+            Row::Func(b"f", 3, 1),
+            Row::Func(b"f", 3, 0),
+            Row::Func(b"f", 3, 2),
+        ],
+        0,
+    );
+}
+
+#[test]
+fn counts_without_start_line(rt: HostRuntime) {
+    check(
+        &rt,
+        "a wrong total and a count alone",
+        &[
+            start(7, b"f"),
+            total(TotalKind::FuncFound, 2),
+            count(1, b"g"),
+        ],
+        &[Row::Func(b"f", 7, 0)],
+        2,
+    );
+    check(
+        &rt,
+        "counts alone",
+        &[count(1, b"f"), count(0, b"f")],
+        &[],
+        2,
+    );
 }
 
 #[test]
 fn kinds_of_items(rt: HostRuntime) {
-    let cases: [Case<'_>; 2] = [
-        (
-            "in the order of their lines, with checksums",
-            &[
-                line(5, 1),
-                branch(5, 0, 1, None),
-                start(4, b"f"),
-                Said::Line {
-                    line: 4,
-                    count: 18_446_744_073_709_551_615,
-                    checksum: Some(b"1B2M2Y8AsgTpgAmY7PhCfg"),
-                },
-            ],
-            &[
-                Row::Line(5, 1, None),
-                Row::Branch(5, 0, 1, None),
-                Row::Func(b"f", 4, 0),
-                Row::Line(
-                    4,
-                    18_446_744_073_709_551_615,
-                    Some(b"1B2M2Y8AsgTpgAmY7PhCfg"),
-                ),
-            ],
-            0,
-        ),
-        ("a total alone", &[total(TotalKind::LineHit, 0)], &[], 0),
-    ];
-    check(&rt, &cases);
-}
-
-/// The odd lines alone.
-fn check_odd(rt: &(impl Abort + AllocGlobal), cases: &[(&str, &[Said<'_>], u64)]) {
-    for (name, lines, odd) in cases {
-        match settle(rt.alloc(), lines) {
-            Err(fault) => assert!(rt; false, "{name}: {fault}"),
-            Ok(settled) => assert_eq!(rt; settled.odd, *odd, "{name}"),
-        }
-    }
+    let checked = Said::Line {
+        line: 4,
+        count: u64::MAX,
+        checksum: Some(b"1B2M2Y8AsgTpgAmY7PhCfg"),
+    };
+    check(
+        &rt,
+        "in the order of their lines, with checksums",
+        &[line(5, 1), branch(5, 0, 1, None), start(4, b"f"), checked],
+        &[
+            Row::Line(5, 1, None),
+            Row::Branch(5, 0, 1, None),
+            Row::Func(b"f", 4, 0),
+            Row::Line(4, u64::MAX, Some(b"1B2M2Y8AsgTpgAmY7PhCfg")),
+        ],
+        0,
+    );
+    check(
+        &rt,
+        "a total alone",
+        &[total(TotalKind::LineHit, 0)],
+        &[],
+        0,
+    );
 }
 
 /// Two functions, three branches and four lines: of each sort one is hit. Some stand there twice, and they don't
@@ -206,90 +207,120 @@ fn kinds_of_totals(rt: HostRuntime) -> Result<(), Fail> {
             behind.push(stated)?;
             let mut before = Vec::from_slice(rt.alloc(), &[stated])?;
             before.extend_from_slice(&counted())?;
-            let cases: [(&str, &[Said<'_>], u64); 2] = [
-                ("behind", &behind, odd),
-                ("before", &before, odd),
-            ];
-            check_odd(&rt, &cases);
+            check_odd(&rt, "behind", &behind, odd);
+            check_odd(&rt, "before", &before, odd);
         }
     }
     Ok(())
 }
 
 #[test]
-fn totals_of_small_sections(rt: HostRuntime) {
-    let cases: [(&str, &[Said<'_>], u64); 7] = [
-        (
-            "a wrong total twice",
-            &[
-                line(1, 2),
-                total(TotalKind::LineHit, 0),
-                total(TotalKind::LineHit, 2),
-            ],
-            2,
-        ),
-        (
-            "the same line twice",
-            &[
-                line(1, 0),
-                line(1, 4),
-                total(TotalKind::LineFound, 1),
-                total(TotalKind::LineHit, 1),
-            ],
-            0,
-        ),
-        (
-            "the same branch twice",
-            &[
-                branch(1, 2, 3, None),
-                branch(1, 2, 3, Some(1)),
-                total(TotalKind::BranchFound, 1),
-            ],
-            0,
-        ),
-        (
-            "branches that aren't hit",
-            &[
-                branch(1, 0, 0, None),
-                branch(1, 0, 1, Some(0)),
-                total(TotalKind::BranchHit, 0),
-            ],
-            0,
-        ),
-        (
-            "branches that ascend",
-            &[
-                branch(1, 1, 1, Some(1)),
-                branch(1, 2, 0, Some(1)),
-                total(TotalKind::BranchHit, 2),
-            ],
-            0,
-        ),
-        (
-            "a function counted twice",
-            &[
-                count(1, b"f"),
-                start(1, b"f"),
-                count(2, b"f"),
-                total(TotalKind::FuncHit, 1),
-            ],
-            0,
-        ),
-        (
-            "a function without a start line isn't found",
-            &[
-                count(1, b"f"),
-                total(TotalKind::FuncFound, 0),
-                total(TotalKind::FuncHit, 0),
-            ],
-            1,
-        ),
-    ];
-    check_odd(&rt, &cases);
+fn totals_of_lines(rt: HostRuntime) {
+    check_odd(
+        &rt,
+        "a wrong total twice",
+        &[
+            line(1, 2),
+            total(TotalKind::LineHit, 0),
+            total(TotalKind::LineHit, 2),
+        ],
+        2,
+    );
+    check_odd(
+        &rt,
+        "the same line twice",
+        &[
+            line(1, 0),
+            line(1, 4),
+            total(TotalKind::LineFound, 1),
+            total(TotalKind::LineHit, 1),
+        ],
+        0,
+    );
+    check_odd(
+        &rt,
+        "lines that ascend",
+        &[
+            line(1, 0),
+            line(3, 4),
+            total(TotalKind::LineFound, 2),
+            total(TotalKind::LineHit, 1),
+        ],
+        0,
+    );
+}
+
+#[test]
+fn totals_of_branches(rt: HostRuntime) {
+    check_odd(
+        &rt,
+        "the same branch twice",
+        &[
+            branch(1, 2, 3, None),
+            branch(1, 2, 3, Some(1)),
+            total(TotalKind::BranchFound, 1),
+        ],
+        0,
+    );
+    check_odd(
+        &rt,
+        "branches that aren't hit",
+        &[
+            branch(1, 0, 0, None),
+            branch(1, 0, 1, Some(0)),
+            total(TotalKind::BranchHit, 0),
+        ],
+        0,
+    );
+    check_odd(
+        &rt,
+        "branches that ascend",
+        &[
+            branch(1, 1, 1, Some(1)),
+            branch(1, 2, 0, Some(1)),
+            total(TotalKind::BranchHit, 2),
+        ],
+        0,
+    );
+}
+
+#[test]
+fn totals_of_functions(rt: HostRuntime) {
+    check_odd(
+        &rt,
+        "a function counted twice",
+        &[
+            count(1, b"f"),
+            start(1, b"f"),
+            count(2, b"f"),
+            total(TotalKind::FuncHit, 1),
+        ],
+        0,
+    );
+    check_odd(
+        &rt,
+        "a function with two start lines",
+        &[
+            start(1, b"f"),
+            start(2, b"f"),
+            total(TotalKind::FuncFound, 1),
+        ],
+        0,
+    );
+    check_odd(
+        &rt,
+        "a function without a start line is not found",
+        &[
+            count(1, b"f"),
+            total(TotalKind::FuncFound, 0),
+            total(TotalKind::FuncHit, 0),
+        ],
+        1,
+    );
 }
 
 /// How many lines, functions and branches the long section has of each.
-const MANY: u64 = 30_000;
+const MANY: u64 = 300_000;
 
 /// The names of so many functions: 6 digits each.
 fn names(alloc: Global) -> Result<Vec<u8>, Fail> {

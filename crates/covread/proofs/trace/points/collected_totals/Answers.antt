@@ -1,7 +1,5 @@
-use Rattle.std.proofs.Common.{◌≤◌, length, subst, List, map, arith}
+use Rattle.std.proofs.Common.{◌≤◌, length, arith}
 use Rattle.std.proofs.lemmas.List.{take_all}
-use Rattle.covline.specs.Row.{ItemData, item_data}
-use Rattle.covread.specs.TracePoints.{CollectsBoth}
 use Rattle.covread.proofs.TracePoints.{both_totals}
 use Rattle.covread.proofs.trace.points.collected_totals.Goals as goal
 

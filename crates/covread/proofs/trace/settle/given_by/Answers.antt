@@ -1,4 +1,4 @@
-use Rattle.std.proofs.Common.{List, ap, sym, subst, ◌∙◌}
+use Rattle.std.proofs.Common.{ap, sym, subst, ◌∙◌}
 use Rattle.covline.specs.Spells.{LineData}
 use Rattle.covread.specs.Said.{said_data}
 use Rattle.covread.specs.TraceSettle.{Gives}
