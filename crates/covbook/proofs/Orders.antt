@@ -1,4 +1,4 @@
--- The orders of lines, keys, functions and branches tell all of them apart.
+-- The orders of lines, names, keys, functions and branches tell all of them apart.
 use Rattle.std.proofs.Common.{◌≡◌, ℕ, List, refl, ap, ◌∙◌}
 use Rattle.std.specs.Cmp.{IsTotalOrder}
 use Rattle.std.specs.declared.cmp.Ordering.{Ordering}
@@ -13,6 +13,9 @@ use Rattle.covbook.proofs.Ascend.{IsExactOrder}
 
 pub lines_order : IsExactOrder nat_cmp
 lines_order = record { total = nat_cmp_total; exact = exact_unsigned }
+
+pub names_order : IsExactOrder (slice_cmp nat_cmp)
+names_order = record { total = nat_list_cmp_total; exact = exact_bytes }
 
 both_equal : (o p : Ordering) → ordering_then o p ≡ Equal → (o ≡ Equal) × (p ≡ Equal)
 both_equal Less p e = absurd cc
