@@ -1,3 +1,4 @@
+use crate::text_lines::without_returns;
 use crate::{Bytes, good_test, laws, lines};
 use std::test::*;
 
@@ -24,6 +25,20 @@ fn each_line(rt: HostRuntime) -> Result<(), Fail> {
     }
     laws::lines_are_the_text();
     Ok(())
+}
+
+#[test]
+fn returns_at_the_end(rt: HostRuntime) {
+    let cases = [
+        ("", ""),
+        ("a", "a"),
+        ("a\r\r", "a"),
+        ("\ra\rb\r", "\ra\rb"),
+        ("\r", ""),
+    ];
+    for (text, wanted) in cases {
+        assert_eq!(rt; without_returns(text.as_bytes()), wanted.as_bytes(), "{text:?}");
+    }
 }
 
 #[test]

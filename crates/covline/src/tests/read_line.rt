@@ -1,4 +1,4 @@
-use crate::{BadSubmission, LineFault, TotalKind, TraceLine, read_line};
+use crate::{BadSubmission, LineFault, TotalKind, TraceLine, laws, read_line};
 use std::test::*;
 
 /// What a line says, with texts that outlive it.
@@ -98,6 +98,7 @@ fn texts_and_sections(rt: HostRuntime) {
     for (name, line, wanted) in lines {
         assert!(rt; is_wanted(read_line(line), wanted), "{name}");
     }
+    laws::each_line_has_one_meaning();
 }
 
 #[test]
@@ -283,4 +284,17 @@ fn fault_numbers(rt: HostRuntime) {
     assert_eq!(rt; LineFault::EmptyPath.number(), 3);
     assert_eq!(rt; BadSubmission::TooMany.number(), 1);
     assert_eq!(rt; BadSubmission::BadText { sect: 7 }.number(), 2);
+}
+
+#[test]
+fn fault_names(rt: HostRuntime) -> Result<(), Fail> {
+    let names = format!(
+        in rt.alloc();
+        "{} {} {}",
+        LineFault::BadLine,
+        LineFault::NumberTooLarge,
+        LineFault::EmptyPath
+    )?;
+    assert_eq!(rt; names.as_str(), "BadLine NumberTooLarge EmptyPath");
+    Ok(())
 }

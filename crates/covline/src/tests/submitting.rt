@@ -34,6 +34,18 @@ fn sect_of(
     })
 }
 
+/// The test and the file of each section, with a bar behind each name.
+fn names_of(alloc: Global, sects: &[Sect]) -> Result<Bytes, Memory> {
+    let mut names = Bytes::new(alloc);
+    for sect in sects {
+        names.append(sect.test.get())?;
+        names.append(b"|")?;
+        names.append(sect.file.get())?;
+        names.append(b"|")?;
+    }
+    Ok(names)
+}
+
 #[test]
 fn lawful_texts(rt: HostRuntime) -> Result<(), Fail> {
     let mut sects = Sects::new(rt.alloc());
@@ -43,7 +55,8 @@ fn lawful_texts(rt: HostRuntime) -> Result<(), Fail> {
         Ok(submission) => {
             assert_eq!(rt; submission.items(), 6);
             assert_eq!(rt; submission.odd(), 3);
-            assert_eq!(rt; submission.sects().len(), 2);
+            let names = names_of(rt.alloc(), submission.sects())?;
+            assert_eq!(rt; names.get(), b"|a.c|t|a\rb.c|".as_slice());
         }
         Err((_sects, fault)) => assert!(rt; false, "{fault}"),
     }
