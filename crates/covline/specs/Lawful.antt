@@ -1,5 +1,5 @@
 -- Which submissions are lawful: their names and checksums fit the lines of a tracefile, and their items aren't too many.
-use Rattle.std.specs.Prelude.{◌≡◌, ◌≢◌, ℕ, ◌<◌, ◌≤◌, ◌^◌, List, [], ◌∷◌, ◌++◌, length, Option, Some, None, All}
+use Rattle.std.specs.Prelude.{◌≡◌, ◌≢◌, ℕ, ◌<◌, ◌≤◌, ◌^◌, List, [], ◌∷◌, ◌++◌, length, Some, None, All}
 use Rattle.std.specs.List.{AllByRecursion}
 use Rattle.covline.specs.declared.submission.BadSubmission.{BadSubmission}
 use Rattle.covline.specs.declared.submission.BadSubmission.TheVariants.{TooMany, BadText}

@@ -1,5 +1,5 @@
 -- How a record is printed: its key, its fields with numbers in decimal without leading zeros, and a line feed.
-use Rattle.std.specs.Prelude.{ℕ, ◌<◌, List, [], ◌∷◌, ◌++◌, length, Option, Some, None, codes, decimal}
+use Rattle.std.specs.Prelude.{ℕ, List, [], ◌∷◌, ◌++◌, Option, Some, None, codes, decimal}
 use Rattle.covline.specs.Lines.{line_feed}
 use Rattle.covline.specs.Lawful.{IsGoodTest, IsGoodName, IsChecksum}
 use Rattle.covline.specs.Spells.{LineData, Test, Path, FuncStart, FuncCount, Branch, Line, Total, End, Skip, comma, minus, key_of, HasSmallNumbers}

@@ -37,7 +37,11 @@ fn returns_at_the_end(rt: HostRuntime) {
         ("\r", ""),
     ];
     for (text, wanted) in cases {
-        assert_eq!(rt; without_returns(text.as_bytes()), wanted.as_bytes(), "{text:?}");
+        assert_eq!(rt;
+            without_returns(text.as_bytes()),
+            wanted.as_bytes(),
+            "{text:?}"
+        );
     }
 }
 

@@ -288,8 +288,7 @@ fn fault_numbers(rt: HostRuntime) {
 
 #[test]
 fn fault_names(rt: HostRuntime) -> Result<(), Fail> {
-    let names = format!(
-        in rt.alloc();
+    let names = format!(in rt.alloc();
         "{} {} {}",
         LineFault::BadLine,
         LineFault::NumberTooLarge,
