@@ -1,6 +1,7 @@
 use crate::{ReadFault, read_trace};
 use covline::{Item, LineFault};
 use std::alloc::Global;
+use std::process::Abort;
 use std::test::*;
 
 mod sections;
@@ -11,6 +12,13 @@ type Wanted = Result<(u64, u64), ReadFault>;
 fn read(alloc: Global, text: &[u8]) -> Wanted {
     let submission = read_trace(alloc, text)?;
     Ok((submission.items(), submission.odd()))
+}
+
+/// Each text has so many items, and so many odd lines.
+fn check(rt: &(impl Abort + AllocGlobal), texts: &[(&str, &[u8], u64, u64)]) {
+    for (name, text, items, odd) in texts {
+        assert_eq!(rt; read(rt.alloc(), text), Ok((*items, *odd)), "{name}");
+    }
 }
 
 const SMALL: &[u8] = b"TN:t\nSF:/a.c\nDA:1,2\nDA:2,0\nLF:2\nLH:1\nend_of_record\n";
@@ -87,8 +95,62 @@ fn totals(rt: HostRuntime) {
             1,
         ),
     ];
-    for (name, text, items, odd) in texts {
-        assert_eq!(rt; read(rt.alloc(), text), Ok((items, odd)), "{name}");
+    check(&rt, &texts);
+}
+
+#[test]
+fn records_of_sections(rt: HostRuntime) {
+    let texts: [(&str, &[u8], u64, u64); 5] = [
+        (
+            "a count before its start line",
+            b"SF:a\nFNDA:4,f\nFN:7,f\nend_of_record\n",
+            2,
+            0,
+        ),
+        (
+            "a wrong total and a count alone",
+            b"SF:a\nFN:7,f\nFNF:2\nFNDA:1,g\nend_of_record\n",
+            1,
+            2,
+        ),
+        (
+            "a count alone",
+            b"SF:a\nFNDA:1,g\nend_of_record\n",
+            0,
+            1,
+        ),
+        (
+            "a line twice, once with a checksum",
+            b"SF:a\nDA:3,1,k\nDA:3,2\nend_of_record\n",
+            2,
+            0,
+        ),
+        (
+            "branches",
+            b"SF:a\nBRDA:1,0,0,-\nBRDA:1,0,1,2\nBRF:2\nBRH:1\nend_of_record\n",
+            2,
+            0,
+        ),
+    ];
+    check(&rt, &texts);
+}
+
+#[test]
+fn fault_numbers(rt: HostRuntime) {
+    let bad_line = ReadFault::Line {
+        at: 1,
+        fault: LineFault::BadLine,
+    };
+    let faults: [(ReadFault, u32); 6] = [
+        (ReadFault::TooLong, 1),
+        (bad_line, 2),
+        (ReadFault::Outside { at: 1 }, 3),
+        (ReadFault::Inside { at: 1 }, 4),
+        (ReadFault::OpenEnd, 5),
+        (ReadFault::Memory, 13),
+    ];
+    for (fault, number) in faults {
+        assert_eq!(rt; fault.number(), number, "{fault}");
     }
 }
 
