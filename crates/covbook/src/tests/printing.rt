@@ -118,21 +118,21 @@ fn branches(rt: HostRuntime) -> Result<(), Fail> {
 
 #[test]
 fn functions(rt: HostRuntime) -> Result<(), Fail> {
-    let late: &[Given] = &[Given::Func("f", 20, 2)];
-    let early: &[Given] = &[Given::Func("f", 10, 0)];
+    let early_last: [&[Given]; 2] = [&[Given::Func("f", 20, 2)], &[Given::Func("f", 10, 0)]];
+    let early_first: [&[Given]; 2] = [&[Given::Func("f", 10, 0)], &[Given::Func("f", 20, 2)]];
     let least = "TN:\nSF:/a.c\nFN:10,f\nFNDA:2,f\nFNF:1\nFNH:1\nLF:0\nLH:0\nend_of_record\n";
     check(
         &rt,
         rt.alloc(),
         "the earlier start comes later",
-        &[late, early],
+        &early_last,
         least,
     )?;
     check(
         &rt,
         rt.alloc(),
         "the earlier start comes first",
-        &[early, late],
+        &early_first,
         least,
     )?;
     let crossed: &[Given] = &[Given::Func("a", 20, 1), Given::Func("b", 10, 3)];
@@ -150,7 +150,7 @@ fn functions(rt: HostRuntime) -> Result<(), Fail> {
         LF:0\nLH:0\nend_of_record\n";
     check(&rt, rt.alloc(), "equal start lines", &[same_start], by_name)?;
     let no_call = "TN:\nSF:/a.c\nFN:10,f\nFNDA:0,f\nFNF:1\nFNH:0\nLF:0\nLH:0\nend_of_record\n";
-    check(&rt, rt.alloc(), "never called", &[early], no_call)
+    check(&rt, rt.alloc(), "never called", &early_first[..1], no_call)
 }
 
 #[test]

@@ -113,12 +113,7 @@ fn records_of_sections(rt: HostRuntime) {
             1,
             2,
         ),
-        (
-            "a count alone",
-            b"SF:a\nFNDA:1,g\nend_of_record\n",
-            0,
-            1,
-        ),
+        ("a count alone", b"SF:a\nFNDA:1,g\nend_of_record\n", 0, 1),
         (
             "a line twice, once with a checksum",
             b"SF:a\nDA:3,1,k\nDA:3,2\nend_of_record\n",
