@@ -26,8 +26,8 @@ use crate::session::output::{put_out, say};
 use crate::session::text::{LineEnd, Taken, Text};
 use crate::session::word::{Word, word_of};
 use crate::stream::{Sink, Source};
-use covread::{ReadFault, read_trace};
 use covbook::{Book, Op, SubRef};
+use covread::{ReadFault, read_trace};
 pub use fault::SessionFault;
 use std::alloc::Allocator;
 

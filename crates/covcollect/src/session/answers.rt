@@ -10,9 +10,9 @@ ghost use Rattle.covcollect.specs.Streams.{said_so_far};
 use crate::session::fault::SessionFault;
 use crate::session::output::say;
 use crate::stream::Sink;
-use covread::ReadFault;
 use covbook::Answer;
 use covline::LineFault;
+use covread::ReadFault;
 use itoa::Buffer;
 use std::alloc::Allocator;
 

@@ -6,11 +6,7 @@ use std::test::*;
 #[test]
 fn counts_of_lines(rt: HostRuntime) {
     let sessions: [(&str, &[u8], &[u8]); 5] = [
-        (
-            "a text and its report",
-            SMALL,
-            SMALL_ANSWER,
-        ),
+        ("a text and its report", SMALL, SMALL_ANSWER),
         (
             "large counts",
             b"trace\nSF:/a.c\nDA:1,18446744073709551615\nDA:1,18446744073709551615\nend_of_record\n.\nreport\n",
@@ -59,13 +55,11 @@ fn bytes_of_names(rt: HostRuntime) {
 
 #[test]
 fn branches(rt: HostRuntime) {
-    let sessions: [(&str, &[u8], &[u8]); 1] = [
-        (
-            "counts and dashes",
-            b"trace\nSF:/a.c\nBRDA:1,0,0,-\nBRDA:1,0,0,-\nBRDA:1,0,1,-\nBRDA:1,0,1,0\nBRDA:1,4294967295,0,0\nBRDA:1,4294967295,0,5\nend_of_record\n.\nreport\n",
-            b"accepted 1 items 6 odd 0\nTN:\nSF:/a.c\nBRDA:1,0,0,-\nBRDA:1,0,1,0\nBRDA:1,4294967295,0,5\nBRF:3\nBRH:1\nLF:0\nLH:0\nend_of_record\n.\n",
-        ),
-    ];
+    let sessions: [(&str, &[u8], &[u8]); 1] = [(
+        "counts and dashes",
+        b"trace\nSF:/a.c\nBRDA:1,0,0,-\nBRDA:1,0,0,-\nBRDA:1,0,1,-\nBRDA:1,0,1,0\nBRDA:1,4294967295,0,0\nBRDA:1,4294967295,0,5\nend_of_record\n.\nreport\n",
+        b"accepted 1 items 6 odd 0\nTN:\nSF:/a.c\nBRDA:1,0,0,-\nBRDA:1,0,1,0\nBRDA:1,4294967295,0,5\nBRF:3\nBRH:1\nLF:0\nLH:0\nend_of_record\n.\n",
+    )];
     assert_eq!(rt; first_wrong(rt.alloc(), &sessions), None);
 }
 
@@ -103,12 +97,10 @@ fn functions(rt: HostRuntime) {
 
 #[test]
 fn nothing_to_print(rt: HostRuntime) {
-    let sessions: [(&str, &[u8], &[u8]); 1] = [
-        (
-            "an empty text",
-            b"trace\n.\nreport\n",
-            b"accepted 1 items 0 odd 0\n.\n",
-        ),
-    ];
+    let sessions: [(&str, &[u8], &[u8]); 1] = [(
+        "an empty text",
+        b"trace\n.\nreport\n",
+        b"accepted 1 items 0 odd 0\n.\n",
+    )];
     assert_eq!(rt; first_wrong(rt.alloc(), &sessions), None);
 }
