@@ -1,0 +1,26 @@
+-- Which files a text speaks of, by patterns (lcov(1), --extract and --remove).
+use Rattle.std.specs.Prelude.{ℕ, Bool, true, not, List}
+use Rattle.std.specs.List.{list_any}
+use Rattle.covreport.specs.Pattern.{matches}
+
+pub data ChoiceData : Type 0 where
+  AllFiles : ChoiceData
+  Extracted : (patterns : List (List ℕ)) → ChoiceData
+  Removed : (patterns : List (List ℕ)) → ChoiceData
+
+-- at least one of the patterns matches the path
+abbrev pub any_matches : List (List ℕ) → List ℕ → Bool
+any_matches patterns path = list_any (λ pattern. matches pattern path) patterns
+
+-- the file is chosen: each one; those that a pattern matches; those that none does
+abbrev pub is_chosen : ChoiceData → List ℕ → Bool
+is_chosen AllFiles file = true
+is_chosen (Extracted patterns) file = any_matches patterns file
+is_chosen (Removed patterns) file = not (any_matches patterns file)
+
+-- how many patterns one list has at the most, and how many bytes one pattern
+abbrev pub most_patterns : ℕ
+most_patterns = 64
+
+abbrev pub most_pattern_bytes : ℕ
+most_pattern_bytes = 1024

@@ -1,0 +1,9 @@
+-- The choice of the code, seen as plain data.
+use Rattle.covreport.specs.declared.choice.Choice.{Choice}
+use Rattle.covreport.specs.declared.choice.Choice.TheVariants as choices
+use Rattle.covreport.specs.Choice.{ChoiceData, AllFiles, Extracted, Removed}
+
+abbrev pub choice_data : {A : Type 0} → Choice A → ChoiceData
+choice_data choices.All = AllFiles
+choice_data (choices.Extract patterns) = Extracted patterns
+choice_data (choices.Remove patterns) = Removed patterns

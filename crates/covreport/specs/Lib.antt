@@ -1,0 +1,4 @@
+pub mod Pattern
+pub mod Choice
+pub mod ChoiceView
+pub mod PatternFault

@@ -1,0 +1,99 @@
+-- Patterns for paths: the parts of a pattern, and which paths they fit. A pattern fits a whole path or not at all.
+use Rattle.std.specs.Prelude.{ℕ, ◌+◌, zero, suc, Bool, true, false, ◌==◌, ◌&&◌, ◌||◌, not, nat_le, List, [], ◌∷◌, length, Option, Some, None, option_map, unwrap_or, if◌then◌else◌}
+use Rattle.std.specs.List.{list_any}
+
+-- which bytes a part takes one of: any, this one, one that a set's body has, one that it doesn't have
+pub data ByteSet : Type 0 where
+  Any : ByteSet
+  Exactly : (byte : ℕ) → ByteSet
+  OneOf : (body : List ℕ) → ByteSet
+  NoneOf : (body : List ℕ) → ByteSet
+
+-- a part takes a run of bytes, which may be empty, or one byte of a set
+pub data Part : Type 0 where
+  AnyRun : Part
+  OneByte : (set : ByteSet) → Part
+
+-- a part, and how many bytes of the pattern behind its first one belong to it too
+pub record Head : Type 0 where
+  pub part : Part
+  pub more : ℕ
+
+-- the bytes before the first ] where there is one
+abbrev pub before_close : List ℕ → Option (List ℕ)
+before_close [] = None
+before_close (b ∷ rest) = if b == 93 then Some [] else option_map (λ body. b ∷ body) (before_close rest)
+
+-- the body of a set: at least one byte, whatever that is, and the bytes behind it before the first ]
+abbrev pub body_of : List ℕ → Option (List ℕ)
+body_of [] = None
+body_of (first ∷ rest) = option_map (λ body. first ∷ body) (before_close rest)
+
+-- the set that [ opens before these bytes, where they close it. A ! at once is the mark of a set that has none of its body
+abbrev pub opened_set : List ℕ → Option Head
+opened_set [] = None
+opened_set (b ∷ rest) =
+    if b == 33
+    then option_map (λ body. record { part = OneByte (NoneOf body); more = length body + 2 }) (body_of rest)
+    else option_map (λ body. record { part = OneByte (OneOf body); more = length body + 1 }) (body_of (b ∷ rest))
+
+-- \ takes the next byte as itself, and stands for itself at the end
+abbrev pub quoted : List ℕ → Head
+quoted [] = record { part = OneByte (Exactly 92); more = 0 }
+quoted (b ∷ rest) = record { part = OneByte (Exactly b); more = 1 }
+
+-- a byte that stands for itself
+abbrev pub plain : ℕ → Head
+plain b = record { part = OneByte (Exactly b); more = 0 }
+
+-- the part that begins with this byte before these: * takes any run, ? any byte, \ quotes, [ opens a set; each other byte,
+-- and a [ that opens none, stands for itself
+abbrev pub head_of : ℕ → List ℕ → Head
+head_of b rest =
+    if b == 42 then record { part = AnyRun; more = 0 }
+    else if b == 63 then record { part = OneByte Any; more = 0 }
+    else if b == 92 then quoted rest
+    else if b == 91 then unwrap_or (opened_set rest) (plain b)
+    else plain b
+
+-- the parts of a pattern, of which so many bytes belong to the part before
+abbrev pub parts_behind : ℕ → List ℕ → List Part
+parts_behind taken [] = []
+parts_behind (suc taken) (b ∷ rest) = parts_behind taken rest
+parts_behind zero (b ∷ rest) = (head_of b rest).part ∷ parts_behind (head_of b rest).more rest
+
+abbrev pub parts_of : List ℕ → List Part
+parts_of pattern = parts_behind 0 pattern
+
+-- a set's body has this byte: three bytes a - b are the range from a to b, each other byte is itself
+abbrev pub in_body : ℕ → List ℕ → Bool
+in_body byte [] = false
+in_body byte (a ∷ []) = byte == a
+in_body byte (a ∷ b ∷ []) = byte == a || byte == b
+in_body byte (a ∷ dash ∷ b ∷ rest) =
+    if dash == 45
+    then (nat_le a byte && nat_le byte b) || in_body byte rest
+    else byte == a || in_body byte (dash ∷ b ∷ rest)
+
+abbrev pub takes : ByteSet → ℕ → Bool
+takes Any byte = true
+takes (Exactly other) byte = byte == other
+takes (OneOf body) byte = in_body byte body
+takes (NoneOf body) byte = not (in_body byte body)
+
+-- what is left of a path behind each of the runs that it begins with, the empty one first
+abbrev pub ends_of : List ℕ → List (List ℕ)
+ends_of [] = [] ∷ []
+ends_of (b ∷ path) = (b ∷ path) ∷ ends_of path
+
+-- parts fit a path: a run is taken if the other parts fit what is left behind some run
+abbrev pub fits : List Part → List ℕ → Bool
+fits [] [] = true
+fits [] (b ∷ path) = false
+fits (AnyRun ∷ parts) path = list_any (fits parts) (ends_of path)
+fits (OneByte set ∷ parts) [] = false
+fits (OneByte set ∷ parts) (b ∷ path) = takes set b && fits parts path
+
+-- the pattern matches the whole path
+abbrev pub matches : List ℕ → List ℕ → Bool
+matches pattern path = fits (parts_of pattern) path

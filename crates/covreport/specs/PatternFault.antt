@@ -1,0 +1,9 @@
+-- The numbers of the reasons why a pattern isn't taken, the same from the first day on.
+use Rattle.std.specs.Prelude.{ℕ}
+use Rattle.covreport.specs.declared.patterns.PatternFault.{PatternFault}
+use Rattle.covreport.specs.declared.patterns.PatternFault.TheVariants.{TooMany, TooLong, Memory}
+
+abbrev pub fault_number : PatternFault → ℕ
+fault_number TooMany = 1
+fault_number TooLong = 2
+fault_number Memory = 3

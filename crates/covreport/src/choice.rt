@@ -1,0 +1,33 @@
+//! Which files a text speaks of.
+
+use crate::patterns::Patterns;
+use covline::Memory;
+use std::alloc::{Allocator, Global};
+
+/// The files of a tracefile that are kept (lcov(1), `--extract` and `--remove`).
+#[derive(Drop)]
+pub enum Choice<A: Allocator = Global> {
+    /// Every file.
+    All,
+    /// The files that match at least one of the patterns; none where there are no patterns.
+    Extract(Patterns<A>),
+    /// The files that match none of the patterns; every file where there are no patterns.
+    Remove(Patterns<A>),
+}
+
+impl<A: Allocator> Choice<A> {
+    ghost use Rattle.std.specs.Prelude.{◌≡◌};
+    ghost use Rattle.covreport.specs.Choice.{is_chosen};
+    ghost use Rattle.covreport.specs.ChoiceView.{choice_data};
+
+    /// Whether the file is chosen. Takes no memory.
+    pub fn takes(&self, file: &[u8]) -> bool
+        ensures { result ≡ is_chosen (choice_data self.now) file.now }
+    {
+        match self {
+            Choice::All => true,
+            Choice::Extract(patterns) => patterns.any_matches(file),
+            Choice::Remove(patterns) => !patterns.any_matches(file),
+        }
+    }
+}

@@ -1,0 +1,140 @@
+//! Lists of patterns.
+
+use crate::pattern::matches;
+use covline::{Bytes, Memory};
+use std::alloc::{Allocator, Global};
+use std::marker::Model;
+use thiserror::Error;
+
+/// How many patterns one list has at the most.
+pub const MOST_PATTERNS: usize = 64;
+
+/// How many bytes one pattern has at the most.
+pub const MOST_PATTERN_BYTES: usize = 1_024;
+
+/// Why a list takes no further pattern.
+#[derive(Clone, Copy, Debug, PartialEq, Eq, Error)]
+pub enum PatternFault {
+    /// The list has 64 patterns. This is tested first.
+    #[error("TooMany")]
+    TooMany = 1,
+    /// The pattern has more than 1,024 bytes.
+    #[error("TooLong")]
+    TooLong = 2,
+    /// A growth was refused.
+    #[error("out of memory")]
+    Memory = 3,
+}
+
+impl PatternFault {
+    ghost use Rattle.std.specs.Prelude.{◌≡◌};
+    ghost use Rattle.covreport.specs.PatternFault.{fault_number};
+
+    /// The number of the fault, from 1.
+    pub fn number(self) -> u32
+        ensures { result ≡ fault_number self }
+    {
+        self as u32
+    }
+}
+
+impl From<Memory> for PatternFault {
+    ghost use Rattle.std.specs.Prelude.{◌≡◌};
+    ghost use Rattle.covreport.specs.declared.patterns.PatternFault.TheVariants as faults;
+
+    ghost from_gives = { λ _ e. e ≡ faults.Memory };
+
+    fn from(_refused: Memory) -> PatternFault {
+        PatternFault::Memory
+    }
+}
+
+/// A list of at most 64 patterns of at most 1,024 bytes each. Contracts see the patterns.
+#[derive(Drop)]
+pub struct Patterns<A: Allocator = Global> {
+    patterns: Vec<Bytes<A>, A>,
+}
+
+impl<A: Allocator> Model for Patterns<A> {
+    ghost use Rattle.std.specs.Prelude.{List, ℕ, ◌≤◌, length};
+    ghost use Rattle.std.specs.List.{AllByRecursion};
+    ghost use Rattle.covreport.specs.Choice.{most_patterns, most_pattern_bytes};
+
+    ghost Value = { List (List ℕ) };
+
+    ghost view = { λ a. a.patterns.items };
+
+    ghost invariant = { λ a. (length a.patterns.items ≤ most_patterns) × AllByRecursion (λ p. length p ≤ most_pattern_bytes) a.patterns.items };
+}
+
+impl<A: Allocator + Copy> Patterns<A> {
+    ghost use Rattle.std.specs.Prelude.{◌≡◌, ◌↔◌, ◌<◌, ◌≤◌, ◌++◌, [], ◌∷◌, length, IfOk, OnOk, OnErr, Err};
+    ghost use Rattle.covreport.specs.declared.patterns.PatternFault.TheVariants as faults;
+    ghost use Rattle.covreport.specs.Choice.{any_matches, most_patterns, most_pattern_bytes};
+
+    /// The empty list. Takes no memory.
+    pub fn new(alloc: A) -> Patterns<A>
+        ensures { result ≡ [] }
+    {
+        Patterns {
+            patterns: Vec::new(alloc),
+        }
+    }
+
+    /// One pattern more at the end. A refusal leaves the list as it was.
+    pub fn add(&mut self, alloc: A, pattern: &[u8]) -> Result<(), PatternFault>
+        ensures ok { OnOk result (self.new ≡ self.old ++ pattern.now ∷ []) }
+        ensures err { OnErr result (self.new ≡ self.old) }
+        ensures too_many { (result ≡ Err faults.TooMany) ↔ (length self.old ≡ most_patterns) }
+        ensures too_long { (result ≡ Err faults.TooLong) ↔ ((length self.old < most_patterns) × (most_pattern_bytes < length pattern.now)) }
+    {
+        if self.patterns.len() == MOST_PATTERNS {
+            return Err(PatternFault::TooMany);
+        }
+        if pattern.len() > MOST_PATTERN_BYTES {
+            return Err(PatternFault::TooLong);
+        }
+        self.push(Bytes::of(alloc, pattern)?)?;
+        Ok(())
+    }
+
+    /// Appends a pattern, for which there is a place.
+    fn push(&mut self, pattern: Bytes<A>) -> Result<(), Memory>
+        requires few { length self.old < most_patterns }
+        requires short { length pattern ≤ most_pattern_bytes }
+        ensures ok { OnOk result (self.new ≡ self.old ++ pattern ∷ []) }
+        ensures err { OnErr result (self.new ≡ self.old) }
+    {
+        self.patterns.push(pattern)?;
+        Ok(())
+    }
+
+    /// The patterns in order. Takes no memory.
+    pub fn get(&self) -> &[Bytes<A>]
+        ensures { result.now ≡ self.now }
+    {
+        self.patterns.as_slice()
+    }
+
+    /// An equal list, in memory of its own.
+    pub fn copy(&self, alloc: A) -> Result<Patterns<A>, Memory>
+        ensures { IfOk result (λ p. p ≡ self.now) }
+    {
+        Err(Memory)
+    }
+}
+
+impl<A: Allocator> Patterns<A> {
+    ghost use Rattle.std.specs.Prelude.{◌≡◌};
+    ghost use Rattle.covreport.specs.Choice.{any_matches};
+
+    /// Whether at least one of the patterns matches the whole path. Takes no memory.
+    pub fn any_matches(&self, path: &[u8]) -> bool
+        ensures { result ≡ any_matches self.now path.now }
+    {
+        self.patterns
+            .as_slice()
+            .iter()
+            .any(|pattern| matches(pattern.get(), path))
+    }
+}
