@@ -1,13 +1,2 @@
-pub mod Members
-pub mod Ascend
-pub mod Nearest
-pub mod Orders
-pub mod Walks
-pub mod Roads
-pub mod Bounds
-pub mod Few
-pub mod Sorting
-pub mod Texts
 pub mod Runs
-pub mod Looks
-pub mod Clashes
+pub mod Versions

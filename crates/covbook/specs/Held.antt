@@ -1,20 +1,13 @@
--- A book's history with the submissions that it holds.
-use Rattle.std.specs.Prelude.{◌≡◌, ◌≤◌, List, length, map}
-use Rattle.std.specs.List.{AllByRecursion}
-use Rattle.covline.specs.Row.{SubmissionData, rows_of}
-use Rattle.covline.specs.Lawful.{IsLawful}
+-- A book's history with the store of what it holds.
+use Rattle.std.specs.Prelude.{◌≡◌, ℕ, ◌≤◌, List, length}
+use Rattle.covstore.specs.Stored.{StoreData, StandsFor}
 use Rattle.covbook.specs.Op.{EntryData}
 use Rattle.covbook.specs.Step.{IsLegal, table_of, ops_in, most_entries}
 
--- the submissions are lawful, and not more than the entries of one history
-pub record IsHeld (held : List SubmissionData) : Type 0 where
-  pub few : length held ≤ most_entries
-  pub lawful : AllByRecursion IsLawful held
-
--- the history is legal, and the submissions that are held stand for the last table of its run
-pub record IsBook (held : List SubmissionData) (entries : List EntryData) : Type 0 where
+-- the history is legal, the store stands for the last table of its run, and so many submissions were accepted
+pub record IsBook (store : StoreData) (accepted : ℕ) (entries : List EntryData) : Type 0 where
   pub legal : IsLegal entries
-  pub stands : map rows_of held ≡ table_of (ops_in entries)
+  pub stands : StandsFor store (table_of (ops_in entries))
+  pub number : accepted ≡ length (table_of (ops_in entries))
   pub few : length entries ≤ most_entries
-  pub fewer : length held ≤ length entries
-  pub lawful : AllByRecursion IsLawful held
+  pub fewer : accepted ≤ length entries

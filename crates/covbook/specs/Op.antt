@@ -1,11 +1,14 @@
 -- Operations, answers, entries of a history and receipts, apart from where they lie in memory.
 use Rattle.std.specs.Prelude.{ℕ, List}
 use Rattle.covline.specs.Row.{SubmissionData}
-use Rattle.covbook.specs.Clash.{ClashData}
+use Rattle.covstore.specs.Clash.{ClashData}
 
 pub data OpData : Type 0 where
   SubmitOp : (submission : SubmissionData) → OpData
   ReportOp : OpData
+  ExtractOp : (patterns : List (List ℕ)) → OpData
+  RemoveOp : (patterns : List (List ℕ)) → OpData
+  SummaryOp : OpData
 
 pub data AnswerData : Type 0 where
   AcceptedAnswer : (number items odd : ℕ) → AnswerData

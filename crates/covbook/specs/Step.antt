@@ -1,21 +1,14 @@
 -- One step of the plain table of counts, and whole runs of steps.
 use Rattle.std.specs.Prelude.{◌≡◌, ℕ, ◌+◌, List, [], ◌∷◌, ◌++◌, length, Option, Some, None, map}
-use Rattle.std.specs.List.{flat_map}
-use Rattle.covline.specs.Row.{Row, SubmissionData, rows_of, items_in}
-use Rattle.covbook.specs.Op.{OpData, SubmitOp, ReportOp, AnswerData, AcceptedAnswer, ClashAnswer, TextAnswer, EntryData}
-use Rattle.covbook.specs.Clash.{ClashData, clash_of}
-use Rattle.covbook.specs.Report.{report_text}
-
--- the rows of each accepted submission, in order of acceptance
-abbrev pub Table : Type 0
-Table = List (List Row)
-
-abbrev pub all_rows : Table → List Row
-all_rows table = flat_map (λ rows. rows) table
-
--- the clash of a submission with a table
-abbrev pub clash_at : Table → SubmissionData → Option ClashData
-clash_at table submission = clash_of (all_rows table) (rows_of submission)
+use Rattle.covline.specs.Row.{SubmissionData, rows_of, items_in}
+use Rattle.covstore.specs.Clash.{ClashData}
+use Rattle.covstore.specs.Content.{content_at}
+use Rattle.covstore.specs.Table.{Table, clash_at}
+use Rattle.covstore.specs.Totals.{totals_of}
+use Rattle.covreport.specs.Choice.{AllFiles, Extracted, Removed}
+use Rattle.covreport.specs.Report.{report_text}
+use Rattle.covreport.specs.Summary.{summary_of}
+use Rattle.covbook.specs.Op.{OpData, SubmitOp, ReportOp, ExtractOp, RemoveOp, SummaryOp, AnswerData, AcceptedAnswer, ClashAnswer, TextAnswer, EntryData}
 
 -- a submission that clashes is refused whole; another one is accepted with the next number
 abbrev pub answer_to_submit : Table → SubmissionData → Option ClashData → AnswerData
@@ -29,12 +22,18 @@ table_after_submit table submission None = table ++ rows_of submission ∷ []
 -- the answer to an operation at a table
 abbrev pub answer_of : Table → OpData → AnswerData
 answer_of table (SubmitOp submission) = answer_to_submit table submission (clash_at table submission)
-answer_of table ReportOp = TextAnswer (report_text (all_rows table))
+answer_of table ReportOp = TextAnswer (report_text AllFiles (content_at table))
+answer_of table (ExtractOp patterns) = TextAnswer (report_text (Extracted patterns) (content_at table))
+answer_of table (RemoveOp patterns) = TextAnswer (report_text (Removed patterns) (content_at table))
+answer_of table SummaryOp = TextAnswer (summary_of (totals_of (content_at table)))
 
 -- the table that it leaves
 abbrev pub table_after : Table → OpData → Table
 table_after table (SubmitOp submission) = table_after_submit table submission (clash_at table submission)
 table_after table ReportOp = table
+table_after table (ExtractOp patterns) = table
+table_after table (RemoveOp patterns) = table
+table_after table SummaryOp = table
 
 -- the answers to operations one after another, and the table that they leave
 abbrev pub answers_from : Table → List OpData → List AnswerData

@@ -3,11 +3,14 @@ use Rattle.covbook.specs.declared.op.Op.{Op}
 use Rattle.covbook.specs.declared.op.Op.TheVariants as ops
 use Rattle.covbook.specs.declared.op.Answer.{Answer}
 use Rattle.covbook.specs.declared.op.Answer.TheVariants as answers
-use Rattle.covbook.specs.Op.{OpData, SubmitOp, ReportOp, AnswerData, AcceptedAnswer, ClashAnswer, TextAnswer}
+use Rattle.covbook.specs.Op.{OpData, SubmitOp, ReportOp, ExtractOp, RemoveOp, SummaryOp, AnswerData, AcceptedAnswer, ClashAnswer, TextAnswer}
 
 abbrev pub op_data : {A : Type 0} → Op A → OpData
 op_data (ops.Submit submission) = SubmitOp submission
 op_data ops.Report = ReportOp
+op_data (ops.Extract patterns) = ExtractOp patterns
+op_data (ops.Remove patterns) = RemoveOp patterns
+op_data ops.Summary = SummaryOp
 
 abbrev pub answer_data : {A : Type 0} → Answer A → AnswerData
 answer_data (answers.Accepted number items odd) = AcceptedAnswer number items odd

@@ -1,11 +1,11 @@
 //! The book: what a table of counts was asked, in order, and what it answered.
 
-use crate::clash::first_clash;
 use crate::entry::{Entries, Entry, Receipt};
 use crate::op::{Answer, Op};
 use crate::shared::{SubRef, TextRef};
-use crate::trace_text::trace_text;
-use covline::Memory;
+use covline::{Bytes, Memory};
+use covreport::{Choice, summary_text, trace_text};
+use covstore::{Plan, Refuse, Store};
 use std::alloc::{Allocator, Global};
 use std::marker::Model;
 use thiserror::Error;
@@ -51,7 +51,8 @@ impl From<Memory> for BookFault {
 /// the last one of its run.
 #[derive(Drop)]
 pub struct Book<A: Allocator = Global> {
-    held: Vec<SubRef<A>, A>,
+    store: Store<A>,
+    accepted: u64,
     entries: Entries<A>,
 }
 
@@ -64,13 +65,15 @@ impl<A: Allocator> Model for Book<A> {
 
     ghost view = { λ a. a.entries };
 
-    ghost invariant = { λ a. IsBook a.held.items a.entries };
+    ghost invariant = { λ a. IsBook a.store a.accepted a.entries };
 }
 
 impl<A: Allocator + Copy> Book<A> {
     ghost use Rattle.std.specs.Prelude.{◌≡◌, ◌↔◌, ◌<◌, ◌++◌, [], ◌∷◌, length, IfOk, OnOk, OnErr, Err, None, map};
-    ghost use Rattle.covbook.specs.Op.{SubmitOp, ReportOp};
-    ghost use Rattle.covbook.specs.Step.{IsLegal, answer_of, clash_at, table_after, table_of, ops_in, most_entries};
+    ghost use Rattle.covbook.specs.Op.{SubmitOp, TextAnswer};
+    ghost use Rattle.covbook.specs.Step.{IsLegal, answer_of, table_after, table_of, ops_in, most_entries};
+    ghost use Rattle.covbook.specs.Texts.{IsText};
+    ghost use Rattle.covstore.specs.Table.{clash_at};
     ghost use Rattle.covbook.specs.View.{op_data, answer_data};
     ghost use Rattle.covbook.specs.EntryView.{entry_data};
 
@@ -79,7 +82,8 @@ impl<A: Allocator + Copy> Book<A> {
         ensures { result ≡ [] }
     {
         Book {
-            held: Vec::new(alloc),
+            store: Store::new(alloc),
+            accepted: 0,
             entries: Entries::new(alloc),
         }
     }
@@ -108,7 +112,9 @@ impl<A: Allocator + Copy> Book<A> {
         }
         match op {
             Op::Submit(submission) => Ok(self.submit(alloc, job, submission)?),
-            Op::Report => Ok(self.report(alloc, job)?),
+            Op::Report | Op::Extract(_) | Op::Remove(_) | Op::Summary => {
+                Ok(self.tell(alloc, job, op)?)
+            }
         }
     }
 
@@ -121,15 +127,34 @@ impl<A: Allocator + Copy> Book<A> {
         ensures entry { IfOk result (λ r. self.new ≡ self.old ++ record { job = job; op = SubmitOp submission.now; answer = answer_data r.answer } ∷ []) }
         ensures refused { OnErr result (self.new ≡ self.old) }
     {
-        let Some(clash) = first_clash(self.held.as_slice(), submission.get()) else {
-            return self.accept(job, submission);
-        };
-        let answer = clash.answer(alloc)?;
-        self.note(alloc, job, Op::Submit(submission.copy()?), answer)
+        match self.store.prepare(alloc, submission.get()) {
+            Ok(plan) => self.accept(job, submission, plan),
+            Err(Refuse::Clash {
+                file,
+                line,
+                held,
+                given,
+            }) => {
+                let op = Op::Submit(submission.copy()?);
+                let answer = Answer::Clash {
+                    file,
+                    line,
+                    held,
+                    given,
+                };
+                self.note(alloc, job, op, answer)
+            }
+            Err(Refuse::Memory) => Err(Memory),
+        }
     }
 
     /// The submission, which doesn't clash, is held too. All growths come before the first change.
-    fn accept(&mut self, job: u32, submission: &SubRef<A>) -> Result<Receipt<A>, Memory>
+    fn accept(
+        &mut self,
+        job: u32,
+        submission: &SubRef<A>,
+        plan: Plan<A>,
+    ) -> Result<Receipt<A>, Memory>
         requires room { length self.old < most_entries }
         requires agrees { clash_at (table_of (ops_in self.old)) submission.now ≡ None }
         ensures answer { IfOk result (λ r. answer_data r.answer ≡ answer_of (table_of (ops_in self.old)) (SubmitOp submission.now)) }
@@ -139,7 +164,7 @@ impl<A: Allocator + Copy> Book<A> {
         ensures refused { OnErr result (self.new ≡ self.old) }
     {
         let place = self.entries.get().len() as u64;
-        let number = self.held.len() as u64 + 1;
+        let number = self.accepted + 1;
         let items = submission.get().items();
         let odd = submission.get().odd();
         let entry = Entry {
@@ -152,24 +177,42 @@ impl<A: Allocator + Copy> Book<A> {
             op: Op::Submit(submission.copy()?),
             answer: Answer::Accepted { number, items, odd },
         };
-        let held = submission.copy()?;
-        self.held.reserve(1)?;
         self.entries.push(entry)?;
-        self.held.push_reserved(held);
+        self.store.commit(plan);
+        self.accepted = number;
         Ok(receipt)
     }
 
-    /// The merged tracefile is printed, and shared between the entry and the receipt.
-    fn report(&mut self, alloc: A, job: u32) -> Result<Receipt<A>, Memory>
-        requires { length self.old < most_entries }
-        ensures answer { IfOk result (λ r. answer_data r.answer ≡ answer_of (table_of (ops_in self.old)) ReportOp) }
+    /// A text is printed, and shared between the entry and the receipt.
+    fn tell(&mut self, alloc: A, job: u32, op: &Op<A>) -> Result<Receipt<A>, Memory>
+        requires room { length self.old < most_entries }
+        requires text { IsText (op_data op.now) }
+        ensures answer { IfOk result (λ r. answer_data r.answer ≡ answer_of (table_of (ops_in self.old)) (op_data op.now)) }
         ensures place { IfOk result (λ r. r.place ≡ length self.old) }
-        ensures asked { IfOk result (λ r. op_data r.op ≡ ReportOp) }
-        ensures entry { IfOk result (λ r. self.new ≡ self.old ++ record { job = job; op = ReportOp; answer = answer_data r.answer } ∷ []) }
+        ensures asked { IfOk result (λ r. op_data r.op ≡ op_data op.now) }
+        ensures entry { IfOk result (λ r. self.new ≡ self.old ++ record { job = job; op = op_data op.now; answer = answer_data r.answer } ∷ []) }
         ensures refused { OnErr result (self.new ≡ self.old) }
     {
-        let text = TextRef::of(alloc, trace_text(alloc, self.held.as_slice())?)?;
-        self.note(alloc, job, Op::Report, Answer::Text(text))
+        let text = TextRef::of(alloc, self.text_of(alloc, op)?)?;
+        self.note(alloc, job, op.copy(alloc)?, Answer::Text(text))
+    }
+
+    /// The text that an operation asks for.
+    fn text_of(&self, alloc: A, op: &Op<A>) -> Result<Bytes<A>, Memory>
+        requires text { IsText (op_data op.now) }
+        ensures { IfOk result (λ t. TextAnswer t ≡ answer_of (table_of (ops_in self.now)) (op_data op.now)) }
+    {
+        match op {
+            Op::Submit(_) => unreachable!(),
+            Op::Report => trace_text(alloc, &self.store, &Choice::All),
+            Op::Extract(patterns) => {
+                trace_text(alloc, &self.store, &Choice::Extract(patterns.copy(alloc)?))
+            }
+            Op::Remove(patterns) => {
+                trace_text(alloc, &self.store, &Choice::Remove(patterns.copy(alloc)?))
+            }
+            Op::Summary => summary_text(alloc, &self.store.totals()),
+        }
     }
 
     /// Appends the entry of an operation that leaves the table as it is, with a copy of its answer.
@@ -192,7 +235,7 @@ impl<A: Allocator + Copy> Book<A> {
         let place = self.entries.get().len() as u64;
         let entry = Entry {
             job,
-            op: op.copy()?,
+            op: op.copy(alloc)?,
             answer: answer.copy(alloc)?,
         };
         self.entries.push(entry)?;

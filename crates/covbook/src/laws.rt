@@ -1,46 +1,10 @@
 //! Laws of the definitions that this crate's contracts cite. The functions do nothing: the contract is the law.
 
-ghost use Rattle.std.specs.Prelude.{◌≡◌, ◌↔◌, List, [], ◌∷◌, ◌++◌, ℕ, Some, None, map};
-ghost use Rattle.std.specs.Cmp.Lexicographic.{slice_cmp};
-ghost use Rattle.std.specs.Ordering.{nat_cmp};
-ghost use Rattle.covline.specs.Points.{BranchPoint, line_points, func_points, branch_points};
-ghost use Rattle.covline.specs.Row.{ItemData, Row};
-ghost use Rattle.covbook.specs.Ascending.{IsAscendingOf};
-ghost use Rattle.covbook.specs.Clash.{Checksum, ClashData, Agree, IsFirstClash, checksums_in, first_clash};
+ghost use Rattle.std.specs.Prelude.{◌≡◌, List, [], ◌∷◌, ◌++◌};
 ghost use Rattle.covbook.specs.Op.{OpData};
-ghost use Rattle.covbook.specs.Step.{all_rows, answer_of, answers_to, table_after, table_of};
-ghost use Rattle.covbook.specs.Value.{Key, key_cmp, key_of_row, keys_of, lines_in, Function, function_cmp, function_of, functions_in, names_in, branch_cmp, branches_in};
-
-/// The sections of a printed tracefile stand in strictly ascending order, one for each file and test with a row.
-pub fn keys_stand_in_order()
-    ensures { (rows : List Row) → IsAscendingOf key_cmp (map key_of_row rows) (keys_of rows) }
-{}
-
-/// The functions, branches and lines of a section stand in strictly ascending order, each of its items' once:
-/// functions by start line and name, branches by line, block and number, lines by number. The names that the
-/// functions are made of are those of the items, by their bytes.
-pub fn points_stand_in_order()
-    ensures names { (items : List ItemData) → IsAscendingOf (slice_cmp nat_cmp) (func_points items) (names_in items) }
-    ensures functions { (items : List ItemData) → IsAscendingOf function_cmp (map (function_of items) (names_in items)) (functions_in items) }
-    ensures branches { (items : List ItemData) → IsAscendingOf branch_cmp (branch_points items) (branches_in items) }
-    ensures lines { (items : List ItemData) → IsAscendingOf nat_cmp (line_points items) (lines_in items) }
-{}
-
-/// There is at most one strictly ascending list of given members, of files and tests, functions, branches or lines.
-pub fn order_is_unique()
-    ensures keys { (all some others : List Key) → IsAscendingOf key_cmp all some → IsAscendingOf key_cmp all others → some ≡ others }
-    ensures functions { (all some others : List Function) → IsAscendingOf function_cmp all some → IsAscendingOf function_cmp all others → some ≡ others }
-    ensures branches { (all some others : List BranchPoint) → IsAscendingOf branch_cmp all some → IsAscendingOf branch_cmp all others → some ≡ others }
-    ensures lines { (all some others : List ℕ) → IsAscendingOf nat_cmp all some → IsAscendingOf nat_cmp all others → some ≡ others }
-{}
-
-/// Of held checksums that agree with each other: a clash is told exactly where it is the first one, that of the first
-/// given checksum that differs from a held one or from an earlier given one, none of these differing from each other.
-/// None is told exactly where no two of all differ.
-pub fn the_first_clash_is_told()
-    ensures first { (held given : List Checksum) (clash : ClashData) → Agree held → first_clash held given ≡ Some clash ↔ IsFirstClash held given clash }
-    ensures none { (held given : List Checksum) → Agree held → first_clash held given ≡ None ↔ Agree (held ++ given) }
-{}
+ghost use Rattle.covbook.specs.Step.{answer_of, answers_to, table_after, table_of};
+ghost use Rattle.covstore.specs.Clash.{Agree, checksums_in};
+ghost use Rattle.covstore.specs.Table.{all_rows};
 
 /// No run mixes two versions of a source: the rows of its table have no two different checksums of one line of a file.
 pub fn no_versions_are_mixed()

@@ -2,6 +2,7 @@
 
 use crate::shared::{SubRef, TextRef};
 use covline::{Bytes, Memory};
+use covreport::Patterns;
 use std::alloc::{Allocator, Global};
 
 /// An operation on a book.
@@ -11,19 +12,28 @@ pub enum Op<A: Allocator = Global> {
     Submit(SubRef<A>),
     /// Print the merged tracefile.
     Report,
+    /// Print the sections of the files that match at least one of the patterns (lcov(1), `--extract`).
+    Extract(Patterns<A>),
+    /// Print the sections of the files that match none of the patterns (lcov(1), `--remove`).
+    Remove(Patterns<A>),
+    /// Print how many lines, functions and branches are hit (lcov(1), `--summary`).
+    Summary,
 }
 
-impl<A: Allocator> Op<A> {
+impl<A: Allocator + Copy> Op<A> {
     ghost use Rattle.std.specs.Prelude.{◌≡◌, IfOk};
     ghost use Rattle.covbook.specs.View.{op_data};
 
-    /// An equal operation, which shares the submission.
-    pub fn copy(&self) -> Result<Op<A>, Memory>
+    /// An equal operation, which shares the submission; patterns are copied.
+    pub fn copy(&self, alloc: A) -> Result<Op<A>, Memory>
         ensures { IfOk result (λ o. op_data o ≡ op_data self.now) }
     {
         match self {
             Op::Submit(submission) => Ok(Op::Submit(submission.copy()?)),
             Op::Report => Ok(Op::Report),
+            Op::Extract(patterns) => Ok(Op::Extract(patterns.copy(alloc)?)),
+            Op::Remove(patterns) => Ok(Op::Remove(patterns.copy(alloc)?)),
+            Op::Summary => Ok(Op::Summary),
         }
     }
 }

@@ -49,6 +49,17 @@ impl<A: Allocator> Model for Items<A> {
     ghost invariant = { λ a. AllFit64 (map item_data a.items.items) };
 }
 
+impl<A: Allocator + Copy> Items<A> {
+    ghost use Rattle.std.specs.Prelude.{◌≡◌, IfOk};
+
+    /// An equal list, in memory of its own.
+    pub fn copy(&self, alloc: A) -> Result<Items<A>, Memory>
+        ensures { IfOk result (λ s. s ≡ self.now) }
+    {
+        Err(Memory)
+    }
+}
+
 impl<A: Allocator> Items<A> {
     ghost use Rattle.std.specs.Prelude.{◌≡◌, ◌++◌, [], ◌∷◌, OnOk, OnErr, length, map};
     ghost use Rattle.covline.specs.Row.{item_data};

@@ -33,6 +33,17 @@ impl<A: Allocator> Model for Sects<A> {
     ghost view = { λ a. map sect_data a.sects.items };
 }
 
+impl<A: Allocator + Copy> Sects<A> {
+    ghost use Rattle.std.specs.Prelude.{◌≡◌, IfOk};
+
+    /// An equal list, in memory of its own.
+    pub fn copy(&self, alloc: A) -> Result<Sects<A>, Memory>
+        ensures { IfOk result (λ s. s ≡ self.now) }
+    {
+        Err(Memory)
+    }
+}
+
 impl<A: Allocator> Sects<A> {
     ghost use Rattle.std.specs.Prelude.{◌≡◌, ◌++◌, [], ◌∷◌, OnOk, OnErr, length, map};
     ghost use Rattle.covline.specs.SectView.{sect_data};

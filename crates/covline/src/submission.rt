@@ -1,6 +1,7 @@
 //! Submissions: what one text says.
 
 use crate::checks::{count_items, first_unlawful};
+use crate::memory::Memory;
 use crate::sect::{Sect, Sects};
 use std::alloc::{Allocator, Global};
 use std::marker::Model;
@@ -51,6 +52,21 @@ impl<A: Allocator> Model for Submission<A> {
     ghost view = { λ a. record { sects = a.sects; odd = a.odd } };
 
     ghost invariant = { λ a. IsLawful (record { sects = a.sects; odd = a.odd }) × (a.items ≡ items_in a.sects) };
+}
+
+impl<A: Allocator + Copy> Submission<A> {
+    ghost use Rattle.std.specs.Prelude.{◌≡◌, IfOk};
+
+    /// An equal submission, in memory of its own.
+    pub fn copy(&self, alloc: A) -> Result<Submission<A>, Memory>
+        ensures { IfOk result (λ s. s ≡ self.now) }
+    {
+        Ok(Submission {
+            sects: self.sects.copy(alloc)?,
+            items: self.items,
+            odd: self.odd,
+        })
+    }
 }
 
 impl<A: Allocator> Submission<A> {

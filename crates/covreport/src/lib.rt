@@ -1,14 +1,18 @@
-//! Printed texts of what a store holds, and the patterns that choose its files.
+//! Printed texts of what a store holds: the merged tracefile and the summary, and the patterns that choose files.
 #![tactic(auto)]
 
 pub mod choice;
 pub mod laws;
 pub mod pattern;
 pub mod patterns;
+pub mod summary;
+pub mod trace_text;
 
 pub use choice::Choice;
 pub use pattern::matches;
 pub use patterns::{PatternFault, Patterns};
+pub use summary::{summary_text, tenths};
+pub use trace_text::trace_text;
 
 #[cfg(test)]
 mod tests;

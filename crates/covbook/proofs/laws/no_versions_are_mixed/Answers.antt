@@ -1,4 +1,4 @@
-use Rattle.covbook.proofs.Clashes.{tables_agree}
+use Rattle.covbook.proofs.Versions.{tables_agree}
 use Rattle.covbook.proofs.laws.no_versions_are_mixed.Goals as goal
 
 pub returns : goal.returns

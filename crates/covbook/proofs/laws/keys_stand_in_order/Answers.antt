@@ -1,8 +1,0 @@
-use Rattle.std.proofs.Common.{map}
-use Rattle.covbook.specs.Value.{key_of_row}
-use Rattle.covbook.proofs.Ascend.{ascending_is}
-use Rattle.covbook.proofs.Orders.{keys_order}
-use Rattle.covbook.proofs.laws.keys_stand_in_order.Goals as goal
-
-pub returns : goal.returns
-returns c = λ rows. ascending_is keys_order (map key_of_row rows)

@@ -1,0 +1,102 @@
+-- A text that is printed part by part, and counted; the parts of a section.
+use Rattle.std.proofs.Common.{◌≡◌, ℕ, ◌+◌, ◌^◌, ◌<◌, Bool, cond, eqb, List, [], ◌∷◌, ◌++◌, length, map, count_by, sym, ap, ap₂, ◌∙◌, append_assoc, arith}
+use Rattle.std.specs.List.{flat_map}
+use Rattle.std.proofs.lemmas.Bool.{cond-false, ne_eqb}
+use Rattle.std.proofs.lemmas.List.{append-nil}
+use Rattle.std.proofs.lemmas.List.Concat.{flat_map-append}
+use Rattle.std.proofs.lemmas.List.Folds.{flat_map-map}
+use Rattle.std.proofs.lemmas.List.Sums.{sum_by-cons}
+use Rattle.covline.specs.Row.{Row}
+use Rattle.covline.specs.declared.trace_line.TotalKind.{TotalKind}
+use Rattle.covline.specs.Spells.{LineData, Test, Path, End}
+use Rattle.covline.specs.Printed.{printed}
+use Rattle.covreport.specs.Printing.{totals, totals_if_any}
+use Rattle.covreport.specs.Report.{where_any, function_records, branch_records, line_records, section_text}
+use Rattle.covstore.specs.Value.{Key, items_at}
+
+-- ---- one part more
+
+module _ {X Y : Type 0} (part : X → List Y) (whole text : List Y) where
+  pub goes_on : (new : List Y) (x : X) (left more : List X) → left ≡ x ∷ more → text ++ flat_map part left ≡ whole → new ≡ text ++ part x → new ++ flat_map part more ≡ whole
+  goes_on new x left more next so_far put =
+      ap (λ (t : List Y). t ++ flat_map part more) put
+      ∙ append_assoc text (part x) (flat_map part more)
+      ∙ ap (λ (xs : List X). text ++ flat_map part xs) (sym next)
+      ∙ so_far
+
+  pub ends : (left : List X) → left ≡ [] → text ++ flat_map part left ≡ whole → text ≡ whole
+  ends left none so_far = sym (append-nil text) ∙ ap (λ (xs : List X). text ++ flat_map part xs) (sym none) ∙ so_far
+
+-- what is printed and counted so far, with what is left
+pub record IsPrinted {X : Type 0} (part : X → List ℕ) (is_hit : X → Bool) (all left : List X) (before text : List ℕ) (found hit : ℕ) : Type 0 where
+  pub written : text ++ flat_map part left ≡ before ++ flat_map part all
+  pub counted : found + length left ≡ length all
+  pub hits : hit + count_by is_hit left ≡ count_by is_hit all
+
+module _ {X : Type 0} (part : X → List ℕ) (is_hit : X → Bool) (all : List X) (before : List ℕ) where
+  pub printed_none : (left : List X) (found hit : ℕ) → left ≡ all → found ≡ 0 → hit ≡ 0 → IsPrinted part is_hit all left before before found hit
+  printed_none left found hit is f h = record {
+    written = ap (λ (xs : List X). before ++ flat_map part xs) is;
+    counted = omega (arith, ap length is, f);
+    hits = omega (arith, ap (count_by is_hit) is, h);
+  }
+
+  pub printed_more : (x : X) (b : Bool) (left more : List X) (text new : List ℕ) (found hit found_now hit_now : ℕ) → left ≡ x ∷ more → IsPrinted part is_hit all left before text found hit → new ≡ text ++ part x
+      → b ≡ is_hit x → found_now ≡ found + 1 → hit_now ≡ hit + cond b 1 0 → IsPrinted part is_hit all more before new found_now hit_now
+  printed_more x b left more text new found hit found_now hit_now next so_far put is f h =
+      let one : count_by is_hit (x ∷ more) ≡ cond b 1 0 + count_by is_hit more =
+      sum_by-cons (λ (y : X). cond (is_hit y) 1 0) x more ∙ ap (λ (a : Bool). cond a 1 0 + count_by is_hit more) (sym is) in
+      record {
+        written = goes_on part (before ++ flat_map part all) text new x left more next so_far.written put;
+        counted = omega (arith, ap length next, so_far.counted, f);
+        hits = omega (arith, ap (count_by is_hit) next, one, so_far.hits, h);
+      }
+
+  pub printed_all : (left : List X) (text : List ℕ) (found hit : ℕ) → left ≡ [] → IsPrinted part is_hit all left before text found hit
+      → (text ≡ before ++ flat_map part all) × (found ≡ length all) × (hit ≡ count_by is_hit all)
+  printed_all left text found hit none so_far =
+      (ends part (before ++ flat_map part all) text left none so_far.written, omega (arith, ap length none, so_far.counted), omega (arith, ap (count_by is_hit) none, so_far.hits))
+
+  -- one point more can be counted
+  pub count_fits : (x : X) (left more : List X) (text : List ℕ) (found hit : ℕ) → length all < 2 ^ 64 → left ≡ x ∷ more → IsPrinted part is_hit all left before text found hit → found + 1 < 2 ^ 64
+  count_fits x left more text found hit few next so_far =
+      let size : length left ≡ length (x ∷ more) = ap length next in
+      omega (arith, size, so_far.counted)
+
+-- ---- records with what follows them
+
+pub with_tail : {X : Type 0} (record_of : X → LineData) (all : List X) (tail : List LineData) (t t1 t2 : List ℕ) → t1 ≡ t ++ flat_map (λ x. printed (record_of x)) all → t2 ≡ t1 ++ flat_map printed tail
+    → t2 ≡ t ++ flat_map printed (map record_of all ++ tail)
+with_tail {X} record_of all tail t t1 t2 first second =
+    second
+    ∙ ap (λ (x : List ℕ). x ++ flat_map printed tail) (first ∙ ap (λ (x : List ℕ). t ++ x) (sym (flat_map-map printed record_of all)))
+    ∙ append_assoc t (flat_map printed (map record_of all)) (flat_map printed tail)
+    ∙ ap (λ (x : List ℕ). t ++ x) (sym (flat_map-append printed (map record_of all) tail))
+
+pub any_is : {X : Type 0} (found_kind hit_kind : TotalKind) (all : List X) (found hit hits : ℕ) → found ≡ length all → hit ≡ hits
+    → totals_if_any found_kind hit_kind found hit ≡ where_any all (totals found_kind hit_kind (length all) hits)
+any_is found_kind hit_kind [] found hit hits f h = ap (λ (n : ℕ). totals_if_any found_kind hit_kind n hit) f
+any_is found_kind hit_kind (x ∷ xs) found hit hits f h =
+    ap₂ (totals_if_any found_kind hit_kind) f h
+    ∙ cond-false (eqb (length (x ∷ xs)) 0) [] (totals found_kind hit_kind (length (x ∷ xs)) hits) (ne_eqb (length (x ∷ xs)) 0 (λ e. omega (arith, e)))
+
+-- ---- the parts of a section
+
+joined : (t t1 t2 t3 t4 t5 t6 a b c d e f : List ℕ) → t1 ≡ t ++ a → t2 ≡ t1 ++ b → t3 ≡ t2 ++ c → t4 ≡ t3 ++ d → t5 ≡ t4 ++ e → t6 ≡ t5 ++ f → t6 ≡ t ++ (a ++ (b ++ (c ++ (d ++ (e ++ (f ++ []))))))
+joined t t1 t2 t3 t4 t5 t6 a b c d e f e1 e2 e3 e4 e5 e6 =
+    e6 ∙ ap (λ (x : List ℕ). x ++ f) (e5 ∙ ap (λ (x : List ℕ). x ++ e) (e4 ∙ ap (λ (x : List ℕ). x ++ d) (e3 ∙ ap (λ (x : List ℕ). x ++ c) (e2 ∙ ap (λ (x : List ℕ). x ++ b) e1)))) ∙ simp (append_assoc, append-nil)
+
+pub section_is : (rows : List Row) (key : Key) (t t1 t2 t3 t4 t5 t6 : List ℕ) → t1 ≡ t ++ printed (Test key.test) → t2 ≡ t1 ++ printed (Path key.file)
+    → t3 ≡ t2 ++ flat_map printed (function_records (items_at key rows)) → t4 ≡ t3 ++ flat_map printed (branch_records (items_at key rows)) → t5 ≡ t4 ++ flat_map printed (line_records (items_at key rows))
+    → t6 ≡ t5 ++ printed End → t6 ≡ t ++ section_text rows key
+section_is rows key t t1 t2 t3 t4 t5 t6 e1 e2 e3 e4 e5 e6 =
+    let items = items_at key rows in
+    let functions = function_records items in
+    let branches = branch_records items in
+    let lines = line_records items in
+    let whole : section_text rows key ≡ printed (Test key.test) ++ (printed (Path key.file) ++ (flat_map printed functions ++ (flat_map printed branches ++ (flat_map printed lines ++ (printed End ++ []))))) =
+    ap (λ (x : List ℕ). printed (Test key.test) ++ (printed (Path key.file) ++ x)) (flat_map-append printed functions (branches ++ (lines ++ (End ∷ [])))
+    ∙ ap (λ (x : List ℕ). flat_map printed functions ++ x) (flat_map-append printed branches (lines ++ (End ∷ []))
+    ∙ ap (λ (x : List ℕ). flat_map printed branches ++ x) (flat_map-append printed lines (End ∷ [])))) in
+    joined t t1 t2 t3 t4 t5 t6 (printed (Test key.test)) (printed (Path key.file)) (flat_map printed functions) (flat_map printed branches) (flat_map printed lines) (printed End) e1 e2 e3 e4 e5 e6
+    ∙ ap (λ (x : List ℕ). t ++ x) (sym whole)

@@ -1,0 +1,77 @@
+-- The printed tracefile of sections (geninfo(1), FILES).
+use Rattle.std.specs.Prelude.{ℕ, List, [], ◌∷◌, ◌++◌, length, map, filter, nat_lt, count_by}
+use Rattle.std.specs.declared.cmp.Ordering.{Ordering}
+use Rattle.std.specs.Ordering.{match_ordering}
+use Rattle.std.specs.List.{flat_map}
+use Rattle.covline.specs.declared.trace_line.TotalKind.TheVariants.{FuncFound, FuncHit, BranchFound, BranchHit, LineFound, LineHit}
+use Rattle.covline.specs.Spells.{LineData, Test, Path, FuncStart, FuncCount, Branch, Line, Total, End}
+use Rattle.covline.specs.Printed.{printed}
+use Rattle.covstore.specs.Content.{FunctionValueData, BranchValueData, LineValueData, SectionData, function_cmp}
+use Rattle.covstore.specs.Value.{is_taken}
+use Rattle.covreport.specs.Choice.{ChoiceData, is_chosen}
+
+-- x at its place in a sorted list
+abbrev pub put_in : {X : Type 0} → (X → X → Ordering) → X → List X → List X
+put_in cmp x [] = x ∷ []
+put_in cmp x (y ∷ ys) = match_ordering (cmp x y) (x ∷ y ∷ ys) (x ∷ y ∷ ys) (y ∷ put_in cmp x ys)
+
+abbrev pub sorted : {X : Type 0} → (X → X → Ordering) → List X → List X
+sorted cmp [] = []
+sorted cmp (x ∷ xs) = put_in cmp x (sorted cmp xs)
+
+-- records that are printed only where there is a member of the list
+abbrev pub where_any : {X : Type 0} → List X → List LineData → List LineData
+where_any [] records = []
+where_any (x ∷ xs) records = records
+
+-- functions are printed by their start lines, and by their names' bytes where these are the same
+abbrev pub by_start : List FunctionValueData → List FunctionValueData
+by_start functions = sorted function_cmp functions
+
+-- the start lines of functions, their counts, and how many there are and how many of them have a count above 0
+abbrev pub start_record : FunctionValueData → LineData
+start_record f = FuncStart f.line f.name
+
+abbrev pub call_record : FunctionValueData → LineData
+call_record f = FuncCount f.count f.name
+
+abbrev pub functions_hit : List FunctionValueData → ℕ
+functions_hit functions = count_by (λ f. nat_lt 0 f.count) functions
+
+abbrev pub function_records : List FunctionValueData → List LineData
+function_records functions =
+    map start_record (by_start functions) ++ (map call_record (by_start functions)
+    ++ where_any functions (Total FuncFound (length functions) ∷ Total FuncHit (functions_hit functions) ∷ []))
+
+-- branches, and how many there are and how many of them were taken
+abbrev pub branch_record : BranchValueData → LineData
+branch_record b = Branch b.point.line b.point.block b.point.branch b.taken
+
+abbrev pub branches_hit : List BranchValueData → ℕ
+branches_hit branches = count_by (λ b. is_taken b.taken) branches
+
+abbrev pub branch_records : List BranchValueData → List LineData
+branch_records branches =
+    map branch_record branches
+    ++ where_any branches (Total BranchFound (length branches) ∷ Total BranchHit (branches_hit branches) ∷ [])
+
+-- lines, and how many there are and how many of them have a count above 0: these two totals are always printed
+abbrev pub line_record : LineValueData → LineData
+line_record l = Line l.line l.count l.checksum
+
+abbrev pub lines_hit : List LineValueData → ℕ
+lines_hit lines = count_by (λ l. nat_lt 0 l.count) lines
+
+abbrev pub line_records : List LineValueData → List LineData
+line_records lines = map line_record lines ++ (Total LineFound (length lines) ∷ Total LineHit (lines_hit lines) ∷ [])
+
+abbrev pub section_records : SectionData → List LineData
+section_records s =
+    Test s.key.test ∷ Path s.key.file ∷ (function_records s.functions ++ (branch_records s.branches ++ (line_records s.lines ++ (End ∷ []))))
+
+abbrev pub section_text : SectionData → List ℕ
+section_text s = flat_map printed (section_records s)
+
+-- the sections of the chosen files, one after another
+abbrev pub report_text : ChoiceData → List SectionData → List ℕ
+report_text choice sections = flat_map section_text (filter (λ s. is_chosen choice s.key.file) sections)

@@ -1,0 +1,52 @@
+//! The merged tracefile as text (geninfo(1), section FILES): a section for each file and test with a row.
+
+ghost use Rattle.std.specs.Prelude.{◌≡◌, ◌++◌, IfOk, OnOk};
+ghost use Rattle.covreport.specs.ChoiceView.{choice_data};
+ghost use Rattle.covreport.specs.Report.{section_text, report_text};
+
+mod branches;
+mod functions;
+mod lines;
+mod tally;
+
+use self::branches::put_branches;
+use self::functions::put_functions;
+use self::lines::put_lines;
+use crate::choice::Choice;
+use covline::{Bytes, Memory, TraceLine, put_line};
+use covstore::{Section, Store};
+use std::alloc::Allocator;
+
+/// The text of the sections of all chosen files, in order. It takes memory for the text, and for the functions of one
+/// section.
+pub fn trace_text<A: Allocator + Copy>(
+    alloc: A,
+    store: &Store<A>,
+    choice: &Choice<A>,
+) -> Result<Bytes<A>, Memory>
+    ensures { IfOk result (λ t. t ≡ report_text (choice_data choice.now) store.now.sections) }
+{
+    let mut text = Bytes::new(alloc);
+    for section in store.sections() {
+        if choice.takes(section.file()) {
+            put_section(alloc, &section, &mut text)?;
+        }
+    }
+    Ok(text)
+}
+
+/// Appends a section. A refusal leaves what was appended before it came.
+fn put_section<A: Allocator + Copy>(
+    alloc: A,
+    section: &Section<'_, A>,
+    text: &mut Bytes<A>,
+) -> Result<(), Memory>
+    ensures { OnOk result (text.new ≡ text.old ++ section_text section.now) }
+{
+    put_line(&TraceLine::Test(section.test()), text)?;
+    put_line(&TraceLine::Path(section.file()), text)?;
+    put_functions(alloc, section.functions(), text)?;
+    put_branches(section.branches(), text)?;
+    put_lines(section.lines(), text)?;
+    put_line(&TraceLine::End, text)
+}

@@ -1,0 +1,41 @@
+//! The branches of a section.
+
+ghost use Rattle.std.specs.Prelude.{◌≡◌, ◌<◌, ◌^◌, ◌++◌, OnOk, length};
+ghost use Rattle.std.specs.List.{flat_map};
+ghost use Rattle.covline.specs.Printed.{printed};
+ghost use Rattle.covreport.specs.Report.{branch_record, branch_records};
+ghost use Rattle.covstore.specs.ValueView.{branch_data};
+
+use super::tally::Tally;
+use covline::{Bytes, Memory, TotalKind, TraceLine, put_line};
+use covstore::{BranchValue, Branches};
+use std::alloc::Allocator;
+
+/// Appends the branches of a section and their totals. A refusal leaves what was appended before it came.
+pub(super) fn put_branches<A: Allocator>(
+    branches: Branches<'_, A>,
+    text: &mut Bytes<A>,
+) -> Result<(), Memory>
+    requires { length branches < 2 ^ 64 }
+    ensures { OnOk result (text.new ≡ text.old ++ flat_map printed (branch_records branches)) }
+{
+    let mut tally = Tally::new();
+    for branch in branches {
+        put_branch(&branch, text)?;
+        tally = tally.and(branch.taken.is_some_and(|times| times > 0));
+    }
+    tally.put_if_any(TotalKind::BranchFound, TotalKind::BranchHit, text)
+}
+
+/// Appends a branch with its value. A refusal leaves the text as it was.
+fn put_branch<A: Allocator>(branch: &BranchValue, text: &mut Bytes<A>) -> Result<(), Memory>
+    ensures { OnOk result (text.new ≡ text.old ++ printed (branch_record (branch_data branch.now))) }
+{
+    let says = TraceLine::Branch {
+        line: branch.line,
+        block: branch.block,
+        branch: branch.branch,
+        taken: branch.taken,
+    };
+    put_line(&says, text)
+}

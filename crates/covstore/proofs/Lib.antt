@@ -1,0 +1,10 @@
+pub mod Members
+pub mod Ascend
+pub mod Nearest
+pub mod Orders
+pub mod Walks
+pub mod Roads
+pub mod Bounds
+pub mod Few
+pub mod Looks
+pub mod Clashes

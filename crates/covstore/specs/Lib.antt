@@ -1,0 +1,16 @@
+pub mod Ascending
+pub mod Next
+pub mod Value
+pub mod Clash
+pub mod Table
+pub mod Content
+pub mod Totals
+pub mod Stored
+pub mod Held
+pub mod RefuseView
+pub mod ValueView
+pub mod KeyView
+pub mod Walk
+pub mod BranchKeyView
+pub mod ClashView
+pub mod ChecksumView

@@ -1,0 +1,123 @@
+-- The value of rows: execution counts are added up for matching test and file (lcov(1), --add-tracefile).
+use Rattle.std.specs.Prelude.{ℕ, Bool, false, List, [], ◌∷◌, Option, Some, None, unwrap_or, nat_lt, ◌==◌, ◌&&◌, map, filter, if◌then◌else◌}
+use Rattle.std.specs.declared.cmp.Ordering.{Ordering}
+use Rattle.std.specs.Ordering.{ordering_then, nat_cmp}
+use Rattle.std.specs.Cmp.Lexicographic.{slice_cmp}
+use Rattle.std.specs.Str.{bytes_eq}
+use Rattle.std.specs.List.{flat_map, sum_by}
+use Rattle.covline.specs.Row.{ItemData, LineItem, FuncItem, BranchItem, Row}
+use Rattle.covline.specs.Points.{BranchPoint, line_points, func_points, branch_points, least}
+use Rattle.covstore.specs.Ascending.{ascending}
+
+-- a file and a test: what a printed section is of
+pub record Key : Type 0 where
+  pub file : List ℕ
+  pub test : List ℕ
+
+-- by file and then by test, each by its bytes
+abbrev pub key_cmp : Key → Key → Ordering
+key_cmp a b = ordering_then (slice_cmp nat_cmp a.file b.file) (slice_cmp nat_cmp a.test b.test)
+
+abbrev pub key_of_row : Row → Key
+key_of_row row = record { file = row.file; test = row.test }
+
+-- the files and tests with a row, in order
+abbrev pub keys_of : List Row → List Key
+keys_of rows = ascending key_cmp (map key_of_row rows)
+
+-- the row is of this file and this test
+abbrev pub has_key : Key → Row → Bool
+has_key key row = bytes_eq row.file key.file && bytes_eq row.test key.test
+
+-- the items of a file and a test, in the order of the rows
+abbrev pub items_at : Key → List Row → List ItemData
+items_at key rows = map (λ row. row.item) (filter (has_key key) rows)
+
+-- ---- lines
+
+-- the lines that items speak of, in order
+abbrev pub lines_in : List ItemData → List ℕ
+lines_in items = ascending nat_cmp (line_points items)
+
+-- the count that an item adds to this line
+abbrev pub line_added : ℕ → ItemData → ℕ
+line_added line (LineItem at count checksum) = if at == line then count else 0
+line_added line (FuncItem name start count) = 0
+line_added line (BranchItem at block branch taken) = 0
+
+-- the value of a line: the sum of its counts
+abbrev pub line_value : ℕ → List ItemData → ℕ
+line_value line items = sum_by (line_added line) items
+
+-- the checksum that an item has for this line
+abbrev pub checksum_said : ℕ → ItemData → List (List ℕ)
+checksum_said line (LineItem at count None) = []
+checksum_said line (LineItem at count (Some checksum)) = if at == line then checksum ∷ [] else []
+checksum_said line (FuncItem name start count) = []
+checksum_said line (BranchItem at block branch taken) = []
+
+abbrev pub first_of : {X : Type 0} → List X → Option X
+first_of [] = None
+first_of (x ∷ xs) = Some x
+
+-- and its checksum, where an item has one. Items of one table have no two different ones for a line
+abbrev pub line_checksum : ℕ → List ItemData → Option (List ℕ)
+line_checksum line items = first_of (flat_map (checksum_said line) items)
+
+-- ---- functions
+
+-- the names of the functions that items speak of, in order
+abbrev pub names_in : List ItemData → List (List ℕ)
+names_in items = ascending (slice_cmp nat_cmp) (func_points items)
+
+-- the start line that an item has for this function
+abbrev pub start_said : List ℕ → ItemData → List ℕ
+start_said name (FuncItem other line count) = if bytes_eq other name then line ∷ [] else []
+start_said name (LineItem line count checksum) = []
+start_said name (BranchItem line block branch taken) = []
+
+-- the value of a function: its least start line (0 where no item speaks of it), and the sum of its counts
+abbrev pub function_start : List ℕ → List ItemData → ℕ
+function_start name items = unwrap_or (least (flat_map (start_said name) items)) 0
+
+abbrev pub function_added : List ℕ → ItemData → ℕ
+function_added name (FuncItem other line count) = if bytes_eq other name then count else 0
+function_added name (LineItem line count checksum) = 0
+function_added name (BranchItem line block branch taken) = 0
+
+abbrev pub function_count : List ℕ → List ItemData → ℕ
+function_count name items = sum_by (function_added name) items
+
+-- ---- branches
+
+-- by line, block and number
+abbrev pub branch_cmp : BranchPoint → BranchPoint → Ordering
+branch_cmp a b = ordering_then (nat_cmp a.line b.line) (ordering_then (nat_cmp a.block b.block) (nat_cmp a.branch b.branch))
+
+-- the branches that items speak of, in order
+abbrev pub branches_in : List ItemData → List BranchPoint
+branches_in items = ascending branch_cmp (branch_points items)
+
+abbrev pub is_branch : BranchPoint → ℕ → ℕ → ℕ → Bool
+is_branch point line block branch = line == point.line && block == point.block && branch == point.branch
+
+-- the number that an item has for this branch
+abbrev pub taken_said : BranchPoint → ItemData → List ℕ
+taken_said point (BranchItem line block branch None) = []
+taken_said point (BranchItem line block branch (Some taken)) = if is_branch point line block branch then taken ∷ [] else []
+taken_said point (LineItem line count checksum) = []
+taken_said point (FuncItem name line count) = []
+
+-- none where there are no numbers, else their sum
+abbrev pub sum_if_any : List ℕ → Option ℕ
+sum_if_any [] = None
+sum_if_any (n ∷ ns) = Some (sum_by (λ m. m) (n ∷ ns))
+
+-- the value of a branch: none where no item has a number for it, else the sum of the numbers
+abbrev pub branch_value : BranchPoint → List ItemData → Option ℕ
+branch_value point items = sum_if_any (flat_map (taken_said point) items)
+
+-- the branch was taken
+abbrev pub is_taken : Option ℕ → Bool
+is_taken None = false
+is_taken (Some taken) = nat_lt 0 taken

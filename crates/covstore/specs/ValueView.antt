@@ -1,0 +1,15 @@
+-- Points of the code with their values, seen as plain data.
+use Rattle.std.specs.Prelude.{option_map}
+use Rattle.covstore.specs.declared.values.FunctionValue.{FunctionValue}
+use Rattle.covstore.specs.declared.values.BranchValue.{BranchValue}
+use Rattle.covstore.specs.declared.values.LineValue.{LineValue}
+use Rattle.covstore.specs.Content.{FunctionValueData, BranchValueData, LineValueData}
+
+abbrev pub function_data : FunctionValue → FunctionValueData
+function_data f = record { line = f.line; name = f.name.now; count = f.count }
+
+abbrev pub branch_data : BranchValue → BranchValueData
+branch_data b = record { point = record { line = b.line; block = b.block; branch = b.branch }; taken = b.taken }
+
+abbrev pub line_data : LineValue → LineValueData
+line_data l = record { line = l.line; count = l.count; checksum = option_map (λ c. c.now) l.checksum }

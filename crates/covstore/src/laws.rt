@@ -1,0 +1,40 @@
+//! Laws of the definitions that this crate's contracts cite. The functions do nothing: the contract is the law.
+
+ghost use Rattle.std.specs.Prelude.{◌≡◌, ◌↔◌, List, ◌++◌, ℕ, Some, None, map};
+ghost use Rattle.std.specs.Cmp.Lexicographic.{slice_cmp};
+ghost use Rattle.std.specs.Ordering.{nat_cmp};
+ghost use Rattle.covline.specs.Points.{BranchPoint, line_points, func_points, branch_points};
+ghost use Rattle.covline.specs.Row.{ItemData, Row};
+ghost use Rattle.covstore.specs.Ascending.{IsAscendingOf};
+ghost use Rattle.covstore.specs.Clash.{Checksum, ClashData, Agree, IsFirstClash, first_clash};
+ghost use Rattle.covstore.specs.Content.{FunctionValueData, function_cmp};
+ghost use Rattle.covstore.specs.Value.{Key, key_cmp, key_of_row, keys_of, lines_in, names_in, branch_cmp, branches_in};
+
+/// The sections of a store stand in strictly ascending order, one for each file and test with a row.
+pub fn keys_stand_in_order()
+    ensures { (rows : List Row) → IsAscendingOf key_cmp (map key_of_row rows) (keys_of rows) }
+{}
+
+/// The functions, branches and lines of a section stand in strictly ascending order, each of its items' once: functions
+/// by their names' bytes, branches by line, block and number, lines by number.
+pub fn points_stand_in_order()
+    ensures functions { (items : List ItemData) → IsAscendingOf (slice_cmp nat_cmp) (func_points items) (names_in items) }
+    ensures branches { (items : List ItemData) → IsAscendingOf branch_cmp (branch_points items) (branches_in items) }
+    ensures lines { (items : List ItemData) → IsAscendingOf nat_cmp (line_points items) (lines_in items) }
+{}
+
+/// There is at most one strictly ascending list of given members, of files and tests, functions, branches or lines.
+pub fn order_is_unique()
+    ensures keys { (all some others : List Key) → IsAscendingOf key_cmp all some → IsAscendingOf key_cmp all others → some ≡ others }
+    ensures functions { (all some others : List FunctionValueData) → IsAscendingOf function_cmp all some → IsAscendingOf function_cmp all others → some ≡ others }
+    ensures branches { (all some others : List BranchPoint) → IsAscendingOf branch_cmp all some → IsAscendingOf branch_cmp all others → some ≡ others }
+    ensures lines { (all some others : List ℕ) → IsAscendingOf nat_cmp all some → IsAscendingOf nat_cmp all others → some ≡ others }
+{}
+
+/// Of held checksums that agree with each other: a clash is told exactly where it is the first one, that of the first
+/// given checksum that differs from a held one or from an earlier given one, none of these differing from each other.
+/// None is told exactly where no two of all differ.
+pub fn the_first_clash_is_told()
+    ensures first { (held given : List Checksum) (clash : ClashData) → Agree held → first_clash held given ≡ Some clash ↔ IsFirstClash held given clash }
+    ensures none { (held given : List Checksum) → Agree held → first_clash held given ≡ None ↔ Agree (held ++ given) }
+{}

@@ -1,0 +1,48 @@
+//! What a store has made ready to hold.
+
+use crate::totals::Totals;
+use covline::Submission;
+use std::alloc::{Allocator, Global};
+use std::marker::Model;
+
+/// A submission that a store can take without further memory. Contracts see it, and the totals that stand when it is
+/// taken.
+#[derive(Drop)]
+pub struct Plan<A: Allocator = Global> {
+    given: Submission<A>,
+    after: Totals,
+}
+
+impl<A: Allocator> Model for Plan<A> {
+    ghost use Rattle.covstore.specs.Stored.{PlanData};
+
+    ghost Value = { PlanData };
+
+    ghost view = { λ a. record { given = a.given; after = a.after } };
+}
+
+impl<A: Allocator> Plan<A> {
+    ghost use Rattle.std.specs.Prelude.{◌≡◌};
+
+    /// The plan to hold this submission, after which these totals stand.
+    pub(crate) fn new(given: Submission<A>, after: Totals) -> Plan<A>
+        ensures given { result.given ≡ given }
+        ensures after { result.after ≡ after }
+    {
+        Plan { given, after }
+    }
+
+    /// The totals that stand after the commit. Takes no memory.
+    pub fn after(&self) -> Totals
+        ensures { result ≡ self.now.after }
+    {
+        self.after
+    }
+
+    /// The submission.
+    pub(crate) fn submission(self) -> Submission<A>
+        ensures { result ≡ self.given }
+    {
+        self.given
+    }
+}

@@ -1,0 +1,45 @@
+//! Why a store takes no submission.
+
+use covline::{Bytes, Memory};
+use std::alloc::{Allocator, Global};
+
+/// Why a submission can't be held too.
+#[derive(Drop)]
+pub enum Refuse<A: Allocator = Global> {
+    /// Refusal 1: the submission brings another checksum of this line of this file than the one that is held, or than an
+    /// earlier one of its own, so the two come from two versions of the source.
+    Clash {
+        file: Bytes<A>,
+        line: u64,
+        held: Bytes<A>,
+        given: Bytes<A>,
+    },
+    /// Refusal 2: a growth was refused.
+    Memory,
+}
+
+impl<A: Allocator> Refuse<A> {
+    ghost use Rattle.std.specs.Prelude.{◌≡◌};
+    ghost use Rattle.covstore.specs.RefuseView.{refuse_number};
+
+    /// The number of the refusal, from 1.
+    pub fn number(&self) -> u32
+        ensures { result ≡ refuse_number self.now }
+    {
+        match self {
+            Refuse::Clash { .. } => 1,
+            Refuse::Memory => 2,
+        }
+    }
+}
+
+impl<A: Allocator> From<Memory> for Refuse<A> {
+    ghost use Rattle.std.specs.Prelude.{◌≡◌};
+    ghost use Rattle.covstore.specs.declared.refuse.Refuse.TheVariants as refusals;
+
+    ghost from_gives = { λ _ e. e ≡ refusals.Memory };
+
+    fn from(_refused: Memory) -> Refuse<A> {
+        Refuse::Memory
+    }
+}

@@ -1,0 +1,27 @@
+//! Points of a section with their values: what the counts of all rows of a file and a test add up to.
+
+/// A function with its least start line and the sum of its execution counts (geninfo(1): `FN:`, `FNDA:`). Functions
+/// stand in the order of their start lines, and then of their names' bytes.
+#[derive(Clone, Copy, PartialEq, Eq, PartialOrd, Ord)]
+pub struct FunctionValue<'a> {
+    pub line: u64,
+    pub name: &'a [u8],
+    pub count: u128,
+}
+
+/// A branch with how often it was taken, and none where its block was never executed (geninfo(1): `BRDA:`).
+#[derive(Clone, Copy)]
+pub struct BranchValue {
+    pub line: u64,
+    pub block: u64,
+    pub branch: u64,
+    pub taken: Option<u128>,
+}
+
+/// A line with the sum of its execution counts, and the checksum of its text where a row has one (geninfo(1): `DA:`).
+#[derive(Clone, Copy)]
+pub struct LineValue<'a> {
+    pub line: u64,
+    pub count: u128,
+    pub checksum: Option<&'a [u8]>,
+}
