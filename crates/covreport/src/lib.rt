@@ -6,13 +6,13 @@ pub mod laws;
 pub mod pattern;
 pub mod patterns;
 pub mod summary;
-pub mod trace_text;
+pub mod tracefile;
 
 pub use choice::Choice;
 pub use pattern::matches;
 pub use patterns::{PatternFault, Patterns};
 pub use summary::{summary_text, tenths};
-pub use trace_text::trace_text;
+pub use tracefile::trace_text;
 
 #[cfg(test)]
 mod tests;

@@ -8,7 +8,7 @@ use Rattle.covstore.specs.KeyView.{key_data}
 use Rattle.covbook.specs.Step.{all_rows}
 use Rattle.covstore.specs.Value.{items_at, function_of, names_in}
 use Rattle.covstore.proofs.Nearest.{rest_after}
-use Rattle.covreport.proofs.trace_text.functions.functions_of.Given as goal
+use Rattle.covreport.proofs.tracefile.functions.by_start_line.Given as goal
 
 abbrev pub invariant-loop-name : goal.invariant-loop-name
 invariant-loop-name g l =

@@ -14,7 +14,7 @@ use Rattle.covreport.specs.Report.{where_any, call_records, functions_found, fun
 use Rattle.covbook.specs.Step.{all_rows}
 use Rattle.covstore.specs.Value.{Function, items_at, functions_in}
 use Rattle.covreport.proofs.Texts.{with_tail, any_is}
-use Rattle.covreport.proofs.trace_text.functions.put_functions.Goals as goal
+use Rattle.covreport.proofs.tracefile.functions.put_functions.Goals as goal
 
 pub returns : goal.returns
 returns g c =

@@ -6,7 +6,7 @@ use Rattle.covreport.specs.Report.{section_text, report_text}
 use Rattle.covbook.specs.Step.{all_rows}
 use Rattle.covstore.specs.Value.{key_cmp, keys_of}
 use Rattle.covstore.proofs.Nearest.{rest_after}
-use Rattle.covreport.proofs.trace_text.trace_text.Given as goal
+use Rattle.covreport.proofs.tracefile.trace_text.Given as goal
 
 abbrev pub invariant-loop-key : goal.invariant-loop-key
 invariant-loop-key g l =

@@ -4,7 +4,7 @@ use Rattle.covline.specs.Row.{rows_of}
 use Rattle.covstore.specs.KeyView.{key_data}
 use Rattle.covbook.specs.Step.{all_rows}
 use Rattle.covreport.proofs.Texts.{section_is}
-use Rattle.covreport.proofs.trace_text.put_section.Goals as goal
+use Rattle.covreport.proofs.tracefile.put_section.Goals as goal
 
 pub returns : goal.returns
 returns g c =

@@ -13,7 +13,7 @@ use Rattle.covstore.specs.Value.{Function, items_at, function_of, names_in}
 use Rattle.covstore.proofs.Nearest.{rest_after, rest_after-none, next_is, none_is}
 use Rattle.covreport.proofs.Sorting.{names_order, functions_sorted}
 use Rattle.covreport.proofs.Texts.{goes_on, ends}
-use Rattle.covreport.proofs.trace_text.functions.functions_of.Goals as goal
+use Rattle.covreport.proofs.tracefile.functions.by_start_line.Goals as goal
 
 pub loop-name-init : goal.loop-name-init
 loop-name-init g c =

@@ -9,7 +9,7 @@ use Rattle.covbook.specs.Step.{all_rows}
 use Rattle.covstore.specs.Value.{items_at, branch_cmp, branches_in}
 use Rattle.covstore.proofs.Nearest.{rest_after}
 use Rattle.covreport.proofs.Texts.{IsPrinted}
-use Rattle.covreport.proofs.trace_text.branches.put_branches.Given as goal
+use Rattle.covreport.proofs.tracefile.branches.put_branches.Given as goal
 
 abbrev pub invariant-loop-branch : goal.invariant-loop-branch
 invariant-loop-branch g l =

@@ -4,7 +4,7 @@ use Rattle.covline.specs.Printed.{printed}
 use Rattle.covbook.specs.FunctionView.{function_data}
 use Rattle.covreport.specs.Printing.{start_record}
 use Rattle.covstore.specs.Value.{Function}
-use Rattle.covreport.proofs.trace_text.functions.put_starts.Given as goal
+use Rattle.covreport.proofs.tracefile.functions.put_starts.Given as goal
 
 abbrev pub invariant-loop-function : goal.invariant-loop-function
 invariant-loop-function g l =

@@ -7,7 +7,7 @@ use Rattle.covreport.specs.Printing.{call_record, is_function_hit}
 use Rattle.covbook.specs.Step.{all_rows}
 use Rattle.covstore.specs.Value.{Function, items_at}
 use Rattle.covreport.proofs.Texts.{IsPrinted}
-use Rattle.covreport.proofs.trace_text.functions.put_counts.Given as goal
+use Rattle.covreport.proofs.tracefile.functions.put_counts.Given as goal
 
 abbrev pub invariant-loop-function : goal.invariant-loop-function
 invariant-loop-function g l =

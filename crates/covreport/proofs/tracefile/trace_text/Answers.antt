@@ -8,7 +8,7 @@ use Rattle.covstore.specs.Value.{key_cmp, key_of_row, keys_of}
 use Rattle.covstore.proofs.Nearest.{rest_after, rest_after-none, next_is, none_is}
 use Rattle.covstore.proofs.Orders.{keys_order}
 use Rattle.covreport.proofs.Texts.{goes_on, ends}
-use Rattle.covreport.proofs.trace_text.trace_text.Goals as goal
+use Rattle.covreport.proofs.tracefile.trace_text.Goals as goal
 
 pub loop-key-init : goal.loop-key-init
 loop-key-init g c =

@@ -16,7 +16,7 @@ use Rattle.covstore.proofs.Few.{one_branch, points_fit}
 use Rattle.covstore.proofs.Nearest.{rest_after-none, next_is, none_is}
 use Rattle.covstore.proofs.Orders.{branches_order}
 use Rattle.covreport.proofs.Texts.{printed_none, printed_more, printed_all, count_fits, with_tail, any_is}
-use Rattle.covreport.proofs.trace_text.branches.put_branches.Goals as goal
+use Rattle.covreport.proofs.tracefile.branches.put_branches.Goals as goal
 
 pub loop-branch-init : goal.loop-branch-init
 loop-branch-init g c =

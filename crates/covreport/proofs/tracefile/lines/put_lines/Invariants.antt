@@ -8,7 +8,7 @@ use Rattle.covbook.specs.Step.{all_rows}
 use Rattle.covstore.specs.Value.{items_at, lines_in}
 use Rattle.covstore.proofs.Nearest.{rest_after}
 use Rattle.covreport.proofs.Texts.{IsPrinted}
-use Rattle.covreport.proofs.trace_text.lines.put_lines.Given as goal
+use Rattle.covreport.proofs.tracefile.lines.put_lines.Given as goal
 
 abbrev pub invariant-loop-line : goal.invariant-loop-line
 invariant-loop-line g l =

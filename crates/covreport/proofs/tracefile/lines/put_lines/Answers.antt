@@ -15,7 +15,7 @@ use Rattle.covstore.proofs.Few.{one_line, points_fit}
 use Rattle.covstore.proofs.Nearest.{rest_after-none, next_is, none_is}
 use Rattle.covstore.proofs.Orders.{lines_order}
 use Rattle.covreport.proofs.Texts.{printed_none, printed_more, printed_all, count_fits, with_tail}
-use Rattle.covreport.proofs.trace_text.lines.put_lines.Goals as goal
+use Rattle.covreport.proofs.tracefile.lines.put_lines.Goals as goal
 
 pub loop-line-init : goal.loop-line-init
 loop-line-init g c =
