@@ -32,7 +32,7 @@ fn by_start_line<'a, A: Allocator>(
     alloc: A,
     functions: Functions<'a, A>,
 ) -> Result<Vec<FunctionValue<'a>, A>, Memory>
-    ensures { IfOk result (λ v. map function_data v.items ≡ by_start functions) }
+    ensures { IfOk result (λ v. map function_data v.items ≡ by_start functions.entry) }
 {
     let mut sorted = Vec::new(alloc);
     for function in functions {
