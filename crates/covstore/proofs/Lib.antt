@@ -8,3 +8,6 @@ pub mod Bounds
 pub mod Few
 pub mod Looks
 pub mod Clashes
+pub mod ContentsLists
+pub mod ContentsKinds
+pub mod Contents
