@@ -10,4 +10,5 @@ pub mod Looks
 pub mod Clashes
 pub mod ContentsLists
 pub mod ContentsKinds
+pub mod ContentsPoints
 pub mod Contents
