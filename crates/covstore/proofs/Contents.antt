@@ -8,10 +8,14 @@ use Rattle.std.proofs.lemmas.List.Sums.{length-filter, count_by-le-length}
 use Rattle.covline.specs.Points.{line_point, func_point, branch_point}
 use Rattle.covline.specs.Row.{ItemData, LineItem, FuncItem, BranchItem, Row}
 use Rattle.covstore.specs.Ascending.{ascending}
+use Rattle.covstore.specs.Clash.{Agree, checksums_in, clash_of}
 use Rattle.covstore.specs.Content.{SectionData, section_of, content_of, function_at, branch_at, line_at}
 use Rattle.covstore.specs.Value.{Key, key_cmp, key_of_row, keys_of, has_key, items_at, lines_in, names_in, branches_in}
 use Rattle.covstore.proofs.Ascend.{In-ascending, In-to_ascending, length-ascending}
+use Rattle.covstore.proofs.ContentsChecksums.{same_checksums_clash}
+use Rattle.covstore.proofs.ContentsKinds.{same_with_more}
 use Rattle.covstore.proofs.ContentsLists.{any_members, any-map, few_parts}
+use Rattle.covstore.proofs.ContentsSections.{sections_kind}
 use Rattle.covstore.proofs.Orders.{keys_order}
 
 -- ---- tests
@@ -56,3 +60,13 @@ pub points_few : (rows : List Row) (key : Key) → (length (section_of rows key)
 points_few rows key =
     let items = items_at key rows in
     (few_points _ func_point (function_at items) one_function rows key, few_points _ branch_point (branch_at items) one_branch rows key, few_points _ line_point (line_at items) one_line rows key)
+
+-- ---- equal contents
+
+-- the same rows added to rows of one content give one content
+pub content-append : (rows others more : List Row) → content_of rows ≡ content_of others → content_of (rows ++ more) ≡ content_of (others ++ more)
+content-append rows others more same = same_with_more key_cmp (map key_of_row) section_of (λ (s : SectionData). s.key) sections_kind rows others same more
+
+-- of rows that agree the content tells the clash
+pub clash_by_content : (rows others given : List Row) → Agree (checksums_in rows) → Agree (checksums_in others) → content_of rows ≡ content_of others → clash_of rows given ≡ clash_of others given
+clash_by_content rows others given agree agrees same = same_checksums_clash rows others (checksums_in given) agree agrees same

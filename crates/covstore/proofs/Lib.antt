@@ -11,4 +11,6 @@ pub mod Clashes
 pub mod ContentsLists
 pub mod ContentsKinds
 pub mod ContentsPoints
+pub mod ContentsSections
+pub mod ContentsChecksums
 pub mod Contents
