@@ -1,5 +1,5 @@
 -- What rows add up to: of which tests it is, how large it gets, and that equal contents stay equal with the same rows added.
-use Rattle.std.proofs.Common.{◌≡◌, ◌+◌, ◌≤◌, ℕ, List, [], ◌∷◌, ◌++◌, length, map, filter, refl, sym, ap, ◌∙◌, arith}
+use Rattle.std.proofs.Common.{◌≡◌, ◌≤◌, ℕ, List, ◌++◌, length, map, filter, ◌∙◌, arith}
 use Rattle.std.specs.declared.cmp.Ordering.{Ordering}
 use Rattle.std.specs.Str.{bytes_eq}
 use Rattle.std.specs.List.{flat_map, list_any}
@@ -10,7 +10,7 @@ use Rattle.covline.specs.Row.{ItemData, LineItem, FuncItem, BranchItem, Row}
 use Rattle.covstore.specs.Ascending.{ascending}
 use Rattle.covstore.specs.Clash.{Agree, checksums_in, clash_of}
 use Rattle.covstore.specs.Content.{SectionData, section_of, content_of, function_at, branch_at, line_at}
-use Rattle.covstore.specs.Value.{Key, key_cmp, key_of_row, keys_of, has_key, items_at, lines_in, names_in, branches_in}
+use Rattle.covstore.specs.Value.{Key, key_cmp, key_of_row, keys_of, has_key, items_at}
 use Rattle.covstore.proofs.Ascend.{In-ascending, In-to_ascending, length-ascending}
 use Rattle.covstore.proofs.ContentsChecksums.{same_checksums_clash}
 use Rattle.covstore.proofs.ContentsKinds.{same_with_more}

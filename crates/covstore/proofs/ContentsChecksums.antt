@@ -1,5 +1,5 @@
 -- The checksums of rows that agree are told by the rows' content.
-use Rattle.std.proofs.Common.{◌≡◌, ℕ, Bool, true, false, ◌&&◌, not, eqb, Option, Some, None, List, [], ◌∷◌, ◌++◌, map, filter, refl, sym, ap, ◌∙◌, subst, inl, inr, ⊎_elim}
+use Rattle.std.proofs.Common.{◌≡◌, ℕ, Bool, true, false, ◌&&◌, not, eqb, Option, Some, None, List, [], ◌∷◌, ◌++◌, filter, refl, sym, ap, ◌∙◌, subst, inl, inr, ⊎_elim}
 use Rattle.std.specs.Prelude.{Contains}
 use Rattle.std.specs.List.{flat_map}
 use Rattle.std.specs.Str.{bytes_eq}
@@ -7,9 +7,9 @@ use Rattle.std.proofs.lemmas.Bool.{cases_Bool, cond-true, cond-false, eqb-true, 
 use Rattle.std.proofs.lemmas.Option.{same_Some, none-some}
 use Rattle.std.proofs.lemmas.Slice.Eq.{bytes_eq-Decides}
 use Rattle.covline.specs.Row.{ItemData, LineItem, FuncItem, BranchItem, Row}
-use Rattle.covstore.specs.Clash.{Checksum, ClashData, Agree, IsFirstClash, differs, first_clash, clash_of, checksum_of, checksum_of_row, checksums_in}
+use Rattle.covstore.specs.Clash.{Checksum, ClashData, Agree, IsFirstClash, differs, first_clash, checksum_of, checksum_of_row, checksums_in}
 use Rattle.covstore.specs.Content.{LineValueData, content_of}
-use Rattle.covstore.specs.Value.{Key, key_of_row, has_key, items_at, checksum_said, first_of, line_checksum}
+use Rattle.covstore.specs.Value.{Key, key_of_row, has_key, items_at, checksum_said, first_of}
 use Rattle.covstore.proofs.Clashes.{first_told, told_first, none_told, agree_none}
 use Rattle.covstore.proofs.ContentsLists.{In-flat, In-unflat, In-filter, In-unfilter}
 use Rattle.covstore.proofs.ContentsSections.{own_key, lines_same}
@@ -26,10 +26,10 @@ unfolding checksum_with
 said_of_line file line said (LineItem at count (Some checksum)) i =
     ⊎_elim
     (λ (e : eqb at line ≡ true).
-      ⊎_elim
-      (λ (is : checksum ≡ said). inl (ap (λ (n : ℕ). checksum_with file n checksum) (eqb-true at line e) ∙ ap (checksum_with file line) is))
-      (λ (none : ⊥). absurd none)
-      (subst (In said) (cond-true (eqb at line) (checksum ∷ []) [] e) i))
+    ⊎_elim
+    (λ (is : checksum ≡ said). inl (ap (λ (n : ℕ). checksum_with file n checksum) (eqb-true at line e) ∙ ap (checksum_with file line) is))
+    (λ (none : ⊥). absurd none)
+    (subst (In said) (cond-true (eqb at line) (checksum ∷ []) [] e) i))
     (λ (e : eqb at line ≡ false). absurd (subst (In said) (cond-false (eqb at line) (checksum ∷ []) [] e) i))
     (cases_Bool (eqb at line))
 said_of_line file line said (LineItem at count None) i = absurd i
@@ -38,9 +38,10 @@ said_of_line file line said (BranchItem at block branch taken) i = absurd i
 
 -- and the other way
 line_of_said : (file : List ℕ) (c : Checksum) (item : ItemData) → In c (checksum_of file item) → (file ≡ c.file) × In c.checksum (checksum_said c.line item)
-line_of_said file c (LineItem at count (Some checksum)) (inl is) =
-    (ap (λ (d : Checksum). d.file) is,
-    subst (In c.checksum) (sym (cond-true (eqb at c.line) (checksum ∷ []) [] (eq-eqb at c.line (ap (λ (d : Checksum). d.line) is)))) (inl (ap (λ (d : Checksum). d.checksum) is)))
+line_of_said file c (LineItem at count (Some checksum)) (inl is) = (
+  ap (λ (d : Checksum). d.file) is,
+  subst (In c.checksum) (sym (cond-true (eqb at c.line) (checksum ∷ []) [] (eq-eqb at c.line (ap (λ (d : Checksum). d.line) is)))) (inl (ap (λ (d : Checksum). d.checksum) is)),
+)
 line_of_said file c (LineItem at count (Some checksum)) (inr i) = absurd i
 line_of_said file c (LineItem at count None) i = absurd i
 line_of_said file c (FuncItem name start count) i = absurd i
@@ -130,7 +131,7 @@ module _ (held others : List Checksum) (there : (c : Checksum) → In c held →
     other = is.other;
     place = is.place;
     among = Contains-from (others ++ is.before) is.other
-      (In-joined others is.before is.other (⊎_elim (λ l. inl (there is.other l)) (λ l. inr l) (In-parts held is.before is.other (In-from (held ++ is.before) is.other is.among))));
+        (In-joined others is.before is.other (⊎_elim (λ l. inl (there is.other l)) (λ l. inr l) (In-parts held is.before is.other (In-from (held ++ is.before) is.other is.among))));
     differ = is.differ;
     none_before = agree_there is.before is.none_before;
     told = is.told;

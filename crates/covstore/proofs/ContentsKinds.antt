@@ -1,6 +1,5 @@
 -- Points in ascending order, each with a value: where two lists of items give the same, they still do with the same items added.
 use Rattle.std.proofs.Common.{◌≡◌, List, [], ◌∷◌, ◌++◌, map, refl, sym, ap, ◌∙◌, subst, inl, inr, ⊎_elim}
-use Rattle.std.specs.Prelude.{◌⊎◌}
 use Rattle.std.specs.declared.cmp.Ordering.{Ordering}
 use Rattle.covstore.specs.Ascending.{ascending}
 use Rattle.covstore.proofs.Ascend.{IsExactOrder, In-ascending, In-to_ascending, one_ascending, ascending_is}
@@ -60,7 +59,7 @@ module _ {I P V : Type 0} (cmp : P → P → Ordering) (points : List I → List
   same_values p =
       ⊎_elim
       (λ (i : In p (points xs)). same_at (value xs) (value ys) (ascending cmp (points xs)) p
-        (same ∙ ap (map (value ys)) (sym same_points)) (In-to_ascending kind.order.exact p (points xs) i))
+      (same ∙ ap (map (value ys)) (sym same_points)) (In-to_ascending kind.order.exact p (points xs) i))
       (λ (none : In p (points xs) → ⊥). kind.absent xs p none ∙ sym (kind.absent ys p (λ i. none (point_back p i))))
       (In-or_not cmp kind.order p (points xs))
 

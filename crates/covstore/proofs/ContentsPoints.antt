@@ -1,11 +1,11 @@
 -- Lines, functions and branches with their values are kinds: each value is decided by what it was before and by the further items.
-use Rattle.std.proofs.Common.{◌≡◌, ℕ, ◌+◌, Bool, true, false, ◌&&◌, eqb, cond, min, Option, Some, None, unwrap_or, List, [], ◌∷◌, ◌++◌, refl, sym, ap, ◌∙◌, subst, inl, inr, ⊎_elim, arith}
+use Rattle.std.proofs.Common.{◌≡◌, ℕ, ◌+◌, Bool, true, false, ◌&&◌, eqb, min, Option, Some, None, unwrap_or, List, [], ◌∷◌, ◌++◌, refl, sym, ap, ◌∙◌, subst, inl, inr, ⊎_elim, arith}
 use Rattle.std.specs.Cmp.Lexicographic.{slice_cmp}
 use Rattle.std.specs.List.{flat_map, sum_by, fold}
 use Rattle.std.specs.Option.{is_some}
 use Rattle.std.specs.Ordering.{nat_cmp}
 use Rattle.std.specs.Str.{bytes_eq}
-use Rattle.std.proofs.lemmas.Bool.{cond-true, cond-false, false≢true, eqb-true, eq-eqb}
+use Rattle.std.proofs.lemmas.Bool.{cond-true, cond-false, false≢true, eqb-true}
 use Rattle.std.proofs.lemmas.List.Concat.{flat_map-append}
 use Rattle.std.proofs.lemmas.List.Sums.{sum_by-cons, sum_by-append, fold-append}
 use Rattle.std.proofs.lemmas.Option.{same_Some, none-some}
@@ -61,11 +61,11 @@ unfolding branch_with
 other_branch point line block branch none =
     unless (is_branch point line block branch)
     (λ e.
-      let all = all_three (eqb line point.line) (eqb block point.block) (eqb branch point.branch) e in
-      none (inl
-      (ap (λ (n : ℕ). branch_with n block branch) (eqb-true line point.line all.0)
-      ∙ ap (λ (n : ℕ). branch_with point.line n branch) (eqb-true block point.block all.1)
-      ∙ ap (λ (n : ℕ). branch_with point.line point.block n) (eqb-true branch point.branch all.2))))
+    let all = all_three (eqb line point.line) (eqb block point.block) (eqb branch point.branch) e in
+    none (inl
+    (ap (λ (n : ℕ). branch_with n block branch) (eqb-true line point.line all.0)
+    ∙ ap (λ (n : ℕ). branch_with point.line n branch) (eqb-true block point.block all.1)
+    ∙ ap (λ (n : ℕ). branch_with point.line point.block n) (eqb-true branch point.branch all.2))))
 
 -- ---- lines
 
@@ -107,12 +107,12 @@ lines_kind = record {
   joins = λ xs ys. flat_map-append line_point xs ys;
   own = λ xs line. refl;
   absent = λ xs line none.
-    same_line line xs [] (nothing_added line_point (line_added line) line (line_unadded line) xs none)
-    (ap first_of (nothing_said line_point (checksum_said line) line (checksum_unsaid line) xs none));
+      same_line line xs [] (nothing_added line_point (line_added line) line (line_unadded line) xs none)
+      (ap first_of (nothing_said line_point (checksum_said line) line (checksum_unsaid line) xs none));
   extends = λ xs ys zs line e there back.
-    same_line line (xs ++ zs) (ys ++ zs) (sum_more (line_added line) xs ys zs (ap (λ (v : LineValueData). v.count) e))
-    (said_more first_of (checksum_said line) xs ys zs
-    (first_more (flat_map (checksum_said line) xs) (flat_map (checksum_said line) ys) (flat_map (checksum_said line) zs) (ap (λ (v : LineValueData). v.checksum) e)));
+      same_line line (xs ++ zs) (ys ++ zs) (sum_more (line_added line) xs ys zs (ap (λ (v : LineValueData). v.count) e))
+      (said_more first_of (checksum_said line) xs ys zs
+      (first_more (flat_map (checksum_said line) xs) (flat_map (checksum_said line) ys) (flat_map (checksum_said line) zs) (ap (λ (v : LineValueData). v.checksum) e)));
 }
 
 -- ---- functions
@@ -163,8 +163,8 @@ same_least name xs ys e there back =
     ⊎_elim
     (λ (i : In name (func_points xs)). same_number (least (flat_map (start_said name) xs)) (least (flat_map (start_said name) ys)) (has_start name xs i) (has_start name ys (there i)) e)
     (λ (none : In name (func_points xs) → ⊥).
-      ap least (nothing_said func_point (start_said name) name (start_unsaid name) xs none
-      ∙ sym (nothing_said func_point (start_said name) name (start_unsaid name) ys (λ i. none (back i)))))
+    ap least (nothing_said func_point (start_said name) name (start_unsaid name) xs none
+    ∙ sym (nothing_said func_point (start_said name) name (start_unsaid name) ys (λ i. none (back i)))))
     (In-or_not (slice_cmp nat_cmp) names_order name (func_points xs))
 
 function_with : ℕ → List ℕ → ℕ → FunctionValueData
@@ -181,14 +181,14 @@ functions_kind = record {
   joins = λ xs ys. flat_map-append func_point xs ys;
   own = λ xs name. refl;
   absent = λ xs name none.
-    same_function name xs [] (ap least (nothing_said func_point (start_said name) name (start_unsaid name) xs none))
-    (nothing_added func_point (function_added name) name (count_unadded name) xs none);
+      same_function name xs [] (ap least (nothing_said func_point (start_said name) name (start_unsaid name) xs none))
+      (nothing_added func_point (function_added name) name (count_unadded name) xs none);
   extends = λ xs ys zs name e there back.
-    same_function name (xs ++ zs) (ys ++ zs)
-    (said_more least (start_said name) xs ys zs
-    (least_more (flat_map (start_said name) xs) (flat_map (start_said name) ys) (flat_map (start_said name) zs)
-    (same_least name xs ys (ap (λ (v : FunctionValueData). v.line) e) there back)))
-    (sum_more (function_added name) xs ys zs (ap (λ (v : FunctionValueData). v.count) e));
+      same_function name (xs ++ zs) (ys ++ zs)
+      (said_more least (start_said name) xs ys zs
+      (least_more (flat_map (start_said name) xs) (flat_map (start_said name) ys) (flat_map (start_said name) zs)
+      (same_least name xs ys (ap (λ (v : FunctionValueData). v.line) e) there back)))
+      (sum_more (function_added name) xs ys zs (ap (λ (v : FunctionValueData). v.count) e));
 }
 
 -- ---- branches
@@ -223,7 +223,7 @@ branches_kind = record {
   own = λ xs point. refl;
   absent = λ xs point none. same_branch point xs [] (ap sum_if_any (nothing_said branch_point (taken_said point) point (taken_unsaid point) xs none));
   extends = λ xs ys zs point e there back.
-    same_branch point (xs ++ zs) (ys ++ zs)
-    (said_more sum_if_any (taken_said point) xs ys zs
-    (sum_if_more (flat_map (taken_said point) xs) (flat_map (taken_said point) ys) (flat_map (taken_said point) zs) (ap (λ (v : BranchValueData). v.taken) e)));
+      same_branch point (xs ++ zs) (ys ++ zs)
+      (said_more sum_if_any (taken_said point) xs ys zs
+      (sum_if_more (flat_map (taken_said point) xs) (flat_map (taken_said point) ys) (flat_map (taken_said point) zs) (ap (λ (v : BranchValueData). v.taken) e)));
 }

@@ -1,5 +1,5 @@
 -- Files and tests with their sections are a kind, too.
-use Rattle.std.proofs.Common.{◌≡◌, ℕ, Bool, true, false, cond, ◌&&◌, List, [], ◌∷◌, ◌++◌, map, filter, refl, sym, ap, ◌∙◌, subst, inl, inr}
+use Rattle.std.proofs.Common.{◌≡◌, ℕ, Bool, true, false, ◌&&◌, List, [], ◌∷◌, ◌++◌, map, filter, refl, sym, ap, ◌∙◌, inl, inr}
 use Rattle.std.specs.Cmp.Lexicographic.{slice_cmp}
 use Rattle.std.specs.Ordering.{nat_cmp}
 use Rattle.std.specs.Str.{bytes_eq}
@@ -10,7 +10,7 @@ use Rattle.std.proofs.lemmas.Slice.Eq.{bytes_eq-Decides}
 use Rattle.covline.specs.Points.{line_points, func_points, branch_points}
 use Rattle.covline.specs.Row.{ItemData, Row}
 use Rattle.covstore.specs.Content.{FunctionValueData, BranchValueData, LineValueData, SectionData, function_at, branch_at, line_at, section_with, section_of, content_of}
-use Rattle.covstore.specs.Value.{Key, key_cmp, key_of_row, keys_of, has_key, items_at, branch_cmp}
+use Rattle.covstore.specs.Value.{Key, key_cmp, key_of_row, has_key, items_at, branch_cmp}
 use Rattle.covstore.proofs.ContentsKinds.{IsKind, same_values, same_with_more}
 use Rattle.covstore.proofs.ContentsPoints.{lines_kind, functions_kind, branches_kind}
 use Rattle.covstore.proofs.Members.{In}
@@ -72,9 +72,9 @@ sections_kind = record {
   own = λ rows key. refl;
   absent = λ rows key none. ap (λ (own : List Row). section_with key (map (λ (row : Row). row.item) own)) (no_row key rows none);
   extends = λ xs ys zs key e there back.
-    ap (section_with key) (items_at-append key xs zs)
-    ∙ section_more key (items_at key xs) (items_at key ys) (items_at key zs) e
-    ∙ sym (ap (section_with key) (items_at-append key ys zs));
+      ap (section_with key) (items_at-append key xs zs)
+      ∙ section_more key (items_at key xs) (items_at key ys) (items_at key zs) e
+      ∙ sym (ap (section_with key) (items_at-append key ys zs));
 }
 
 -- two lists of rows with one content have one section for each key, also for a key that they don't have
