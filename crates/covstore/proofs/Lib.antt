@@ -8,3 +8,9 @@ pub mod Bounds
 pub mod Few
 pub mod Looks
 pub mod Clashes
+pub mod ContentsLists
+pub mod ContentsKinds
+pub mod ContentsPoints
+pub mod ContentsSections
+pub mod ContentsChecksums
+pub mod Contents

@@ -1,0 +1,72 @@
+-- What rows add up to: of which tests it is, how large it gets, and that equal contents stay equal with the same rows added.
+use Rattle.std.proofs.Common.{◌≡◌, ◌≤◌, ℕ, List, ◌++◌, length, map, filter, ◌∙◌, arith}
+use Rattle.std.specs.declared.cmp.Ordering.{Ordering}
+use Rattle.std.specs.Str.{bytes_eq}
+use Rattle.std.specs.List.{flat_map, list_any}
+use Rattle.std.proofs.lemmas.List.{length-map}
+use Rattle.std.proofs.lemmas.List.Sums.{length-filter, count_by-le-length}
+use Rattle.covline.specs.Points.{line_point, func_point, branch_point}
+use Rattle.covline.specs.Row.{ItemData, LineItem, FuncItem, BranchItem, Row}
+use Rattle.covstore.specs.Ascending.{ascending}
+use Rattle.covstore.specs.Clash.{Agree, checksums_in, clash_of}
+use Rattle.covstore.specs.Content.{SectionData, section_of, content_of, function_at, branch_at, line_at}
+use Rattle.covstore.specs.Value.{Key, key_cmp, key_of_row, keys_of, has_key, items_at}
+use Rattle.covstore.proofs.Ascend.{In-ascending, In-to_ascending, length-ascending}
+use Rattle.covstore.proofs.ContentsChecksums.{same_checksums_clash}
+use Rattle.covstore.proofs.ContentsKinds.{same_with_more}
+use Rattle.covstore.proofs.ContentsLists.{any_members, any-map, few_parts}
+use Rattle.covstore.proofs.ContentsSections.{sections_kind}
+use Rattle.covstore.proofs.Orders.{keys_order}
+
+-- ---- tests
+
+pub test_by_content : (rows : List Row) (test : List ℕ) → list_any (λ s. bytes_eq s.key.test test) (content_of rows) ≡ list_any (λ row. bytes_eq row.test test) rows
+test_by_content rows test =
+    let is_test = λ (key : Key). bytes_eq key.test test in
+    any-map (λ (s : SectionData). bytes_eq s.key.test test) (section_of rows) (keys_of rows)
+    ∙ any_members is_test (keys_of rows) (map key_of_row rows)
+    (λ key i. In-ascending keys_order.exact key (map key_of_row rows) i)
+    (λ key i. In-to_ascending keys_order.exact key (map key_of_row rows) i)
+    ∙ any-map is_test key_of_row rows
+
+-- ---- sizes
+
+one_line : (item : ItemData) → length (line_point item) ≤ 1
+one_line (LineItem line count checksum) = omega arith
+one_line (FuncItem name line count) = omega arith
+one_line (BranchItem line block branch taken) = omega arith
+
+one_function : (item : ItemData) → length (func_point item) ≤ 1
+one_function (LineItem line count checksum) = omega arith
+one_function (FuncItem name line count) = omega arith
+one_function (BranchItem line block branch taken) = omega arith
+
+one_branch : (item : ItemData) → length (branch_point item) ≤ 1
+one_branch (LineItem line count checksum) = omega arith
+one_branch (FuncItem name line count) = omega arith
+one_branch (BranchItem line block branch taken) = omega arith
+
+length-items_at : (key : Key) (rows : List Row) → length (items_at key rows) ≤ length rows
+length-items_at key rows =
+    omega (arith, length-map (filter (has_key key) rows) (λ (row : Row). row.item), length-filter (has_key key) rows, count_by-le-length (has_key key) rows)
+
+few_points : {P V : Type 0} (cmp : P → P → Ordering) (point : ItemData → List P) (value : P → V) → ((item : ItemData) → length (point item) ≤ 1) → (rows : List Row) (key : Key)
+    → length (map value (ascending cmp (flat_map point (items_at key rows)))) ≤ length rows
+few_points cmp point value one rows key =
+    let items = items_at key rows in
+    omega (arith, length-map (ascending cmp (flat_map point items)) value, length-ascending cmp (flat_map point items), few_parts point one items, length-items_at key rows)
+
+pub points_few : (rows : List Row) (key : Key) → (length (section_of rows key).functions ≤ length rows) × (length (section_of rows key).branches ≤ length rows) × (length (section_of rows key).lines ≤ length rows)
+points_few rows key =
+    let items = items_at key rows in
+    (few_points _ func_point (function_at items) one_function rows key, few_points _ branch_point (branch_at items) one_branch rows key, few_points _ line_point (line_at items) one_line rows key)
+
+-- ---- equal contents
+
+-- the same rows added to rows of one content give one content
+pub content-append : (rows others more : List Row) → content_of rows ≡ content_of others → content_of (rows ++ more) ≡ content_of (others ++ more)
+content-append rows others more same = same_with_more key_cmp (map key_of_row) section_of (λ (s : SectionData). s.key) sections_kind rows others same more
+
+-- of rows that agree the content tells the clash
+pub clash_by_content : (rows others given : List Row) → Agree (checksums_in rows) → Agree (checksums_in others) → content_of rows ≡ content_of others → clash_of rows given ≡ clash_of others given
+clash_by_content rows others given agree agrees same = same_checksums_clash rows others (checksums_in given) agree agrees same

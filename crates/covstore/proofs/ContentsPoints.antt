@@ -1,0 +1,229 @@
+-- Lines, functions and branches with their values are kinds: each value is decided by what it was before and by the further items.
+use Rattle.std.proofs.Common.{◌≡◌, ℕ, ◌+◌, Bool, true, false, ◌&&◌, eqb, min, Option, Some, None, unwrap_or, List, [], ◌∷◌, ◌++◌, refl, sym, ap, ◌∙◌, subst, inl, inr, ⊎_elim, arith}
+use Rattle.std.specs.Cmp.Lexicographic.{slice_cmp}
+use Rattle.std.specs.List.{flat_map, sum_by, fold}
+use Rattle.std.specs.Option.{is_some}
+use Rattle.std.specs.Ordering.{nat_cmp}
+use Rattle.std.specs.Str.{bytes_eq}
+use Rattle.std.proofs.lemmas.Bool.{cond-true, cond-false, false≢true, eqb-true}
+use Rattle.std.proofs.lemmas.List.Concat.{flat_map-append}
+use Rattle.std.proofs.lemmas.List.Sums.{sum_by-cons, sum_by-append, fold-append}
+use Rattle.std.proofs.lemmas.Option.{same_Some, none-some}
+use Rattle.std.proofs.lemmas.Slice.Eq.{bytes_eq-Decides}
+use Rattle.covline.specs.Points.{BranchPoint, line_point, func_point, branch_point, line_points, func_points, branch_points, least}
+use Rattle.covline.specs.Row.{ItemData, LineItem, FuncItem, BranchItem}
+use Rattle.covstore.specs.Content.{FunctionValueData, BranchValueData, LineValueData, function_at, branch_at, line_at}
+use Rattle.covstore.specs.Value.{branch_cmp, line_added, line_value, checksum_said, first_of, line_checksum, start_said, function_start, function_added, function_count, is_branch, taken_said, sum_if_any, branch_value}
+use Rattle.covstore.proofs.ContentsKinds.{IsKind}
+use Rattle.covstore.proofs.ContentsLists.{In-flat, In-unflat, In-or_not}
+use Rattle.covstore.proofs.Members.{In, In-joined}
+use Rattle.covstore.proofs.Orders.{lines_order, names_order, branches_order}
+
+-- ---- items that don't speak of a point say nothing of it
+
+nothing_said : {P X : Type 0} (point : ItemData → List P) (said : ItemData → List X) (p : P) → ((item : ItemData) → (In p (point item) → ⊥) → said item ≡ [])
+    → (items : List ItemData) → (In p (flat_map point items) → ⊥) → flat_map said items ≡ []
+nothing_said point said p one [] none = refl
+nothing_said {P} {X} point said p one (item ∷ items) none =
+    let here : said item ≡ [] = one item (λ i. none (In-joined (point item) (flat_map point items) p (inl i))) in
+    let others : flat_map said items ≡ [] = nothing_said point said p one items (λ i. none (In-joined (point item) (flat_map point items) p (inr i))) in
+    ap (λ (xs : List X). xs ++ flat_map said items) here ∙ others
+
+nothing_added : {P : Type 0} (point : ItemData → List P) (added : ItemData → ℕ) (p : P) → ((item : ItemData) → (In p (point item) → ⊥) → added item ≡ 0)
+    → (items : List ItemData) → (In p (flat_map point items) → ⊥) → sum_by added items ≡ 0
+nothing_added point added p one [] none = refl
+nothing_added point added p one (item ∷ items) none =
+    let here : added item ≡ 0 = one item (λ i. none (In-joined (point item) (flat_map point items) p (inl i))) in
+    let others : sum_by added items ≡ 0 = nothing_added point added p one items (λ i. none (In-joined (point item) (flat_map point items) p (inr i))) in
+    omega (arith, sum_by-cons added item items)
+
+unless : (b : Bool) → (b ≡ true → ⊥) → b ≡ false
+unless true f = absurd (f refl)
+unless false f = refl
+
+other_line : (at line : ℕ) → (In line (at ∷ []) → ⊥) → eqb at line ≡ false
+other_line at line none = unless (eqb at line) (λ e. none (inl (eqb-true at line e)))
+
+other_name : (other name : List ℕ) → (In name (other ∷ []) → ⊥) → bytes_eq other name ≡ false
+other_name other name none = unless (bytes_eq other name) (λ e. none (inl ((bytes_eq-Decides other name).0 e)))
+
+all_three : (x y z : Bool) → (x && y && z) ≡ true → (x ≡ true) × (y ≡ true) × (z ≡ true)
+all_three true true true e = (refl, refl, refl)
+all_three true true false e = absurd (false≢true e)
+all_three true false z e = absurd (false≢true e)
+all_three false y z e = absurd (false≢true e)
+
+branch_with : ℕ → ℕ → ℕ → BranchPoint
+branch_with line block branch = record { line = line; block = block; branch = branch }
+
+other_branch : (point : BranchPoint) (line block branch : ℕ) → (In point (branch_with line block branch ∷ []) → ⊥) → is_branch point line block branch ≡ false
+unfolding branch_with
+other_branch point line block branch none =
+    unless (is_branch point line block branch)
+    (λ e.
+    let all = all_three (eqb line point.line) (eqb block point.block) (eqb branch point.branch) e in
+    none (inl
+    (ap (λ (n : ℕ). branch_with n block branch) (eqb-true line point.line all.0)
+    ∙ ap (λ (n : ℕ). branch_with point.line n branch) (eqb-true block point.block all.1)
+    ∙ ap (λ (n : ℕ). branch_with point.line point.block n) (eqb-true branch point.branch all.2))))
+
+-- ---- lines
+
+line_unadded : (line : ℕ) (item : ItemData) → (In line (line_point item) → ⊥) → line_added line item ≡ 0
+line_unadded line (LineItem at count checksum) none = cond-false (eqb at line) count 0 (other_line at line none)
+line_unadded line (FuncItem name start count) none = refl
+line_unadded line (BranchItem at block branch taken) none = refl
+
+checksum_unsaid : (line : ℕ) (item : ItemData) → (In line (line_point item) → ⊥) → checksum_said line item ≡ []
+checksum_unsaid line (LineItem at count (Some checksum)) none = cond-false (eqb at line) (checksum ∷ []) [] (other_line at line none)
+checksum_unsaid line (LineItem at count None) none = refl
+checksum_unsaid line (FuncItem name start count) none = refl
+checksum_unsaid line (BranchItem at block branch taken) none = refl
+
+line_with : ℕ → ℕ → Option (List ℕ) → LineValueData
+line_with line count checksum = record { line = line; count = count; checksum = checksum }
+
+same_line : (line : ℕ) (xs ys : List ItemData) → line_value line xs ≡ line_value line ys → line_checksum line xs ≡ line_checksum line ys → line_at xs line ≡ line_at ys line
+unfolding line_with
+same_line line xs ys count checksum =
+    ap (λ (n : ℕ). line_with line n (line_checksum line xs)) count ∙ ap (λ (c : Option (List ℕ)). line_with line (line_value line ys) c) checksum
+
+sum_more : (added : ItemData → ℕ) (xs ys zs : List ItemData) → sum_by added xs ≡ sum_by added ys → sum_by added (xs ++ zs) ≡ sum_by added (ys ++ zs)
+sum_more added xs ys zs e = omega (arith, sum_by-append added xs zs, sum_by-append added ys zs)
+
+said_more : {X Y : Type 0} (value : List X → Y) (said : ItemData → List X) (xs ys zs : List ItemData)
+    → value (flat_map said xs ++ flat_map said zs) ≡ value (flat_map said ys ++ flat_map said zs) → value (flat_map said (xs ++ zs)) ≡ value (flat_map said (ys ++ zs))
+said_more value said xs ys zs e = ap value (flat_map-append said xs zs) ∙ e ∙ sym (ap value (flat_map-append said ys zs))
+
+first_more : {X : Type 0} (xs ys zs : List X) → first_of xs ≡ first_of ys → first_of (xs ++ zs) ≡ first_of (ys ++ zs)
+first_more [] [] zs e = refl
+first_more [] (y ∷ ys) zs e = absurd (none-some y e)
+first_more (x ∷ xs) [] zs e = absurd (none-some x (sym e))
+first_more (x ∷ xs) (y ∷ ys) zs e = e
+
+pub lines_kind : IsKind nat_cmp line_points line_at (λ (v : LineValueData). v.line)
+lines_kind = record {
+  order = lines_order;
+  joins = λ xs ys. flat_map-append line_point xs ys;
+  own = λ xs line. refl;
+  absent = λ xs line none.
+      same_line line xs [] (nothing_added line_point (line_added line) line (line_unadded line) xs none)
+      (ap first_of (nothing_said line_point (checksum_said line) line (checksum_unsaid line) xs none));
+  extends = λ xs ys zs line e there back.
+      same_line line (xs ++ zs) (ys ++ zs) (sum_more (line_added line) xs ys zs (ap (λ (v : LineValueData). v.count) e))
+      (said_more first_of (checksum_said line) xs ys zs
+      (first_more (flat_map (checksum_said line) xs) (flat_map (checksum_said line) ys) (flat_map (checksum_said line) zs) (ap (λ (v : LineValueData). v.checksum) e)));
+}
+
+-- ---- functions
+
+count_unadded : (name : List ℕ) (item : ItemData) → (In name (func_point item) → ⊥) → function_added name item ≡ 0
+count_unadded name (FuncItem other line count) none = cond-false (bytes_eq other name) count 0 (other_name other name none)
+count_unadded name (LineItem line count checksum) none = refl
+count_unadded name (BranchItem line block branch taken) none = refl
+
+start_unsaid : (name : List ℕ) (item : ItemData) → (In name (func_point item) → ⊥) → start_said name item ≡ []
+start_unsaid name (FuncItem other line count) none = cond-false (bytes_eq other name) (line ∷ []) [] (other_name other name none)
+start_unsaid name (LineItem line count checksum) none = refl
+start_unsaid name (BranchItem line block branch taken) none = refl
+
+start_of_item : (name : List ℕ) (item : ItemData) → In name (func_point item) → (start : ℕ) × In start (start_said name item)
+start_of_item name (FuncItem other line count) (inl is) = (line, subst (In line) (sym (cond-true (bytes_eq other name) (line ∷ []) [] ((bytes_eq-Decides other name).1 is))) (inl refl))
+start_of_item name (FuncItem other line count) (inr i) = absurd i
+start_of_item name (LineItem line count checksum) i = absurd i
+start_of_item name (BranchItem line block branch taken) i = absurd i
+
+some_least : (ns : List ℕ) (n : ℕ) → In n ns → is_some (least ns) ≡ true
+some_least [] n i = absurd i
+some_least (m ∷ ns) n i = refl
+
+has_start : (name : List ℕ) (items : List ItemData) → In name (func_points items) → is_some (least (flat_map (start_said name) items)) ≡ true
+has_start name items i =
+    let item = In-unflat func_point items name i in
+    let start = start_of_item name item.0 item.2 in
+    some_least (flat_map (start_said name) items) start.0 (In-flat (start_said name) items item.0 start.0 item.1 start.1)
+
+same_number : (o p : Option ℕ) → is_some o ≡ true → is_some p ≡ true → unwrap_or o 0 ≡ unwrap_or p 0 → o ≡ p
+same_number (Some n) (Some m) x y e = ap (λ (k : ℕ). Some k) e
+same_number None p x y e = absurd (false≢true x)
+same_number (Some n) None x y e = absurd (false≢true y)
+
+least_more : (xs ys zs : List ℕ) → least xs ≡ least ys → least (xs ++ zs) ≡ least (ys ++ zs)
+least_more [] [] zs e = refl
+least_more [] (y ∷ ys) zs e = absurd (none-some (fold min y ys) e)
+least_more (x ∷ xs) [] zs e = absurd (none-some (fold min x xs) (sym e))
+least_more (x ∷ xs) (y ∷ ys) zs e =
+    ap (λ (n : ℕ). Some n)
+    (fold-append min x xs zs ∙ ap (λ (n : ℕ). fold min n zs) (same_Some (fold min x xs) (fold min y ys) e) ∙ sym (fold-append min y ys zs))
+
+-- 0 is a start line too: which of the two it is, the names tell
+same_least : (name : List ℕ) (xs ys : List ItemData) → function_start name xs ≡ function_start name ys → (In name (func_points xs) → In name (func_points ys)) → (In name (func_points ys) → In name (func_points xs))
+    → least (flat_map (start_said name) xs) ≡ least (flat_map (start_said name) ys)
+same_least name xs ys e there back =
+    ⊎_elim
+    (λ (i : In name (func_points xs)). same_number (least (flat_map (start_said name) xs)) (least (flat_map (start_said name) ys)) (has_start name xs i) (has_start name ys (there i)) e)
+    (λ (none : In name (func_points xs) → ⊥).
+    ap least (nothing_said func_point (start_said name) name (start_unsaid name) xs none
+    ∙ sym (nothing_said func_point (start_said name) name (start_unsaid name) ys (λ i. none (back i)))))
+    (In-or_not (slice_cmp nat_cmp) names_order name (func_points xs))
+
+function_with : ℕ → List ℕ → ℕ → FunctionValueData
+function_with line name count = record { line = line; name = name; count = count }
+
+same_function : (name : List ℕ) (xs ys : List ItemData) → least (flat_map (start_said name) xs) ≡ least (flat_map (start_said name) ys) → function_count name xs ≡ function_count name ys → function_at xs name ≡ function_at ys name
+unfolding function_with
+same_function name xs ys start count =
+    ap (λ (o : Option ℕ). function_with (unwrap_or o 0) name (function_count name xs)) start ∙ ap (λ (n : ℕ). function_with (function_start name ys) name n) count
+
+pub functions_kind : IsKind (slice_cmp nat_cmp) func_points function_at (λ (v : FunctionValueData). v.name)
+functions_kind = record {
+  order = names_order;
+  joins = λ xs ys. flat_map-append func_point xs ys;
+  own = λ xs name. refl;
+  absent = λ xs name none.
+      same_function name xs [] (ap least (nothing_said func_point (start_said name) name (start_unsaid name) xs none))
+      (nothing_added func_point (function_added name) name (count_unadded name) xs none);
+  extends = λ xs ys zs name e there back.
+      same_function name (xs ++ zs) (ys ++ zs)
+      (said_more least (start_said name) xs ys zs
+      (least_more (flat_map (start_said name) xs) (flat_map (start_said name) ys) (flat_map (start_said name) zs)
+      (same_least name xs ys (ap (λ (v : FunctionValueData). v.line) e) there back)))
+      (sum_more (function_added name) xs ys zs (ap (λ (v : FunctionValueData). v.count) e));
+}
+
+-- ---- branches
+
+taken_unsaid : (point : BranchPoint) (item : ItemData) → (In point (branch_point item) → ⊥) → taken_said point item ≡ []
+unfolding branch_with
+taken_unsaid point (BranchItem line block branch (Some taken)) none = cond-false (is_branch point line block branch) (taken ∷ []) [] (other_branch point line block branch none)
+taken_unsaid point (BranchItem line block branch None) none = refl
+taken_unsaid point (LineItem line count checksum) none = refl
+taken_unsaid point (FuncItem name line count) none = refl
+
+sum_if_more : (xs ys zs : List ℕ) → sum_if_any xs ≡ sum_if_any ys → sum_if_any (xs ++ zs) ≡ sum_if_any (ys ++ zs)
+sum_if_more [] [] zs e = refl
+sum_if_more [] (y ∷ ys) zs e = absurd (none-some (sum_by (λ (m : ℕ). m) (y ∷ ys)) e)
+sum_if_more (x ∷ xs) [] zs e = absurd (none-some (sum_by (λ (m : ℕ). m) (x ∷ xs)) (sym e))
+sum_if_more (x ∷ xs) (y ∷ ys) zs e =
+    let add = λ (m : ℕ). m in
+    ap (λ (n : ℕ). Some n)
+    (sum_by-append add (x ∷ xs) zs ∙ ap (λ (n : ℕ). n + sum_by add zs) (same_Some (sum_by add (x ∷ xs)) (sum_by add (y ∷ ys)) e) ∙ sym (sum_by-append add (y ∷ ys) zs))
+
+taken_with : BranchPoint → Option ℕ → BranchValueData
+taken_with point taken = record { point = point; taken = taken }
+
+same_branch : (point : BranchPoint) (xs ys : List ItemData) → branch_value point xs ≡ branch_value point ys → branch_at xs point ≡ branch_at ys point
+unfolding taken_with
+same_branch point xs ys taken = ap (λ (o : Option ℕ). taken_with point o) taken
+
+pub branches_kind : IsKind branch_cmp branch_points branch_at (λ (v : BranchValueData). v.point)
+branches_kind = record {
+  order = branches_order;
+  joins = λ xs ys. flat_map-append branch_point xs ys;
+  own = λ xs point. refl;
+  absent = λ xs point none. same_branch point xs [] (ap sum_if_any (nothing_said branch_point (taken_said point) point (taken_unsaid point) xs none));
+  extends = λ xs ys zs point e there back.
+      same_branch point (xs ++ zs) (ys ++ zs)
+      (said_more sum_if_any (taken_said point) xs ys zs
+      (sum_if_more (flat_map (taken_said point) xs) (flat_map (taken_said point) ys) (flat_map (taken_said point) zs) (ap (λ (v : BranchValueData). v.taken) e)));
+}
