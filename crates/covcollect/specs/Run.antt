@@ -1,9 +1,10 @@
 -- How a session goes on from one command to the next.
-use Rattle.std.specs.Prelude.{◌≡◌, ℕ, List, [], ◌∷◌, ◌++◌, Result, Ok, Err, ◌≤◌, codes}
+use Rattle.std.specs.Prelude.{◌≡◌, ℕ, List, [], ◌∷◌, ◌++◌, Result, Ok, Err, ◌≤◌, nat_le, length, Option, Some, None, option_map, if◌then◌else◌, codes}
 use Rattle.std.specs.Io.KnownBytes.{IsAtEnd}
 use Rattle.covline.specs.Row.{SubmissionData}
 use Rattle.covline.specs.Lines.{pieces_of, line_of}
-use Rattle.covbook.specs.Op.{OpData}
+use Rattle.covbook.specs.Op.{OpData, ReportOp, ExtractOp, RemoveOp, SummaryOp}
+use Rattle.covreport.specs.Choice.{most_pattern_bytes}
 use Rattle.covbook.specs.Step.{Table, answers_from, table_of}
 use Rattle.covread.specs.declared.fault.ReadFault.{ReadFault}
 use Rattle.covread.specs.declared.fault.ReadFault.TheVariants as faults
@@ -15,7 +16,7 @@ use Rattle.covcollect.specs.declared.session.text.Taken.TheVariants.{Whole, TooL
 use Rattle.covcollect.specs.declared.session.word.Word.{Word}
 use Rattle.covcollect.specs.declared.session.word.Word.TheVariants as words
 use Rattle.covread.specs.Outcome.{IsOutcome}
-use Rattle.covcollect.specs.Session.{Command, Blank, Report, Submit, Refuse, Unknown, Unfinished, AreCommands, ops_of, output_of}
+use Rattle.covcollect.specs.Session.{Command, Blank, Ask, RefusePattern, Submit, Refuse, Unknown, Unfinished, AreCommands, ops_of, output_of}
 use Rattle.covcollect.specs.Streams.{Moment, Moves, TakesPieces, AreCut, turns, unread}
 
 -- the command that a text is, by what it is read as
@@ -55,10 +56,25 @@ pub record IsRun (ending : LineEnd) (pieces : List (List ℕ)) (commands : List 
   pub are : GoOn ending pieces commands
   pub only : GoOnOnly ending pieces commands
 
+-- the command that a choice of files by a pattern is, or by none
+abbrev pub chosen_by : (List (List ℕ) → OpData) → Option (List ℕ) → List Command
+chosen_by op None = Ask (op []) ∷ []
+chosen_by op (Some pattern) = if nat_le (length pattern) most_pattern_bytes then Ask (op (pattern ∷ [])) ∷ [] else RefusePattern ∷ []
+
+-- the list of a pattern, or of none; none is made where the pattern is too long
+abbrev pub IsListOf : Option (List ℕ) → Option (List (List ℕ)) → Type 0
+IsListOf None (Some patterns) = patterns ≡ []
+IsListOf None None = ⊥
+IsListOf (Some pattern) (Some patterns) = (patterns ≡ pattern ∷ []) × (length pattern ≤ most_pattern_bytes)
+IsListOf (Some pattern) None = most_pattern_bytes < length pattern
+
 -- the command that a line of its own is; a line `trace` is one where the input ends behind it
 abbrev pub asked_by : Word → List Command
 asked_by words.Blank = Blank ∷ []
-asked_by words.Report = Report ∷ []
+asked_by words.Report = Ask ReportOp ∷ []
+asked_by words.Summary = Ask SummaryOp ∷ []
+asked_by (words.Extract pattern) = chosen_by ExtractOp (option_map (λ p. p.now) pattern)
+asked_by (words.Remove pattern) = chosen_by RemoveOp (option_map (λ p. p.now) pattern)
 asked_by words.Trace = Unfinished ∷ []
 asked_by words.Other = Unknown ∷ []
 

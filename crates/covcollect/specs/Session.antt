@@ -1,20 +1,26 @@
 -- What a session reads and writes: commands, a line each, and the answers to them.
-use Rattle.std.specs.Prelude.{◌≡◌, ◌≢◌, ℕ, List, [], ◌∷◌, ◌++◌, codes, decimal, Ok, Err}
+use Rattle.std.specs.Prelude.{◌≡◌, ◌≢◌, ◌⊎◌, ◌<◌, ◌≤◌, ℕ, length, List, [], ◌∷◌, ◌++◌, codes, decimal, Ok, Err}
 use Rattle.std.specs.List.{concat, flat_map, AllByRecursion}
 use Rattle.covline.specs.Row.{SubmissionData}
 use Rattle.covline.specs.Lines.{line_feed, pieces_of, line_of}
 use Rattle.covline.specs.declared.trace_line.LineFault.{LineFault}
 use Rattle.covline.specs.declared.trace_line.LineFault.TheVariants.{BadLine, NumberTooLarge, EmptyPath}
-use Rattle.covbook.specs.Op.{OpData, SubmitOp, ReportOp, AnswerData, AcceptedAnswer, ClashAnswer, TextAnswer}
+use Rattle.covbook.specs.Op.{OpData, SubmitOp, ReportOp, ExtractOp, RemoveOp, SummaryOp, AnswerData, AcceptedAnswer, ClashAnswer, TextAnswer}
 use Rattle.covbook.specs.Step.{answers_to}
+use Rattle.covreport.specs.Choice.{most_pattern_bytes}
 use Rattle.covread.specs.declared.fault.ReadFault.{ReadFault}
 use Rattle.covread.specs.declared.fault.ReadFault.TheVariants as faults
 use Rattle.covread.specs.Outcome.{IsOutcome}
 
+-- the byte between a command's word and its pattern
+abbrev pub space : ℕ
+space = 32
+
 -- what an input asks for, one command after another
 pub data Command : Type 0 where
   Blank : Command
-  Report : Command
+  Ask : (op : OpData) → Command
+  RefusePattern : Command
   Submit : (submission : SubmissionData) → Command
   Refuse : (fault : ReadFault) → Command
   Unknown : Command
@@ -23,6 +29,33 @@ pub data Command : Type 0 where
 -- the command is one line
 abbrev pub IsLine : List (List ℕ) → List ℕ → Type 0
 IsLine pieces line = (piece : List ℕ) × (pieces ≡ piece ∷ []) × (line_of piece ≡ line)
+
+-- a word, and behind a space one pattern, which may be empty; or the word alone and no pattern
+abbrev pub IsChoice : List ℕ → List (List ℕ) → List ℕ → Type 0
+IsChoice word [] line = line ≡ word
+IsChoice word (pattern ∷ []) line = (line ≡ word ++ space ∷ pattern) × (length pattern ≤ most_pattern_bytes)
+IsChoice word (pattern ∷ other ∷ more) line = ⊥
+
+-- the line asks the book for a text
+abbrev pub AsksFor : OpData → List ℕ → Type 0
+AsksFor (SubmitOp submission) line = ⊥
+AsksFor ReportOp line = line ≡ codes "report"
+AsksFor SummaryOp line = line ≡ codes "summary"
+AsksFor (ExtractOp patterns) line = IsChoice (codes "extract") patterns line
+AsksFor (RemoveOp patterns) line = IsChoice (codes "remove") patterns line
+
+-- the line has a pattern that no list takes
+abbrev pub IsTooLong : List ℕ → Type 0
+IsTooLong line =
+    (pattern : List ℕ) × (most_pattern_bytes < length pattern)
+    × ((line ≡ codes "extract" ++ space ∷ pattern) ⊎ (line ≡ codes "remove" ++ space ∷ pattern))
+
+-- the line is none of the commands
+pub record IsUnknown (line : List ℕ) : Type 0 where
+  pub some : line ≢ []
+  pub no_trace : line ≢ codes "trace"
+  pub no_op : (op : OpData) → AsksFor op line → ⊥
+  pub short : IsTooLong line → ⊥
 
 -- no piece is the line that ends a text
 abbrev pub IsBody : List (List ℕ) → Type 0
@@ -42,18 +75,19 @@ IsUnfinished pieces =
 -- the pieces are this command
 abbrev pub IsCommand : List (List ℕ) → Command → Type 0
 IsCommand pieces Blank = IsLine pieces []
-IsCommand pieces Report = IsLine pieces (codes "report")
+IsCommand pieces (Ask op) = (line : List ℕ) × IsLine pieces line × AsksFor op line
+IsCommand pieces RefusePattern = (line : List ℕ) × IsLine pieces line × IsTooLong line
 IsCommand pieces (Submit submission) = (text : List ℕ) × IsTrace pieces text × IsOutcome text (Ok submission)
 IsCommand pieces (Refuse fault) = (text : List ℕ) × IsTrace pieces text × IsOutcome text (Err fault)
-IsCommand pieces Unknown =
-    (line : List ℕ) × IsLine pieces line × (line ≢ []) × (line ≢ codes "report") × (line ≢ codes "trace")
+IsCommand pieces Unknown = (line : List ℕ) × IsLine pieces line × IsUnknown line
 IsCommand pieces Unfinished = IsUnfinished pieces
 
 -- a text without its end goes to the end of the input
 abbrev pub EndsInput : Command → List (List ℕ) → Type 0
 EndsInput Unfinished rest = rest ≡ []
 EndsInput Blank rest = Unit {0}
-EndsInput Report rest = Unit {0}
+EndsInput (Ask op) rest = Unit {0}
+EndsInput RefusePattern rest = Unit {0}
 EndsInput (Submit submission) rest = Unit {0}
 EndsInput (Refuse fault) rest = Unit {0}
 EndsInput Unknown rest = Unit {0}
@@ -68,7 +102,8 @@ AreCommands pieces (command ∷ commands) =
 -- what the book is asked
 abbrev pub ops_asked : Command → List OpData
 ops_asked (Submit submission) = SubmitOp submission ∷ []
-ops_asked Report = ReportOp ∷ []
+ops_asked (Ask op) = op ∷ []
+ops_asked RefusePattern = []
 ops_asked Blank = []
 ops_asked (Refuse fault) = []
 ops_asked Unknown = []
@@ -102,6 +137,9 @@ fault_text (faults.Inside at) = codes "Inside at " ++ decimal at
 fault_text faults.OpenEnd = codes "OpenEnd"
 fault_text faults.Memory = codes "Memory"
 
+abbrev pub refused_pattern_text : List ℕ
+refused_pattern_text = said (codes "refused TooLong")
+
 abbrev pub refused_text : ReadFault → List ℕ
 refused_text fault = said (codes "refused " ++ fault_text fault)
 
@@ -114,8 +152,9 @@ output_of (Unknown ∷ commands) answers = said (codes "unknown") ++ output_of c
 output_of (Unfinished ∷ commands) answers = said (codes "unfinished") ++ output_of commands answers
 output_of (Submit submission ∷ commands) [] = []
 output_of (Submit submission ∷ commands) (answer ∷ answers) = answer_text answer ++ output_of commands answers
-output_of (Report ∷ commands) [] = []
-output_of (Report ∷ commands) (answer ∷ answers) = answer_text answer ++ output_of commands answers
+output_of (RefusePattern ∷ commands) answers = refused_pattern_text ++ output_of commands answers
+output_of (Ask op ∷ commands) [] = []
+output_of (Ask op ∷ commands) (answer ∷ answers) = answer_text answer ++ output_of commands answers
 
 -- what a session of these commands writes: the book's answers are those of the run over what it is asked
 abbrev pub session_text : List Command → List ℕ

@@ -1,10 +1,10 @@
 -- What a session has taken of its input and said to its output at a moment between two reads.
-use Rattle.std.specs.Prelude.{◌≡◌, ◌≢◌, ℕ, ◌+◌, ◌-◌, ◌*◌, ◌^◌, ◌<◌, ◌≤◌, ◌==◌, Bool, true, false, min, if◌then◌else◌, List, [], ◌∷◌, ◌++◌, length, take, Option, codes}
+use Rattle.std.specs.Prelude.{◌≡◌, ◌≢◌, ℕ, ◌+◌, ◌-◌, ◌*◌, ◌^◌, ◌<◌, ◌≤◌, ◌==◌, Bool, true, false, min, if◌then◌else◌, List, [], ◌∷◌, ◌++◌, length, take, Option, Some, None, option_map, codes}
 use Rattle.std.specs.List.{concat}
 use Rattle.std.specs.Io.KnownBytes.{Consumes, Appends, IsAtEnd, prepend_known, append_known}
 use Rattle.covline.specs.Lines.{line_feed, carriage_return, before_feed, pieces_of, line_of}
 use Rattle.covread.specs.Outcome.{most_bytes}
-use Rattle.covcollect.specs.Session.{IsBody, IsSession}
+use Rattle.covcollect.specs.Session.{IsBody, IsSession, IsUnknown, space}
 use Rattle.covcollect.specs.declared.session.text.Text.{Text}
 use Rattle.covcollect.specs.declared.session.text.Taken.{Taken}
 use Rattle.covcollect.specs.declared.session.text.Taken.TheVariants.{Whole, TooLong, Unfinished}
@@ -142,12 +142,20 @@ IsTaken pieces ending TooLong = (body : List (List ℕ)) × (last : List ℕ) ×
     × (most_bytes < length (concat body))
 IsTaken pieces ending Unfinished = IsBody pieces × (ending ≡ Input)
 
+-- a command's word, and its pattern where there is one
+abbrev pub IsWordWith : List ℕ → List ℕ → Option (List ℕ) → Type 0
+IsWordWith line word None = line ≡ word
+IsWordWith line word (Some pattern) = line ≡ word ++ space ∷ pattern
+
 -- what a line without the carriage returns at its end asks for
 abbrev pub IsWord : List ℕ → Word → Type 0
 IsWord line words.Blank = line ≡ []
 IsWord line words.Report = line ≡ codes "report"
+IsWord line words.Summary = line ≡ codes "summary"
+IsWord line (words.Extract pattern) = IsWordWith line (codes "extract") (option_map (λ p. p.now) pattern)
+IsWord line (words.Remove pattern) = IsWordWith line (codes "remove") (option_map (λ p. p.now) pattern)
 IsWord line words.Trace = line ≡ codes "trace"
-IsWord line words.Other = (line ≢ []) × (line ≢ codes "report") × (line ≢ codes "trace")
+IsWord line words.Other = IsUnknown line
 
 -- a whole input was read, and its session text written and nothing else
 abbrev pub IsWholeSession : Option (List ℕ) → Option (List ℕ) → Option (List ℕ) → Option (List ℕ) → Type 0

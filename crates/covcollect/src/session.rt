@@ -1,6 +1,6 @@
 //! One session: commands in, answers out.
 
-ghost use Rattle.std.specs.Prelude.{◌≡◌, ℕ, ◌^◌, ◌<◌, List, [], ◌∷◌, ◌++◌, Result, IfOk, OnOk, IfSome, IsTrue, IsFalse};
+ghost use Rattle.std.specs.Prelude.{◌≡◌, ℕ, ◌^◌, ◌<◌, List, [], ◌∷◌, ◌++◌, Result, IfOk, OnOk, IfSome, IsTrue, IsFalse, option_map};
 ghost use Rattle.std.specs.Io.KnownBytes.{Appends, Keeps};
 ghost use Rattle.covline.specs.Row.{SubmissionData};
 ghost use Rattle.covbook.specs.Step.{answer_of, table_of, ops_in};
@@ -9,7 +9,7 @@ ghost use Rattle.covread.specs.declared.fault.ReadFault.{ReadFault as Fault};
 ghost use Rattle.covread.specs.Outcome.{IsOutcome};
 ghost use Rattle.covcollect.specs.Session.{Command, IsSession, answer_text, refused_text};
 ghost use Rattle.covcollect.specs.Streams.{moment, said_so_far, CanCall, IsWholeSession};
-ghost use Rattle.covcollect.specs.Run.{asked_for, asked_by, text_after, Asks, IsTold, IsAnsweredAs, TakesTrace, TakesCommand, IsDone};
+ghost use Rattle.covcollect.specs.Run.{asked_for, asked_by, text_after, Asks, IsListOf, IsTold, IsAnsweredAs, TakesTrace, TakesCommand, IsDone};
 
 pub mod answers;
 pub mod block;
@@ -27,6 +27,7 @@ use crate::session::text::{LineEnd, Taken, Text};
 use crate::session::word::{Word, word_of};
 use crate::stream::{Sink, Source};
 use covbook::{Book, Op, SubRef};
+use covreport::{PatternFault, Patterns};
 use covread::{ReadFault, read_trace};
 pub use fault::SessionFault;
 use std::alloc::Allocator;
@@ -116,11 +117,29 @@ fn submit<O: Sink, A: Allocator + Copy>(
     }
 }
 
+// The list of a command's pattern, or of none; and none where the pattern is too long.
+fn patterns_of<A: Allocator + Copy>(
+    alloc: A,
+    pattern: Option<&[u8]>,
+) -> Result<Option<Patterns<A>>, SessionFault>
+    ensures { IfOk result (λ r. IsListOf (option_map (λ p. p.now) pattern.entry) r) }
+{
+    let mut patterns = Patterns::new(alloc);
+    let Some(pattern) = pattern else {
+        return Ok(Some(patterns));
+    };
+    match patterns.add(alloc, pattern) {
+        Ok(()) => Ok(Some(patterns)),
+        Err(PatternFault::TooMany | PatternFault::TooLong) => Ok(None),
+        Err(PatternFault::Memory) => Err(SessionFault::Memory),
+    }
+}
+
 // Answers a line that is a command of its own.
 fn answer_word<O: Sink, A: Allocator + Copy>(
     alloc: A,
     book: &mut Book<A>,
-    word: Word,
+    word: Word<'_>,
     waiting: &mut Vec<u8, A>,
     sink: &mut O,
 ) -> Result<(), SessionFault>
@@ -134,6 +153,15 @@ fn answer_word<O: Sink, A: Allocator + Copy>(
     match word {
         Word::Blank => say(b"", waiting, sink),
         Word::Report => step(alloc, book, &Op::Report, waiting, sink),
+        Word::Summary => step(alloc, book, &Op::Summary, waiting, sink),
+        Word::Extract(pattern) => match patterns_of(alloc, pattern)? {
+            Some(patterns) => step(alloc, book, &Op::Extract(patterns), waiting, sink),
+            None => say(b"refused TooLong\n", waiting, sink),
+        },
+        Word::Remove(pattern) => match patterns_of(alloc, pattern)? {
+            Some(patterns) => step(alloc, book, &Op::Remove(patterns), waiting, sink),
+            None => say(b"refused TooLong\n", waiting, sink),
+        },
         Word::Trace => say(b"unfinished\n", waiting, sink),
         Word::Other => say(b"unknown\n", waiting, sink),
     }
@@ -189,12 +217,17 @@ fn answer_trace<I: Source, O: Sink, A: Allocator + Copy>(
 }
 
 // Whether a text follows a line.
-fn text_follows(word: Word, ending: LineEnd) -> bool
+fn text_follows(word: Word<'_>, ending: LineEnd) -> bool
     ensures text { IsTrue result → (word ≡ Word.Trace) × (ending ≡ LineEnd.Feed) }
     ensures no_text { IsFalse result → word ≡ Word.Trace → ending ≡ LineEnd.Input }
 {
     match word {
-        Word::Blank | Word::Report | Word::Other => false,
+        Word::Blank
+        | Word::Report
+        | Word::Summary
+        | Word::Extract(_)
+        | Word::Remove(_)
+        | Word::Other => false,
         Word::Trace => match ending {
             LineEnd::Feed => true,
             LineEnd::Input => false,
@@ -218,8 +251,8 @@ fn answer_command<I: Source, O: Sink, A: Allocator + Copy>(
     let mut line = Text::new(alloc, usize::MAX);
     let ending = take_line(&mut line, block, source, waiting, sink)?;
     let word = word_of(line.whole());
-    drop(line);
     if text_follows(word, ending) {
+        drop(line);
         let ended = answer_trace(alloc, book, block, source, waiting, sink)?;
         return Ok(ended);
     }
