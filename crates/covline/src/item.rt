@@ -100,7 +100,7 @@ impl<A: Allocator> Model for Items<A> {
 impl<A: Allocator + Copy> Items<A> {
     ghost use Rattle.std.specs.Prelude.{◌≡◌, IfOk};
 
-    /// An equal list, in memory of its own.
+    /// An equal list, in memory of its own and with no unused room.
     pub fn copy(&self, alloc: A) -> Result<Items<A>, Memory>
         ensures { IfOk result (λ s. s ≡ self.now) }
     {

@@ -52,7 +52,7 @@ impl<A: Allocator> Model for Sects<A> {
 impl<A: Allocator + Copy> Sects<A> {
     ghost use Rattle.std.specs.Prelude.{◌≡◌, IfOk};
 
-    /// An equal list, in memory of its own.
+    /// An equal list, in memory of its own and with no unused room.
     pub fn copy(&self, alloc: A) -> Result<Sects<A>, Memory>
         ensures { IfOk result (λ s. s ≡ self.now) }
     {
