@@ -31,6 +31,54 @@ pub enum Item<A: Allocator = Global> {
     },
 }
 
+impl<A: Allocator + Copy> Item<A> {
+    ghost use Rattle.std.specs.Prelude.{◌≡◌, IfOk};
+    ghost use Rattle.covline.specs.Row.{item_data};
+
+    /// An equal item, in memory of its own.
+    pub(crate) fn copy(&self, alloc: A) -> Result<Item<A>, Memory>
+        ensures { IfOk result (λ i. item_data i ≡ item_data self.now) }
+    {
+        match self {
+            Item::Line {
+                line,
+                count,
+                checksum,
+            } => Ok(Item::Line {
+                line: *line,
+                count: *count,
+                checksum: Item::copy_checksum(checksum, alloc)?,
+            }),
+            Item::Func { name, line, count } => Ok(Item::Func {
+                name: name.copy(alloc)?,
+                line: *line,
+                count: *count,
+            }),
+            Item::Branch {
+                line,
+                block,
+                branch,
+                taken,
+            } => Ok(Item::Branch {
+                line: *line,
+                block: *block,
+                branch: *branch,
+                taken: *taken,
+            }),
+        }
+    }
+
+    /// An equal checksum, in memory of its own, where there is one.
+    fn copy_checksum(checksum: &Option<Bytes<A>>, alloc: A) -> Result<Option<Bytes<A>>, Memory>
+        ensures { IfOk result (λ c. c ≡ checksum.now) }
+    {
+        match checksum {
+            Some(text) => Ok(Some(text.copy(alloc)?)),
+            None => Ok(None),
+        }
+    }
+}
+
 /// A list of items. Contracts see the items.
 #[derive(Drop)]
 pub struct Items<A: Allocator = Global> {
@@ -52,11 +100,17 @@ impl<A: Allocator> Model for Items<A> {
 impl<A: Allocator + Copy> Items<A> {
     ghost use Rattle.std.specs.Prelude.{◌≡◌, IfOk};
 
-    /// An equal list, in memory of its own.
+    /// An equal list, in memory of its own and with no unused room.
     pub fn copy(&self, alloc: A) -> Result<Items<A>, Memory>
         ensures { IfOk result (λ s. s ≡ self.now) }
     {
-        Err(Memory)
+        let mut copy = Items {
+            items: Vec::with_capacity(alloc, self.items.len())?,
+        };
+        for item in self.get() {
+            copy.push(item.copy(alloc)?)?;
+        }
+        Ok(copy)
     }
 }
 

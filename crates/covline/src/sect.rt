@@ -17,6 +17,22 @@ pub struct Sect<A: Allocator = Global> {
     pub items: Items<A>,
 }
 
+impl<A: Allocator + Copy> Sect<A> {
+    ghost use Rattle.std.specs.Prelude.{◌≡◌, IfOk};
+    ghost use Rattle.covline.specs.SectView.{sect_data};
+
+    /// An equal section, in memory of its own.
+    pub(crate) fn copy(&self, alloc: A) -> Result<Sect<A>, Memory>
+        ensures { IfOk result (λ s. sect_data s ≡ sect_data self.now) }
+    {
+        Ok(Sect {
+            test: self.test.copy(alloc)?,
+            file: self.file.copy(alloc)?,
+            items: self.items.copy(alloc)?,
+        })
+    }
+}
+
 /// A list of sections. Contracts see what the sections say.
 #[derive(Drop)]
 pub struct Sects<A: Allocator = Global> {
@@ -36,11 +52,17 @@ impl<A: Allocator> Model for Sects<A> {
 impl<A: Allocator + Copy> Sects<A> {
     ghost use Rattle.std.specs.Prelude.{◌≡◌, IfOk};
 
-    /// An equal list, in memory of its own.
+    /// An equal list, in memory of its own and with no unused room.
     pub fn copy(&self, alloc: A) -> Result<Sects<A>, Memory>
         ensures { IfOk result (λ s. s ≡ self.now) }
     {
-        Err(Memory)
+        let mut copy = Sects {
+            sects: Vec::with_capacity(alloc, self.sects.len())?,
+        };
+        for sect in self.get() {
+            copy.push(sect.copy(alloc)?)?;
+        }
+        Ok(copy)
     }
 }
 
