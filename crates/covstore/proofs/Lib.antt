@@ -8,3 +8,5 @@ pub mod Bounds
 pub mod Few
 pub mod Looks
 pub mod Clashes
+pub mod TotalsWalks
+pub mod TotalsCounts
