@@ -10,3 +10,5 @@ pub mod Looks
 pub mod Clashes
 pub mod TotalsWalks
 pub mod TotalsCounts
+pub mod TotalsTally
+pub mod TotalsRows

@@ -48,8 +48,9 @@ module _ {X : Type 0} {cmp : X → X → Ordering} (o : IsExactOrder cmp) (f : X
       let none : sum_by f (rest_after cmp last (ascending cmp xs)) ≡ 0 = ap (sum_by f) (none_is o last xs h) in
       omega (arith, none, so_far.whole)
 
-  pub nearer_end : (next : X) → IsNext cmp last xs (Some next) → length (rest_after cmp (Some next) (ascending cmp xs)) < length (rest_after cmp last (ascending cmp xs))
-  nearer_end next h = let is = ap length (next_is o last xs next h) in omega (arith, is)
+pub nearer_end : {X : Type 0} {cmp : X → X → Ordering} → IsExactOrder cmp → (xs : List X) (last : Option X) (next : X) → IsNext cmp last xs (Some next)
+    → length (rest_after cmp (Some next) (ascending cmp xs)) < length (rest_after cmp last (ascending cmp xs))
+nearer_end o xs last next h = let is = ap length (next_is o last xs next h) in omega (arith, is)
 
 -- each member counts one
 pub one_each : {X : Type 0} (xs : List X) → sum_by (λ (x : X). 1) xs ≡ length xs
