@@ -12,3 +12,5 @@ pub mod TotalsWalks
 pub mod TotalsCounts
 pub mod TotalsTally
 pub mod TotalsRows
+pub mod TotalsKinds
+pub mod TotalsFiles

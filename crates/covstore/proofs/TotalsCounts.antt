@@ -2,13 +2,12 @@
 use Rattle.std.proofs.Common.{◌≡◌, ℕ, ◌+◌, ◌^◌, ◌<◌, ◌≤◌, Bool, true, false, cond, List, [], ◌∷◌, length, map, filter, Option, Some, None, refl, sym, ap, ◌∙◌, subst, ⊎_elim, arith}
 use Rattle.std.specs.declared.cmp.Ordering.{Ordering}
 use Rattle.std.specs.declared.cmp.Ordering.TheVariants.{Less}
-use Rattle.std.specs.Cmp.{IsTotalOrder}
 use Rattle.std.specs.Cmp.Lexicographic.{slice_cmp}
 use Rattle.std.specs.List.{sum_by, count_by, flat_map, AllByRecursion}
 use Rattle.std.specs.List.Sorted.{IsStrictlySortedBy}
 use Rattle.std.specs.Ordering.{nat_cmp}
 use Rattle.std.specs.Str.{bytes_eq}
-use Rattle.std.proofs.lemmas.Bool.{true≢false, cases_Bool}
+use Rattle.std.proofs.lemmas.Bool.{cases_Bool}
 use Rattle.std.proofs.lemmas.Cmp.{tied_itself}
 use Rattle.std.proofs.lemmas.List.{length-map}
 use Rattle.std.proofs.lemmas.List.Sums.{sum_by-cons, count_by-le-length, length-filter, sum_by-le-sum_by}
@@ -126,15 +125,23 @@ sum_zero {X} (x ∷ xs) = omega (arith, sum_by-cons (λ (x : X). 0) x xs, sum_ze
 rows_of_files : (files : List (List ℕ)) → IsStrictlySortedBy (slice_cmp nat_cmp) files → (rows : List Row) → sum_by (λ file. count_by (has_file file) rows) files ≤ length rows
 rows_of_files files sorted [] = omega (arith, sum_zero files)
 rows_of_files files sorted (row ∷ rows) =
-    omega (arith, rows_of_files files sorted rows, at_most_once row.file files sorted,
-    sum_split (λ file. count_by (has_file file) (row ∷ rows)) (λ file. cond (has_file file row) 1 0) (λ file. count_by (has_file file) rows) (λ file. sum_by-cons (λ (r : Row). cond (has_file file r) 1 0) row rows) files)
+    omega (
+      arith,
+      rows_of_files files sorted rows,
+      at_most_once row.file files sorted,
+      sum_split (λ file. count_by (has_file file) (row ∷ rows)) (λ file. cond (has_file file row) 1 0) (λ file. count_by (has_file file) rows) (λ file. sum_by-cons (λ (r : Row). cond (has_file file r) 1 0) row rows) files,
+    )
 
 module _ {X : Type 0} (cmp : X → X → Ordering) (point : ItemData → List X) (one : (item : ItemData) → length (point item) ≤ 1) (held : List SubmissionData) (h : IsHeld held) where
   all_found_fit : sum_by (λ file. found_in cmp point (items_of_file file (all_rows (map rows_of held)))) (files_of (all_rows (map rows_of held))) < 2 ^ 63
   all_found_fit =
       let rows = all_rows (map rows_of held) in
-      omega (arith, rows_fit cmp point one held h, rows_of_files (files_of rows) (ascending_sorted names_order.total (map (λ (row : Row). row.file) rows)) rows,
-      sum_by-le-sum_by (λ file. found_in cmp point (items_of_file file rows)) (λ file. count_by (has_file file) rows) (files_of rows) (λ file. found_few cmp point one file rows))
+      omega (
+        arith,
+        rows_fit cmp point one held h,
+        rows_of_files (files_of rows) (ascending_sorted names_order.total (map (λ (row : Row). row.file) rows)) rows,
+        sum_by-le-sum_by (λ file. found_in cmp point (items_of_file file rows)) (λ file. count_by (has_file file) rows) (files_of rows) (λ file. found_few cmp point one file rows),
+      )
 
   -- the points found and hit in all files are fewer than 2 ^ 63
   pub founds_fit : sum_by (λ file. found_in cmp point (items_of_file file (all_rows (map rows_of held)))) (files_of (all_rows (map rows_of held))) < 2 ^ 63
@@ -143,5 +150,8 @@ module _ {X : Type 0} (cmp : X → X → Ordering) (point : ItemData → List X)
   pub hits_fit : (hits : X → ItemData → Bool) → sum_by (λ file. hit_in cmp point hits (items_of_file file (all_rows (map rows_of held)))) (files_of (all_rows (map rows_of held))) < 2 ^ 63
   hits_fit hits =
       let rows = all_rows (map rows_of held) in
-      omega (arith, all_found_fit,
-      sum_by-le-sum_by (λ file. hit_in cmp point hits (items_of_file file rows)) (λ file. found_in cmp point (items_of_file file rows)) (files_of rows) (λ file. hit_le_found cmp point hits (items_of_file file rows)))
+      omega (
+        arith,
+        all_found_fit,
+        sum_by-le-sum_by (λ file. hit_in cmp point hits (items_of_file file rows)) (λ file. found_in cmp point (items_of_file file rows)) (files_of rows) (λ file. hit_le_found cmp point hits (items_of_file file rows)),
+      )

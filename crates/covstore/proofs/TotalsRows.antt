@@ -1,13 +1,14 @@
 -- The totals of the content are counts over rows: what some test has of a file, some row of the file has.
-use Rattle.std.proofs.Common.{◌≡◌, ℕ, ◌+◌, Bool, true, false, cond, ◌&&◌, ◌||◌, nat_lt, eqb, Option, Some, None, List, [], ◌∷◌, ◌++◌, length, map, filter, refl, sym, ap, ◌∙◌, subst, inl, inr, ⊎_elim, arith}
+use Rattle.std.proofs.Common.{◌≡◌, ℕ, zero, suc, ◌+◌, Bool, true, false, cond, ◌||◌, nat_lt, List, [], ◌∷◌, map, filter, refl, sym, ap, ◌∙◌, subst, inl, inr, ◌⊎◌, ⊎_elim, arith}
 use Rattle.std.specs.declared.cmp.Ordering.{Ordering}
 use Rattle.std.specs.List.{flat_map, list_any, sum_by}
 use Rattle.std.specs.Str.{bytes_eq}
-use Rattle.std.proofs.lemmas.Bool.{false≢true, and_parts, and_from, cond-true, cond-false, cases_Bool, or_left, or_right}
+use Rattle.std.proofs.lemmas.Bool.{false≢true, and_parts, and_from, cond-true, cond-false, cases_Bool, or_left, or_right, lt-ltb}
 use Rattle.std.proofs.lemmas.List.Folds.{list_any-append}
+use Rattle.std.proofs.lemmas.List.Sums.{sum_by-cons}
 use Rattle.std.proofs.lemmas.Slice.Eq.{bytes_eq-Decides}
 use Rattle.covline.specs.Row.{ItemData, Row}
-use Rattle.covstore.specs.Ascending.{ascending, IsAscendingOf}
+use Rattle.covstore.specs.Ascending.{ascending}
 use Rattle.covstore.specs.Content.{SectionData, section_of, content_of}
 use Rattle.covstore.specs.Totals.{files_in, sections_of}
 use Rattle.covstore.specs.TotalsSteps.{files_of, has_file, items_of_file}
@@ -53,13 +54,13 @@ any_from_in p [] x i h = absurd i
 any_from_in p (y ∷ ys) x (inl is) h = or_left (p y) (list_any p ys) (ap p is ∙ h)
 any_from_in p (y ∷ ys) x (inr i) h = or_right (p y) (list_any p ys) (any_from_in p ys x i h)
 
+in_from_one : {X : Type 0} (b : Bool) (p : X → Bool) (y : X) (ys : List X) → p y ≡ b → (list_any p ys ≡ true → (x : X) × In x ys × (p x ≡ true)) → (b || list_any p ys) ≡ true → (x : X) × In x (y ∷ ys) × (p x ≡ true)
+in_from_one true p y ys e rest h = (y, inl refl, e)
+in_from_one false p y ys e rest h = let found = rest h in (found.0, inr found.1, found.2)
+
 in_from_any : {X : Type 0} (p : X → Bool) (xs : List X) → list_any p xs ≡ true → (x : X) × In x xs × (p x ≡ true)
 in_from_any p [] h = absurd (false≢true h)
-in_from_any p (y ∷ ys) h = by (p y) refl h
-  where
-    by : (b : Bool) → p y ≡ b → (b || list_any p ys) ≡ true → (x : _) × In x (y ∷ ys) × (p x ≡ true)
-    by true e any = (y, inl refl, e)
-    by false e any = let found = in_from_any p ys any in (found.0, inr found.1, found.2)
+in_from_any p (y ∷ ys) h = in_from_one (p y) p y ys refl (in_from_any p ys) h
 
 pub same_truth : (a b : Bool) → (a ≡ true → b ≡ true) → (b ≡ true → a ≡ true) → a ≡ b
 same_truth true b to from = sym (to refl)
@@ -104,6 +105,7 @@ items_of_file_keys file rows = (to, from)
         let same : at_key.0.file ≡ file = (bytes_eq-Decides at_key.0.file file).0 own.1 in
         let has : bytes_eq row.0.file file ≡ true = subst (λ (name : List ℕ). bytes_eq row.0.file name ≡ true) same (and_parts (bytes_eq row.0.file at_key.0.file) (bytes_eq row.0.test at_key.0.test) of_key.1).0 in
         subst (λ (x : ItemData). In x (items_of_file file rows)) row.2 (In-map (λ (r : Row). r.item) (filter (has_file file) rows) row.0 (In-to_filter (has_file file) rows row.0 of_key.0 has))
+
     from : (item : ItemData) → In item (items_of_file file rows) → In item (items_of_keys rows (keys_of_file file rows))
     from item i =
         let row = In-unmap (λ (r : Row). r.item) (filter (has_file file) rows) item i in
@@ -119,11 +121,12 @@ items_of_file_keys file rows = (to, from)
 
 filter-map : {X Y : Type 0} (p : Y → Bool) (f : X → Y) (xs : List X) → filter p (map f xs) ≡ map f (filter (λ x. p (f x)) xs)
 filter-map p f [] = refl
-filter-map {X} {Y} p f (x ∷ xs) = by (p (f x))
+filter-map {X} {Y} p f (x ∷ xs) = by (p (f x)) (filter-map p f xs)
   where
-    by : (b : Bool) → cond b (f x ∷ filter p (map f xs)) (filter p (map f xs)) ≡ map f (cond b (x ∷ filter (λ z. p (f z)) xs) (filter (λ z. p (f z)) xs))
-    by true = ap (λ (ys : List Y). f x ∷ ys) (filter-map p f xs)
-    by false = filter-map p f xs
+    by : (b : Bool) → filter p (map f xs) ≡ map f (filter (λ z. p (f z)) xs)
+        → cond b (f x ∷ filter p (map f xs)) (filter p (map f xs)) ≡ map f (cond b (x ∷ filter (λ z. p (f z)) xs) (filter (λ z. p (f z)) xs))
+    by true rest = ap (λ (ys : List Y). f x ∷ ys) rest
+    by false rest = rest
 
 sections_of_keys : (file : List ℕ) (rows : List Row) → sections_of file (content_of rows) ≡ map (section_of rows) (keys_of_file file rows)
 sections_of_keys file rows = filter-map (λ (s : SectionData). bytes_eq s.key.file file) (section_of rows) (keys_of rows)
@@ -139,6 +142,7 @@ files_of_content rows = (to, from)
         let key = In-unmap (section_of rows) (keys_of rows) section.0 section.1 in
         subst (λ (name : List ℕ). In name (map (λ (row : Row). row.file) rows)) (ap (λ (s : SectionData). s.key.file) key.2 ∙ section.2)
         (file_of_key rows key.0 (In-ascending keys_order.exact key.0 (map key_of_row rows) key.1))
+
     from : (file : List ℕ) → In file (map (λ (row : Row). row.file) rows) → In file (map (λ (s : SectionData). s.key.file) (content_of rows))
     from file i =
         let key = key_of_file rows file i in
@@ -152,7 +156,7 @@ files_are rows = ascending_same_members names_order (map (λ (s : SectionData). 
 -- ---- the points of one kind
 
 module _ {X : Type 0} {cmp : X → X → Ordering} (o : IsExactOrder cmp) (point : ItemData → List X) (points : SectionData → List X)
-  (reads : (rows : List Row) (key : Key) → points (section_of rows key) ≡ ascending cmp (flat_map point (items_at key rows))) (file : List ℕ) (rows : List Row) where
+    (reads : (rows : List Row) (key : Key) → points (section_of rows key) ≡ ascending cmp (flat_map point (items_at key rows))) (file : List ℕ) (rows : List Row) where
   points_of_keys : (keys : List Key) → SameMembers (flat_map points (map (section_of rows) keys)) (flat_map point (items_of_keys rows keys))
   points_of_keys keys = (to, from)
     where
@@ -163,6 +167,7 @@ module _ {X : Type 0} {cmp : X → X → Ordering} (o : IsExactOrder cmp) (point
           let own : In x (ascending cmp (flat_map point (items_at key.0 rows))) = subst (In x) (reads rows key.0) (subst (λ (s : SectionData). In x (points s)) (sym key.2) section.2) in
           let item = In-flat point (items_at key.0 rows) x (In-ascending o.exact x (flat_map point (items_at key.0 rows)) own) in
           In-to_flat point (items_of_keys rows keys) item.0 x (In-to_flat (λ (k : Key). items_at k rows) keys key.0 item.0 key.1 item.1) item.2
+
       from : (x : X) → In x (flat_map point (items_of_keys rows keys)) → In x (flat_map points (map (section_of rows) keys))
       from x i =
           let item = In-flat point (items_of_keys rows keys) x i in
@@ -180,9 +185,10 @@ module _ {X : Type 0} {cmp : X → X → Ordering} (o : IsExactOrder cmp) (point
       let same = items_of_file_keys file rows in
       let by_keys = points_of_keys keys in
       ap (λ (own : List SectionData). ascending cmp (flat_map points own)) (sections_of_keys file rows)
-      ∙ ascending_same_members o (flat_map points (map (section_of rows) keys)) (flat_map point (items_of_file file rows))
-      (λ x i. points_of_items (items_of_keys rows keys) (items_of_file file rows) same x (by_keys.0 x i),
-      λ x i. by_keys.1 x (points_of_items (items_of_file file rows) (items_of_keys rows keys) (same.1, same.0) x i))
+      ∙ ascending_same_members o (flat_map points (map (section_of rows) keys)) (flat_map point (items_of_file file rows)) (
+        λ x i. points_of_items (items_of_keys rows keys) (items_of_file file rows) same x (by_keys.0 x i),
+        λ x i. by_keys.1 x (points_of_items (items_of_file file rows) (items_of_keys rows keys) (same.1, same.0) x i),
+      )
 
 -- ---- the points that are hit
 
@@ -216,13 +222,16 @@ module _ {X Y : Type 0} {cmp : X → X → Ordering} (o : IsExactOrder cmp) (poi
 
 -- a sum is above 0 where one of its numbers is
 above_either : (a b : ℕ) → nat_lt 0 (a + b) ≡ (nat_lt 0 a || nat_lt 0 b)
-above_either zero b = ap (nat_lt 0) (omega arith)
-above_either (suc a) b = ap (nat_lt 0) (omega arith)
+above_either zero b = let is : 0 + b ≡ b = omega arith in ap (nat_lt 0) is
+above_either (suc a) b = lt-ltb 0 (suc a + b) (omega arith) ∙ sym (or_left (nat_lt 0 (suc a)) (nat_lt 0 b) (lt-ltb 0 (suc a) (omega arith)))
 
-pub sum_above : (added : ItemData → ℕ) (items : List ItemData) → nat_lt 0 (sum_by added items) ≡ list_any (λ item. nat_lt 0 (added item)) items
-sum_above added [] = refl
-sum_above added (item ∷ items) =
-    ap (nat_lt 0) (sum_by-cons added item items) ∙ above_either (added item) (sum_by added items) ∙ ap (λ (b : Bool). nat_lt 0 (added item) || b) (sum_above added items)
+pub sum_above : {X : Type 0} (f : X → ℕ) (xs : List X) → nat_lt 0 (sum_by f xs) ≡ list_any (λ x. nat_lt 0 (f x)) xs
+sum_above f [] = refl
+sum_above f (x ∷ xs) = ap (nat_lt 0) (sum_by-cons f x xs) ∙ above_either (f x) (sum_by f xs) ∙ ap (λ (b : Bool). nat_lt 0 (f x) || b) (sum_above f xs)
+
+pub any_flat : {X Y : Type 0} (p : Y → Bool) (f : X → List Y) (xs : List X) → list_any p (flat_map f xs) ≡ list_any (λ x. list_any p (f x)) xs
+any_flat p f [] = refl
+any_flat p f (x ∷ xs) = list_any-append p (f x) (flat_map f xs) ∙ ap (λ (b : Bool). list_any p (f x) || b) (any_flat p f xs)
 
 pub any_agree : {X : Type 0} (p q : X → Bool) → ((x : X) → p x ≡ q x) → (xs : List X) → list_any p xs ≡ list_any q xs
 any_agree p q same [] = refl

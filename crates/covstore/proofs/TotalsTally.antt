@@ -1,13 +1,13 @@
 -- What is counted of the points of one kind in a file, from the first point to the last.
-use Rattle.std.proofs.Common.{◌≡◌, ℕ, ◌+◌, ◌^◌, ◌<◌, ◌≤◌, Bool, cond, List, length, Option, Some, None, sym, ap, ◌∙◌, subst, arith}
+use Rattle.std.proofs.Common.{◌≡◌, ℕ, ◌+◌, ◌^◌, ◌<◌, Bool, cond, List, Option, Some, None, sym, ap, ◌∙◌, subst, arith}
 use Rattle.std.specs.declared.cmp.Ordering.{Ordering}
-use Rattle.std.specs.List.{sum_by, count_by, flat_map}
+use Rattle.std.specs.List.{flat_map}
 use Rattle.covline.specs.Row.{ItemData}
 use Rattle.covstore.specs.Ascending.{ascending}
-use Rattle.covstore.specs.Next.{rest_after, IsNext}
+use Rattle.covstore.specs.Next.{IsNext}
 use Rattle.covstore.specs.TotalsSteps.{found_in, hit_in, is_hit_in}
 use Rattle.covstore.proofs.Ascend.{IsExactOrder}
-use Rattle.covstore.proofs.TotalsCounts.{IsSumSoFar, sum_none_yet, sum_more, sum_all, nearer_end, one_each, hit_le_found}
+use Rattle.covstore.proofs.TotalsCounts.{IsSumSoFar, sum_none_yet, sum_more, sum_all, one_each, hit_le_found}
 
 -- 1 for a point that is hit
 abbrev pub as_one : {X : Type 0} → (X → ItemData → Bool) → List ItemData → X → ℕ

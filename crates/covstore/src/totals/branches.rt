@@ -80,10 +80,7 @@ fn hits<A: Allocator>(item: &Item<A>, branch: BranchKey) -> bool
             branch: number,
             taken: Some(taken),
         } => {
-            *line == branch.line
-                && *block == branch.block
-                && *number == branch.branch
-                && *taken > 0
+            *line == branch.line && *block == branch.block && *number == branch.branch && *taken > 0
         }
         Item::Branch { .. } | Item::Line { .. } | Item::Func { .. } => false,
     }

@@ -1,4 +1,4 @@
-use Rattle.std.proofs.Common.{ℕ, rules, tests, refl, map, option_map, sym, List, subst}
+use Rattle.std.proofs.Common.{rules, tests, refl, map, option_map, sym, List, subst}
 use Rattle.std.specs.Cmp.Lexicographic.{slice_cmp}
 use Rattle.std.specs.List.{flat_map}
 use Rattle.std.specs.Ordering.{nat_cmp}

@@ -1,6 +1,4 @@
 use Rattle.std.proofs.Common.{length, map, option_map}
-use Rattle.std.specs.Cmp.Lexicographic.{slice_cmp}
-use Rattle.std.specs.Ordering.{nat_cmp}
 use Rattle.covline.specs.Points.{branch_point, branch_points}
 use Rattle.covline.specs.Row.{rows_of}
 use Rattle.covstore.specs.Ascending.{ascending}

@@ -3,10 +3,8 @@ use Rattle.std.specs.Cmp.Lexicographic.{slice_cmp}
 use Rattle.std.specs.Ordering.{nat_cmp}
 use Rattle.covline.specs.Points.{func_point, func_points}
 use Rattle.covline.specs.Row.{rows_of}
-use Rattle.covstore.specs.BranchKeyView.{branch_key_data}
 use Rattle.covstore.specs.Table.{all_rows}
 use Rattle.covstore.specs.TotalsSteps.{hits_function, items_of_file}
-use Rattle.covstore.specs.Value.{branch_cmp}
 use Rattle.covstore.proofs.Orders.{names_order}
 use Rattle.covstore.proofs.TotalsCounts.{found_fits, one_function}
 use Rattle.covstore.proofs.TotalsCounts.{nearer_end}

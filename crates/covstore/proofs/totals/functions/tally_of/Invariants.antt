@@ -4,11 +4,9 @@ use Rattle.std.specs.Ordering.{nat_cmp}
 use Rattle.covline.specs.Points.{func_point, func_points}
 use Rattle.covline.specs.Row.{rows_of}
 use Rattle.covstore.specs.Ascending.{ascending}
-use Rattle.covstore.specs.BranchKeyView.{branch_key_data}
 use Rattle.covstore.specs.Next.{rest_after}
 use Rattle.covstore.specs.Table.{all_rows}
 use Rattle.covstore.specs.TotalsSteps.{hits_function, items_of_file}
-use Rattle.covstore.specs.Value.{branch_cmp}
 use Rattle.covstore.proofs.TotalsTally.{IsTally}
 use Rattle.covstore.proofs.totals.functions.tally_of.Given as goal
 

@@ -1,6 +1,5 @@
 use Rattle.std.proofs.Common.{rules, tests, refl}
 use Rattle.std.proofs.lemmas.Iterator.Search.{any_from_yields_List}
-use Rattle.covstore.specs.BranchKeyView.{branch_key_data}
 use Rattle.covstore.specs.TotalsSteps.{hits_line}
 use Rattle.covstore.proofs.Roads.{items_road}
 use Rattle.covstore.proofs.totals.lines.is_hit.Goals as goal

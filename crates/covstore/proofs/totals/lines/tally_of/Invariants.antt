@@ -1,14 +1,11 @@
-use Rattle.std.proofs.Common.{length, map, option_map}
-use Rattle.std.specs.Cmp.Lexicographic.{slice_cmp}
+use Rattle.std.proofs.Common.{length, map}
 use Rattle.std.specs.Ordering.{nat_cmp}
 use Rattle.covline.specs.Points.{line_point, line_points}
 use Rattle.covline.specs.Row.{rows_of}
 use Rattle.covstore.specs.Ascending.{ascending}
-use Rattle.covstore.specs.BranchKeyView.{branch_key_data}
 use Rattle.covstore.specs.Next.{rest_after}
 use Rattle.covstore.specs.Table.{all_rows}
 use Rattle.covstore.specs.TotalsSteps.{hits_line, items_of_file}
-use Rattle.covstore.specs.Value.{branch_cmp}
 use Rattle.covstore.proofs.TotalsTally.{IsTally}
 use Rattle.covstore.proofs.totals.lines.tally_of.Given as goal
 
