@@ -6,11 +6,11 @@ pub mod Walks
 pub mod Roads
 pub mod Bounds
 pub mod Few
-pub mod Looks
-pub mod Clashes
 pub mod TotalsWalks
 pub mod TotalsCounts
 pub mod TotalsTally
 pub mod TotalsRows
 pub mod TotalsKinds
 pub mod TotalsFiles
+pub mod Looks
+pub mod Clashes

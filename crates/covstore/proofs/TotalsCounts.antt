@@ -12,8 +12,7 @@ use Rattle.std.proofs.lemmas.Cmp.{tied_itself}
 use Rattle.std.proofs.lemmas.List.{length-map}
 use Rattle.std.proofs.lemmas.List.Sums.{sum_by-cons, count_by-le-length, length-filter, sum_by-le-sum_by}
 use Rattle.std.proofs.lemmas.Slice.Eq.{bytes_eq-Decides}
-use Rattle.covline.specs.Points.{func_point}
-use Rattle.covline.specs.Row.{ItemData, LineItem, FuncItem, BranchItem, SubmissionData, Row, rows_of}
+use Rattle.covline.specs.Row.{ItemData, SubmissionData, Row, rows_of}
 use Rattle.covstore.specs.Ascending.{ascending}
 use Rattle.covstore.specs.Held.{IsHeld}
 use Rattle.covstore.specs.Next.{rest_after, IsNext}
@@ -57,11 +56,6 @@ one_each [] = refl
 one_each {X} (x ∷ xs) = omega (arith, sum_by-cons (λ (x : X). 1) x xs, one_each xs)
 
 -- ---- how many points a file has
-
-pub one_function : (item : ItemData) → length (func_point item) ≤ 1
-one_function (LineItem line count checksum) = omega arith
-one_function (FuncItem name line count) = omega arith
-one_function (BranchItem line block branch taken) = omega arith
 
 module _ {X : Type 0} (cmp : X → X → Ordering) (point : ItemData → List X) (one : (item : ItemData) → length (point item) ≤ 1) where
   -- a file has no more points than rows

@@ -6,9 +6,9 @@ use Rattle.covline.specs.Row.{rows_of}
 use Rattle.covstore.specs.Table.{all_rows}
 use Rattle.covstore.specs.TotalsSteps.{hits_line, hits_function, hits_branch}
 use Rattle.covstore.specs.Value.{branch_cmp}
-use Rattle.covstore.proofs.Few.{one_line, one_branch}
+use Rattle.covstore.proofs.Few.{one_line, one_function, one_branch}
 use Rattle.covstore.proofs.Orders.{names_order}
-use Rattle.covstore.proofs.TotalsCounts.{founds_fit, hits_fit, nearer_end, one_function}
+use Rattle.covstore.proofs.TotalsCounts.{founds_fit, hits_fit, nearer_end}
 use Rattle.covstore.proofs.TotalsFiles.{files_in_rows, founds, hit_ones, hits_le_founds, parts_begin, part_goes_on, part_fits, whole_part}
 use Rattle.covstore.proofs.TotalsKinds.{totals_are, same_totals}
 use Rattle.covstore.proofs.totals.totals_of.Goals as goal

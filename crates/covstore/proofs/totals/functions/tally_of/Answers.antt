@@ -5,8 +5,9 @@ use Rattle.covline.specs.Points.{func_point, func_points}
 use Rattle.covline.specs.Row.{rows_of}
 use Rattle.covstore.specs.Table.{all_rows}
 use Rattle.covstore.specs.TotalsSteps.{hits_function, items_of_file}
+use Rattle.covstore.proofs.Few.{one_function}
 use Rattle.covstore.proofs.Orders.{names_order}
-use Rattle.covstore.proofs.TotalsCounts.{found_fits, one_function}
+use Rattle.covstore.proofs.TotalsCounts.{found_fits}
 use Rattle.covstore.proofs.TotalsCounts.{nearer_end}
 use Rattle.covstore.proofs.TotalsTally.{tally_begins, tally_goes_on, all_found, all_hit, found_so_far, hit_so_far}
 use Rattle.covstore.proofs.totals.functions.tally_of.Goals as goal
