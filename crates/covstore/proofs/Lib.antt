@@ -6,6 +6,12 @@ pub mod Walks
 pub mod Roads
 pub mod Bounds
 pub mod Few
+pub mod TotalsWalks
+pub mod TotalsCounts
+pub mod TotalsTally
+pub mod TotalsRows
+pub mod TotalsKinds
+pub mod TotalsFiles
 pub mod Looks
 pub mod Clashes
 pub mod ContentsLists

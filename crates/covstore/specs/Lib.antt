@@ -5,6 +5,7 @@ pub mod Clash
 pub mod Table
 pub mod Content
 pub mod Totals
+pub mod TotalsSteps
 pub mod Stored
 pub mod Held
 pub mod RefuseView

@@ -7,6 +7,7 @@
 mod branches;
 mod clash;
 pub mod content;
+mod file_rows;
 mod functions;
 mod keys;
 pub mod laws;

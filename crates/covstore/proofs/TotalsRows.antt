@@ -1,0 +1,238 @@
+-- The totals of the content are counts over rows: what some test has of a file, some row of the file has.
+use Rattle.std.proofs.Common.{◌≡◌, ℕ, zero, suc, ◌+◌, Bool, true, false, cond, ◌||◌, nat_lt, List, [], ◌∷◌, map, filter, refl, sym, ap, ◌∙◌, subst, inl, inr, ◌⊎◌, ⊎_elim, arith}
+use Rattle.std.specs.declared.cmp.Ordering.{Ordering}
+use Rattle.std.specs.List.{flat_map, list_any, sum_by}
+use Rattle.std.specs.Str.{bytes_eq}
+use Rattle.std.proofs.lemmas.Bool.{false≢true, and_parts, and_from, cond-true, cond-false, cases_Bool, or_left, or_right, lt-ltb}
+use Rattle.std.proofs.lemmas.List.Folds.{list_any-append}
+use Rattle.std.proofs.lemmas.List.Sums.{sum_by-cons}
+use Rattle.std.proofs.lemmas.Slice.Eq.{bytes_eq-Decides}
+use Rattle.covline.specs.Row.{ItemData, Row}
+use Rattle.covstore.specs.Ascending.{ascending}
+use Rattle.covstore.specs.Content.{SectionData, section_of, content_of}
+use Rattle.covstore.specs.Totals.{files_in, sections_of}
+use Rattle.covstore.specs.TotalsSteps.{files_of, has_file, items_of_file}
+use Rattle.covstore.specs.Value.{Key, key_of_row, keys_of, has_key, items_at}
+use Rattle.covstore.proofs.Ascend.{IsExactOrder, ascending_is, one_ascending, In-ascending, In-to_ascending}
+use Rattle.covstore.proofs.Members.{In, In-from, Contains-from, In-map, In-unmap, In-joined, In-parts}
+use Rattle.covstore.proofs.Orders.{keys_order, names_order}
+use Rattle.covstore.proofs.TotalsWalks.{file_of_key, key_of_file}
+
+-- ---- members of lists that are filtered and joined
+
+In-filter_at : {X : Type 0} (x y : X) (ys : List X) (p : X → Bool) (b : Bool) → p y ≡ b → In x (cond b (y ∷ ys) ys) → ((y ≡ x) × (p x ≡ true)) ⊎ In x ys
+In-filter_at x y ys p true e (inl is) = inl (is, ap p (sym is) ∙ e)
+In-filter_at x y ys p true e (inr i) = inr i
+In-filter_at x y ys p false e i = inr i
+
+In-filter : {X : Type 0} (p : X → Bool) (xs : List X) (x : X) → In x (filter p xs) → In x xs × (p x ≡ true)
+In-filter p [] x i = absurd i
+In-filter p (y ∷ ys) x i =
+    ⊎_elim (λ found. (inl found.0, found.1)) (λ j. let later = In-filter p ys x j in (inr later.0, later.1)) (In-filter_at x y (filter p ys) p (p y) refl i)
+
+In-to_filter : {X : Type 0} (p : X → Bool) (xs : List X) (x : X) → In x xs → p x ≡ true → In x (filter p xs)
+In-to_filter p [] x i h = absurd i
+In-to_filter {X} p (y ∷ ys) x (inl is) h = subst (In x) (sym (cond-true (p y) (y ∷ filter p ys) (filter p ys) (ap p is ∙ h))) (inl is)
+In-to_filter {X} p (y ∷ ys) x (inr i) h =
+    ⊎_elim (λ (e : p y ≡ true). subst (In x) (sym (cond-true (p y) (y ∷ filter p ys) (filter p ys) e)) (inr (In-to_filter p ys x i h)))
+    (λ (e : p y ≡ false). subst (In x) (sym (cond-false (p y) (y ∷ filter p ys) (filter p ys) e)) (In-to_filter p ys x i h)) (cases_Bool (p y))
+
+In-flat : {X Y : Type 0} (f : X → List Y) (xs : List X) (y : Y) → In y (flat_map f xs) → (x : X) × In x xs × In y (f x)
+In-flat f [] y i = absurd i
+In-flat f (x ∷ xs) y i =
+    ⊎_elim (λ here. (x, inl refl, here)) (λ there. let found = In-flat f xs y there in (found.0, inr found.1, found.2)) (In-parts (f x) (flat_map f xs) y i)
+
+In-to_flat : {X Y : Type 0} (f : X → List Y) (xs : List X) (x : X) (y : Y) → In x xs → In y (f x) → In y (flat_map f xs)
+In-to_flat f [] x y i j = absurd i
+In-to_flat f (z ∷ xs) x y (inl is) j = In-joined (f z) (flat_map f xs) y (inl (subst (λ w. In y (f w)) (sym is) j))
+In-to_flat f (z ∷ xs) x y (inr i) j = In-joined (f z) (flat_map f xs) y (inr (In-to_flat f xs x y i j))
+
+-- ---- some member passes
+
+any_from_in : {X : Type 0} (p : X → Bool) (xs : List X) (x : X) → In x xs → p x ≡ true → list_any p xs ≡ true
+any_from_in p [] x i h = absurd i
+any_from_in p (y ∷ ys) x (inl is) h = or_left (p y) (list_any p ys) (ap p is ∙ h)
+any_from_in p (y ∷ ys) x (inr i) h = or_right (p y) (list_any p ys) (any_from_in p ys x i h)
+
+in_from_one : {X : Type 0} (b : Bool) (p : X → Bool) (y : X) (ys : List X) → p y ≡ b → (list_any p ys ≡ true → (x : X) × In x ys × (p x ≡ true)) → (b || list_any p ys) ≡ true → (x : X) × In x (y ∷ ys) × (p x ≡ true)
+in_from_one true p y ys e rest h = (y, inl refl, e)
+in_from_one false p y ys e rest h = let found = rest h in (found.0, inr found.1, found.2)
+
+in_from_any : {X : Type 0} (p : X → Bool) (xs : List X) → list_any p xs ≡ true → (x : X) × In x xs × (p x ≡ true)
+in_from_any p [] h = absurd (false≢true h)
+in_from_any p (y ∷ ys) h = in_from_one (p y) p y ys refl (in_from_any p ys) h
+
+pub same_truth : (a b : Bool) → (a ≡ true → b ≡ true) → (b ≡ true → a ≡ true) → a ≡ b
+same_truth true b to from = sym (to refl)
+same_truth false true to from = from refl
+same_truth false false to from = refl
+
+abbrev SameMembers : {X : Type 0} → List X → List X → Type 0
+SameMembers {X} xs ys = ((x : X) → In x xs → In x ys) × ((x : X) → In x ys → In x xs)
+
+any_same_members : {X : Type 0} (p : X → Bool) (xs ys : List X) → SameMembers xs ys → list_any p xs ≡ list_any p ys
+any_same_members p xs ys same =
+    same_truth (list_any p xs) (list_any p ys)
+    (λ h. let found = in_from_any p xs h in any_from_in p ys found.0 (same.0 found.0 found.1) found.2)
+    (λ h. let found = in_from_any p ys h in any_from_in p xs found.0 (same.1 found.0 found.1) found.2)
+
+ascending_same_members : {X : Type 0} {cmp : X → X → Ordering} → IsExactOrder cmp → (xs ys : List X) → SameMembers xs ys → ascending cmp xs ≡ ascending cmp ys
+ascending_same_members {X} {cmp} o xs ys same =
+    let a = ascending_is o xs in
+    let b = ascending_is o ys in
+    one_ascending o xs (ascending cmp xs) (ascending cmp ys) a (record {
+      sorted = b.sorted;
+      members = λ x. (λ h. Contains-from xs x (same.1 x (In-from ys x ((b.members x).0 h))), λ h. (b.members x).1 (Contains-from ys x (same.0 x (In-from xs x h))));
+    })
+
+-- ---- the items of a file's keys are those of the file
+
+abbrev keys_of_file : List ℕ → List Row → List Key
+keys_of_file file rows = filter (λ k. bytes_eq k.file file) (keys_of rows)
+
+abbrev items_of_keys : List Row → List Key → List ItemData
+items_of_keys rows keys = flat_map (λ k. items_at k rows) keys
+
+items_of_file_keys : (file : List ℕ) (rows : List Row) → SameMembers (items_of_keys rows (keys_of_file file rows)) (items_of_file file rows)
+items_of_file_keys file rows = (to, from)
+  where
+    to : (item : ItemData) → In item (items_of_keys rows (keys_of_file file rows)) → In item (items_of_file file rows)
+    to item i =
+        let at_key = In-flat (λ (k : Key). items_at k rows) (keys_of_file file rows) item i in
+        let own = In-filter (λ (k : Key). bytes_eq k.file file) (keys_of rows) at_key.0 at_key.1 in
+        let row = In-unmap (λ (r : Row). r.item) (filter (has_key at_key.0) rows) item at_key.2 in
+        let of_key = In-filter (has_key at_key.0) rows row.0 row.1 in
+        let same : at_key.0.file ≡ file = (bytes_eq-Decides at_key.0.file file).0 own.1 in
+        let has : bytes_eq row.0.file file ≡ true = subst (λ (name : List ℕ). bytes_eq row.0.file name ≡ true) same (and_parts (bytes_eq row.0.file at_key.0.file) (bytes_eq row.0.test at_key.0.test) of_key.1).0 in
+        subst (λ (x : ItemData). In x (items_of_file file rows)) row.2 (In-map (λ (r : Row). r.item) (filter (has_file file) rows) row.0 (In-to_filter (has_file file) rows row.0 of_key.0 has))
+
+    from : (item : ItemData) → In item (items_of_file file rows) → In item (items_of_keys rows (keys_of_file file rows))
+    from item i =
+        let row = In-unmap (λ (r : Row). r.item) (filter (has_file file) rows) item i in
+        let of_file = In-filter (has_file file) rows row.0 row.1 in
+        let key = key_of_row row.0 in
+        let there : In key (keys_of rows) = In-to_ascending keys_order.exact key (map key_of_row rows) (In-map key_of_row rows row.0 of_file.0) in
+        let has : has_key key row.0 ≡ true = and_from (bytes_eq row.0.file row.0.file) (bytes_eq row.0.test row.0.test) ((bytes_eq-Decides row.0.file row.0.file).1 refl) ((bytes_eq-Decides row.0.test row.0.test).1 refl) in
+        In-to_flat (λ (k : Key). items_at k rows) (keys_of_file file rows) key item
+        (In-to_filter (λ (k : Key). bytes_eq k.file file) (keys_of rows) key there of_file.1)
+        (subst (λ (x : ItemData). In x (items_at key rows)) row.2 (In-map (λ (r : Row). r.item) (filter (has_key key) rows) row.0 (In-to_filter (has_key key) rows row.0 of_file.0 has)))
+
+-- ---- the sections of a file
+
+filter-map : {X Y : Type 0} (p : Y → Bool) (f : X → Y) (xs : List X) → filter p (map f xs) ≡ map f (filter (λ x. p (f x)) xs)
+filter-map p f [] = refl
+filter-map {X} {Y} p f (x ∷ xs) = by (p (f x)) (filter-map p f xs)
+  where
+    by : (b : Bool) → filter p (map f xs) ≡ map f (filter (λ z. p (f z)) xs)
+        → cond b (f x ∷ filter p (map f xs)) (filter p (map f xs)) ≡ map f (cond b (x ∷ filter (λ z. p (f z)) xs) (filter (λ z. p (f z)) xs))
+    by true rest = ap (λ (ys : List Y). f x ∷ ys) rest
+    by false rest = rest
+
+sections_of_keys : (file : List ℕ) (rows : List Row) → sections_of file (content_of rows) ≡ map (section_of rows) (keys_of_file file rows)
+sections_of_keys file rows = filter-map (λ (s : SectionData). bytes_eq s.key.file file) (section_of rows) (keys_of rows)
+
+-- ---- the files
+
+files_of_content : (rows : List Row) → SameMembers (map (λ (s : SectionData). s.key.file) (content_of rows)) (map (λ (row : Row). row.file) rows)
+files_of_content rows = (to, from)
+  where
+    to : (file : List ℕ) → In file (map (λ (s : SectionData). s.key.file) (content_of rows)) → In file (map (λ (row : Row). row.file) rows)
+    to file i =
+        let section = In-unmap (λ (s : SectionData). s.key.file) (content_of rows) file i in
+        let key = In-unmap (section_of rows) (keys_of rows) section.0 section.1 in
+        subst (λ (name : List ℕ). In name (map (λ (row : Row). row.file) rows)) (ap (λ (s : SectionData). s.key.file) key.2 ∙ section.2)
+        (file_of_key rows key.0 (In-ascending keys_order.exact key.0 (map key_of_row rows) key.1))
+
+    from : (file : List ℕ) → In file (map (λ (row : Row). row.file) rows) → In file (map (λ (s : SectionData). s.key.file) (content_of rows))
+    from file i =
+        let key = key_of_file rows file i in
+        subst (λ (name : List ℕ). In name (map (λ (s : SectionData). s.key.file) (content_of rows))) key.2
+        (In-map (λ (s : SectionData). s.key.file) (content_of rows) (section_of rows key.0)
+        (In-map (section_of rows) (keys_of rows) key.0 (In-to_ascending keys_order.exact key.0 (map key_of_row rows) key.1)))
+
+pub files_are : (rows : List Row) → files_in (content_of rows) ≡ files_of rows
+files_are rows = ascending_same_members names_order (map (λ (s : SectionData). s.key.file) (content_of rows)) (map (λ (row : Row). row.file) rows) (files_of_content rows)
+
+-- ---- the points of one kind
+
+module _ {X : Type 0} {cmp : X → X → Ordering} (o : IsExactOrder cmp) (point : ItemData → List X) (points : SectionData → List X)
+    (reads : (rows : List Row) (key : Key) → points (section_of rows key) ≡ ascending cmp (flat_map point (items_at key rows))) (file : List ℕ) (rows : List Row) where
+  points_of_keys : (keys : List Key) → SameMembers (flat_map points (map (section_of rows) keys)) (flat_map point (items_of_keys rows keys))
+  points_of_keys keys = (to, from)
+    where
+      to : (x : X) → In x (flat_map points (map (section_of rows) keys)) → In x (flat_map point (items_of_keys rows keys))
+      to x i =
+          let section = In-flat points (map (section_of rows) keys) x i in
+          let key = In-unmap (section_of rows) keys section.0 section.1 in
+          let own : In x (ascending cmp (flat_map point (items_at key.0 rows))) = subst (In x) (reads rows key.0) (subst (λ (s : SectionData). In x (points s)) (sym key.2) section.2) in
+          let item = In-flat point (items_at key.0 rows) x (In-ascending o.exact x (flat_map point (items_at key.0 rows)) own) in
+          In-to_flat point (items_of_keys rows keys) item.0 x (In-to_flat (λ (k : Key). items_at k rows) keys key.0 item.0 key.1 item.1) item.2
+
+      from : (x : X) → In x (flat_map point (items_of_keys rows keys)) → In x (flat_map points (map (section_of rows) keys))
+      from x i =
+          let item = In-flat point (items_of_keys rows keys) x i in
+          let key = In-flat (λ (k : Key). items_at k rows) keys item.0 item.1 in
+          let own : In x (points (section_of rows key.0)) = subst (In x) (sym (reads rows key.0)) (In-to_ascending o.exact x (flat_map point (items_at key.0 rows)) (In-to_flat point (items_at key.0 rows) item.0 x key.2 item.2)) in
+          In-to_flat points (map (section_of rows) keys) (section_of rows key.0) x (In-map (section_of rows) keys key.0 key.1) own
+
+  points_of_items : (items others : List ItemData) → SameMembers items others → (x : X) → In x (flat_map point items) → In x (flat_map point others)
+  points_of_items items others same x i = let item = In-flat point items x i in In-to_flat point others item.0 x (same.0 item.0 item.1) item.2
+
+  -- the points found in the sections of a file are those of its rows
+  pub points_found : ascending cmp (flat_map points (sections_of file (content_of rows))) ≡ ascending cmp (flat_map point (items_of_file file rows))
+  points_found =
+      let keys = keys_of_file file rows in
+      let same = items_of_file_keys file rows in
+      let by_keys = points_of_keys keys in
+      ap (λ (own : List SectionData). ascending cmp (flat_map points own)) (sections_of_keys file rows)
+      ∙ ascending_same_members o (flat_map points (map (section_of rows) keys)) (flat_map point (items_of_file file rows)) (
+        λ x i. points_of_items (items_of_keys rows keys) (items_of_file file rows) same x (by_keys.0 x i),
+        λ x i. by_keys.1 x (points_of_items (items_of_file file rows) (items_of_keys rows keys) (same.1, same.0) x i),
+      )
+
+-- ---- the points that are hit
+
+module _ (is_hit : SectionData → Bool) (hits : ItemData → Bool) (reads : (rows : List Row) (key : Key) → is_hit (section_of rows key) ≡ list_any hits (items_at key rows)) (file : List ℕ) (rows : List Row) where
+  hit_in_keys : (keys : List Key) → list_any is_hit (map (section_of rows) keys) ≡ list_any hits (items_of_keys rows keys)
+  hit_in_keys [] = refl
+  hit_in_keys (key ∷ keys) =
+      ap (λ (b : Bool). b || list_any is_hit (map (section_of rows) keys)) (reads rows key)
+      ∙ ap (λ (b : Bool). list_any hits (items_at key rows) || b) (hit_in_keys keys)
+      ∙ sym (list_any-append hits (items_at key rows) (items_of_keys rows keys))
+
+  -- a point is hit in some section of a file where some row of the file hits it
+  pub hit_in_file : list_any is_hit (sections_of file (content_of rows)) ≡ list_any hits (items_of_file file rows)
+  hit_in_file =
+      ap (list_any is_hit) (sections_of_keys file rows) ∙ hit_in_keys (keys_of_file file rows)
+      ∙ any_same_members hits (items_of_keys rows (keys_of_file file rows)) (items_of_file file rows) (items_of_file_keys file rows)
+
+-- in one section: a point of it with a value above 0 is there exactly where an item hits it
+module _ {X Y : Type 0} {cmp : X → X → Ordering} (o : IsExactOrder cmp) (point : ItemData → List X) (at : X → Y) (test : Y → Bool) (x : X) (hits : ItemData → Bool) (items : List ItemData) where
+  pub hit_in_section : ((y : X) → test (at y) ≡ true → list_any hits items ≡ true) → (list_any hits items ≡ true → test (at x) ≡ true) → ((item : ItemData) → hits item ≡ true → In x (point item))
+      → list_any test (map at (ascending cmp (flat_map point items))) ≡ list_any hits items
+  hit_in_section reads tests speaks =
+      let all = ascending cmp (flat_map point items) in
+      same_truth (list_any test (map at all)) (list_any hits items)
+      (λ h. let value = in_from_any test (map at all) h in
+      let source = In-unmap at all value.0 value.1 in
+      reads source.0 (ap test source.2 ∙ value.2))
+      (λ h. let item = in_from_any hits items h in
+      any_from_in test (map at all) (at x)
+      (In-map at all x (In-to_ascending o.exact x (flat_map point items) (In-to_flat point items item.0 x item.1 (speaks item.0 item.2)))) (tests h))
+
+-- a sum is above 0 where one of its numbers is
+above_either : (a b : ℕ) → nat_lt 0 (a + b) ≡ (nat_lt 0 a || nat_lt 0 b)
+above_either zero b = let is : 0 + b ≡ b = omega arith in ap (nat_lt 0) is
+above_either (suc a) b = lt-ltb 0 (suc a + b) (omega arith) ∙ sym (or_left (nat_lt 0 (suc a)) (nat_lt 0 b) (lt-ltb 0 (suc a) (omega arith)))
+
+pub sum_above : {X : Type 0} (f : X → ℕ) (xs : List X) → nat_lt 0 (sum_by f xs) ≡ list_any (λ x. nat_lt 0 (f x)) xs
+sum_above f [] = refl
+sum_above f (x ∷ xs) = ap (nat_lt 0) (sum_by-cons f x xs) ∙ above_either (f x) (sum_by f xs) ∙ ap (λ (b : Bool). nat_lt 0 (f x) || b) (sum_above f xs)
+
+pub any_flat : {X Y : Type 0} (p : Y → Bool) (f : X → List Y) (xs : List X) → list_any p (flat_map f xs) ≡ list_any (λ x. list_any p (f x)) xs
+any_flat p f [] = refl
+any_flat p f (x ∷ xs) = list_any-append p (f x) (flat_map f xs) ∙ ap (λ (b : Bool). list_any p (f x) || b) (any_flat p f xs)
+
+pub any_agree : {X : Type 0} (p q : X → Bool) → ((x : X) → p x ≡ q x) → (xs : List X) → list_any p xs ≡ list_any q xs
+any_agree p q same [] = refl
+any_agree p q same (x ∷ xs) = ap (λ (b : Bool). b || list_any p xs) (same x) ∙ ap (λ (b : Bool). q x || b) (any_agree p q same xs)

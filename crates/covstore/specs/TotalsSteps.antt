@@ -1,0 +1,71 @@
+-- Totals over rows: the items of one file over all tests, its points that are hit, and what is counted of them.
+use Rattle.std.specs.Prelude.{ℕ, Bool, false, nat_lt, ◌==◌, ◌&&◌, List, [], ◌∷◌, length, map, filter, count_by, if◌then◌else◌}
+use Rattle.std.specs.declared.cmp.Ordering.{Ordering}
+use Rattle.std.specs.Ordering.{nat_cmp}
+use Rattle.std.specs.Cmp.Lexicographic.{slice_cmp}
+use Rattle.std.specs.Str.{bytes_eq}
+use Rattle.std.specs.List.{flat_map, list_any}
+use Rattle.covline.specs.Row.{ItemData, LineItem, FuncItem, BranchItem, SectData, Row}
+use Rattle.covline.specs.Points.{BranchPoint}
+use Rattle.covstore.specs.Ascending.{ascending}
+use Rattle.covstore.specs.Value.{is_branch, is_taken}
+
+-- the files with a row, in order
+abbrev pub files_of : List Row → List (List ℕ)
+files_of rows = ascending (slice_cmp nat_cmp) (map (λ row. row.file) rows)
+
+-- the row is of this file
+abbrev pub has_file : List ℕ → Row → Bool
+has_file file row = bytes_eq row.file file
+
+-- the items of a file over all tests, in the order of the rows
+abbrev pub items_of_file : List ℕ → List Row → List ItemData
+items_of_file file rows = map (λ row. row.item) (filter (has_file file) rows)
+
+-- ---- the walk over sections
+
+-- the items of a section of this file, and none of another's
+abbrev pub items_if_file : List ℕ → SectData → List ItemData
+items_if_file file sect = if bytes_eq sect.file file then sect.items else []
+
+abbrev pub items_of_file_sects : List ℕ → List SectData → List ItemData
+items_of_file_sects file sects = flat_map (items_if_file file) sects
+
+-- the file of a section, where that has an item
+abbrev pub file_if_any : List ℕ → List ItemData → List (List ℕ)
+file_if_any file [] = []
+file_if_any file (item ∷ items) = file ∷ []
+
+abbrev pub file_point : SectData → List (List ℕ)
+file_point sect = file_if_any sect.file sect.items
+
+-- ---- points that are hit
+
+-- the item has this line with a count above 0
+abbrev pub hits_line : ℕ → ItemData → Bool
+hits_line line (LineItem at count checksum) = at == line && nat_lt 0 count
+hits_line line (FuncItem name start count) = false
+hits_line line (BranchItem at block branch taken) = false
+
+-- likewise this function
+abbrev pub hits_function : List ℕ → ItemData → Bool
+hits_function name (FuncItem other line count) = bytes_eq other name && nat_lt 0 count
+hits_function name (LineItem line count checksum) = false
+hits_function name (BranchItem line block branch taken) = false
+
+-- and this branch
+abbrev pub hits_branch : BranchPoint → ItemData → Bool
+hits_branch point (BranchItem line block branch taken) = is_branch point line block branch && is_taken taken
+hits_branch point (LineItem line count checksum) = false
+hits_branch point (FuncItem name line count) = false
+
+-- some item hits the point
+abbrev pub is_hit_in : {X : Type 0} → (X → ItemData → Bool) → List ItemData → X → Bool
+is_hit_in hits items point = list_any (hits point) items
+
+-- how many points of a kind items have, and how many of these are hit
+abbrev pub found_in : {X : Type 0} → (X → X → Ordering) → (ItemData → List X) → List ItemData → ℕ
+found_in cmp point items = length (ascending cmp (flat_map point items))
+
+abbrev pub hit_in : {X : Type 0} → (X → X → Ordering) → (ItemData → List X) → (X → ItemData → Bool) → List ItemData → ℕ
+hit_in cmp point hits items = count_by (is_hit_in hits items) (ascending cmp (flat_map point items))
