@@ -2,3 +2,5 @@ pub mod Pattern
 pub mod Choice
 pub mod ChoiceView
 pub mod PatternFault
+pub mod PatternSteps
+pub mod PatternWalk
