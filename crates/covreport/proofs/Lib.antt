@@ -2,3 +2,4 @@ pub mod Bodies
 pub mod Heads
 pub mod Stars
 pub mod Steps
+pub mod Sets

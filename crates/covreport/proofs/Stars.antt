@@ -1,5 +1,5 @@
 -- What a star takes, and why no star before the last one has to take more.
-use Rattle.std.proofs.Common.{◌≡◌, ℕ, true, ◌||◌, ◌⊎◌, inl, inr, List, [], ◌∷◌, refl, sym, ◌∙◌}
+use Rattle.std.proofs.Common.{◌≡◌, ℕ, true, ◌||◌, ◌⊎◌, inl, inr, List, [], ◌∷◌, ◌++◌, refl, sym, ap, ◌∙◌}
 use Rattle.std.proofs.lemmas.Bool.{or_cases, or_left, or_right, and_parts}
 use Rattle.covreport.specs.Pattern.{Part, AnyRun, OneByte, ByteSet, takes, fits}
 use Rattle.covreport.specs.PatternWalk.{fits_later}
@@ -40,3 +40,24 @@ star_star parts (b ∷ path) e =
       | inl now ↦ now
       | inr later ↦ or_right (fits parts (b ∷ path)) (fits (AnyRun ∷ parts) path) (star_star parts path later)
     ]
+
+-- ---- the law
+
+abbrev pub SomeEndFits : List Part → List ℕ → Type 0
+SomeEndFits parts path = (run end : List ℕ) × (path ≡ run ++ end) × (fits parts end ≡ true)
+
+pub end_found : (parts : List Part) (path : List ℕ) → fits (AnyRun ∷ parts) path ≡ true → SomeEndFits parts path
+end_found parts [] e =
+    elim (run_cases parts [] e) [ inl now ↦ ([], [], refl, now) | inr later ↦ absurd cc ]
+end_found parts (b ∷ path) e =
+    elim (run_cases parts (b ∷ path) e) [
+      | inl now ↦ ([], b ∷ path, refl, now)
+      | inr later ↦ let more = end_found parts path later in (b ∷ more.0, more.1, ap (λ (t : List ℕ). b ∷ t) more.2, more.3)
+    ]
+
+found_behind : (parts : List Part) (run end : List ℕ) → fits parts end ≡ true → fits (AnyRun ∷ parts) (run ++ end) ≡ true
+found_behind parts [] end e = fits_now parts end e
+found_behind parts (b ∷ run) end e = or_right (fits parts (b ∷ (run ++ end))) (fits (AnyRun ∷ parts) (run ++ end)) (found_behind parts run end e)
+
+pub end_fits : (parts : List Part) (path : List ℕ) → SomeEndFits parts path → fits (AnyRun ∷ parts) path ≡ true
+end_fits parts path some = rw some.2 (found_behind parts some.0 some.1 some.3)
