@@ -7,7 +7,7 @@ ghost use Rattle.std.specs.Prelude.{◌≡◌};
 ghost use Rattle.covreport.specs.Pattern.{matches as pattern_matches};
 
 mod parts;
-mod steps;
+pub(crate) mod steps;
 
 use steps::Matcher;
 
