@@ -5,7 +5,7 @@ use Rattle.std.proofs.lemmas.Bool.{false_from_ne_true}
 use Rattle.std.proofs.lemmas.List.{length-take-le, take_rest}
 use Rattle.memchr.specs.Find.{NoneBefore, Nowhere, Passes, is_byte}
 use Rattle.covreport.specs.Pattern.{before_close, body_of}
-use Rattle.covreport.specs.PatternSteps.{behind_body}
+use Rattle.covreport.specs.PatternParts.{behind_body}
 
 abbrev IsClose : List ℕ → ℕ → Type 0
 IsClose text = Passes (is_byte 93) text
@@ -31,7 +31,7 @@ read_cut : (first : ℕ) (behind : List ℕ) (k : ℕ) → k < length behind →
     Some (take (k + 1) (first ∷ behind), take (length behind - (k + 1)) (drop (k + 1) behind)) ≡ option_map (behind_body (first ∷ behind)) (body_of (first ∷ behind))
 read_cut first behind k lt is =
     let le : k ≤ length behind = omega arith in
-    rw (is, take_rest behind (k + 1), add-one, add-one)
+    rw (is, take_rest behind (k + 1), add-one k, add-one (suc (length (take k behind))))
     (ap (λ (n : ℕ). Some (first ∷ take k behind, drop (suc n) behind)) (sym (length-take-le k behind le)))
 
 -- the first ] stands behind the first byte and k more

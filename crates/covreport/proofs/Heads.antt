@@ -2,7 +2,7 @@
 use Rattle.std.proofs.Common.{◌≡◌, ℕ, zero, suc, ◌+◌, ◌-◌, ◌≤◌, List, [], ◌∷◌, length, get_or, take, drop, refl, sym, ap, arith}
 use Rattle.std.proofs.lemmas.List.{take_all, length-drop}
 use Rattle.covreport.specs.Pattern.{Part, head_of, parts_behind, parts_of}
-use Rattle.covreport.specs.PatternSteps.{part_data, head_data, behind_head}
+use Rattle.covreport.specs.PatternParts.{part_data, head_data, behind_head}
 use Rattle.covreport.specs.declared.pattern.parts.Head.{Head}
 
 -- bytes that belong to the part before are left out

@@ -2,7 +2,7 @@
 use Rattle.std.proofs.Common.{◌≡◌, ℕ, true, ◌||◌, ◌⊎◌, inl, inr, List, [], ◌∷◌, ◌++◌, refl, sym, ap, ◌∙◌}
 use Rattle.std.proofs.lemmas.Bool.{or_cases, or_left, or_right, and_parts}
 use Rattle.covreport.specs.Pattern.{Part, AnyRun, OneByte, ByteSet, takes, fits}
-use Rattle.covreport.specs.PatternWalk.{fits_later}
+use Rattle.covreport.specs.PatternSteps.{fits_later}
 
 -- a star takes the empty run, or a later one
 pub fits_run : (parts : List Part) (path : List ℕ) → (fits parts path || fits_later parts path) ≡ fits (AnyRun ∷ parts) path

@@ -2,7 +2,7 @@
 use Rattle.std.proofs.Common.{◌≡◌, ℕ, suc, ◌+◌, ◌*◌, ◌<◌, ◌≤◌, Bool, true, false, ◌||◌, ◌∷◌, length, refl, ap, ◌∙◌, arith, Option, Some, None}
 use Rattle.std.proofs.lemmas.Nat.{mul-le}
 use Rattle.covreport.specs.Pattern.{AnyRun, OneByte, ByteSet, takes, fits, parts_of}
-use Rattle.covreport.specs.PatternWalk.{fits_at, fits_behind, steps_from, GoesOnFrom, Proceeds}
+use Rattle.covreport.specs.PatternSteps.{fits_at, fits_behind, steps_from, GoesOnFrom, Proceeds}
 use Rattle.covreport.specs.declared.pattern.steps.Place.{Place}
 use Rattle.covreport.proofs.Heads.{IsRead}
 use Rattle.covreport.proofs.Stars.{fits_run, fits_after, star_over_byte, star_star}

@@ -2,5 +2,5 @@ pub mod Pattern
 pub mod Choice
 pub mod ChoiceView
 pub mod PatternFault
+pub mod PatternParts
 pub mod PatternSteps
-pub mod PatternWalk

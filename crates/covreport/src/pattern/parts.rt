@@ -2,7 +2,7 @@
 
 ghost use Rattle.std.specs.Prelude.{◌≡◌, [], MatchOption, option_map};
 ghost use Rattle.covreport.specs.Pattern.{OneByte, in_body, takes as set_takes, body_of, opened_set, quoted, head_of};
-ghost use Rattle.covreport.specs.PatternSteps.{set_data, BeginsWithRange, head_data, behind_body, behind_head};
+ghost use Rattle.covreport.specs.PatternParts.{set_data, BeginsWithRange, head_data, behind_body, behind_head};
 
 use memchr::memchr;
 

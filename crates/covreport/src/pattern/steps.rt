@@ -2,8 +2,8 @@
 
 ghost use Rattle.std.specs.Prelude.{◌≡◌, ◌+◌, ◌*◌, ◌≤◌, false, ◌∷◌, length, MatchOption};
 ghost use Rattle.covreport.specs.Pattern.{OneByte, matches as pattern_matches, parts_of};
-ghost use Rattle.covreport.specs.PatternSteps.{set_data};
-ghost use Rattle.covreport.specs.PatternWalk.{fits_at, answer_of, steps_left, GoesOn, Proceeds};
+ghost use Rattle.covreport.specs.PatternParts.{set_data};
+ghost use Rattle.covreport.specs.PatternSteps.{fits_at, answer_of, steps_left, GoesOn, Proceeds};
 
 use crate::pattern::parts::{ByteSet, Part, read_head};
 
@@ -36,7 +36,8 @@ impl<'a> Matcher<'a> {
         }
     }
 
-    /// One step: the answer, where it is found.
+    /// One step: the answer, where it is found. A match takes at most as many steps as there are pairs of a place in
+    /// the pattern and a place in the path.
     pub(crate) fn step(&mut self) -> Option<bool>
         requires { GoesOn self.old }
         ensures { MatchOption result (Proceeds self.old self.new) (λ answer. answer ≡ answer_of self.old) }

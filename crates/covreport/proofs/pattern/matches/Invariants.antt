@@ -1,6 +1,6 @@
 use Rattle.std.proofs.Common.{◌≡◌}
 use Rattle.covreport.specs.Pattern.{matches}
-use Rattle.covreport.specs.PatternWalk.{answer_of, steps_left, GoesOn}
+use Rattle.covreport.specs.PatternSteps.{answer_of, steps_left, GoesOn}
 use Rattle.covreport.proofs.pattern.matches.Given as goal
 
 abbrev pub invariant-loop-answer : goal.invariant-loop-answer

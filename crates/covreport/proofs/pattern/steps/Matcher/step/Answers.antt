@@ -1,5 +1,5 @@
 use Rattle.std.proofs.Common.{refl, ap}
-use Rattle.covreport.specs.PatternSteps.{part_data}
+use Rattle.covreport.specs.PatternParts.{part_data}
 use Rattle.covreport.proofs.Heads.{head_read}
 use Rattle.covreport.proofs.Steps.{star_seen}
 use Rattle.covreport.proofs.pattern.steps.Matcher.step.Goals as goal

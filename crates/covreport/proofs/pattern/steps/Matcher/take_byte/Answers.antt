@@ -1,5 +1,5 @@
 use Rattle.std.proofs.Common.{◌∙◌, sym, get_or}
-use Rattle.covreport.specs.PatternSteps.{set_data}
+use Rattle.covreport.specs.PatternParts.{set_data}
 use Rattle.covreport.proofs.Heads.{opened}
 use Rattle.covreport.proofs.Steps.{byte_taken}
 use Rattle.covreport.proofs.pattern.steps.Matcher.take_byte.Goals as goal
