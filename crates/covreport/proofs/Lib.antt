@@ -1,2 +1,7 @@
 pub mod Sorting
 pub mod Texts
+pub mod Bodies
+pub mod Heads
+pub mod Stars
+pub mod Steps
+pub mod Sets

@@ -5,3 +5,5 @@ pub mod PatternFault
 pub mod Report
 pub mod Printing
 pub mod Summary
+pub mod PatternParts
+pub mod PatternSteps

@@ -1,15 +1,19 @@
 //! Laws of the definitions that this crate's contracts cite. The functions do nothing: the contract is the law.
 
-ghost use Rattle.std.specs.Prelude.{◌≡◌, ◌↔◌, ◌≢◌, ℕ, true, false, ◌&&◌, List, [], ◌∷◌, ◌++◌, not, All};
+ghost use Rattle.std.specs.Prelude.{◌≡◌, ◌↔◌, ◌≢◌, ◌==◌, ℕ, true, false, ◌&&◌, List, [], ◌∷◌, ◌++◌, not, All};
 ghost use Rattle.covreport.specs.Pattern.{matches, in_body};
 
 /// A pattern means what its first part means, and then the rest: nothing is left only of the empty path; `?` takes any
-/// byte, `\` the next byte as itself, and at the end itself.
+/// byte, `\` the next byte as itself, and at the end itself; a byte that is none of `*`, `?`, `[` and `\` takes itself.
+/// All parts but a star need a byte.
 pub fn a_pattern_begins_with_its_head()
     ensures nothing { (matches [] [] ≡ true) × ((b : ℕ) (path : List ℕ) → matches [] (b ∷ path) ≡ false) }
     ensures any { (rest path : List ℕ) (b : ℕ) → matches (63 ∷ rest) (b ∷ path) ≡ matches rest path }
     ensures quoted { (rest path : List ℕ) (b : ℕ) → matches (92 ∷ b ∷ rest) (b ∷ path) ≡ matches rest path }
+    ensures quoted_other { (rest path : List ℕ) (b other : ℕ) → other ≢ b → matches (92 ∷ b ∷ rest) (other ∷ path) ≡ false }
     ensures last { (path : List ℕ) → (matches (92 ∷ []) path ≡ true) ↔ (path ≡ 92 ∷ []) }
+    ensures itself { (rest path : List ℕ) (first b : ℕ) → first ≢ 42 → first ≢ 63 → first ≢ 91 → first ≢ 92 → matches (first ∷ rest) (b ∷ path) ≡ (b == first && matches rest path) }
+    ensures needs_a_byte { (rest : List ℕ) (first : ℕ) → first ≢ 42 → matches (first ∷ rest) [] ≡ false }
 {}
 
 /// A star takes any run of bytes if the rest of the pattern matches what follows for some split.
@@ -22,4 +26,13 @@ pub fn a_star_takes_any_run()
 pub fn a_set_takes_its_bytes()
     ensures set { (first b : ℕ) (body rest path : List ℕ) → first ≢ 33 → All (λ c. c ≢ 93) body → matches (91 ∷ first ∷ (body ++ 93 ∷ rest)) (b ∷ path) ≡ (in_body b (first ∷ body) && matches rest path) }
     ensures none { (first b : ℕ) (body rest path : List ℕ) → All (λ c. c ≢ 93) body → matches (91 ∷ 33 ∷ first ∷ (body ++ 93 ∷ rest)) (b ∷ path) ≡ (not (in_body b (first ∷ body)) && matches rest path) }
+{}
+
+/// A `[` that no `]` closes takes itself: one behind which no `]` stands, or only that which would be the first byte of
+/// the body.
+pub fn an_unclosed_set_is_plain()
+    ensures last { (b : ℕ) (path : List ℕ) → matches (91 ∷ []) (b ∷ path) ≡ (b == 91 && matches [] path) }
+    ensures set { (first b : ℕ) (body path : List ℕ) → first ≢ 33 → All (λ c. c ≢ 93) body → matches (91 ∷ first ∷ body) (b ∷ path) ≡ (b == 91 && matches (first ∷ body) path) }
+    ensures mark { (b : ℕ) (path : List ℕ) → matches (91 ∷ 33 ∷ []) (b ∷ path) ≡ (b == 91 && matches (33 ∷ []) path) }
+    ensures none { (first b : ℕ) (body path : List ℕ) → All (λ c. c ≢ 93) body → matches (91 ∷ 33 ∷ first ∷ body) (b ∷ path) ≡ (b == 91 && matches (33 ∷ first ∷ body) path) }
 {}

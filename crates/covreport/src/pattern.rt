@@ -6,9 +6,19 @@
 ghost use Rattle.std.specs.Prelude.{◌≡◌};
 ghost use Rattle.covreport.specs.Pattern.{matches as pattern_matches};
 
+mod parts;
+pub(crate) mod steps;
+
+use steps::Matcher;
+
 /// Whether the pattern matches the whole path. Takes no memory, and goes back to the last star only.
 pub fn matches(pattern: &[u8], path: &[u8]) -> bool
     ensures { result ≡ pattern_matches pattern.now path.now }
 {
-    pattern.len() == path.len()
+    let mut matcher = Matcher::new(pattern, path);
+    loop {
+        if let Some(answer) = matcher.step() {
+            return answer;
+        }
+    }
 }

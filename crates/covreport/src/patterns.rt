@@ -120,7 +120,11 @@ impl<A: Allocator + Copy> Patterns<A> {
     pub fn copy(&self, alloc: A) -> Result<Patterns<A>, Memory>
         ensures { IfOk result (λ p. p ≡ self.now) }
     {
-        Err(Memory)
+        let mut copy = Patterns::new(alloc);
+        for pattern in &self.patterns {
+            copy.push(pattern.copy(alloc)?)?;
+        }
+        Ok(copy)
     }
 }
 

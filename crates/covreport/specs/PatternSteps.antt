@@ -1,0 +1,51 @@
+-- Where a match stands: what its answer will be, how many steps are left at the most, and what a step keeps.
+use Rattle.std.specs.Prelude.{◌≡◌, ◌<◌, ◌≤◌, ◌+◌, ◌*◌, ℕ, Bool, true, false, ◌||◌, List, [], ◌∷◌, length, Option, None, Some}
+use Rattle.covreport.specs.Pattern.{Part, AnyRun, parts_of, fits}
+use Rattle.covreport.specs.declared.pattern.steps.Place.{Place}
+use Rattle.covreport.specs.declared.pattern.steps.Matcher.{Matcher}
+
+-- what is left of the pattern fits what is left of the path
+abbrev pub fits_at : Place → Bool
+fits_at place = fits (parts_of place.pattern.now) place.path.now
+
+-- parts fit some end of a path, but for the whole path
+abbrev pub fits_later : List Part → List ℕ → Bool
+fits_later parts [] = false
+fits_later parts (b ∷ path) = fits (AnyRun ∷ parts) path
+
+-- the parts behind the last star fit where its run ends later than it was last taken to
+abbrev pub fits_behind : Option Place → Bool
+fits_behind None = false
+fits_behind (Some star) = fits_later (parts_of star.pattern.now) star.path.now
+
+-- what the match will answer
+abbrev pub answer_of : Matcher → Bool
+answer_of matcher = fits_at matcher.here || fits_behind matcher.star
+
+-- how many steps a match takes at the most, which stands here and has a star there
+abbrev pub steps_from : Place → Option Place → ℕ
+steps_from here None = (length here.pattern.now + 1) * (length here.path.now + 1)
+steps_from here (Some star) = length here.pattern.now + 1 + (length star.pattern.now + 1) * length star.path.now
+
+abbrev pub steps_left : Matcher → ℕ
+steps_left matcher = steps_from matcher.here matcher.star
+
+-- what is left here comes from what was left behind the star: where the star's parts fit some end of its path, the parts
+-- that are left here fit some end of the path that is left here
+pub record ComesFrom (star here : Place) : Type 0 where
+  pub pattern : length here.pattern.now ≤ length star.pattern.now
+  pub path : length here.path.now ≤ length star.path.now
+  pub fits_too : fits (AnyRun ∷ parts_of star.pattern.now) star.path.now ≡ true → fits (AnyRun ∷ parts_of here.pattern.now) here.path.now ≡ true
+
+abbrev pub GoesOnFrom : Option Place → Place → Type 0
+GoesOnFrom None here = Unit {0}
+GoesOnFrom (Some star) here = ComesFrom star here
+
+abbrev pub GoesOn : Matcher → Type 0
+GoesOn matcher = GoesOnFrom matcher.star matcher.here
+
+-- a step keeps the answer and leaves fewer steps
+pub record Proceeds (old new : Matcher) : Type 0 where
+  pub answer : answer_of new ≡ answer_of old
+  pub goes_on : GoesOn new
+  pub fewer : steps_left new < steps_left old

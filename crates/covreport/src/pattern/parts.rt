@@ -1,0 +1,132 @@
+//! The parts of a pattern, read from its front.
+
+ghost use Rattle.std.specs.Prelude.{◌≡◌, [], MatchOption, option_map};
+ghost use Rattle.covreport.specs.Pattern.{OneByte, in_body, takes as set_takes, body_of, opened_set, quoted, head_of};
+ghost use Rattle.covreport.specs.PatternParts.{set_data, BeginsWithRange, head_data, behind_body, behind_head};
+
+use memchr::memchr;
+
+/// The bytes that a part takes one of. A set keeps its body.
+#[derive(Clone, Copy)]
+pub(crate) enum ByteSet<'a> {
+    /// Each byte.
+    Any,
+    /// This byte.
+    Exactly(u8),
+    /// A byte that the body has.
+    OneOf(&'a [u8]),
+    /// A byte that the body doesn't have.
+    NoneOf(&'a [u8]),
+}
+
+/// A part of a pattern.
+#[derive(Clone, Copy)]
+pub(crate) enum Part<'a> {
+    /// Takes a run of bytes, which may be empty.
+    AnyRun,
+    /// Takes one byte of the set.
+    OneByte(ByteSet<'a>),
+}
+
+impl<'a> ByteSet<'a> {
+    /// Whether the set has the byte.
+    pub(crate) fn takes(self, byte: u8) -> bool
+        ensures { result ≡ set_takes (set_data self.entry) byte }
+    {
+        match self {
+            ByteSet::Any => true,
+            ByteSet::Exactly(other) => byte == other,
+            ByteSet::OneOf(body) => body_takes(body, byte),
+            ByteSet::NoneOf(body) => !body_takes(body, byte),
+        }
+    }
+}
+
+/// Whether a set's body has the byte.
+fn body_takes(body: &[u8], byte: u8) -> bool
+    ensures { result ≡ in_body byte body.now }
+{
+    let mut rest = body;
+    while let Some((low, high, behind)) = read_range(rest) {
+        if low <= byte && byte <= high {
+            return true;
+        }
+        rest = behind;
+    }
+    false
+}
+
+/// The range at the front of a set's body, which may be of one byte, and what follows it.
+fn read_range(body: &[u8]) -> Option<(u8, u8, &[u8])>
+    ensures { MatchOption result (body.now ≡ []) (λ range. BeginsWithRange body.now range.0 range.1 range.2.now) }
+{
+    match body {
+        [] => None,
+        [low, b'-', high, rest @ ..] => Some((*low, *high, rest)),
+        [byte, rest @ ..] => Some((*byte, *byte, rest)),
+    }
+}
+
+/// A part, and what follows it in its pattern.
+#[derive(Clone, Copy)]
+pub(crate) struct Head<'a> {
+    pub(crate) part: Part<'a>,
+    pub(crate) rest: &'a [u8],
+}
+
+/// A part of one byte before these.
+fn one_byte<'a>(set: ByteSet<'a>, rest: &'a [u8]) -> Head<'a>
+    ensures { head_data result ≡ (OneByte (set_data set.entry), rest.now) }
+{
+    Head {
+        part: Part::OneByte(set),
+        rest,
+    }
+}
+
+/// The body of the set that was opened before these bytes, where they close it, and what follows the set.
+fn read_body(text: &[u8]) -> Option<(&[u8], &[u8])>
+    ensures { option_map (λ read. (read.0.now, read.1.now)) result ≡ option_map (behind_body text.now) (body_of text.now) }
+{
+    let (_, behind) = text.split_first()?;
+    let close = memchr(b']', behind)?;
+    Some((&text[..close + 1], &behind[close + 1..]))
+}
+
+/// The set that `[` opened before these bytes, where they close it.
+fn read_set(rest: &[u8]) -> Option<Head<'_>>
+    ensures { option_map head_data result ≡ option_map (behind_head rest.now) (opened_set rest.now) }
+{
+    if let [b'!', text @ ..] = rest {
+        let (body, behind) = read_body(text)?;
+        return Some(one_byte(ByteSet::NoneOf(body), behind));
+    }
+    let (body, behind) = read_body(rest)?;
+    Some(one_byte(ByteSet::OneOf(body), behind))
+}
+
+/// The byte that was quoted before these bytes: the backslash itself where there is none.
+fn read_quoted(rest: &[u8]) -> Head<'_>
+    ensures { head_data result ≡ behind_head rest.now (quoted rest.now) }
+{
+    match rest {
+        [byte, behind @ ..] => one_byte(ByteSet::Exactly(*byte), behind),
+        [] => one_byte(ByteSet::Exactly(b'\\'), rest),
+    }
+}
+
+/// The part that begins with this byte before these.
+pub(crate) fn read_head(first: u8, rest: &[u8]) -> Head<'_>
+    ensures { head_data result ≡ behind_head rest.now (head_of first rest.now) }
+{
+    match first {
+        b'*' => Head {
+            part: Part::AnyRun,
+            rest,
+        },
+        b'?' => one_byte(ByteSet::Any, rest),
+        b'\\' => read_quoted(rest),
+        b'[' => read_set(rest).unwrap_or(one_byte(ByteSet::Exactly(first), rest)),
+        _ => one_byte(ByteSet::Exactly(first), rest),
+    }
+}
