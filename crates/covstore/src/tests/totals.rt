@@ -1,7 +1,7 @@
 //! The totals of what a store holds, worked out by hand: a point is found once for each file, over all tests, and hit
 //! where some test has it above 0.
 
-use crate::{Store, Totals};
+use crate::{Plan, Store, Totals};
 use covline::{Bytes, Item, Items, Sect, Sects, Submission};
 use std::alloc::Global;
 use std::marker::Model;
@@ -108,6 +108,8 @@ impl Model for Shelf {
 }
 
 impl Shelf {
+    ghost use Rattle.covstore.specs.Stored.{IsPlanOf};
+
     fn new(alloc: Global) -> Shelf {
         Shelf {
             store: Store::new(alloc),
@@ -115,19 +117,30 @@ impl Shelf {
         }
     }
 
+    fn plan(&mut self, rt: &impl Abort, alloc: Global, given: &Submission) -> Plan
+        ensures { IsPlanOf self.new given.now result }
+    {
+        assert!(rt; self.held < 100);
+        match self.store.prepare(alloc, given) {
+            Ok(plan) => plan,
+            Err(refuse) => panic!(rt; "refused {}", refuse.number()),
+        }
+    }
+
+    fn commit(&mut self, plan: Plan)
+        requires { IsPlanOf self.old plan.given plan }
+    {
+        self.store.commit(plan);
+        self.held += 1;
+    }
+
     /// The store holds these rows too, and has the totals that were planned.
     fn hold(&mut self, rt: &impl Abort, alloc: Global, rows: &[Row]) -> Result<(), Fail> {
         let given = submission(alloc, rows)?;
-        assert!(rt; self.held < 100);
-        match self.store.prepare(alloc, &given) {
-            Ok(plan) => {
-                let after = plan.after();
-                self.store.commit(plan);
-                self.held += 1;
-                assert_eq!(rt; self.store.totals(), after);
-            }
-            Err(refuse) => panic!(rt; "refused {}", refuse.number()),
-        }
+        let plan = self.plan(rt, alloc, &given);
+        let after = plan.after();
+        self.commit(plan);
+        assert_eq!(rt; self.store.totals(), after);
         Ok(())
     }
 }
