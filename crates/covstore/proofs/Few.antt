@@ -3,7 +3,7 @@ use Rattle.std.proofs.Common.{◌^◌, ◌<◌, ◌≤◌, List, [], ◌∷◌, 
 use Rattle.std.specs.declared.cmp.Ordering.{Ordering}
 use Rattle.std.specs.List.{flat_map}
 use Rattle.std.proofs.lemmas.List.{length-append}
-use Rattle.covline.specs.Points.{line_point, branch_point}
+use Rattle.covline.specs.Points.{line_point, func_point, branch_point}
 use Rattle.covline.specs.Row.{ItemData, LineItem, FuncItem, BranchItem, SubmissionData, rows_of}
 use Rattle.covstore.specs.Ascending.{ascending}
 use Rattle.covstore.specs.Held.{IsHeld}
@@ -16,6 +16,11 @@ pub one_line : (item : ItemData) → length (line_point item) ≤ 1
 one_line (LineItem line count checksum) = omega arith
 one_line (FuncItem name line count) = omega arith
 one_line (BranchItem line block branch taken) = omega arith
+
+pub one_function : (item : ItemData) → length (func_point item) ≤ 1
+one_function (LineItem line count checksum) = omega arith
+one_function (FuncItem name line count) = omega arith
+one_function (BranchItem line block branch taken) = omega arith
 
 pub one_branch : (item : ItemData) → length (branch_point item) ≤ 1
 one_branch (LineItem line count checksum) = omega arith

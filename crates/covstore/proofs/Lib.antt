@@ -1,6 +1,7 @@
 pub mod Members
 pub mod Ascend
 pub mod Nearest
+pub mod Left
 pub mod Orders
 pub mod Walks
 pub mod Roads
