@@ -4,6 +4,7 @@ pub mod Nearest
 pub mod Left
 pub mod Orders
 pub mod Walks
+pub mod Stands
 pub mod Roads
 pub mod Bounds
 pub mod Few

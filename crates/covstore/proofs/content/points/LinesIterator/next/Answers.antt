@@ -1,4 +1,4 @@
-use Rattle.std.proofs.Common.{◌≡◌, [], map, option_map, refl, sym, ◌∙◌}
+use Rattle.std.proofs.Common.{◌≡◌, [], map, refl, sym, ◌∙◌}
 use Rattle.covline.specs.Points.{line_points}
 use Rattle.covline.specs.Row.{rows_of}
 use Rattle.covstore.specs.Content.{line_at}
