@@ -150,7 +150,10 @@ fn checksum_of<'a, A: Allocator>(file: &'a [u8], item: &'a Item<A>) -> Option<Li
 }
 
 /// The first checksum among the held submissions from which this one differs.
-fn other_held<'a, A: Allocator>(held: &'a [Submission<A>], given: LineChecksum<'_>) -> Option<&'a [u8]>
+fn other_held<'a, A: Allocator>(
+    held: &'a [Submission<A>],
+    given: LineChecksum<'_>,
+) -> Option<&'a [u8]>
     ensures { option_map (λ c. c.now) result ≡ other_checksum (checksum_data given.entry) (checksums_held held.now) }
 {
     for submission in held {

@@ -1,5 +1,4 @@
 use Rattle.std.proofs.Common.{◌≡◌, ◌<◌, ◌^◌, length, map, arith, ap, ◌∙◌}
-
 use Rattle.std.proofs.lemmas.List.{length-map}
 use Rattle.covline.specs.Points.{branch_point}
 use Rattle.covline.specs.Row.{rows_of}

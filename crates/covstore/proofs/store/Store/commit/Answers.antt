@@ -20,7 +20,7 @@ returns g c =
     let more = vec_capacity c.push_reserved.new.self in
     record {
       stands = λ s table p stands.
-      let now = c.push_reserved.ensures.items ∙ ap (λ (x : SubmissionData). held ++ x ∷ []) (c.submission.ensures ∙ p.given) in
-      subst (λ (all : List SubmissionData). StandsFor (store_of all more) (table ++ rows_of s ∷ [])) (sym now)
-      (stands_more held (vec_capacity c.self.inside.held) c.args.self.now c.self.view_is c.self.invariant s more table p.lawful p.few (p.agrees table stands) stands);
+          let now = c.push_reserved.ensures.items ∙ ap (λ (x : SubmissionData). held ++ x ∷ []) (c.submission.ensures ∙ p.given) in
+          subst (λ (all : List SubmissionData). StandsFor (store_of all more) (table ++ rows_of s ∷ [])) (sym now)
+          (stands_more held (vec_capacity c.self.inside.held) c.args.self.now c.self.view_is c.self.invariant s more table p.lawful p.few (p.agrees table stands) stands);
     }
