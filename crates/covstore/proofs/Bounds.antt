@@ -19,7 +19,7 @@ use Rattle.covstore.proofs.Walks.{items_in_table}
 
 -- ---- how many items there are
 
-length-rows_of_sects : (sects : List SectData) → length (flat_map rows_of_sect sects) ≡ items_in sects
+pub length-rows_of_sects : (sects : List SectData) → length (flat_map rows_of_sect sects) ≡ items_in sects
 length-rows_of_sects [] = refl
 length-rows_of_sects (s ∷ sects) =
     let size : items_in (s ∷ sects) ≡ length s.items + items_in sects = sum_by-cons (λ (t : SectData). length t.items) s sects in

@@ -1,8 +1,10 @@
 pub mod Members
 pub mod Ascend
 pub mod Nearest
+pub mod Left
 pub mod Orders
 pub mod Walks
+pub mod Stands
 pub mod Roads
 pub mod Bounds
 pub mod Few

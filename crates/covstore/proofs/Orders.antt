@@ -49,18 +49,18 @@ function_cmp_total =
     then_total (on_total (λ (f : FunctionValueData). f.line) nat_cmp_total)
     (then_total (on_total (λ (f : FunctionValueData). f.name) nat_list_cmp_total) (on_total (λ (f : FunctionValueData). f.count) nat_cmp_total))
 
-function_at : ℕ → List ℕ → ℕ → FunctionValueData
-function_at line name count = record { line = line; name = name; count = count }
+function_with : ℕ → List ℕ → ℕ → FunctionValueData
+function_with line name count = record { line = line; name = name; count = count }
 
 function_cmp_exact : CmpEqualImpliesEq function_cmp
-unfolding function_at
+unfolding function_with
 function_cmp_exact a b e =
     let p = both_equal (nat_cmp a.line b.line) (ordering_then (slice_cmp nat_cmp a.name b.name) (nat_cmp a.count b.count)) e in
     let q = both_equal (slice_cmp nat_cmp a.name b.name) (nat_cmp a.count b.count) p.1 in
     let line : a.line ≡ b.line = exact_unsigned a.line b.line p.0 in
     let name : a.name ≡ b.name = exact_bytes a.name b.name q.0 in
     let count : a.count ≡ b.count = exact_unsigned a.count b.count q.1 in
-    ap (λ (line : ℕ). function_at line a.name a.count) line ∙ ap (λ (name : List ℕ). function_at b.line name a.count) name ∙ ap (λ (count : ℕ). function_at b.line b.name count) count
+    ap (λ (line : ℕ). function_with line a.name a.count) line ∙ ap (λ (name : List ℕ). function_with b.line name a.count) name ∙ ap (λ (count : ℕ). function_with b.line b.name count) count
 
 pub functions_order : IsExactOrder function_cmp
 functions_order = record { total = function_cmp_total; exact = function_cmp_exact }

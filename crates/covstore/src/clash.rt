@@ -2,6 +2,7 @@
 //! takes no memory. Each row with a checksum costs a pass over the sections of its file; the others cost nothing more.
 
 ghost use Rattle.std.specs.Prelude.{◌≡◌, ◌⊎◌, ◌++◌, ◌∷◌, [], IfOk, MatchOption, map, option_map};
+ghost use Rattle.covline.specs.Lawful.{IsLawful};
 ghost use Rattle.covline.specs.Row.{item_data, rows_of, rows_of_sect};
 ghost use Rattle.covline.specs.SectView.{sect_data};
 ghost use Rattle.covstore.specs.ChecksumView.{checksum_data, checksums_held, checksums_of_items, checksums_of_sects, other_checksum};
@@ -61,7 +62,8 @@ pub(crate) fn first_clash<'a, A: Allocator>(
     held: &'a [Submission<A>],
     submission: &'a Submission<A>,
 ) -> Option<FoundClash<'a>>
-    ensures { option_map clash_data result ≡ clash_at (map rows_of held.now) submission.now }
+    ensures told { option_map clash_data result ≡ clash_at (map rows_of held.now) submission.now }
+    ensures lawful { IsLawful submission.now }
 {
     let sects = submission.sects();
     for (place, sect) in sects.iter().enumerate() {
@@ -148,7 +150,10 @@ fn checksum_of<'a, A: Allocator>(file: &'a [u8], item: &'a Item<A>) -> Option<Li
 }
 
 /// The first checksum among the held submissions from which this one differs.
-fn other_held<'a, A: Allocator>(held: &'a [Submission<A>], given: LineChecksum<'_>) -> Option<&'a [u8]>
+fn other_held<'a, A: Allocator>(
+    held: &'a [Submission<A>],
+    given: LineChecksum<'_>,
+) -> Option<&'a [u8]>
     ensures { option_map (λ c. c.now) result ≡ other_checksum (checksum_data given.entry) (checksums_held held.now) }
 {
     for submission in held {

@@ -3,7 +3,6 @@
 mod points;
 
 pub use self::points::{Branches, Functions, Lines};
-
 use crate::keys::{SectKey, next_key};
 use covline::Submission;
 use std::alloc::{Allocator, Global};

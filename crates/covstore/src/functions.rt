@@ -11,9 +11,9 @@ ghost use Rattle.covstore.specs.Next.{IsNext};
 ghost use Rattle.covstore.specs.Table.{all_rows};
 ghost use Rattle.covstore.specs.Value.{items_at, function_added, function_count, function_start, start_said};
 
+use crate::keys::SectKey;
 use crate::next::next_of;
 use crate::rows::ItemsAt;
-use crate::keys::SectKey;
 use covline::{Item, Submission};
 use std::alloc::Allocator;
 

@@ -10,9 +10,9 @@ ghost use Rattle.covstore.specs.Next.{IsNext};
 ghost use Rattle.covstore.specs.Table.{all_rows};
 ghost use Rattle.covstore.specs.Value.{items_at, checksum_said, line_added, line_checksum, line_value};
 
+use crate::keys::SectKey;
 use crate::next::next_of;
 use crate::rows::ItemsAt;
-use crate::keys::SectKey;
 use covline::{Item, Submission};
 use std::alloc::Allocator;
 

@@ -37,6 +37,7 @@ impl<A: Allocator + Copy> Store<A> {
     ghost use Rattle.std.specs.Prelude.{◌≡◌, ◌<◌, ◌++◌, [], ◌∷◌, IfOk, IfErr, None};
     ghost use Rattle.std.specs.Str.{bytes_eq};
     ghost use Rattle.std.specs.List.{list_any};
+    ghost use Rattle.covline.specs.Lawful.{IsLawful};
     ghost use Rattle.covline.specs.Row.{SubmissionData, rows_of};
     ghost use Rattle.covstore.specs.Content.{content_at};
     ghost use Rattle.covstore.specs.RefuseView.{refuse_data};
@@ -85,6 +86,7 @@ impl<A: Allocator + Copy> Store<A> {
     fn plan_of(&mut self, given: Submission<A>) -> Plan<A>
         requires room { self.old.members < self.old.room }
         requires few { self.old.members < most_members }
+        requires lawful { IsLawful given }
         requires agrees { (table : Table) → StandsFor self.old table → clash_at table given ≡ None }
         ensures same { self.new ≡ self.old }
         ensures given { result.given ≡ given }

@@ -1,1 +1,2 @@
+mod storing;
 mod totals;

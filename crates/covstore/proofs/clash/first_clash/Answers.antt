@@ -7,8 +7,8 @@ use Rattle.covstore.specs.ClashView.{clash_data}
 use Rattle.covstore.proofs.Looks.{found_at, none_past, clash-append, sects_join, sects_of_one}
 use Rattle.covstore.proofs.clash.first_clash.Goals as goal
 
-pub returns-in-Some : goal.returns-in-Some
-returns-in-Some g c =
+pub returns-in-Some-clause-told : goal.returns-in-Some-clause-told
+returns-in-Some-clause-told g c =
     let held = checksums_held c.args.held.now in
     let sects = c.sects-sects.result.now in
     let sect = sect_data c.index-sects-place.result in

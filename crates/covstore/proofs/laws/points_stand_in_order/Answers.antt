@@ -1,15 +1,10 @@
-use Rattle.std.proofs.Common.{map}
 use Rattle.covline.specs.Points.{line_points, func_points, branch_points}
-use Rattle.covstore.specs.Value.{function_of, names_in}
 use Rattle.covstore.proofs.Ascend.{ascending_is}
-use Rattle.covstore.proofs.Orders.{names_order, functions_order, branches_order, lines_order}
+use Rattle.covstore.proofs.Orders.{names_order, branches_order, lines_order}
 use Rattle.covstore.proofs.laws.points_stand_in_order.Goals as goal
 
-pub returns-clause-names : goal.returns-clause-names
-returns-clause-names c = λ items. ascending_is names_order (func_points items)
-
 pub returns-clause-functions : goal.returns-clause-functions
-returns-clause-functions c = λ items. ascending_is functions_order (map (function_of items) (names_in items))
+returns-clause-functions c = λ items. ascending_is names_order (func_points items)
 
 pub returns-clause-branches : goal.returns-clause-branches
 returns-clause-branches c = λ items. ascending_is branches_order (branch_points items)
