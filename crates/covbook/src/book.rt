@@ -69,11 +69,10 @@ impl<A: Allocator> Model for Book<A> {
 }
 
 impl<A: Allocator + Copy> Book<A> {
-    ghost use Rattle.std.specs.Prelude.{◌≡◌, ◌↔◌, ◌<◌, ◌++◌, [], ◌∷◌, length, IfOk, OnOk, OnErr, Err, None, map};
+    ghost use Rattle.std.specs.Prelude.{◌≡◌, ◌↔◌, ◌<◌, ◌++◌, [], ◌∷◌, length, IfOk, OnOk, OnErr, Err, map};
     ghost use Rattle.covbook.specs.Op.{SubmitOp, TextAnswer};
     ghost use Rattle.covbook.specs.Step.{IsLegal, answer_of, table_after, table_of, ops_in, most_entries};
     ghost use Rattle.covbook.specs.Texts.{IsText};
-    ghost use Rattle.covstore.specs.Table.{clash_at};
     ghost use Rattle.covbook.specs.View.{op_data, answer_data};
     ghost use Rattle.covbook.specs.EntryView.{entry_data};
 
@@ -118,7 +117,7 @@ impl<A: Allocator + Copy> Book<A> {
         }
     }
 
-    /// The submission is held too, unless it clashes.
+    /// The submission is held too, unless it clashes. All growths come before the first change.
     fn submit(&mut self, alloc: A, job: u32, submission: &SubRef<A>) -> Result<Receipt<A>, Memory>
         requires { length self.old < most_entries }
         ensures answer { IfOk result (λ r. answer_data r.answer ≡ answer_of (table_of (ops_in self.old)) (SubmitOp submission.now)) }
@@ -127,60 +126,38 @@ impl<A: Allocator + Copy> Book<A> {
         ensures entry { IfOk result (λ r. self.new ≡ self.old ++ record { job = job; op = SubmitOp submission.now; answer = answer_data r.answer } ∷ []) }
         ensures refused { OnErr result (self.new ≡ self.old) }
     {
+        let shared = submission.copy()?;
         match self.store.prepare(alloc, submission.get()) {
-            Ok(plan) => self.accept(job, submission, plan),
-            Err(Refuse::Clash {
-                file,
-                line,
-                held,
-                given,
-            }) => {
-                let op = Op::Submit(submission.copy()?);
+            Ok(plan) => {
+                let number = self.accepted + 1;
+                let items = submission.get().items();
+                let odd = submission.get().odd();
+                let op = Op::Submit(shared);
+                let answer = Answer::Accepted { number, items, odd };
+                let receipt = append(alloc, &mut self.entries, job, op, answer)?;
+                self.store.commit(plan);
+                self.accepted = number;
+                Ok(receipt)
+            }
+            Err(
+                Refuse::Clash {
+                    file,
+                    line,
+                    held,
+                    given,
+                },
+            ) => {
                 let answer = Answer::Clash {
                     file,
                     line,
                     held,
                     given,
                 };
-                self.note(alloc, job, op, answer)
+                let receipt = self.note(alloc, job, Op::Submit(shared), answer)?;
+                Ok(receipt)
             }
             Err(Refuse::Memory) => Err(Memory),
         }
-    }
-
-    /// The submission, which doesn't clash, is held too. All growths come before the first change.
-    fn accept(
-        &mut self,
-        job: u32,
-        submission: &SubRef<A>,
-        plan: Plan<A>,
-    ) -> Result<Receipt<A>, Memory>
-        requires room { length self.old < most_entries }
-        requires agrees { clash_at (table_of (ops_in self.old)) submission.now ≡ None }
-        ensures answer { IfOk result (λ r. answer_data r.answer ≡ answer_of (table_of (ops_in self.old)) (SubmitOp submission.now)) }
-        ensures place { IfOk result (λ r. r.place ≡ length self.old) }
-        ensures asked { IfOk result (λ r. op_data r.op ≡ SubmitOp submission.now) }
-        ensures entry { IfOk result (λ r. self.new ≡ self.old ++ record { job = job; op = SubmitOp submission.now; answer = answer_data r.answer } ∷ []) }
-        ensures refused { OnErr result (self.new ≡ self.old) }
-    {
-        let place = self.entries.get().len() as u64;
-        let number = self.accepted + 1;
-        let items = submission.get().items();
-        let odd = submission.get().odd();
-        let entry = Entry {
-            job,
-            op: Op::Submit(submission.copy()?),
-            answer: Answer::Accepted { number, items, odd },
-        };
-        let receipt = Receipt {
-            place,
-            op: Op::Submit(submission.copy()?),
-            answer: Answer::Accepted { number, items, odd },
-        };
-        self.entries.push(entry)?;
-        self.store.commit(plan);
-        self.accepted = number;
-        Ok(receipt)
     }
 
     /// A text is printed, and shared between the entry and the receipt.
@@ -215,7 +192,7 @@ impl<A: Allocator + Copy> Book<A> {
         }
     }
 
-    /// Appends the entry of an operation that leaves the table as it is, with a copy of its answer.
+    /// Appends the entry of an operation that leaves the table as it is.
     fn note(
         &mut self,
         alloc: A,
@@ -232,13 +209,34 @@ impl<A: Allocator + Copy> Book<A> {
         ensures entry { OnOk result (self.new ≡ self.old ++ record { job = job; op = op_data op; answer = answer_data answer } ∷ []) }
         ensures refused { OnErr result (self.new ≡ self.old) }
     {
-        let place = self.entries.get().len() as u64;
-        let entry = Entry {
-            job,
-            op: op.copy(alloc)?,
-            answer: answer.copy(alloc)?,
-        };
-        self.entries.push(entry)?;
-        Ok(Receipt { place, op, answer })
+        let receipt = append(alloc, &mut self.entries, job, op, answer)?;
+        Ok(receipt)
     }
+}
+
+ghost use Rattle.std.specs.Prelude.{◌≡◌, ◌++◌, [], ◌∷◌, length, IfOk, OnOk, OnErr};
+ghost use Rattle.covbook.specs.View.{op_data, answer_data};
+
+/// Appends an entry with copies of the operation and its answer, which go into the receipt.
+fn append<A: Allocator + Copy>(
+    alloc: A,
+    entries: &mut Entries<A>,
+    job: u32,
+    op: Op<A>,
+    answer: Answer<A>,
+) -> Result<Receipt<A>, Memory>
+    ensures answer { IfOk result (λ r. answer_data r.answer ≡ answer_data answer) }
+    ensures place { IfOk result (λ r. r.place ≡ length entries.old) }
+    ensures asked { IfOk result (λ r. op_data r.op ≡ op_data op) }
+    ensures entry { OnOk result (entries.new ≡ entries.old ++ record { job = job; op = op_data op; answer = answer_data answer } ∷ []) }
+    ensures refused { OnErr result (entries.new ≡ entries.old) }
+{
+    let place = entries.get().len() as u64;
+    let entry = Entry {
+        job,
+        op: op.copy(alloc)?,
+        answer: answer.copy(alloc)?,
+    };
+    entries.push(entry)?;
+    Ok(Receipt { place, op, answer })
 }

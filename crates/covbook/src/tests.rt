@@ -3,6 +3,7 @@ use covline::{Bytes, Item, Items, Sect, Sects, Submission};
 use std::alloc::Global;
 use std::test::*;
 
+mod choosing;
 mod clashes;
 mod printing;
 mod values;
@@ -102,7 +103,7 @@ fn a_history(rt: HostRuntime) -> Result<(), Fail> {
     let submission = shared(rt.alloc(), Given::First)?;
     assert_eq!(rt; submission.get().items(), 2);
     let submit = Op::Submit(submission.copy()?);
-    book.step(rt.alloc(), 1, &submit.copy()?)?;
+    book.step(rt.alloc(), 1, &submit.copy(rt.alloc())?)?;
     book.step(rt.alloc(), 2, &submit)?;
     book.step(rt.alloc(), 1, &Op::Report)?;
     let jobs = [1, 2, 1];

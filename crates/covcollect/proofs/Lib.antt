@@ -3,3 +3,4 @@ pub mod SessionMoves
 pub mod SessionPieces
 pub mod SessionRun
 pub mod SessionSteps
+pub mod SessionWords

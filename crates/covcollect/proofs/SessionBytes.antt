@@ -10,7 +10,7 @@ use Rattle.covcollect.specs.declared.session.text.LineSoFar.{LineSoFar}
 use Rattle.covcollect.specs.declared.session.text.LineSoFar.TheVariants.{Nothing, Other}
 
 -- a test that isn't true is false
-not_true : (b : Bool) → (b ≡ true → ⊥) → b ≡ false
+pub not_true : (b : Bool) → (b ≡ true → ⊥) → b ≡ false
 not_true true h = absurd (h refl)
 not_true false h = refl
 

@@ -1,18 +1,19 @@
 -- The commands of an input: there is one list of them, and it is found piece by piece.
-use Rattle.std.proofs.Common.{◌≡◌, ◌≢◌, ℕ, List, [], ◌∷◌, ◌++◌, Result, Ok, Err, refl, sym, ◌∙◌, ap, subst, append_assoc, append-nil, codes, eqb, length, inl, inr}
-use Rattle.std.proofs.lemmas.Bool.{false≢true}
+use Rattle.std.proofs.Common.{◌≡◌, ◌≢◌, ℕ, List, [], ◌∷◌, ◌++◌, Result, Ok, Err, refl, sym, ◌∙◌, ap, subst, append_assoc, append-nil, codes, inl, inr}
 use Rattle.std.specs.List.{concat}
 use Rattle.covline.specs.Row.{SubmissionData}
 use Rattle.covline.specs.Lines.{line_of}
-use Rattle.covbook.specs.Op.{SubmitOp, ReportOp}
-use Rattle.covbook.specs.Step.{Table, answer_of, table_after, table_from}
+use Rattle.covbook.specs.Op.{SubmitOp}
+use Rattle.covstore.specs.Table.{Table}
+use Rattle.covbook.specs.Step.{answer_of, table_after, table_from}
 use Rattle.covread.specs.declared.fault.ReadFault.{ReadFault}
 use Rattle.covcollect.specs.declared.session.text.LineEnd.{LineEnd}
 use Rattle.covcollect.specs.declared.session.text.LineEnd.TheVariants.{Feed, Input}
 use Rattle.covread.specs.Outcome.{IsOutcome, Answers, IsOrMemory}
 use Rattle.covread.specs.declared.fault.ReadFault.TheVariants as faults
-use Rattle.covcollect.specs.Session.{Command, Blank, Report, Submit, Refuse, Unknown, Unfinished, IsBody, IsCommand, EndsInput, AreCommands, ops_of, answer_text, refused_text, said}
+use Rattle.covcollect.specs.Session.{Command, Blank, Ask, RefusePattern, Submit, Refuse, Unknown, Unfinished, AsksFor, IsTooLong, IsUnknown, IsBody, IsCommand, EndsInput, AreCommands, ops_of, answer_text, refused_text, refused_pattern_text, said}
 use Rattle.covcollect.specs.Run.{asked_for, text_after, IsRun, IsTold}
+use Rattle.covcollect.proofs.SessionWords.{IsSingle, single_unique, not_trace}
 
 -- what commands are answered, and then further ones
 pub text_more : (table : Table) (commands more : List Command)
@@ -33,20 +34,14 @@ text_more table (Submit submission ∷ commands) more =
     let first = answer_text (answer_of table (SubmitOp submission)) in
     ap (λ (u : List ℕ). first ++ u) (text_more next commands more)
     ∙ sym (append_assoc first (text_after next commands) (text_after (table_from next (ops_of commands)) more))
-text_more table (Report ∷ commands) more =
-    let next = table_after table ReportOp in
-    let first = answer_text (answer_of table ReportOp) in
+text_more table (RefusePattern ∷ commands) more =
+    ap (λ (u : List ℕ). refused_pattern_text ++ u) (text_more table commands more)
+    ∙ sym (append_assoc refused_pattern_text (text_after table commands) (text_after (table_from table (ops_of commands)) more))
+text_more table (Ask op ∷ commands) more =
+    let next = table_after table op in
+    let first = answer_text (answer_of table op) in
     ap (λ (u : List ℕ). first ++ u) (text_more next commands more)
     ∙ sym (append_assoc first (text_after next commands) (text_after (table_from next (ops_of commands)) more))
-
--- a command of one line
-abbrev pub IsSingle : List ℕ → Command → Type 0
-IsSingle line Blank = line ≡ []
-IsSingle line Report = line ≡ codes "report"
-IsSingle line Unknown = (line ≢ []) × (line ≢ codes "report") × (line ≢ codes "trace")
-IsSingle line (Submit submission) = ⊥
-IsSingle line (Refuse fault) = ⊥
-IsSingle line Unfinished = ⊥
 
 pub record Single (those : List (List ℕ)) (d : Command) : Type 0 where
   pub piece : List ℕ
@@ -80,9 +75,11 @@ pub data Shape (those : List (List ℕ)) (d : Command) : Type 0 where
 
 pub shape : (those : List (List ℕ)) (d : Command) → IsCommand those d → Shape those d
 shape those Blank (piece, is, line) = ASingle (record { piece = piece; is = is; says = line })
-shape those Report (piece, is, line) = ASingle (record { piece = piece; is = is; says = line })
-shape those Unknown (line, (piece, is, same), a, b, c) =
-    ASingle (record { piece = piece; is = is; says = (λ e. a (sym same ∙ e), λ e. b (sym same ∙ e), λ e. c (sym same ∙ e)) })
+shape those (Ask op) (line, (piece, is, same), asks) =
+    let P : List ℕ → Type 0 = λ u. AsksFor op u in
+    ASingle (record { piece = piece; is = is; says = subst P (sym same) asks })
+shape those RefusePattern (line, (piece, is, same), long) = ASingle (record { piece = piece; is = is; says = subst IsTooLong (sym same) long })
+shape those Unknown (line, (piece, is, same), unknown) = ASingle (record { piece = piece; is = is; says = subst IsUnknown (sym same) unknown })
 shape those (Submit submission) (text, (first, body, last, is, trace, no_last, dot, same), read) =
     let P : List ℕ → Type 0 = λ u. IsOutcome u (Ok submission) in
     AWhole (record { first = first; body = body; last = last; outcome = Ok submission; is = is; trace = trace; no_last = no_last; dot = dot; read = subst P same read; asked = refl })
@@ -91,54 +88,6 @@ shape those (Refuse fault) (text, (first, body, last, is, trace, no_last, dot, s
     AWhole (record { first = first; body = body; last = last; outcome = Err fault; is = is; trace = trace; no_last = no_last; dot = dot; read = subst P same read; asked = refl })
 shape those Unfinished (first, body, is, trace, no_last) =
     AnOpen (record { first = first; body = body; is = is; trace = trace; no_last = no_last; asked = refl })
-
--- a line is at most one command
-pub blank_unique : (line : List ℕ) (d : Command) → line ≡ [] → IsSingle line d → d ≡ Blank
-blank_unique line Blank h k = refl
-blank_unique line Report h k = absurd (let bad : codes "report" ≡ [] = sym k ∙ h in let nothing : ⊥ = cc in nothing)
-blank_unique line Unknown h k = absurd (k.0 h)
-blank_unique line (Submit submission) h k = absurd k
-blank_unique line (Refuse fault) h k = absurd k
-blank_unique line Unfinished h k = absurd k
-
-pub report_unique : (line : List ℕ) (d : Command) → line ≡ codes "report" → IsSingle line d → d ≡ Report
-report_unique line Report h k = refl
-report_unique line Blank h k = absurd (let bad : codes "report" ≡ [] = sym h ∙ k in let nothing : ⊥ = cc in nothing)
-report_unique line Unknown h k = absurd (k.1 h)
-report_unique line (Submit submission) h k = absurd k
-report_unique line (Refuse fault) h k = absurd k
-report_unique line Unfinished h k = absurd k
-
-pub unknown_unique : (line : List ℕ) (d : Command) → IsSingle line Unknown → IsSingle line d → d ≡ Unknown
-unknown_unique line Unknown h k = refl
-unknown_unique line Blank h k = absurd (h.0 k)
-unknown_unique line Report h k = absurd (h.1 k)
-unknown_unique line (Submit submission) h k = absurd k
-unknown_unique line (Refuse fault) h k = absurd k
-unknown_unique line Unfinished h k = absurd k
-
-pub single_unique : (line : List ℕ) (c d : Command) → IsSingle line c → IsSingle line d → d ≡ c
-single_unique line Blank d h k = blank_unique line d h k
-single_unique line Report d h k = report_unique line d h k
-single_unique line Unknown d h k = unknown_unique line d h k
-single_unique line (Submit submission) d h k = absurd h
-single_unique line (Refuse fault) d h k = absurd h
-single_unique line Unfinished d h k = absurd h
-
--- no such line is `trace`
-empty_not_trace : codes "trace" ≢ []
-empty_not_trace e = cc
-
-report_not_trace : codes "report" ≢ codes "trace"
-report_not_trace e = false≢true (ap (λ (u : List ℕ). eqb (length u) 5) e)
-
-pub not_trace : (line : List ℕ) (d : Command) → IsSingle line d → line ≢ codes "trace"
-not_trace line Blank k e = empty_not_trace (sym e ∙ k)
-not_trace line Report k e = report_not_trace (sym k ∙ e)
-not_trace line Unknown k e = k.2 e
-not_trace line (Submit submission) k e = k
-not_trace line (Refuse fault) k e = k
-not_trace line Unfinished k e = k
 
 -- the first line `.` behind a line `trace` has one place
 pub no_dot : (body before after : List (List ℕ)) (last : List ℕ) → IsBody body → line_of last ≡ codes "." → body ≡ before ++ last ∷ after → ⊥
@@ -189,7 +138,8 @@ one_command c d e = cc
 open_ends : (d : Command) (further : List (List ℕ)) → d ≡ Unfinished → EndsInput d further → further ≡ []
 open_ends Unfinished further e h = h
 open_ends Blank further e h = absurd (let nothing : ⊥ = cc in nothing)
-open_ends Report further e h = absurd (let nothing : ⊥ = cc in nothing)
+open_ends (Ask op) further e h = absurd (let nothing : ⊥ = cc in nothing)
+open_ends RefusePattern further e h = absurd (let nothing : ⊥ = cc in nothing)
 open_ends Unknown further e h = absurd (let nothing : ⊥ = cc in nothing)
 open_ends (Submit submission) further e h = absurd (let nothing : ⊥ = cc in nothing)
 open_ends (Refuse fault) further e h = absurd (let nothing : ⊥ = cc in nothing)

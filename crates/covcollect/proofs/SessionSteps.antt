@@ -1,13 +1,16 @@
 -- The steps of a session from one command to the next, and the whole session.
-use Rattle.std.proofs.Common.{◌≡◌, ℕ, ◌<◌, ◌≤◌, List, [], ◌∷◌, ◌++◌, length, Result, Ok, Err, Option, None, Some, refl, sym, ◌∙◌, ap, subst, arith, append-nil, codes, inl, inr}
+use Rattle.std.proofs.Common.{◌≡◌, ℕ, ◌<◌, ◌≤◌, Bool, true, false, cond, leb, List, [], ◌∷◌, ◌++◌, length, Result, Ok, Err, Option, None, Some, option_map, refl, sym, ◌∙◌, ap, subst, arith, append-nil, codes, inl, inr}
 use Rattle.std.specs.List.{concat}
+use Rattle.std.proofs.lemmas.Bool.{leb-true, leb-false}
 use Rattle.std.proofs.lemmas.List.Concat.{flat_map-append}
 use Rattle.std.specs.Option.{IfSome}
 use Rattle.std.specs.Io.KnownBytes.{Consumes, Appends, Keeps, IsAtEnd, prepend_known, append_known}
 use Rattle.covline.specs.Row.{SubmissionData}
 use Rattle.covline.specs.Lines.{line_feed, before_feed, strip, line_of, pieces_of}
-use Rattle.covbook.specs.Op.{OpData}
-use Rattle.covbook.specs.Step.{Table, table_of}
+use Rattle.covbook.specs.Op.{OpData, ReportOp, ExtractOp, RemoveOp, SummaryOp}
+use Rattle.covreport.specs.Choice.{most_pattern_bytes}
+use Rattle.covstore.specs.Table.{Table}
+use Rattle.covbook.specs.Step.{table_of}
 use Rattle.covread.specs.declared.fault.ReadFault.{ReadFault}
 use Rattle.covread.specs.declared.fault.ReadFault.TheVariants as faults
 use Rattle.covcollect.specs.declared.session.text.LineEnd.{LineEnd}
@@ -17,13 +20,13 @@ use Rattle.covcollect.specs.declared.session.text.Taken.TheVariants as taken
 use Rattle.covcollect.specs.declared.session.word.Word.{Word}
 use Rattle.covcollect.specs.declared.session.word.Word.TheVariants as words
 use Rattle.covread.specs.Outcome.{IsOutcome, most_bytes}
-use Rattle.covcollect.specs.Session.{Command, Blank, Report, Submit, Refuse, Unknown, Unfinished, IsBody, IsSession, AreCommands, ops_of, ops_asked}
-use Rattle.covcollect.specs.Streams.{Moment, Moves, TakesLine, TakesPieces, EndsAs, turns, unread, said_so_far, line_bytes, line_pieces, IsTaken, IsWord, IsWholeSession}
-use Rattle.covcollect.specs.Run.{asked_for, asked_by, text_after, Asks, IsRun, IsAnsweredAs, TakesTrace, TakesCommand, IsSoFar, IsDone}
+use Rattle.covcollect.specs.Session.{Command, Blank, Ask, RefusePattern, Submit, Refuse, Unknown, Unfinished, AsksFor, IsTooLong, IsUnknown, IsBody, IsSession, AreCommands, ops_of, ops_asked}
+use Rattle.covcollect.specs.Streams.{Moment, Moves, TakesLine, TakesPieces, EndsAs, turns, unread, said_so_far, line_bytes, line_pieces, IsTaken, IsWord, IsWordWith, IsWholeSession}
+use Rattle.covcollect.specs.Run.{asked_for, asked_by, chosen_by, text_after, Asks, IsRun, IsAnsweredAs, TakesTrace, TakesCommand, IsSoFar, IsDone}
 use Rattle.covcollect.proofs.SessionBytes.{Appends-trans}
 use Rattle.covcollect.proofs.SessionMoves.{Moves-trans}
 use Rattle.covcollect.proofs.SessionPieces.{cut_append, cut_ending, line_of_bytes}
-use Rattle.covcollect.proofs.SessionRun.{IsSingle, text_more, run_none, run_one, run_one_input, run_more, single_determined, whole_determined, open_determined}
+use Rattle.covcollect.proofs.SessionRun.{text_more, run_none, run_one, run_one_input, run_more, single_determined, whole_determined, open_determined}
 
 ends_as : (m n : Moment) (ending : LineEnd) (waiting : List ℕ) (written : Option (List ℕ)) (failed : ℕ)
     → EndsAs ending m n → EndsAs ending m (record n { waiting = waiting; written = written; failed_writes = failed })
@@ -110,17 +113,45 @@ taken_run taken.Unfinished pieces ending commands (no_last, ends) asked first tr
 blank_run : (ending : LineEnd) (piece : List ℕ) → line_of piece ≡ [] → IsRun ending (piece ∷ []) (Blank ∷ [])
 blank_run ending piece e = run_one ending (piece ∷ []) Blank (piece, refl, e) (λ rest. tt) (λ rest. single_determined piece rest Blank e)
 
-report_run : (ending : LineEnd) (piece : List ℕ) → line_of piece ≡ codes "report" → IsRun ending (piece ∷ []) (Report ∷ [])
-report_run ending piece e = run_one ending (piece ∷ []) Report (piece, refl, e) (λ rest. tt) (λ rest. single_determined piece rest Report e)
+ask_run : (ending : LineEnd) (piece : List ℕ) (op : OpData) → AsksFor op (line_of piece) → IsRun ending (piece ∷ []) (Ask op ∷ [])
+ask_run ending piece op h =
+    run_one ending (piece ∷ []) (Ask op) (line_of piece, (piece, refl, refl), h) (λ rest. tt) (λ rest. single_determined piece rest (Ask op) h)
 
-unknown_run : (ending : LineEnd) (piece : List ℕ) → IsSingle (line_of piece) Unknown → IsRun ending (piece ∷ []) (Unknown ∷ [])
+long_run : (ending : LineEnd) (piece : List ℕ) → IsTooLong (line_of piece) → IsRun ending (piece ∷ []) (RefusePattern ∷ [])
+long_run ending piece h =
+    run_one ending (piece ∷ []) RefusePattern (line_of piece, (piece, refl, refl), h) (λ rest. tt) (λ rest. single_determined piece rest RefusePattern h)
+
+unknown_run : (ending : LineEnd) (piece : List ℕ) → IsUnknown (line_of piece) → IsRun ending (piece ∷ []) (Unknown ∷ [])
 unknown_run ending piece h =
-    run_one ending (piece ∷ []) Unknown (line_of piece, (piece, refl, refl), h.0, h.1, h.2) (λ rest. tt) (λ rest. single_determined piece rest Unknown h)
+    run_one ending (piece ∷ []) Unknown (line_of piece, (piece, refl, refl), h) (λ rest. tt) (λ rest. single_determined piece rest Unknown h)
+
+-- a pattern that fits is asked with, and another one is refused
+fit_run : (ending : LineEnd) (piece pattern : List ℕ) (op : OpData) (fits : Bool) → leb (length pattern) most_pattern_bytes ≡ fits
+    → (length pattern ≤ most_pattern_bytes → AsksFor op (line_of piece)) → (most_pattern_bytes < length pattern → IsTooLong (line_of piece))
+    → IsRun ending (piece ∷ []) (cond fits (Ask op ∷ []) (RefusePattern ∷ []))
+fit_run ending piece pattern op true e asks long = ask_run ending piece op (asks (leb-true (length pattern) most_pattern_bytes e))
+fit_run ending piece pattern op false e asks long = long_run ending piece (long (leb-false (length pattern) most_pattern_bytes e))
+
+-- a choice of files
+extract_run : (ending : LineEnd) (piece : List ℕ) (pattern : Option (List ℕ)) → IsWordWith (line_of piece) (codes "extract") pattern
+    → IsRun ending (piece ∷ []) (chosen_by ExtractOp pattern)
+extract_run ending piece None h = ask_run ending piece (ExtractOp []) h
+extract_run ending piece (Some pattern) h =
+    fit_run ending piece pattern (ExtractOp (pattern ∷ [])) (leb (length pattern) most_pattern_bytes) refl (λ fits. (h, fits)) (λ long. (pattern, long, inl h))
+
+remove_run : (ending : LineEnd) (piece : List ℕ) (pattern : Option (List ℕ)) → IsWordWith (line_of piece) (codes "remove") pattern
+    → IsRun ending (piece ∷ []) (chosen_by RemoveOp pattern)
+remove_run ending piece None h = ask_run ending piece (RemoveOp []) h
+remove_run ending piece (Some pattern) h =
+    fit_run ending piece pattern (RemoveOp (pattern ∷ [])) (leb (length pattern) most_pattern_bytes) refl (λ fits. (h, fits)) (λ long. (pattern, long, inr h))
 
 word_run : (ending : LineEnd) (piece : List ℕ) (word : Word) → IsWord (line_of piece) word → (word ≡ words.Trace → ending ≡ Input)
     → IsRun ending (piece ∷ []) (asked_by word)
 word_run ending piece words.Blank h last = blank_run ending piece h
-word_run ending piece words.Report h last = report_run ending piece h
+word_run ending piece words.Report h last = ask_run ending piece ReportOp h
+word_run ending piece words.Summary h last = ask_run ending piece SummaryOp h
+word_run ending piece (words.Extract pattern) h last = extract_run ending piece (option_map (λ p. p.now) pattern) h
+word_run ending piece (words.Remove pattern) h last = remove_run ending piece (option_map (λ p. p.now) pattern) h
 word_run ending piece words.Other h last = unknown_run ending piece h
 word_run ending piece words.Trace h last =
     let Q : LineEnd → Type 0 = λ u. IsRun u (piece ∷ []) (Unfinished ∷ []) in
@@ -133,11 +164,19 @@ pub record LineRun (ending : LineEnd) (pieces : List (List ℕ)) (word : Word) :
   pub same_text : (table : Table) → text_after table commands ≡ text_after table (asked_by word)
   pub same_ops : ops_of commands ≡ ops_of (asked_by word)
 
+no_choice : (word : List ℕ) (pattern : Option (List ℕ)) → 0 < length word → IsWordWith [] word pattern → ⊥
+no_choice [] pattern some h = omega arith
+no_choice (b ∷ bs) None some h = cc
+no_choice (b ∷ bs) (Some pattern) some h = cc
+
 nothing_run : (word : Word) → IsWord [] word → LineRun Input [] word
 nothing_run words.Blank h = record { commands = []; run = run_none Input; same_text = λ table. refl; same_ops = refl }
 nothing_run words.Report h = absurd (let nothing : ⊥ = cc in nothing)
+nothing_run words.Summary h = absurd (let nothing : ⊥ = cc in nothing)
+nothing_run (words.Extract pattern) h = absurd (no_choice (codes "extract") (option_map (λ p. p.now) pattern) (omega arith) h)
+nothing_run (words.Remove pattern) h = absurd (no_choice (codes "remove") (option_map (λ p. p.now) pattern) (omega arith) h)
 nothing_run words.Trace h = absurd (let nothing : ⊥ = cc in nothing)
-nothing_run words.Other h = absurd (h.0 refl)
+nothing_run words.Other h = absurd (h.some refl)
 
 piece_line : (ending : LineEnd) (piece : List ℕ) (word : Word) → IsWord (line_of piece) word → (word ≡ words.Trace → ending ≡ Input) → LineRun ending (piece ∷ []) word
 piece_line ending piece word h last = record {

@@ -1,11 +1,12 @@
 -- How a session goes on from one command to the next.
-use Rattle.std.specs.Prelude.{◌≡◌, ℕ, List, [], ◌∷◌, ◌++◌, Result, Ok, Err, ◌≤◌, nat_le, length, Option, Some, None, option_map, if◌then◌else◌, codes}
+use Rattle.std.specs.Prelude.{◌≡◌, ℕ, List, [], ◌∷◌, ◌++◌, Result, Ok, Err, ◌<◌, ◌≤◌, nat_le, length, Option, Some, None, option_map, if◌then◌else◌, codes}
 use Rattle.std.specs.Io.KnownBytes.{IsAtEnd}
 use Rattle.covline.specs.Row.{SubmissionData}
 use Rattle.covline.specs.Lines.{pieces_of, line_of}
 use Rattle.covbook.specs.Op.{OpData, ReportOp, ExtractOp, RemoveOp, SummaryOp}
 use Rattle.covreport.specs.Choice.{most_pattern_bytes}
-use Rattle.covbook.specs.Step.{Table, answers_from, table_of}
+use Rattle.covstore.specs.Table.{Table}
+use Rattle.covbook.specs.Step.{answers_from, table_of}
 use Rattle.covread.specs.declared.fault.ReadFault.{ReadFault}
 use Rattle.covread.specs.declared.fault.ReadFault.TheVariants as faults
 use Rattle.covcollect.specs.declared.session.text.LineEnd.{LineEnd}

@@ -1,5 +1,5 @@
 -- What a session has taken of its input and said to its output at a moment between two reads.
-use Rattle.std.specs.Prelude.{◌≡◌, ◌≢◌, ℕ, ◌+◌, ◌-◌, ◌*◌, ◌^◌, ◌<◌, ◌≤◌, ◌==◌, Bool, true, false, min, if◌then◌else◌, List, [], ◌∷◌, ◌++◌, length, take, Option, Some, None, option_map, codes}
+use Rattle.std.specs.Prelude.{◌≡◌, ℕ, ◌+◌, ◌-◌, ◌*◌, ◌^◌, ◌<◌, ◌≤◌, ◌==◌, Bool, true, false, min, if◌then◌else◌, List, [], ◌∷◌, ◌++◌, length, take, Option, Some, None, option_map, codes}
 use Rattle.std.specs.List.{concat}
 use Rattle.std.specs.Io.KnownBytes.{Consumes, Appends, IsAtEnd, prepend_known, append_known}
 use Rattle.covline.specs.Lines.{line_feed, carriage_return, before_feed, pieces_of, line_of}
@@ -141,6 +141,11 @@ IsTaken pieces ending (Whole kept) = IsTextTaken pieces (Whole kept)
 IsTaken pieces ending TooLong = (body : List (List ℕ)) × (last : List ℕ) × (pieces ≡ body ++ last ∷ []) × IsBody body × (line_of last ≡ codes ".")
     × (most_bytes < length (concat body))
 IsTaken pieces ending Unfinished = IsBody pieces × (ending ≡ Input)
+
+-- what stands before the first space
+abbrev pub before_space : List ℕ → List ℕ
+before_space [] = []
+before_space (b ∷ bs) = if b == space then [] else b ∷ before_space bs
 
 -- a command's word, and its pattern where there is one
 abbrev pub IsWordWith : List ℕ → List ℕ → Option (List ℕ) → Type 0

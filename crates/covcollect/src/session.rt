@@ -7,7 +7,7 @@ ghost use Rattle.covbook.specs.Step.{answer_of, table_of, ops_in};
 ghost use Rattle.covbook.specs.View.{op_data};
 ghost use Rattle.covread.specs.declared.fault.ReadFault.{ReadFault as Fault};
 ghost use Rattle.covread.specs.Outcome.{IsOutcome};
-ghost use Rattle.covcollect.specs.Session.{Command, IsSession, answer_text, refused_text};
+ghost use Rattle.covcollect.specs.Session.{Command, IsSession, answer_text, refused_text, refused_pattern_text};
 ghost use Rattle.covcollect.specs.Streams.{moment, said_so_far, CanCall, IsWholeSession};
 ghost use Rattle.covcollect.specs.Run.{asked_for, asked_by, text_after, Asks, IsListOf, IsTold, IsAnsweredAs, TakesTrace, TakesCommand, IsDone};
 
@@ -27,8 +27,8 @@ use crate::session::text::{LineEnd, Taken, Text};
 use crate::session::word::{Word, word_of};
 use crate::stream::{Sink, Source};
 use covbook::{Book, Op, SubRef};
-use covreport::{PatternFault, Patterns};
 use covread::{ReadFault, read_trace};
+use covreport::{PatternFault, Patterns};
 pub use fault::SessionFault;
 use std::alloc::Allocator;
 
@@ -135,6 +135,19 @@ fn patterns_of<A: Allocator + Copy>(
     }
 }
 
+// Says that a pattern is too long.
+fn refuse_pattern<O: Sink, A: Allocator>(
+    waiting: &mut Vec<u8, A>,
+    sink: &mut O,
+) -> Result<(), SessionFault>
+    requires { O.failed_writes sink.old < 2 ^ 63 }
+    ensures said { OnOk result (Appends (said_so_far (O.written sink.old) waiting.old.items)
+        (said_so_far (O.written sink.new) waiting.new.items) refused_pattern_text) }
+    ensures failed { OnOk result (O.failed_writes sink.new ≡ O.failed_writes sink.old) }
+{
+    say(b"refused TooLong\n", waiting, sink)
+}
+
 // Answers a line that is a command of its own.
 fn answer_word<O: Sink, A: Allocator + Copy>(
     alloc: A,
@@ -144,10 +157,10 @@ fn answer_word<O: Sink, A: Allocator + Copy>(
     sink: &mut O,
 ) -> Result<(), SessionFault>
     requires { O.failed_writes sink.old < 2 ^ 63 }
-    ensures asks { OnOk result (Asks (asked_by word) (ops_in book.old) (ops_in book.new)) }
+    ensures asks { OnOk result (Asks (asked_by word.entry) (ops_in book.old) (ops_in book.new)) }
     ensures said { OnOk result (Appends (said_so_far (O.written sink.old) waiting.old.items)
         (said_so_far (O.written sink.new) waiting.new.items)
-        (text_after (table_of (ops_in book.old)) (asked_by word))) }
+        (text_after (table_of (ops_in book.old)) (asked_by word.entry))) }
     ensures failed { OnOk result (O.failed_writes sink.new ≡ O.failed_writes sink.old) }
 {
     match word {
@@ -156,11 +169,11 @@ fn answer_word<O: Sink, A: Allocator + Copy>(
         Word::Summary => step(alloc, book, &Op::Summary, waiting, sink),
         Word::Extract(pattern) => match patterns_of(alloc, pattern)? {
             Some(patterns) => step(alloc, book, &Op::Extract(patterns), waiting, sink),
-            None => say(b"refused TooLong\n", waiting, sink),
+            None => refuse_pattern(waiting, sink),
         },
         Word::Remove(pattern) => match patterns_of(alloc, pattern)? {
             Some(patterns) => step(alloc, book, &Op::Remove(patterns), waiting, sink),
-            None => say(b"refused TooLong\n", waiting, sink),
+            None => refuse_pattern(waiting, sink),
         },
         Word::Trace => say(b"unfinished\n", waiting, sink),
         Word::Other => say(b"unknown\n", waiting, sink),
@@ -218,8 +231,8 @@ fn answer_trace<I: Source, O: Sink, A: Allocator + Copy>(
 
 // Whether a text follows a line.
 fn text_follows(word: Word<'_>, ending: LineEnd) -> bool
-    ensures text { IsTrue result → (word ≡ Word.Trace) × (ending ≡ LineEnd.Feed) }
-    ensures no_text { IsFalse result → word ≡ Word.Trace → ending ≡ LineEnd.Input }
+    ensures text { IsTrue result → (word.entry ≡ Word.Trace) × (ending ≡ LineEnd.Feed) }
+    ensures no_text { IsFalse result → word.entry ≡ Word.Trace → ending ≡ LineEnd.Input }
 {
     match word {
         Word::Blank

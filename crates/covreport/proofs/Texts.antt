@@ -1,18 +1,19 @@
 -- A text that is printed part by part, and counted; the parts of a section.
-use Rattle.std.proofs.Common.{◌≡◌, ℕ, ◌+◌, ◌^◌, ◌<◌, Bool, cond, eqb, List, [], ◌∷◌, ◌++◌, length, map, count_by, sym, ap, ap₂, ◌∙◌, append_assoc, arith}
+use Rattle.std.proofs.Common.{◌≡◌, ℕ, ◌+◌, ◌^◌, ◌<◌, Bool, true, false, cond, eqb, List, [], ◌∷◌, ◌++◌, length, map, filter, count_by, refl, sym, ap, ap₂, ◌∙◌, append_assoc, arith}
 use Rattle.std.specs.List.{flat_map}
 use Rattle.std.proofs.lemmas.Bool.{cond-false, ne_eqb}
 use Rattle.std.proofs.lemmas.List.{append-nil}
 use Rattle.std.proofs.lemmas.List.Concat.{flat_map-append}
+use Rattle.std.proofs.lemmas.List.Elements.{filter-append}
 use Rattle.std.proofs.lemmas.List.Folds.{flat_map-map}
 use Rattle.std.proofs.lemmas.List.Sums.{sum_by-cons}
-use Rattle.covline.specs.Row.{Row}
 use Rattle.covline.specs.declared.trace_line.TotalKind.{TotalKind}
 use Rattle.covline.specs.Spells.{LineData, Test, Path, End}
 use Rattle.covline.specs.Printed.{printed}
 use Rattle.covreport.specs.Printing.{totals, totals_if_any}
-use Rattle.covreport.specs.Report.{where_any, function_records, branch_records, line_records, section_text}
-use Rattle.covstore.specs.Value.{Key, items_at}
+use Rattle.covreport.specs.Report.{where_any, function_records, branch_records, line_records, section_text, report_text}
+use Rattle.covreport.specs.Choice.{ChoiceData, is_chosen}
+use Rattle.covstore.specs.Content.{SectionData}
 
 -- ---- one part more
 
@@ -86,17 +87,50 @@ joined : (t t1 t2 t3 t4 t5 t6 a b c d e f : List ℕ) → t1 ≡ t ++ a → t2 �
 joined t t1 t2 t3 t4 t5 t6 a b c d e f e1 e2 e3 e4 e5 e6 =
     e6 ∙ ap (λ (x : List ℕ). x ++ f) (e5 ∙ ap (λ (x : List ℕ). x ++ e) (e4 ∙ ap (λ (x : List ℕ). x ++ d) (e3 ∙ ap (λ (x : List ℕ). x ++ c) (e2 ∙ ap (λ (x : List ℕ). x ++ b) e1)))) ∙ simp (append_assoc, append-nil)
 
-pub section_is : (rows : List Row) (key : Key) (t t1 t2 t3 t4 t5 t6 : List ℕ) → t1 ≡ t ++ printed (Test key.test) → t2 ≡ t1 ++ printed (Path key.file)
-    → t3 ≡ t2 ++ flat_map printed (function_records (items_at key rows)) → t4 ≡ t3 ++ flat_map printed (branch_records (items_at key rows)) → t5 ≡ t4 ++ flat_map printed (line_records (items_at key rows))
-    → t6 ≡ t5 ++ printed End → t6 ≡ t ++ section_text rows key
-section_is rows key t t1 t2 t3 t4 t5 t6 e1 e2 e3 e4 e5 e6 =
-    let items = items_at key rows in
-    let functions = function_records items in
-    let branches = branch_records items in
-    let lines = line_records items in
-    let whole : section_text rows key ≡ printed (Test key.test) ++ (printed (Path key.file) ++ (flat_map printed functions ++ (flat_map printed branches ++ (flat_map printed lines ++ (printed End ++ []))))) =
-    ap (λ (x : List ℕ). printed (Test key.test) ++ (printed (Path key.file) ++ x)) (flat_map-append printed functions (branches ++ (lines ++ (End ∷ [])))
+pub section_is : (s : SectionData) (t t1 t2 t3 t4 t5 t6 : List ℕ) → t1 ≡ t ++ printed (Test s.key.test) → t2 ≡ t1 ++ printed (Path s.key.file)
+    → t3 ≡ t2 ++ flat_map printed (function_records s.functions) → t4 ≡ t3 ++ flat_map printed (branch_records s.branches) → t5 ≡ t4 ++ flat_map printed (line_records s.lines)
+    → t6 ≡ t5 ++ printed End → t6 ≡ t ++ section_text s
+section_is s t t1 t2 t3 t4 t5 t6 e1 e2 e3 e4 e5 e6 =
+    let functions = function_records s.functions in
+    let branches = branch_records s.branches in
+    let lines = line_records s.lines in
+    let whole : section_text s ≡ printed (Test s.key.test) ++ (printed (Path s.key.file) ++ (flat_map printed functions ++ (flat_map printed branches ++ (flat_map printed lines ++ (printed End ++ []))))) =
+    ap (λ (x : List ℕ). printed (Test s.key.test) ++ (printed (Path s.key.file) ++ x)) (flat_map-append printed functions (branches ++ (lines ++ (End ∷ [])))
     ∙ ap (λ (x : List ℕ). flat_map printed functions ++ x) (flat_map-append printed branches (lines ++ (End ∷ []))
     ∙ ap (λ (x : List ℕ). flat_map printed branches ++ x) (flat_map-append printed lines (End ∷ [])))) in
-    joined t t1 t2 t3 t4 t5 t6 (printed (Test key.test)) (printed (Path key.file)) (flat_map printed functions) (flat_map printed branches) (flat_map printed lines) (printed End) e1 e2 e3 e4 e5 e6
+    joined t t1 t2 t3 t4 t5 t6 (printed (Test s.key.test)) (printed (Path s.key.file)) (flat_map printed functions) (flat_map printed branches) (flat_map printed lines) (printed End) e1 e2 e3 e4 e5 e6
     ∙ ap (λ (x : List ℕ). t ++ x) (sym whole)
+
+-- ---- the sections of the chosen files
+
+module _ (choice : ChoiceData) (all : List SectionData) (text : List ℕ) where
+  pub report_goes_on : (new : List ℕ) (s : SectionData) (left more : List SectionData) → left ≡ s ∷ more → text ++ report_text choice left ≡ report_text choice all
+      → new ≡ text ++ report_text choice (s ∷ []) → new ++ report_text choice more ≡ report_text choice all
+  report_goes_on new s left more next so_far put =
+      ap (λ (t : List ℕ). t ++ report_text choice more) put
+      ∙ append_assoc text (report_text choice (s ∷ [])) (report_text choice more)
+      ∙ ap (λ (t : List ℕ). text ++ t) (sym (report-cons s more) ∙ ap (report_text choice) (sym next))
+      ∙ so_far
+    where
+      report-cons : (s : SectionData) (more : List SectionData) → report_text choice (s ∷ more) ≡ report_text choice (s ∷ []) ++ report_text choice more
+      report-cons s more =
+          ap (flat_map section_text) (filter-append (λ (s : SectionData). is_chosen choice s.key.file) (s ∷ []) more)
+          ∙ flat_map-append section_text (filter (λ (s : SectionData). is_chosen choice s.key.file) (s ∷ [])) (filter (λ (s : SectionData). is_chosen choice s.key.file) more)
+
+  pub report_ends : (left : List SectionData) → left ≡ [] → text ++ report_text choice left ≡ report_text choice all → text ≡ report_text choice all
+  report_ends left none so_far = sym (append-nil text) ∙ ap (λ (s : List SectionData). text ++ report_text choice s) (sym none) ∙ so_far
+
+-- one section, whose file is chosen or isn't
+module _ (choice : ChoiceData) (s : SectionData) (file : List ℕ) (takes : Bool) (text : List ℕ) (is : file ≡ s.key.file) (test : takes ≡ is_chosen choice file) where
+  report_one : report_text choice (s ∷ []) ≡ cond takes (section_text s) []
+  report_one = ap (λ (b : Bool). flat_map section_text (cond b (s ∷ []) [])) (ap (is_chosen choice) (sym is) ∙ sym test) ∙ read takes
+    where
+      read : (b : Bool) → flat_map section_text (cond b (s ∷ []) []) ≡ cond b (section_text s) []
+      read false = refl
+      read true = append-nil (section_text s)
+
+  pub passes_over : takes ≡ false → text ≡ text ++ report_text choice (s ∷ [])
+  passes_over e = sym (append-nil text) ∙ ap (λ (t : List ℕ). text ++ t) (sym (report_one ∙ ap (λ (b : Bool). cond b (section_text s) []) e))
+
+  pub prints_one : (new : List ℕ) → takes ≡ true → new ≡ text ++ section_text s → new ≡ text ++ report_text choice (s ∷ [])
+  prints_one new e put = put ∙ ap (λ (t : List ℕ). text ++ t) (sym (report_one ∙ ap (λ (b : Bool). cond b (section_text s) []) e))

@@ -1,7 +1,10 @@
 //! Laws of the definitions that this crate's contracts cite. The functions do nothing: the contract is the law.
 
 ghost use Rattle.std.specs.Prelude.{◌≡◌, ◌↔◌, ◌≢◌, ◌==◌, ℕ, true, false, ◌&&◌, List, [], ◌∷◌, ◌++◌, not, All};
+ghost use Rattle.std.specs.List.Sorted.{IsPermutation, IsSorted};
+ghost use Rattle.covstore.specs.Content.{FunctionValueData, function_cmp};
 ghost use Rattle.covreport.specs.Pattern.{matches, in_body};
+ghost use Rattle.covreport.specs.Report.{by_start};
 
 /// A pattern means what its first part means, and then the rest: nothing is left only of the empty path; `?` takes any
 /// byte, `\` the next byte as itself, and at the end itself; a byte that is none of `*`, `?`, `[` and `\` takes itself.
@@ -35,4 +38,10 @@ pub fn an_unclosed_set_is_plain()
     ensures set { (first b : ℕ) (body path : List ℕ) → first ≢ 33 → All (λ c. c ≢ 93) body → matches (91 ∷ first ∷ body) (b ∷ path) ≡ (b == 91 && matches (first ∷ body) path) }
     ensures mark { (b : ℕ) (path : List ℕ) → matches (91 ∷ 33 ∷ []) (b ∷ path) ≡ (b == 91 && matches (33 ∷ []) path) }
     ensures none { (first b : ℕ) (body path : List ℕ) → All (λ c. c ≢ 93) body → matches (91 ∷ 33 ∷ first ∷ body) (b ∷ path) ≡ (b == 91 && matches (33 ∷ first ∷ body) path) }
+{}
+
+/// Functions are printed by their start lines, and by their names where these are the same: each of them, as often as it
+/// is there, and no other.
+pub fn functions_are_printed_by_start()
+    ensures { (functions : List FunctionValueData) → IsSorted function_cmp (by_start functions) × IsPermutation functions (by_start functions) }
 {}

@@ -1,11 +1,12 @@
 //! The summary of totals, as lcov(1) prints it with `--summary`.
 
-ghost use Rattle.std.specs.Prelude.{◌≡◌, ◌<◌, ◌≤◌, IfOk};
+ghost use Rattle.std.specs.Prelude.{◌≡◌, ◌<◌, ◌≤◌, ◌++◌, ◌/◌, ◌%◌, IfOk, OnOk, codes, decimal};
 ghost use Rattle.covstore.specs.Totals.{AreTotals};
-ghost use Rattle.covreport.specs.Summary.{summary_of, tenths_of};
+ghost use Rattle.covreport.specs.Summary.{summary_of, summary_line, value_text, tenths_of, noun as noun_of, rounded as rounded_of};
 
 use covline::{Bytes, Memory};
 use covstore::Totals;
+use itoa::Buffer;
 use std::alloc::Allocator;
 
 /// Tenths of a percent for so many points hit of those found, from 0 to 1000: rounded to the nearest, but at most 999
@@ -15,7 +16,24 @@ pub fn tenths(hit: u64, found: u64) -> u32
     requires fewer { hit ≤ found }
     ensures { result ≡ tenths_of hit found }
 {
-    0
+    let nearest = rounded(hit, found);
+    let not_all = if hit < found {
+        nearest.min(999)
+    } else {
+        nearest
+    };
+    if hit > 0 { not_all.max(1) } else { not_all }
+}
+
+/// Tenths of a percent, rounded to the nearest.
+fn rounded(hit: u64, found: u64) -> u32
+    requires some { 0 < found }
+    requires fewer { hit ≤ found }
+    ensures { result ≡ rounded_of hit found }
+{
+    let hit = u128::from(hit);
+    let found = u128::from(found);
+    ((2000 * hit + found) / (2 * found)) as u32
 }
 
 /// The summary: a heading, and a line each for lines, functions and branches.
@@ -23,5 +41,111 @@ pub fn summary_text<A: Allocator>(alloc: A, totals: &Totals) -> Result<Bytes<A>,
     requires { AreTotals totals.now }
     ensures { IfOk result (λ t. t ≡ summary_of totals.now) }
 {
-    Err(Memory)
+    let mut text = Bytes::new(alloc);
+    text.append(b"Summary coverage rate:\n")?;
+    let lines = Words {
+        label: b"lines......: ",
+        one: b"line",
+        many: b"lines",
+    };
+    put_summary(&lines, totals.lh, totals.lf, &mut text)?;
+    let functions = Words {
+        label: b"functions..: ",
+        one: b"function",
+        many: b"functions",
+    };
+    put_summary(&functions, totals.fh, totals.ff, &mut text)?;
+    let branches = Words {
+        label: b"branches...: ",
+        one: b"branch",
+        many: b"branches",
+    };
+    put_summary(&branches, totals.bh, totals.bf, &mut text)?;
+    Ok(text)
+}
+
+/// What the line of a kind of points begins with, and the nouns for one point and for any other number of them.
+#[derive(Clone, Copy)]
+struct Words<'a> {
+    label: &'a [u8],
+    one: &'a [u8],
+    many: &'a [u8],
+}
+
+/// Appends the line of a kind of points. A refusal leaves what was appended before it came.
+fn put_summary<A: Allocator>(
+    words: &Words<'_>,
+    hit: u64,
+    found: u64,
+    text: &mut Bytes<A>,
+) -> Result<(), Memory>
+    requires { hit ≤ found }
+    ensures { OnOk result
+        (text.new ≡ text.old ++ summary_line words.now.label.now (value_text words.now.one.now words.now.many.now hit found)) }
+{
+    text.append(b"  ")?;
+    text.append(words.label)?;
+    put_value(words, hit, found, text)?;
+    text.append(b"\n")
+}
+
+/// Appends the rate of points hit, where there are any points. A refusal leaves what was appended before it came.
+fn put_value<A: Allocator>(
+    words: &Words<'_>,
+    hit: u64,
+    found: u64,
+    text: &mut Bytes<A>,
+) -> Result<(), Memory>
+    requires { hit ≤ found }
+    ensures { OnOk result (text.new ≡ text.old ++ value_text words.now.one.now words.now.many.now hit found) }
+{
+    if found == 0 {
+        return text.append(b"no data found");
+    }
+    put_tenths(tenths(hit, found), text)?;
+    text.append(b"% (")?;
+    put_parts(words, hit, found, text)
+}
+
+/// Appends how many points are hit, of how many. A refusal leaves what was appended before it came.
+fn put_parts<A: Allocator>(
+    words: &Words<'_>,
+    hit: u64,
+    found: u64,
+    text: &mut Bytes<A>,
+) -> Result<(), Memory>
+    ensures { OnOk result
+        (text.new ≡ text.old ++ (decimal hit ++ (codes " of " ++ (decimal found ++ (codes " " ++ (noun_of words.now.one.now words.now.many.now found ++ codes ")")))))) }
+{
+    put_number(hit, text)?;
+    text.append(b" of ")?;
+    put_number(found, text)?;
+    text.append(b" ")?;
+    text.append(noun(words, found))?;
+    text.append(b")")
+}
+
+/// The noun for so many points.
+fn noun<'a>(words: &Words<'a>, found: u64) -> &'a [u8]
+    ensures { result.now ≡ noun_of words.now.one.now words.now.many.now found }
+{
+    if found == 1 { words.one } else { words.many }
+}
+
+/// Appends tenths of a percent as a number of percent with one place behind the point. A refusal leaves what was appended
+/// before it came.
+fn put_tenths<A: Allocator>(tenths: u32, text: &mut Bytes<A>) -> Result<(), Memory>
+    ensures { OnOk result (text.new ≡ text.old ++ (decimal (tenths / 10) ++ (codes "." ++ decimal (tenths % 10)))) }
+{
+    put_number(u64::from(tenths / 10), text)?;
+    text.append(b".")?;
+    put_number(u64::from(tenths % 10), text)
+}
+
+/// Appends a number in decimal. A refusal leaves the text as it was.
+fn put_number<A: Allocator>(number: u64, text: &mut Bytes<A>) -> Result<(), Memory>
+    ensures { OnOk result (text.new ≡ text.old ++ decimal number) }
+{
+    let mut digits = Buffer::new();
+    text.append(digits.format(number).as_bytes())
 }

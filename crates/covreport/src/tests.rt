@@ -1,1 +1,3 @@
 mod patterns;
+mod printing;
+mod summing;

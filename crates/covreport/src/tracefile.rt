@@ -1,6 +1,6 @@
 //! The merged tracefile as text (geninfo(1), section FILES): a section for each file and test with a row.
 
-ghost use Rattle.std.specs.Prelude.{◌≡◌, ◌++◌, IfOk, OnOk};
+ghost use Rattle.std.specs.Prelude.{◌≡◌, ◌++◌, [], ◌∷◌, IfOk, OnOk};
 ghost use Rattle.covreport.specs.ChoiceView.{choice_data};
 ghost use Rattle.covreport.specs.Report.{section_text, report_text};
 
@@ -28,11 +28,24 @@ pub fn trace_text<A: Allocator + Copy>(
 {
     let mut text = Bytes::new(alloc);
     for section in store.sections() {
-        if choice.takes(section.file()) {
-            put_section(alloc, &section, &mut text)?;
-        }
+        put_chosen(alloc, &section, choice, &mut text)?;
     }
     Ok(text)
+}
+
+/// Appends a section if its file is chosen. A refusal leaves what was appended before it came.
+fn put_chosen<A: Allocator + Copy>(
+    alloc: A,
+    section: &Section<'_, A>,
+    choice: &Choice<A>,
+    text: &mut Bytes<A>,
+) -> Result<(), Memory>
+    ensures { OnOk result (text.new ≡ text.old ++ report_text (choice_data choice.now) (section.now ∷ [])) }
+{
+    if !choice.takes(section.file()) {
+        return Ok(());
+    }
+    put_section(alloc, section, text)
 }
 
 /// Appends a section. A refusal leaves what was appended before it came.

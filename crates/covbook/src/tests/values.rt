@@ -1,17 +1,10 @@
 //! The values of rows, by hand from the rules: counts are added up for one file and test; a function starts at its least
 //! line; a branch has a number where some row has one.
 
-ghost use Rattle.std.specs.Prelude.{IfOk};
-ghost use Rattle.covline.specs.Lawful.{IsLawful};
-ghost use Rattle.covbook.specs.Held.{IsHeld};
-
-use crate::branches::{BranchKey, next_branch, times_taken};
-use crate::functions::{calls_of, next_name, start_of};
-use crate::lines::{checksum_of_line, line_count, next_line};
-use crate::sections::{SectKey, next_key};
-use crate::shared::SubRef;
+use crate::{Answer, Book, Op, SubRef};
 use covline::{Bytes, Item, Items, Sect, Sects, Submission};
 use std::alloc::Global;
+use std::process::Abort;
 use std::test::*;
 
 /// What one item of a submission says.
@@ -24,11 +17,6 @@ enum Said {
     /// The number of a branch of line 1, and how often it was taken.
     Branch(u64, Option<u64>),
 }
-
-const OWN: SectKey<'static> = SectKey {
-    file: b"/a.c",
-    test: b"t",
-};
 
 const FIRST: &[Said] = &[
     Said::Line(3, 5, Some("abc")),
@@ -49,8 +37,8 @@ const SECOND: &[Said] = &[
 ];
 
 const OTHER: &[Said] = &[
-    Said::Line(1, 100, Some("other")),
-    Said::Line(7, 100, None),
+    Said::Line(1, 100, None),
+    Said::Line(7, 100, Some("other")),
     Said::Func("f", 1, 100),
     Said::Func("e", 1, 100),
     Said::Branch(0, Some(100)),
@@ -84,9 +72,7 @@ fn item(alloc: Global, said: Said) -> Result<Item, Fail> {
 }
 
 /// A submission of one section of `/a.c`.
-fn submission(alloc: Global, test: &str, all: &[Said]) -> Result<SubRef, Fail>
-    ensures { IfOk result IsLawful }
-{
+fn submission(alloc: Global, test: &str, all: &[Said]) -> Result<SubRef, Fail> {
     let mut items = Items::new(alloc);
     for said in all {
         items.push(item(alloc, *said)?)?;
@@ -103,16 +89,36 @@ fn submission(alloc: Global, test: &str, all: &[Said]) -> Result<SubRef, Fail>
     }
 }
 
-/// Two submissions of one test, and one of another between them.
-fn three(alloc: Global) -> Result<[SubRef; 3], Fail>
-    ensures { IfOk result IsHeld }
-{
-    Ok([
-        submission(alloc, "t", FIRST)?,
-        submission(alloc, "u", OTHER)?,
-        submission(alloc, "t", SECOND)?,
-    ])
+/// Asserts what a book prints that holds these submissions.
+fn expect_report(
+    rt: &impl Abort,
+    alloc: Global,
+    held: &[SubRef],
+    wanted: &str,
+) -> Result<(), Fail> {
+    let mut book = Book::new(alloc);
+    for one in held {
+        book.step(alloc, 0, &Op::Submit(one.copy()?))?;
+    }
+    match book.step(alloc, 0, &Op::Report)?.answer {
+        Answer::Text(text) => assert_eq!(rt; text.get().get(), wanted.as_bytes()),
+        Answer::Accepted { .. } | Answer::Clash { .. } => assert!(rt; false),
+    }
+    Ok(())
 }
+
+/// What the first submission of the test `t` and both together print, and what that of `u` prints.
+const OF_FIRST: &str = "TN:t\nSF:/a.c\nFN:4,f\nFN:9,g\nFNDA:2,f\nFNDA:1,g\nFNF:2\nFNH:2\n\
+    BRDA:1,0,0,3\nBRDA:1,0,1,-\nBRF:2\nBRH:1\n\
+    DA:1,2\nDA:3,5,abc\nLF:2\nLH:2\nend_of_record\n";
+
+const OF_BOTH: &str = "TN:t\nSF:/a.c\nFN:2,f\nFN:9,g\nFNDA:9,f\nFNDA:1,g\nFNF:2\nFNH:2\n\
+    BRDA:1,0,0,7\nBRDA:1,0,1,-\nBRDA:1,0,2,0\nBRF:3\nBRH:1\n\
+    DA:1,18446744073709551617,xyz\nDA:2,0\nDA:3,5,abc\nLF:3\nLH:2\nend_of_record\n";
+
+const OF_OTHER: &str = "TN:u\nSF:/a.c\nFN:1,e\nFN:1,f\nFNDA:100,e\nFNDA:100,f\nFNF:2\nFNH:2\n\
+    BRDA:1,0,0,100\nBRDA:1,0,3,100\nBRF:2\nBRH:2\n\
+    DA:1,100\nDA:7,100,other\nLF:2\nLH:2\nend_of_record\n";
 
 #[test]
 fn keys_with_a_row(rt: HostRuntime) -> Result<(), Fail> {
@@ -121,66 +127,18 @@ fn keys_with_a_row(rt: HostRuntime) -> Result<(), Fail> {
         submission(rt.alloc(), "t", FIRST)?,
         submission(rt.alloc(), "s", &[])?,
     ];
-    let other = SectKey {
-        file: b"/a.c",
-        test: b"u",
-    };
-    assert!(rt; next_key(&held, None) == Some(OWN));
-    assert!(rt; next_key(&held, Some(OWN)) == Some(other));
-    assert!(rt; next_key(&held, Some(other)).is_none());
-    Ok(())
+    let wanted = format!(in rt.alloc(); "{OF_FIRST}{OF_OTHER}")?;
+    expect_report(&rt, rt.alloc(), &held, &wanted)
 }
 
+/// Two submissions of one test, and one of another between them.
 #[test]
-fn lines_of_a_test(rt: HostRuntime) -> Result<(), Fail> {
-    let held = three(rt.alloc())?;
-    let cases: [(u64, u128, Option<&[u8]>); 3] = [
-        (1, 18_446_744_073_709_551_617, Some(b"xyz")),
-        (2, 0, None),
-        (3, 5, Some(b"abc")),
+fn values_of_a_test(rt: HostRuntime) -> Result<(), Fail> {
+    let held = [
+        submission(rt.alloc(), "t", FIRST)?,
+        submission(rt.alloc(), "u", OTHER)?,
+        submission(rt.alloc(), "t", SECOND)?,
     ];
-    let mut last = None;
-    for (line, count, checksum) in &cases {
-        last = next_line(&held, OWN, last);
-        assert_eq!(rt; last, Some(*line));
-        assert_eq!(rt; line_count(&held, OWN, *line), *count);
-        assert_eq!(rt; checksum_of_line(&held, OWN, *line), *checksum);
-    }
-    assert_eq!(rt; next_line(&held, OWN, last), None);
-    Ok(())
-}
-
-#[test]
-fn functions_of_a_test(rt: HostRuntime) -> Result<(), Fail> {
-    let held = three(rt.alloc())?;
-    let cases: [(&[u8], u64, u128); 2] = [(b"f", 2, 9), (b"g", 9, 1)];
-    let mut last = None;
-    for (name, start, calls) in &cases {
-        last = next_name(&held, OWN, last);
-        assert_eq!(rt; last, Some(*name));
-        assert_eq!(rt; start_of(&held, OWN, name), *start);
-        assert_eq!(rt; calls_of(&held, OWN, name), *calls);
-    }
-    assert_eq!(rt; next_name(&held, OWN, last), None);
-    assert_eq!(rt; start_of(&held, OWN, b"e"), 0);
-    Ok(())
-}
-
-#[test]
-fn branches_of_a_test(rt: HostRuntime) -> Result<(), Fail> {
-    let held = three(rt.alloc())?;
-    let cases = [(0, Some(7)), (1, None), (2, Some(0))];
-    let mut last = None;
-    for (number, taken) in &cases {
-        let branch = BranchKey {
-            line: 1,
-            block: 0,
-            branch: *number,
-        };
-        last = next_branch(&held, OWN, last);
-        assert!(rt; last == Some(branch));
-        assert_eq!(rt; times_taken(&held, OWN, branch), *taken);
-    }
-    assert!(rt; next_branch(&held, OWN, last).is_none());
-    Ok(())
+    let wanted = format!(in rt.alloc(); "{OF_BOTH}{OF_OTHER}")?;
+    expect_report(&rt, rt.alloc(), &held, &wanted)
 }

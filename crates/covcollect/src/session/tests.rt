@@ -4,6 +4,7 @@ use crate::session::session;
 use crate::stream::{FromRead, FromWrite};
 use std::alloc::Global;
 
+mod choosing;
 mod clashes;
 mod commands;
 mod merging;

@@ -1,7 +1,8 @@
 //! What a command line asks for.
 
+ghost use Rattle.std.specs.Prelude.{◌≡◌, ◌≢◌, [], codes, option_map};
 ghost use Rattle.covline.specs.Lines.{strip};
-ghost use Rattle.covcollect.specs.Streams.{IsWord};
+ghost use Rattle.covcollect.specs.Streams.{before_space, IsWord, IsWordWith};
 
 use covline::text_lines::without_returns;
 use memchr::memchr;
@@ -44,16 +45,30 @@ pub fn word_of(line: &[u8]) -> Word<'_>
 }
 
 /// Which choice of files a line asks for that is no other command.
-fn choice_of(words: &[u8]) -> Word<'_> {
-    let (name, pattern) = match memchr(b' ', words) {
-        Some(at) => (&words[..at], Some(&words[at + 1..])),
-        None => (words, None),
-    };
+fn choice_of(words: &[u8]) -> Word<'_>
+    requires some { words.now ≢ [] }
+    requires no_report { words.now ≢ codes "report" }
+    requires no_summary { words.now ≢ codes "summary" }
+    requires no_trace { words.now ≢ codes "trace" }
+    ensures { IsWord words.now result }
+{
+    let (name, pattern) = split_at_space(words);
     if name == b"extract".as_slice() {
         Word::Extract(pattern)
     } else if name == b"remove".as_slice() {
         Word::Remove(pattern)
     } else {
         Word::Other
+    }
+}
+
+/// What stands before the first space, and what behind it, where there is one.
+fn split_at_space(words: &[u8]) -> (&[u8], Option<&[u8]>)
+    ensures name { result.0.now ≡ before_space words.now }
+    ensures whole { IsWordWith words.now result.0.now (option_map (λ p. p.now) result.1) }
+{
+    match memchr(b' ', words) {
+        Some(at) => (&words[..at], Some(&words[at + 1..])),
+        None => (words, None),
     }
 }

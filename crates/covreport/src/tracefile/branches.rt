@@ -4,6 +4,7 @@ ghost use Rattle.std.specs.Prelude.{◌≡◌, ◌<◌, ◌^◌, ◌++◌, OnOk,
 ghost use Rattle.std.specs.List.{flat_map};
 ghost use Rattle.covline.specs.Printed.{printed};
 ghost use Rattle.covreport.specs.Report.{branch_record, branch_records};
+ghost use Rattle.covstore.specs.Value.{is_taken as value_is_taken};
 ghost use Rattle.covstore.specs.ValueView.{branch_data};
 
 use super::tally::Tally;
@@ -17,12 +18,12 @@ pub(super) fn put_branches<A: Allocator>(
     text: &mut Bytes<A>,
 ) -> Result<(), Memory>
     requires { length branches < 2 ^ 64 }
-    ensures { OnOk result (text.new ≡ text.old ++ flat_map printed (branch_records branches)) }
+    ensures { OnOk result (text.new ≡ text.old ++ flat_map printed (branch_records branches.entry)) }
 {
     let mut tally = Tally::new();
     for branch in branches {
         put_branch(&branch, text)?;
-        tally = tally.and(branch.taken.is_some_and(|times| times > 0));
+        tally = tally.and(is_taken(branch.taken));
     }
     tally.put_if_any(TotalKind::BranchFound, TotalKind::BranchHit, text)
 }
@@ -38,4 +39,11 @@ fn put_branch<A: Allocator>(branch: &BranchValue, text: &mut Bytes<A>) -> Result
         taken: branch.taken,
     };
     put_line(&says, text)
+}
+
+/// Whether a branch was taken at least once.
+fn is_taken(taken: Option<u128>) -> bool
+    ensures { result ≡ value_is_taken taken }
+{
+    taken.is_some_and(|times| times > 0)
 }

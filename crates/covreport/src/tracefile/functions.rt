@@ -18,7 +18,7 @@ pub(super) fn put_functions<A: Allocator>(
     text: &mut Bytes<A>,
 ) -> Result<(), Memory>
     requires { length functions < 2 ^ 64 }
-    ensures { OnOk result (text.new ≡ text.old ++ flat_map printed (function_records functions)) }
+    ensures { OnOk result (text.new ≡ text.old ++ flat_map printed (function_records functions.entry)) }
 {
     let sorted = by_start_line(alloc, functions)?;
     let functions = sorted.as_slice();

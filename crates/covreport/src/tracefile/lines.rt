@@ -17,7 +17,7 @@ pub(super) fn put_lines<A: Allocator>(
     text: &mut Bytes<A>,
 ) -> Result<(), Memory>
     requires { length lines < 2 ^ 64 }
-    ensures { OnOk result (text.new ≡ text.old ++ flat_map printed (line_records lines)) }
+    ensures { OnOk result (text.new ≡ text.old ++ flat_map printed (line_records lines.entry)) }
 {
     let mut tally = Tally::new();
     for line in lines {

@@ -1,32 +1,20 @@
-use Rattle.std.proofs.Common.{◌++◌, List, ℕ, length, map, None, option_map, ap, ◌∙◌, arith}
-use Rattle.std.specs.List.{flat_map}
-use Rattle.covline.specs.Row.{rows_of}
-use Rattle.covstore.specs.KeyView.{key_data}
-use Rattle.covreport.specs.Report.{section_text, report_text}
-use Rattle.covbook.specs.Step.{all_rows}
-use Rattle.covstore.specs.Value.{key_cmp, key_of_row, keys_of}
-use Rattle.covstore.proofs.Nearest.{rest_after, rest_after-none, next_is, none_is}
-use Rattle.covstore.proofs.Orders.{keys_order}
-use Rattle.covreport.proofs.Texts.{goes_on, ends}
+use Rattle.std.proofs.Common.{◌++◌, List, ℕ, ap₂, ◌∙◌}
+use Rattle.covreport.specs.ChoiceView.{choice_data}
+use Rattle.covreport.specs.Report.{report_text}
+use Rattle.covstore.specs.Content.{SectionData}
+use Rattle.covreport.proofs.Texts.{report_goes_on, report_ends}
 use Rattle.covreport.proofs.tracefile.trace_text.Goals as goal
 
-pub loop-key-init : goal.loop-key-init
-loop-key-init g c =
-    let rows = all_rows (map rows_of c.args.held.now) in
-    ap (λ (t : List ℕ). t ++ flat_map (section_text rows) (rest_after key_cmp None (keys_of rows))) c.new-text.ensures
-    ∙ ap (flat_map (section_text rows)) (rest_after-none key_cmp (keys_of rows))
+pub loop-section-init : goal.loop-section-init
+loop-section-init g c =
+    ap₂ (λ (t : List ℕ) (s : List SectionData). t ++ report_text (choice_data c.args.choice.now) s)
+    c.new-text.ensures (c.into_iter-section-iterator.ensures.into_iter_gives ∙ c.sections-section-items.ensures)
 
-pub loop-key-smaller : goal.loop-key-smaller
-loop-key-smaller g c =
-    omega (arith, ap length (next_is keys_order (option_map key_data c.loop-key.last) (map key_of_row (all_rows (map rows_of c.args.held.now))) (key_data c.in-Some.key) c.in-Some.ensures))
-
-pub loop-key-preserved : goal.loop-key-preserved
-loop-key-preserved g c =
-    let rows = all_rows (map rows_of c.args.held.now) in
-    goes_on (section_text rows) (report_text rows) c.loop-key.text c.put_section.new.text (key_data c.in-Some.key) _ _
-    (next_is keys_order (option_map key_data c.loop-key.last) (map key_of_row rows) (key_data c.in-Some.key) c.in-Some.ensures) c.loop-key.invariant c.in_ok-put_section.ensures
+pub loop-section-preserved : goal.loop-section-preserved
+loop-section-preserved g c =
+    report_goes_on (choice_data c.args.choice.now) c.args.store.now.sections c.loop-section.text c.put_chosen.new.text c.in-Some.section _ c.next.new.self
+    c.in-Some.ensures.steps c.loop-section.invariant c.in_ok-put_chosen.ensures
 
 pub returns : goal.returns
 returns g c =
-    let rows = all_rows (map rows_of c.args.held.now) in
-    ends (section_text rows) (report_text rows) c.loop-key.text _ (none_is keys_order (option_map key_data c.loop-key.last) (map key_of_row rows) c.in_default.ensures) c.loop-key.invariant
+    report_ends (choice_data c.args.choice.now) c.args.store.now.sections c.loop-section.text _ c.in-None.ensures.steps.0 c.loop-section.invariant

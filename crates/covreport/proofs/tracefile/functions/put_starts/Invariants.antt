@@ -1,12 +1,12 @@
 use Rattle.std.proofs.Common.{◌≡◌, ◌++◌, drop, map}
 use Rattle.std.specs.List.{flat_map}
 use Rattle.covline.specs.Printed.{printed}
-use Rattle.covbook.specs.FunctionView.{function_data}
-use Rattle.covreport.specs.Printing.{start_record}
-use Rattle.covstore.specs.Value.{Function}
+use Rattle.covreport.specs.Report.{start_record}
+use Rattle.covstore.specs.Content.{FunctionValueData}
+use Rattle.covstore.specs.ValueView.{function_data}
 use Rattle.covreport.proofs.tracefile.functions.put_starts.Given as goal
 
 abbrev pub invariant-loop-function : goal.invariant-loop-function
 invariant-loop-function g l =
-    let part = λ (f : Function). printed (start_record f) in
+    let part = λ (f : FunctionValueData). printed (start_record f) in
     l.text ++ flat_map part (map function_data (drop l.function-index l.functions)) ≡ l.fn.text ++ flat_map part (map function_data l.functions)
