@@ -3,7 +3,7 @@ use Rattle.std.specs.Prelude.{ℕ, ◌+◌, ◌*◌, ◌/◌, ◌%◌, ◌==◌,
 use Rattle.covline.specs.Lines.{line_feed}
 use Rattle.covstore.specs.declared.totals.Totals.{Totals}
 
--- tenths of a percent, rounded to the nearest; less than all is never told as all, nor more than none as none
+-- tenths of a percent, rounded to the nearest, halves up; less than all is never told as all, nor more than none as none
 abbrev pub rounded : ℕ → ℕ → ℕ
 rounded hit found = (2000 * hit + found) / (2 * found)
 

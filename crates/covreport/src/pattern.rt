@@ -1,7 +1,8 @@
 //! Shell patterns for paths. A pattern matches a whole path:
 //!
 //! `*` takes any run of bytes, `/` too; `?` any byte; `\` the next byte as itself; `[abc]`, `[a-z]` a byte of a set,
-//! `[!abc]` a byte that isn't in it; each other byte is itself, and so is a `[` that no `]` closes.
+//! `[!abc]` a byte that isn't in it; each other byte is itself, and so are a `[` that no `]` closes behind at least one
+//! byte and a `\` at the end.
 
 ghost use Rattle.std.specs.Prelude.{◌≡◌};
 ghost use Rattle.covreport.specs.Pattern.{matches as pattern_matches};

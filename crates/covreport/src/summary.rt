@@ -9,7 +9,7 @@ use covstore::Totals;
 use itoa::Buffer;
 use std::alloc::Allocator;
 
-/// Tenths of a percent for so many points hit of those found, from 0 to 1000: rounded to the nearest, but at most 999
+/// Tenths of a percent for so many points hit of those found, from 0 to 1000: rounded to the nearest, halves up, but at most 999
 /// where some point isn't hit, and at least 1 where some is. Takes no memory.
 pub fn tenths(hit: u64, found: u64) -> u32
     requires some { 0 < found }

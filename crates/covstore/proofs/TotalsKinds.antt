@@ -12,7 +12,7 @@ use Rattle.covline.specs.Row.{ItemData, LineItem, FuncItem, BranchItem, Row}
 use Rattle.covstore.specs.declared.totals.Totals.{Totals}
 use Rattle.covstore.specs.Content.{SectionData, LineValueData, FunctionValueData, BranchValueData, line_at, function_at, branch_at, content_of}
 use Rattle.covstore.specs.Totals.{sections_of, lines_found, is_line_hit, functions_found, is_function_hit, branches_found, is_branch_hit, over_files, totals_of}
-use Rattle.covstore.specs.TotalsSteps.{files_of, items_of_file, is_hit_in, found_in, hit_in, hits_line, hits_function, hits_branch}
+use Rattle.covstore.specs.TotalsSteps.{files_of, items_of_file, is_hit_in, found_in, hit_in, hits_line, hits_function, hits_branch, totals_over}
 use Rattle.covstore.specs.Value.{items_at, lines_in, line_added, line_value, names_in, function_added, function_count, branch_cmp, branches_in, branch_value, is_branch, is_taken, sum_if_any, taken_said}
 use Rattle.covstore.proofs.Members.{In}
 use Rattle.covstore.proofs.Orders.{lines_order, names_order, branches_order}
@@ -180,17 +180,6 @@ over_are count f rows same =
 
 pub same_totals : (a b : Totals) → a.lf ≡ b.lf → a.lh ≡ b.lh → a.ff ≡ b.ff → a.fh ≡ b.fh → a.bf ≡ b.bf → a.bh ≡ b.bh → a ≡ b
 same_totals a b lf lh ff fh bf bh = λ i. record { lf = lf i; lh = lh i; ff = ff i; fh = fh i; bf = bf i; bh = bh i }
-
--- the totals over rows
-abbrev pub totals_over : List Row → Totals
-totals_over rows = record {
-  lf = sum_by (λ file. found_in nat_cmp line_point (items_of_file file rows)) (files_of rows);
-  lh = sum_by (λ file. hit_in nat_cmp line_point hits_line (items_of_file file rows)) (files_of rows);
-  ff = sum_by (λ file. found_in (slice_cmp nat_cmp) func_point (items_of_file file rows)) (files_of rows);
-  fh = sum_by (λ file. hit_in (slice_cmp nat_cmp) func_point hits_function (items_of_file file rows)) (files_of rows);
-  bf = sum_by (λ file. found_in branch_cmp branch_point (items_of_file file rows)) (files_of rows);
-  bh = sum_by (λ file. hit_in branch_cmp branch_point hits_branch (items_of_file file rows)) (files_of rows);
-}
 
 pub totals_are : (rows : List Row) → totals_of (content_of rows) ≡ totals_over rows
 totals_are rows =

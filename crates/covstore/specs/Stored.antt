@@ -7,6 +7,7 @@ use Rattle.covstore.specs.declared.totals.Totals.{Totals}
 use Rattle.covstore.specs.Clash.{ClashData, Agree, checksums_in}
 use Rattle.covstore.specs.Content.{SectionData, content_at}
 use Rattle.covstore.specs.Table.{Table, all_rows, clash_at}
+use Rattle.covstore.specs.Totals.{totals_of}
 
 -- how many submissions a store holds at the most
 abbrev pub most_members : ℕ
@@ -36,12 +37,13 @@ pub record PlanData : Type 0 where
   pub given : SubmissionData
   pub after : Totals
 
--- the plan is for this submission, and the store as it was left when the plan was made: the submission clashes with no
--- table that the store stands for, and there is room for it
+-- the plan is for this submission at this store: the submission is lawful and clashes with no table that the store stands
+-- for, the totals are those that stand with it, and there is room for one more, among as many as may be held
 pub record IsPlanOf (store : StoreData) (submission : SubmissionData) (plan : PlanData) : Type 0 where
   pub given : plan.given ≡ submission
   pub lawful : IsLawful submission
   pub agrees : (table : Table) → StandsFor store table → clash_at table submission ≡ None
+  pub after : (table : Table) → StandsFor store table → plan.after ≡ totals_of (content_at (table ++ rows_of submission ∷ []))
   pub few : store.members < most_members
   pub room : store.members < store.room
 

@@ -4,11 +4,12 @@ use Rattle.std.specs.declared.cmp.Ordering.{Ordering}
 use Rattle.std.specs.Ordering.{nat_cmp}
 use Rattle.std.specs.Cmp.Lexicographic.{slice_cmp}
 use Rattle.std.specs.Str.{bytes_eq}
-use Rattle.std.specs.List.{flat_map, list_any}
+use Rattle.std.specs.List.{flat_map, list_any, sum_by}
 use Rattle.covline.specs.Row.{ItemData, LineItem, FuncItem, BranchItem, SectData, Row}
-use Rattle.covline.specs.Points.{BranchPoint}
+use Rattle.covline.specs.Points.{BranchPoint, line_point, func_point, branch_point}
+use Rattle.covstore.specs.declared.totals.Totals.{Totals}
 use Rattle.covstore.specs.Ascending.{ascending}
-use Rattle.covstore.specs.Value.{is_branch, is_taken}
+use Rattle.covstore.specs.Value.{branch_cmp, is_branch, is_taken}
 
 -- the files with a row, in order
 abbrev pub files_of : List Row → List (List ℕ)
@@ -69,3 +70,16 @@ found_in cmp point items = length (ascending cmp (flat_map point items))
 
 abbrev pub hit_in : {X : Type 0} → (X → X → Ordering) → (ItemData → List X) → (X → ItemData → Bool) → List ItemData → ℕ
 hit_in cmp point hits items = count_by (is_hit_in hits items) (ascending cmp (flat_map point items))
+
+-- ---- all files
+
+-- the totals counted over rows: of each kind the different points of each file, and those that some row hits
+abbrev pub totals_over : List Row → Totals
+totals_over rows = record {
+  lf = sum_by (λ file. found_in nat_cmp line_point (items_of_file file rows)) (files_of rows);
+  lh = sum_by (λ file. hit_in nat_cmp line_point hits_line (items_of_file file rows)) (files_of rows);
+  ff = sum_by (λ file. found_in (slice_cmp nat_cmp) func_point (items_of_file file rows)) (files_of rows);
+  fh = sum_by (λ file. hit_in (slice_cmp nat_cmp) func_point hits_function (items_of_file file rows)) (files_of rows);
+  bf = sum_by (λ file. found_in branch_cmp branch_point (items_of_file file rows)) (files_of rows);
+  bh = sum_by (λ file. hit_in branch_cmp branch_point hits_branch (items_of_file file rows)) (files_of rows);
+}

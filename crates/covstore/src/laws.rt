@@ -7,7 +7,9 @@ ghost use Rattle.covline.specs.Points.{BranchPoint, line_points, func_points, br
 ghost use Rattle.covline.specs.Row.{ItemData, Row};
 ghost use Rattle.covstore.specs.Ascending.{IsAscendingOf};
 ghost use Rattle.covstore.specs.Clash.{Checksum, ClashData, Agree, IsFirstClash, first_clash};
-ghost use Rattle.covstore.specs.Content.{FunctionValueData, function_cmp};
+ghost use Rattle.covstore.specs.Content.{FunctionValueData, content_of, function_cmp};
+ghost use Rattle.covstore.specs.Totals.{totals_of};
+ghost use Rattle.covstore.specs.TotalsSteps.{totals_over};
 ghost use Rattle.covstore.specs.Value.{Key, key_cmp, key_of_row, keys_of, lines_in, names_in, branch_cmp, branches_in};
 
 /// The sections of a store stand in strictly ascending order, one for each file and test with a row.
@@ -37,4 +39,10 @@ pub fn order_is_unique()
 pub fn the_first_clash_is_told()
     ensures first { (held given : List Checksum) (clash : ClashData) → Agree held → first_clash held given ≡ Some clash ↔ IsFirstClash held given clash }
     ensures none { (held given : List Checksum) → Agree held → first_clash held given ≡ None ↔ Agree (held ++ given) }
+{}
+
+/// The totals of what rows add up to are those of the rows: for each file its different points, over all tests, and of
+/// these the ones that some row counts above 0.
+pub fn totals_count_the_rows()
+    ensures { (rows : List Row) → totals_of (content_of rows) ≡ totals_over rows }
 {}

@@ -1,7 +1,8 @@
 //! Points of a section with their values: what the counts of all rows of a file and a test add up to.
 
-/// A function with its least start line and the sum of its execution counts (geninfo(1): `FN:`, `FNDA:`). Functions
-/// stand in the order of their start lines, and then of their names' bytes.
+/// A function with its least start line and the sum of its execution counts (geninfo(1): `FN:`, `FNDA:`). Its own order
+/// is that of printing: by start line, then by the name's bytes (counts come last and decide nothing among different
+/// names).
 #[derive(Clone, Copy, PartialEq, Eq, PartialOrd, Ord)]
 pub struct FunctionValue<'a> {
     pub line: u64,

@@ -1,6 +1,6 @@
 //! The tracefile of what a store holds, worked out by hand (geninfo(1), section FILES).
 
-use crate::{Choice, Patterns, trace_text};
+use crate::{Choice, Patterns, laws, trace_text};
 use covline::{Bytes, Item, Items, Sect, Sects, Submission};
 use covstore::Store;
 use std::alloc::Global;
@@ -96,6 +96,7 @@ fn chosen_files(rt: HostRuntime) -> Result<(), Fail> {
 
 #[test]
 fn functions_by_start(rt: HostRuntime) -> Result<(), Fail> {
+    laws::functions_are_printed_by_start();
     let alloc = rt.alloc();
     let store = store_of(&rt, alloc, functions(alloc)?)?;
     check(

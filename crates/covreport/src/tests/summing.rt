@@ -2,7 +2,7 @@
 
 ghost use Rattle.covstore.specs.Totals.{AreTotals};
 
-use crate::{laws, summary_text, tenths};
+use crate::{summary_text, tenths};
 use covline::Bytes;
 use covstore::Totals;
 use std::alloc::Global;
@@ -33,7 +33,6 @@ fn rates(rt: HostRuntime) {
         assert!(rt; hit <= found);
         assert_eq!(rt; tenths(hit, found), wanted, "{hit} of {found}");
     }
-    laws::functions_are_printed_by_start();
 }
 
 /// Asserts that the totals print the text.

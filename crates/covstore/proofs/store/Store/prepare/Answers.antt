@@ -37,6 +37,7 @@ returns-clause-planned g c =
       given = c.plan_of.ensures.given ∙ c.in_ok-given.ensures.copy;
       lawful = c.first_clash.ensures.lawful;
       agrees = λ table stands. returns-clause-agrees g c table (stands_before c.args.self.now c.make_room.new.self table same stands);
+      after = λ table stands. c.plan_of.ensures.after table stands ∙ ap (λ (x : SubmissionData). totals_of (content_at (table ++ rows_of x ∷ []))) c.in_ok-given.ensures.copy;
       few = omega (arith, same.members, c.requires);
       room = c.in_ok-given.ensures.room;
     } in
