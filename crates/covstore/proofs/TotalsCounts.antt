@@ -57,17 +57,17 @@ one_each {X} (x ∷ xs) = omega (arith, sum_by-cons (λ (x : X). 1) x xs, one_ea
 
 -- ---- how many points a file has
 
+rows_fit : (held : List SubmissionData) → IsHeld held → length (all_rows (map rows_of held)) < 2 ^ 63
+rows_fit held h =
+    let few : length held ≤ 1048576 = h.few in
+    omega (arith, length-table held h.lawful)
+
 module _ {X : Type 0} (cmp : X → X → Ordering) (point : ItemData → List X) (one : (item : ItemData) → length (point item) ≤ 1) where
   -- a file has no more points than rows
   found_few : (file : List ℕ) (rows : List Row) → found_in cmp point (items_of_file file rows) ≤ count_by (has_file file) rows
   found_few file rows =
       let items = items_of_file file rows in
       omega (arith, length-ascending cmp (flat_map point items), few_parts point one items, length-map (filter (has_file file) rows) (λ (row : Row). row.item), length-filter (has_file file) rows)
-
-  rows_fit : (held : List SubmissionData) → IsHeld held → length (all_rows (map rows_of held)) < 2 ^ 63
-  rows_fit held h =
-      let few : length held ≤ 1048576 = h.few in
-      omega (arith, length-table held h.lawful)
 
   pub found_fits : (file : List ℕ) (held : List SubmissionData) → IsHeld held → found_in cmp point (items_of_file file (all_rows (map rows_of held))) < 2 ^ 63
   found_fits file held h =
@@ -127,25 +127,22 @@ rows_of_files files sorted (row ∷ rows) =
     )
 
 module _ {X : Type 0} (cmp : X → X → Ordering) (point : ItemData → List X) (one : (item : ItemData) → length (point item) ≤ 1) (held : List SubmissionData) (h : IsHeld held) where
-  all_found_fit : sum_by (λ file. found_in cmp point (items_of_file file (all_rows (map rows_of held)))) (files_of (all_rows (map rows_of held))) < 2 ^ 63
-  all_found_fit =
+  -- the points found and hit in all files are fewer than 2 ^ 63
+  pub founds_fit : sum_by (λ file. found_in cmp point (items_of_file file (all_rows (map rows_of held)))) (files_of (all_rows (map rows_of held))) < 2 ^ 63
+  founds_fit =
       let rows = all_rows (map rows_of held) in
       omega (
         arith,
-        rows_fit cmp point one held h,
+        rows_fit held h,
         rows_of_files (files_of rows) (ascending_sorted names_order.total (map (λ (row : Row). row.file) rows)) rows,
         sum_by-le-sum_by (λ file. found_in cmp point (items_of_file file rows)) (λ file. count_by (has_file file) rows) (files_of rows) (λ file. found_few cmp point one file rows),
       )
-
-  -- the points found and hit in all files are fewer than 2 ^ 63
-  pub founds_fit : sum_by (λ file. found_in cmp point (items_of_file file (all_rows (map rows_of held)))) (files_of (all_rows (map rows_of held))) < 2 ^ 63
-  founds_fit = all_found_fit
 
   pub hits_fit : (hits : X → ItemData → Bool) → sum_by (λ file. hit_in cmp point hits (items_of_file file (all_rows (map rows_of held)))) (files_of (all_rows (map rows_of held))) < 2 ^ 63
   hits_fit hits =
       let rows = all_rows (map rows_of held) in
       omega (
         arith,
-        all_found_fit,
+        founds_fit,
         sum_by-le-sum_by (λ file. hit_in cmp point hits (items_of_file file rows)) (λ file. found_in cmp point (items_of_file file rows)) (files_of rows) (λ file. hit_le_found cmp point hits (items_of_file file rows)),
       )

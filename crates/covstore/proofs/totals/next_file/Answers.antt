@@ -21,4 +21,4 @@ returns g c =
     let of_sects = next_on_road _ (slice_cmp nat_cmp) (λ a b. refl) c.args.last c.next_of.result c.next_of.ensures
     (points_road _ (λ f. f.now) file_point (YieldsList-at c.flat_map.ensures.source (YieldsList-from_first (λ s. sect_data s.now) (λ s. s) _ c.of.ensures)) c.flat_map.ensures.closure c.flat_map.ensures.front c.flat_map.ensures.back c.flat_map.ensures.done (λ x r q k. search (rules, tests))) in
     subst (λ (rows : List Row). IsNext (slice_cmp nat_cmp) (option_map (λ f. f.now) c.args.last) (map (λ (row : Row). row.file) rows) (option_map (λ f. f.now) c.next_of.result)) (sym (rows_of_table held))
-    (IsNext-same_members (slice_cmp nat_cmp) _ (flat_map file_point sects) (map (λ (row : Row). row.file) (flat_map rows_of_sect sects)) (files_of_sects sects) (sects_of_files sects) _ of_sects)
+    (IsNext-same_members (slice_cmp nat_cmp) (option_map (λ f. f.now) c.args.last) (flat_map file_point sects) (map (λ (row : Row). row.file) (flat_map rows_of_sect sects)) (files_of_sects sects) (sects_of_files sects) (option_map (λ f. f.now) c.next_of.result) of_sects)
