@@ -25,7 +25,7 @@ length-rows_of_sects (s ∷ sects) =
     let size : items_in (s ∷ sects) ≡ length s.items + items_in sects = sum_by-cons (λ (t : SectData). length t.items) s sects in
     omega (arith, length-append (rows_of_sect s) (flat_map rows_of_sect sects), length-map {B = Row} s.items (λ (i : ItemData). record { test = s.test; file = s.file; item = i }), length-rows_of_sects sects)
 
-length-table : (held : List SubmissionData) → AllByRecursion IsLawful held → length (all_rows (map rows_of held)) ≤ length held * 67108864
+pub length-table : (held : List SubmissionData) → AllByRecursion IsLawful held → length (all_rows (map rows_of held)) ≤ length held * 67108864
 length-table [] lawful = omega arith
 length-table (s ∷ held) lawful =
     let few : items_in s.sects ≤ 67108864 = lawful.0.few in

@@ -27,7 +27,7 @@ one_branch (LineItem line count checksum) = omega arith
 one_branch (FuncItem name line count) = omega arith
 one_branch (BranchItem line block branch taken) = omega arith
 
-few_parts : {X Y : Type 0} (f : X → List Y) → ((x : X) → length (f x) ≤ 1) → (xs : List X) → length (flat_map f xs) ≤ length xs
+pub few_parts : {X Y : Type 0} (f : X → List Y) → ((x : X) → length (f x) ≤ 1) → (xs : List X) → length (flat_map f xs) ≤ length xs
 few_parts f one [] = omega arith
 few_parts f one (x ∷ xs) = omega (arith, length-append (f x) (flat_map f xs), one x, few_parts f one xs)
 
