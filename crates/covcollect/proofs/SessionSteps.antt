@@ -164,6 +164,7 @@ pub record LineRun (ending : LineEnd) (pieces : List (List ℕ)) (word : Word) :
   pub same_text : (table : Table) → text_after table commands ≡ text_after table (asked_by word)
   pub same_ops : ops_of commands ≡ ops_of (asked_by word)
 
+-- nothing is no choice of files
 no_choice : (word : List ℕ) (pattern : Option (List ℕ)) → 0 < length word → IsWordWith [] word pattern → ⊥
 no_choice [] pattern some h = omega arith
 no_choice (b ∷ bs) None some h = cc

@@ -35,6 +35,7 @@ abbrev behind_space : List ℕ → Option (List ℕ)
 behind_space [] = None
 behind_space (b ∷ pattern) = Some pattern
 
+-- a choice of files, unless its pattern is too long
 abbrev choice_read : (List (List ℕ) → OpData) → Option (List ℕ) → Command
 choice_read op None = Ask (op [])
 choice_read op (Some pattern) = cond (leb (length pattern) most_pattern_bytes) (Ask (op (pattern ∷ []))) RefusePattern
@@ -51,6 +52,7 @@ read_by false false false false line = Unfinished
 abbrev read_at : ℕ → List ℕ → Command
 read_at sixth line = read_by (eqb sixth 116) (eqb sixth 114) (eqb sixth 99) (eqb sixth 101) line
 
+-- what a line is read as, whatever else it may be: one that is no command is read as some command too
 abbrev read_line : List ℕ → Command
 read_line [] = Blank
 read_line (b ∷ bs) = read_at (get_or (b ∷ bs) 5 0) (b ∷ bs)
