@@ -1,7 +1,7 @@
-use Rattle.std.proofs.Common.{◌≡◌, List, map, sym, ap, ◌∙◌, subst}
+use Rattle.std.proofs.Common.{List, map, sym, ap, ◌∙◌, subst}
 use Rattle.std.specs.Prelude.{vec_capacity}
 use Rattle.covline.specs.Row.{SubmissionData, rows_of}
-use Rattle.covstore.specs.Content.{SectionData, content_at}
+use Rattle.covstore.specs.Content.{content_at}
 use Rattle.covstore.specs.Held.{IsHeld}
 use Rattle.covstore.specs.Totals.{totals_of}
 use Rattle.covstore.proofs.Stands.{held_more, content_more}

@@ -1,11 +1,11 @@
-use Rattle.std.proofs.Common.{◌≡◌, List, [], ◌∷◌, ◌++◌, sym, ap, ◌∙◌, subst, arith}
+use Rattle.std.proofs.Common.{[], ◌∷◌, ◌++◌, sym, ap, ◌∙◌, subst, arith}
 use Rattle.std.specs.Prelude.{Some, None, vec_capacity}
 use Rattle.covline.specs.Row.{SubmissionData, rows_of}
 use Rattle.covstore.specs.ClashView.{clash_data}
 use Rattle.covstore.specs.Content.{content_at}
 use Rattle.covstore.specs.RefuseView.{refuse_data}
-use Rattle.covstore.specs.Stored.{StoreData, StandsFor, IsPlanOf}
-use Rattle.covstore.specs.Table.{Table, clash_at}
+use Rattle.covstore.specs.Stored.{StoreData, IsPlanOf}
+use Rattle.covstore.specs.Table.{clash_at}
 use Rattle.covstore.specs.Totals.{totals_of}
 use Rattle.covstore.proofs.Stands.{told_too, refused_at, stands_before, stands_after}
 use Rattle.covstore.proofs.store.Store.prepare.Goals as goal

@@ -1,4 +1,4 @@
-use Rattle.std.proofs.Common.{List, map, sym, ap, ◌∙◌}
+use Rattle.std.proofs.Common.{List, map, ap, ◌∙◌}
 use Rattle.covline.specs.Row.{SubmissionData, rows_of}
 use Rattle.covstore.specs.Content.{content_at}
 use Rattle.covstore.specs.Stored.{StoreData}

@@ -1,6 +1,6 @@
-use Rattle.std.proofs.Common.{List, [], ◌∷◌, ◌++◌, sym, subst, arith}
+use Rattle.std.proofs.Common.{[], ◌∷◌, ◌++◌, sym, subst, arith}
 use Rattle.std.proofs.lemmas.List.{length_push}
-use Rattle.covline.specs.Row.{Row, rows_of}
+use Rattle.covline.specs.Row.{rows_of}
 use Rattle.covstore.specs.Stored.{StoreData, IsPlanOf}
 use Rattle.covstore.proofs.tests.storing.Shelf.commit.Goals as goal
 
