@@ -4,8 +4,7 @@ use Rattle.covstore.specs.Stored.{StoreData, StandsFor}
 use Rattle.covbook.specs.Op.{EntryData}
 use Rattle.covbook.specs.Step.{IsLegal, table_of, ops_in, most_entries}
 
--- the history is legal and not too long, the store stands for the last table of its run, and so many submissions were
--- accepted, each by an entry
+-- the history is legal, the store stands for the last table of its run, and so many submissions were accepted
 pub record IsBook (store : StoreData) (accepted : ℕ) (entries : List EntryData) : Type 0 where
   pub legal : IsLegal entries
   pub stands : StandsFor store (table_of (ops_in entries))

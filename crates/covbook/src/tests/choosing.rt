@@ -18,12 +18,12 @@ const ALL: &str =
 
 const TWICE: &str = "TN:t\nSF:/a.c\nDA:1,4\nDA:2,0\nLF:2\nLH:1\nend_of_record\n";
 
-/// What is asked for a text.
+/// What is asked for a text, with patterns where the operation takes them.
 #[derive(Clone, Copy)]
-enum Asked<'a> {
+enum Asked {
     Report,
-    Extract(&'a [&'a str]),
-    Remove(&'a [&'a str]),
+    Extract,
+    Remove,
     Summary,
 }
 
@@ -35,39 +35,35 @@ fn patterns_of(alloc: Global, texts: &[&str]) -> Result<Patterns, Fail> {
     Ok(patterns)
 }
 
-fn op_of(alloc: Global, asked: Asked<'_>) -> Result<Op, Fail> {
+fn op_of(alloc: Global, asked: Asked, texts: &[&str]) -> Result<Op, Fail> {
     Ok(match asked {
         Asked::Report => Op::Report,
-        Asked::Extract(texts) => Op::Extract(patterns_of(alloc, texts)?),
-        Asked::Remove(texts) => Op::Remove(patterns_of(alloc, texts)?),
+        Asked::Extract => Op::Extract(patterns_of(alloc, texts)?),
+        Asked::Remove => Op::Remove(patterns_of(alloc, texts)?),
         Asked::Summary => Op::Summary,
     })
 }
 
-fn expect_patterns(rt: &impl Abort, patterns: &Patterns, wanted: &[&str], name: &str) {
-    assert_eq!(rt; patterns.get().len(), wanted.len(), "{name}");
+fn expect_patterns(rt: &impl Abort, patterns: &Patterns, wanted: &[&str]) {
+    assert_eq!(rt; patterns.get().len(), wanted.len());
     for (pattern, text) in patterns.get().iter().zip(wanted) {
-        assert_eq!(rt; pattern.get(), text.as_bytes(), "{name}");
+        assert_eq!(rt; pattern.get(), text.as_bytes());
     }
 }
 
-fn expect_op(rt: &impl Abort, op: &Op, asked: Asked<'_>, name: &str) {
+fn expect_op(rt: &impl Abort, op: &Op, asked: Asked, texts: &[&str]) {
     match (op, asked) {
         (Op::Report, Asked::Report) | (Op::Summary, Asked::Summary) => {}
-        (Op::Extract(patterns), Asked::Extract(wanted)) => {
-            expect_patterns(rt, patterns, wanted, name);
-        }
-        (Op::Remove(patterns), Asked::Remove(wanted)) => {
-            expect_patterns(rt, patterns, wanted, name);
-        }
-        _ => assert!(rt; false, "{name}"),
+        (Op::Extract(patterns), Asked::Extract) => expect_patterns(rt, patterns, texts),
+        (Op::Remove(patterns), Asked::Remove) => expect_patterns(rt, patterns, texts),
+        _ => assert!(rt; false, "another operation"),
     }
 }
 
-fn expect_text(rt: &impl Abort, answer: &Answer, wanted: &str, name: &str) {
+fn expect_text(rt: &impl Abort, answer: &Answer, wanted: &str) {
     match answer {
-        Answer::Text(text) => assert_eq!(rt; text.get().get(), wanted.as_bytes(), "{name}"),
-        Answer::Accepted { .. } | Answer::Clash { .. } => assert!(rt; false, "{name}"),
+        Answer::Text(text) => assert_eq!(rt; text.get().get(), wanted.as_bytes()),
+        Answer::Accepted { .. } | Answer::Clash { .. } => assert!(rt; false, "no text"),
     }
 }
 
@@ -76,23 +72,23 @@ fn expect_told(
     rt: &impl Abort,
     alloc: Global,
     book: &mut Book,
-    asked: Asked<'_>,
+    asked: Asked,
+    texts: &[&str],
     wanted: &str,
-    name: &str,
 ) -> Result<(), Fail> {
     let place = book.entries().len();
-    let receipt = book.step(alloc, 9, &op_of(alloc, asked)?)?;
-    assert_eq!(rt; receipt.place, place as u64, "{name}");
-    expect_op(rt, &receipt.op, asked, name);
-    expect_text(rt, &receipt.answer, wanted, name);
-    assert_eq!(rt; book.entries().len().checked_sub(place), Some(1), "{name}");
+    let receipt = book.step(alloc, 9, &op_of(alloc, asked, texts)?)?;
+    assert_eq!(rt; receipt.place, place as u64);
+    expect_op(rt, &receipt.op, asked, texts);
+    expect_text(rt, &receipt.answer, wanted);
+    assert_eq!(rt; book.entries().len().checked_sub(place), Some(1));
     match book.entries().get(place) {
         Some(entry) => {
-            assert_eq!(rt; entry.job, 9, "{name}");
-            expect_op(rt, &entry.op, asked, name);
-            expect_text(rt, &entry.answer, wanted, name);
+            assert_eq!(rt; entry.job, 9);
+            expect_op(rt, &entry.op, asked, texts);
+            expect_text(rt, &entry.answer, wanted);
         }
-        None => assert!(rt; false, "{name}"),
+        None => assert!(rt; false, "no entry"),
     }
     Ok(())
 }
@@ -109,106 +105,83 @@ fn book_of(alloc: Global, given: &[Given]) -> Result<Book, Fail> {
 fn expect_chosen(
     rt: &impl Abort,
     alloc: Global,
-    asked: Asked<'_>,
+    asked: Asked,
+    texts: &[&str],
     wanted: &str,
-    name: &str,
 ) -> Result<(), Fail> {
     let mut book = book_of(alloc, &[Given::First])?;
-    expect_told(rt, alloc, &mut book, asked, wanted, name)
+    expect_told(rt, alloc, &mut book, asked, texts, wanted)
 }
 
 #[test]
-fn chosen_files(rt: HostRuntime) -> Result<(), Fail> {
-    let alloc = rt.alloc();
-    expect_chosen(&rt, alloc, Asked::Extract(&["*.c"]), S1, "extract it")?;
-    expect_chosen(&rt, alloc, Asked::Remove(&["*.c"]), "", "remove it")?;
-    expect_chosen(&rt, alloc, Asked::Extract(&[]), "", "extract nothing")?;
-    expect_chosen(&rt, alloc, Asked::Remove(&[]), S1, "remove nothing")?;
-    expect_chosen(&rt, alloc, Asked::Extract(&["*.h"]), "", "extract others")?;
-    expect_chosen(&rt, alloc, Asked::Remove(&["*.h"]), S1, "remove others")?;
-    expect_chosen(
-        &rt,
-        alloc,
-        Asked::Extract(&["*.h", "/a.?"]),
-        S1,
-        "extract by the second pattern",
-    )
+fn extracted_files(rt: HostRuntime) -> Result<(), Fail> {
+    expect_chosen(&rt, rt.alloc(), Asked::Extract, &["*.c"], S1)?;
+    expect_chosen(&rt, rt.alloc(), Asked::Extract, &["*.h"], "")?;
+    expect_chosen(&rt, rt.alloc(), Asked::Extract, &["*.h", "/a.?"], S1)?;
+    expect_chosen(&rt, rt.alloc(), Asked::Extract, &[], "")
+}
+
+#[test]
+fn files_that_are_left(rt: HostRuntime) -> Result<(), Fail> {
+    expect_chosen(&rt, rt.alloc(), Asked::Remove, &["*.c"], "")?;
+    expect_chosen(&rt, rt.alloc(), Asked::Remove, &["*.h"], S1)?;
+    expect_chosen(&rt, rt.alloc(), Asked::Remove, &["*.h", "/a.?"], "")?;
+    expect_chosen(&rt, rt.alloc(), Asked::Remove, &[], S1)
 }
 
 #[test]
 fn a_summary(rt: HostRuntime) -> Result<(), Fail> {
-    expect_chosen(&rt, rt.alloc(), Asked::Summary, HALF, "one submission")?;
-    let mut book = book_of(rt.alloc(), &[])?;
-    expect_told(
-        &rt,
-        rt.alloc(),
-        &mut book,
-        Asked::Summary,
-        NONE,
-        "an empty book",
-    )
+    expect_chosen(&rt, rt.alloc(), Asked::Summary, &[], HALF)?;
+    let mut empty = Book::new(rt.alloc());
+    expect_told(&rt, rt.alloc(), &mut empty, Asked::Summary, &[], NONE)
 }
 
 /// Points count once, however many submissions and tests speak of them.
 #[test]
 fn summaries_of_more(rt: HostRuntime) -> Result<(), Fail> {
     let mut twice = book_of(rt.alloc(), &[Given::First, Given::First])?;
-    expect_told(
-        &rt,
-        rt.alloc(),
-        &mut twice,
-        Asked::Summary,
-        HALF,
-        "S1 twice",
-    )?;
-    expect_told(
-        &rt,
-        rt.alloc(),
-        &mut twice,
-        Asked::Report,
-        TWICE,
-        "S1 twice",
-    )?;
+    expect_told(&rt, rt.alloc(), &mut twice, Asked::Summary, &[], HALF)?;
+    expect_told(&rt, rt.alloc(), &mut twice, Asked::Report, &[], TWICE)?;
     let mut both = book_of(rt.alloc(), &[Given::First, Given::Other])?;
-    expect_told(
-        &rt,
-        rt.alloc(),
-        &mut both,
-        Asked::Summary,
-        ALL,
-        "two tests of a file",
-    )
+    expect_told(&rt, rt.alloc(), &mut both, Asked::Summary, &[], ALL)
 }
 
 /// No step that tells a text changes what later ones tell.
 #[test]
 fn texts_leave_the_table(rt: HostRuntime) -> Result<(), Fail> {
     let mut book = book_of(rt.alloc(), &[Given::First])?;
-    let alloc = rt.alloc();
-    expect_told(&rt, alloc, &mut book, Asked::Remove(&["*"]), "", "remove")?;
-    expect_told(&rt, alloc, &mut book, Asked::Extract(&["*"]), S1, "extract")?;
-    expect_told(&rt, alloc, &mut book, Asked::Summary, HALF, "summary")?;
-    expect_told(&rt, alloc, &mut book, Asked::Report, S1, "report")
+    expect_told(&rt, rt.alloc(), &mut book, Asked::Remove, &["*"], "")?;
+    expect_told(&rt, rt.alloc(), &mut book, Asked::Extract, &["*"], S1)?;
+    expect_told(&rt, rt.alloc(), &mut book, Asked::Summary, &[], HALF)?;
+    expect_told(&rt, rt.alloc(), &mut book, Asked::Report, &[], S1)
+}
+
+fn expect_copy(rt: &impl Abort, alloc: Global, asked: Asked, texts: &[&str]) -> Result<(), Fail> {
+    let op = op_of(alloc, asked, texts)?;
+    let copy = op.copy(alloc)?;
+    expect_op(rt, &copy, asked, texts);
+    Ok(())
 }
 
 #[test]
 fn copies_of_operations(rt: HostRuntime) -> Result<(), Fail> {
+    expect_copy(&rt, rt.alloc(), Asked::Report, &[])?;
+    expect_copy(&rt, rt.alloc(), Asked::Extract, &["*.c", ""])?;
+    expect_copy(&rt, rt.alloc(), Asked::Remove, &["[a-z]?"])?;
+    expect_copy(&rt, rt.alloc(), Asked::Remove, &[])?;
+    expect_copy(&rt, rt.alloc(), Asked::Summary, &[])
+}
+
+#[test]
+fn a_copy_shares_the_submission(rt: HostRuntime) -> Result<(), Fail> {
     let submit = Op::Submit(shared(rt.alloc(), Given::First)?);
-    match submit.copy(rt.alloc())? {
+    let copy = submit.copy(rt.alloc())?;
+    match &copy {
         Op::Submit(submission) => {
             assert_eq!(rt; submission.get().items(), 2);
             assert_eq!(rt; submission.get().odd(), 3);
         }
         Op::Report | Op::Extract(_) | Op::Remove(_) | Op::Summary => assert!(rt; false),
     }
-    expect_copy(&rt, rt.alloc(), Asked::Report, "report")?;
-    expect_copy(&rt, rt.alloc(), Asked::Extract(&["*.c", ""]), "extract")?;
-    expect_copy(&rt, rt.alloc(), Asked::Remove(&["[a-z]?"]), "remove")?;
-    expect_copy(&rt, rt.alloc(), Asked::Remove(&[]), "no pattern")?;
-    expect_copy(&rt, rt.alloc(), Asked::Summary, "summary")
-}
-
-fn expect_copy(rt: &impl Abort, alloc: Global, asked: Asked<'_>, name: &str) -> Result<(), Fail> {
-    expect_op(rt, &op_of(alloc, asked)?.copy(alloc)?, asked, name);
     Ok(())
 }

@@ -100,7 +100,8 @@ fn expect_report(
     for one in held {
         book.step(alloc, 0, &Op::Submit(one.copy()?))?;
     }
-    match book.step(alloc, 0, &Op::Report)?.answer {
+    let receipt = book.step(alloc, 0, &Op::Report)?;
+    match &receipt.answer {
         Answer::Text(text) => assert_eq!(rt; text.get().get(), wanted.as_bytes()),
         Answer::Accepted { .. } | Answer::Clash { .. } => assert!(rt; false),
     }
