@@ -332,6 +332,3 @@ fn flush<O: Sink>(sink: &mut O) -> Result<(), SessionFault>
         Err(_) => Err(SessionFault::Write),
     }
 }
-
-#[cfg(test)]
-mod tests;
