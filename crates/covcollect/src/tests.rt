@@ -10,12 +10,17 @@ use std::alloc::Global;
 use std::process::Abort;
 use std::test::*;
 
+mod books;
+mod calls;
 mod choosing;
 mod clashes;
 mod commands;
+mod limits;
 mod lines;
 mod merging;
+mod records;
 mod sections;
+mod store;
 mod streams;
 mod summaries;
 mod texts;

@@ -353,3 +353,71 @@ fn a_writer_that_is_full(rt: HostRuntime) {
         Err(SessionFault::Write)
     );
 }
+
+/// A reader of the same command over and over, made as it is read.
+#[derive(Drop)]
+struct Repeated {
+    commands: u64,
+    reads: u64,
+}
+
+impl Source for Repeated {
+    ghost left = { λ s. None };
+
+    ghost reads = { λ s. s.reads };
+
+    ghost failed_reads = { λ s. 0 };
+
+    fn read(&mut self, buffer: &mut [u8]) -> Result<usize, Failed> {
+        self.reads += 1;
+        if self.commands == 0 {
+            return Ok(0);
+        }
+        self.commands -= 1;
+        let line = b"summary\n";
+        let count = line.len().min(buffer.len());
+        buffer[..count].copy_from_slice(&line[..count]);
+        Ok(count)
+    }
+}
+
+/// A writer that counts bytes.
+#[derive(Drop)]
+struct Counting {
+    bytes: u64,
+}
+
+impl Sink for Counting {
+    ghost written = { λ s. None };
+
+    ghost failed_writes = { λ s. 0 };
+
+    fn write(&mut self, bytes: &[u8]) -> Result<usize, Failed> {
+        self.bytes = self.bytes.saturating_add(bytes.len() as u64);
+        Ok(bytes.len())
+    }
+
+    fn flush(&mut self) -> Result<(), Failed> {
+        Ok(())
+    }
+}
+
+/// How a session of so many summaries of nothing ends, and how many bytes it writes.
+fn summaries(alloc: Global, commands: u64) -> (Result<(), SessionFault>, u64) {
+    let mut source = Repeated { commands, reads: 0 };
+    let mut sink = Counting { bytes: 0 };
+    let ended = session(alloc, &mut source, &mut sink);
+    (ended, sink.bytes)
+}
+
+/// A session fills its book with 1,048,576 entries. Each summary of nothing has 112 bytes with the dot behind it.
+#[test]
+fn a_full_book(rt: HostRuntime) {
+    let most = 1_048_576;
+    let bytes = 117_440_512;
+    assert_eq!(rt; summaries(rt.alloc(), most), (Ok(()), bytes));
+    assert_eq!(rt;
+        summaries(rt.alloc(), most + 1),
+        (Err(SessionFault::Full), bytes)
+    );
+}

@@ -1,0 +1,139 @@
+//! Calls of the crates below without what they promise: a test looks at values, and its proof is quicker that knows nothing
+//! of them.
+
+use covbook::{Book, BookFault, Entry, Op, Receipt};
+use covline::{BadSubmission, Bytes, Item, Memory, Sect, Sects, Submission, TraceLine};
+use covread::{ReadFault, read_trace};
+use covreport::{PatternFault, Patterns, matches};
+use std::alloc::Global;
+use std::test::*;
+
+pub(super) fn bytes_of(alloc: Global, bytes: &[u8]) -> Result<Bytes, Memory> {
+    Bytes::of(alloc, bytes)
+}
+
+pub(super) fn append(text: &mut Bytes, bytes: &[u8]) -> Result<(), Memory> {
+    text.append(bytes)
+}
+
+pub(super) fn put_line(record: &TraceLine<'_>, text: &mut Bytes) -> Result<(), Memory> {
+    covline::put_line(record, text)
+}
+
+pub(super) fn submission_of(sects: Sects, odd: u64) -> Result<Submission, (Sects, BadSubmission)> {
+    Submission::of(sects, odd)
+}
+
+pub(super) fn read(alloc: Global, text: &[u8]) -> Result<Submission, ReadFault> {
+    read_trace(alloc, text)
+}
+
+pub(super) fn is_match(pattern: &[u8], path: &[u8]) -> bool {
+    matches(pattern, path)
+}
+
+pub(super) fn add(
+    alloc: Global,
+    patterns: &mut Patterns,
+    pattern: &[u8],
+) -> Result<(), PatternFault> {
+    patterns.add(alloc, pattern)
+}
+
+pub(super) fn any_matches(patterns: &Patterns, path: &[u8]) -> bool {
+    patterns.any_matches(path)
+}
+
+pub(super) fn step(
+    alloc: Global,
+    book: &mut Book,
+    job: u32,
+    op: &Op,
+) -> Result<Receipt, BookFault> {
+    book.step(alloc, job, op)
+}
+
+pub(super) fn entries(book: &Book) -> &[Entry] {
+    book.entries()
+}
+
+/// The list of the patterns, which stand between bars.
+pub(super) fn list_of(alloc: Global, patterns: &[u8]) -> Result<Patterns, PatternFault> {
+    let mut list = Patterns::new(alloc);
+    for pattern in patterns.split(|byte| *byte == b'|') {
+        add(alloc, &mut list, pattern)?;
+    }
+    Ok(list)
+}
+
+/// The bytes so many times.
+pub(super) fn repeated(alloc: Global, bytes: &[u8], times: usize) -> Result<Vec<u8>, Fail> {
+    let mut all = Vec::new(alloc);
+    for _time in 0..times {
+        all.extend_from_slice(bytes)?;
+    }
+    Ok(all)
+}
+
+/// Appends the line of an item; of a function its start line and its count.
+fn put_item(item: &Item, text: &mut Bytes) -> Result<(), Memory> {
+    match item {
+        Item::Line {
+            line,
+            count,
+            checksum,
+        } => put_line(
+            &TraceLine::Line {
+                line: *line,
+                count: u128::from(*count),
+                checksum: checksum.as_ref().map(|text| text.get()),
+            },
+            text,
+        ),
+        Item::Func { name, line, count } => {
+            let name = name.get();
+            put_line(&TraceLine::FuncStart { line: *line, name }, text)?;
+            let count = u128::from(*count);
+            put_line(&TraceLine::FuncCount { count, name }, text)
+        }
+        Item::Branch {
+            line,
+            block,
+            branch,
+            taken,
+        } => put_line(
+            &TraceLine::Branch {
+                line: *line,
+                block: *block,
+                branch: *branch,
+                taken: taken.map(|times| u128::from(times)),
+            },
+            text,
+        ),
+    }
+}
+
+/// Appends the items in order.
+fn put_items(items: &[Item], text: &mut Bytes) -> Result<(), Memory> {
+    for item in items {
+        put_item(item, text)?;
+    }
+    Ok(())
+}
+
+/// Appends a section with its items.
+fn put_sect(sect: &Sect, text: &mut Bytes) -> Result<(), Memory> {
+    put_line(&TraceLine::Test(sect.test.get()), text)?;
+    put_line(&TraceLine::Path(sect.file.get()), text)?;
+    put_items(sect.items.get(), text)?;
+    put_line(&TraceLine::End, text)
+}
+
+/// The sections as text.
+pub(super) fn text_of(alloc: Global, sects: &[Sect]) -> Result<Bytes, Memory> {
+    let mut text = Bytes::new(alloc);
+    for sect in sects {
+        put_sect(sect, &mut text)?;
+    }
+    Ok(text)
+}
