@@ -1,5 +1,5 @@
 //! Reading one line of a tracefile: its key by its first bytes, then the key's fields from left to right, each key by a
-//! function of its own. Nothing is copied, and each byte is looked at once.
+//! function of its own. Nothing is copied.
 
 ghost use Rattle.std.specs.Prelude.{◌≡◌, ◌≤◌, ◌++◌, ℕ, Some, Ok, codes, option_map, Err, MatchOption, MatchResult, IfOk, IfErr};
 ghost use Rattle.covline.specs.declared.trace_line.LineFault.{LineFault};
@@ -108,6 +108,7 @@ fn read_whole(text: &[u8]) -> Option<Number>
 
 /// The execution count at the front of the text, and what follows it. One with a minus counts as 0, whatever its
 /// digits are.
+#[inline]
 fn read_count(text: &[u8]) -> Option<(Number, &[u8])>
     ensures { option_map (λ front. (front.0, front.1.now)) result ≡ count_at text.now }
 {
