@@ -23,7 +23,7 @@ pub mod values;
 pub use content::{Branches, Functions, Lines, Section, Sections};
 pub use plan::Plan;
 pub use refuse::Refuse;
-pub use store::{MOST_MEMBERS, Store};
+pub use store::Store;
 pub use totals::Totals;
 pub use values::{BranchValue, FunctionValue, LineValue};
 

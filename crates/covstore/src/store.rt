@@ -9,11 +9,9 @@ use covline::{Memory, Submission};
 use std::alloc::{Allocator, Global};
 use std::marker::Model;
 
-/// How many submissions a store holds at the most.
-pub const MOST_MEMBERS: u64 = 1_048_576;
-
-/// The value of every line, function and branch at its file and test, over all submissions that are held. Contracts see
-/// these values as sections, how many submissions there are, and for how many there is room.
+/// The value of every line, function and branch at its file and test, over all submissions that are held, of which there
+/// are at most 1,048,576. Contracts see these values as sections, how many submissions there are, and for how many there
+/// is room.
 #[derive(Drop)]
 pub struct Store<A: Allocator = Global> {
     held: Vec<Submission<A>, A>,
@@ -54,7 +52,10 @@ impl<A: Allocator + Copy> Store<A> {
         }
     }
 
-    /// Makes all ready to hold the submission too, or says why it can't be held. The content stays as it is.
+    /// Makes all ready to hold the submission too, or says why it can't be held: it clashes with what is held, or a growth
+    /// was refused. The content stays as it is. What a plan holds is the store's own business: callers know of it that the
+    /// submission clashes with no table that the store stands for, and the totals behind it, and that it is a plan of this
+    /// store as it is left here, which `commit` asks for.
     pub fn prepare(&mut self, alloc: A, submission: &Submission<A>) -> Result<Plan<A>, Refuse<A>>
         requires { self.old.members < most_members }
         ensures content { SameContent self.old self.new }
@@ -100,7 +101,7 @@ impl<A: Allocator + Copy> Store<A> {
         Plan::new(given, after)
     }
 
-    /// Holds the planned submission too. Takes no memory.
+    /// Holds the planned submission too, where the store is as `prepare` left it. Takes no memory.
     pub fn commit(&mut self, plan: Plan<A>)
         requires { (s : SubmissionData) × IsPlanOf self.old s plan }
         ensures stands { (s : SubmissionData) (table : Table) → IsPlanOf self.old s plan → StandsFor self.old table → StandsFor self.new (table ++ rows_of s ∷ []) }
