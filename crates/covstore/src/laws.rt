@@ -7,7 +7,7 @@ ghost use Rattle.covline.specs.Points.{BranchPoint, line_points, func_points, br
 ghost use Rattle.covline.specs.Row.{ItemData, Row, SubmissionData, rows_of};
 ghost use Rattle.covstore.specs.Ascending.{IsAscendingOf};
 ghost use Rattle.covstore.specs.Clash.{Checksum, ClashData, Agree, IsFirstClash, checksums_in, first_clash};
-ghost use Rattle.covstore.specs.Content.{content_of};
+ghost use Rattle.covstore.specs.Content.{SectionData, content_of};
 ghost use Rattle.covstore.specs.Table.{Table, all_rows, clash_at};
 ghost use Rattle.covstore.specs.Totals.{AreTotals, totals_of};
 ghost use Rattle.covstore.specs.TotalsSteps.{totals_over};

@@ -4,6 +4,7 @@ use crate::clash::first_clash;
 use crate::content::Sections;
 use crate::plan::Plan;
 use crate::refuse::Refuse;
+use crate::rows::{Sects, has_row_of_test};
 use crate::totals::{Totals, totals_of};
 use covline::{Memory, Submission};
 use std::alloc::{Allocator, Global};
@@ -65,7 +66,7 @@ impl<A: Allocator + Copy> Store<A> {
         ensures refused { IfErr result (λ e. (table : Table) → StandsFor self.old table → IsRefusedAt table submission.now (refuse_data e)) }
     {
         if let Some(clash) = first_clash(self.held.as_slice(), submission) {
-            return Err(clash.refusal(alloc));
+            return Err(clash.told(alloc)?);
         }
         let given = self.make_room(alloc, submission)?;
         Ok(self.plan_of(given))
@@ -109,11 +110,12 @@ impl<A: Allocator + Copy> Store<A> {
         self.held.push_reserved(plan.submission());
     }
 
-    /// Whether some row has this test. Takes no memory.
+    /// Whether some section is of this test, and so some row: found by one pass over what is held. Takes no memory.
     pub fn has_test(&self, test: &[u8]) -> bool
-        ensures { (table : Table) → StandsFor self.now table → result ≡ list_any (λ row. bytes_eq row.test test.now) (all_rows table) }
+        ensures value { result ≡ list_any (λ s. bytes_eq s.key.test test.now) self.now.sections }
+        ensures rows { (table : Table) → StandsFor self.now table → result ≡ list_any (λ row. bytes_eq row.test test.now) (all_rows table) }
     {
-        self.sections().any(|section| section.test() == test)
+        Sects::of(self.held.as_slice()).any(|sect| has_row_of_test(sect, test))
     }
 
     /// The totals over all files and tests. Takes no memory.
