@@ -13,6 +13,7 @@ ghost use Rattle.covstore.specs.Stored.{ClashRefuse};
 ghost use Rattle.covstore.specs.Table.{clash_at};
 
 use crate::refuse::Refuse;
+use crate::rows::is_of_file;
 use covline::{Bytes, Item, Memory, Sect, Submission};
 use std::alloc::Allocator;
 
@@ -173,7 +174,7 @@ fn other_in_sects<'a, A: Allocator>(
 fn other_in_sect<'a, A: Allocator>(sect: &'a Sect<A>, given: LineChecksum<'_>) -> Option<&'a [u8]>
     ensures { option_map (λ c. c.now) result ≡ other_checksum (checksum_data given.entry) (checksums_in (rows_of_sect (sect_data sect.now))) }
 {
-    if sect.file.get() == given.file {
+    if is_of_file(sect, given.file) {
         other_in_items(sect.items.get(), given)
     } else {
         None
