@@ -7,7 +7,7 @@ ghost use Rattle.covreport.specs.Report.{section_text, report_text};
 mod branches;
 mod functions;
 mod lines;
-mod tally;
+mod totals;
 
 use self::branches::put_branches;
 use self::functions::put_functions;
@@ -33,7 +33,7 @@ pub fn trace_text<A: Allocator + Copy>(
     Ok(text)
 }
 
-/// Appends a section if its file is chosen. A refusal leaves what was appended before it came.
+/// Appends a section if its file is chosen.
 fn put_chosen<A: Allocator + Copy>(
     alloc: A,
     section: &Section<'_, A>,
@@ -48,7 +48,7 @@ fn put_chosen<A: Allocator + Copy>(
     put_section(alloc, section, text)
 }
 
-/// Appends a section. A refusal leaves what was appended before it came.
+/// Appends a section.
 fn put_section<A: Allocator + Copy>(
     alloc: A,
     section: &Section<'_, A>,
@@ -58,8 +58,8 @@ fn put_section<A: Allocator + Copy>(
 {
     put_line(&TraceLine::Test(section.test()), text)?;
     put_line(&TraceLine::Path(section.file()), text)?;
-    put_functions(alloc, section.functions(), text)?;
-    put_branches(section.branches(), text)?;
-    put_lines(section.lines(), text)?;
+    put_functions(alloc, section, text)?;
+    put_branches(section, text)?;
+    put_lines(section, text)?;
     put_line(&TraceLine::End, text)
 }

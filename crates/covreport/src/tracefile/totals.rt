@@ -4,7 +4,7 @@ ghost use Rattle.std.specs.Prelude.{◌≡◌, ◌+◌, ◌<◌, ◌≤◌, ◌^
 ghost use Rattle.std.specs.List.{flat_map};
 ghost use Rattle.covline.specs.Printed.{printed};
 ghost use Rattle.covline.specs.Spells.{Total};
-ghost use Rattle.covreport.specs.Printing.{totals, totals_if_any};
+ghost use Rattle.covreport.specs.Report.{totals, totals_if_any};
 
 use covline::{Bytes, Memory, TotalKind, TraceLine, put_line};
 use std::alloc::Allocator;
@@ -19,12 +19,7 @@ pub(super) struct Tally {
 
 impl Tally {
     /// That of no points.
-    pub(super) fn new() -> Tally
-        ensures found { result.found ≡ 0 }
-        ensures hit { result.hit ≡ 0 }
-    {
-        Tally { found: 0, hit: 0 }
-    }
+    pub(super) const NONE: Tally = Tally { found: 0, hit: 0 };
 
     /// With one point more.
     pub(super) fn and(self, is_hit: bool) -> Tally
@@ -37,37 +32,45 @@ impl Tally {
             hit: self.hit + u64::from(is_hit),
         }
     }
-
-    /// Appends the two totals. A refusal leaves what was appended before it came.
-    pub(super) fn put<A: Allocator>(
-        self,
-        found: TotalKind,
-        hit: TotalKind,
-        text: &mut Bytes<A>,
-    ) -> Result<(), Memory>
-        ensures { OnOk result (text.new ≡ text.old ++ flat_map printed (totals found hit self.found self.hit)) }
-    {
-        put_total(found, self.found, text)?;
-        put_total(hit, self.hit, text)
-    }
-
-    /// Appends the two totals where there is a point. A refusal leaves what was appended before it came.
-    pub(super) fn put_if_any<A: Allocator>(
-        self,
-        found: TotalKind,
-        hit: TotalKind,
-        text: &mut Bytes<A>,
-    ) -> Result<(), Memory>
-        ensures { OnOk result (text.new ≡ text.old ++ flat_map printed (totals_if_any found hit self.found self.hit)) }
-    {
-        if self.found == 0 {
-            return Ok(());
-        }
-        self.put(found, hit, text)
-    }
 }
 
-/// Appends one total. A refusal leaves the text as it was.
+/// The tally of no points. This is a call, since a loop's proof would take a constant apart.
+pub(super) fn no_points() -> Tally
+    ensures found { result.found ≡ 0 }
+    ensures hit { result.hit ≡ 0 }
+{
+    Tally::NONE
+}
+
+/// Appends the two totals of a kind of points.
+pub(super) fn put_totals<A: Allocator>(
+    found: TotalKind,
+    hit: TotalKind,
+    tally: Tally,
+    text: &mut Bytes<A>,
+) -> Result<(), Memory>
+    ensures { OnOk result (text.new ≡ text.old ++ flat_map printed (totals found hit tally.found tally.hit)) }
+{
+    put_total(found, tally.found, text)?;
+    put_total(hit, tally.hit, text)
+}
+
+/// Appends the two totals where there is a point.
+pub(super) fn put_totals_if_any<A: Allocator>(
+    found: TotalKind,
+    hit: TotalKind,
+    tally: Tally,
+    text: &mut Bytes<A>,
+) -> Result<(), Memory>
+    ensures { OnOk result (text.new ≡ text.old ++ flat_map printed (totals_if_any found hit tally.found tally.hit)) }
+{
+    if tally.found == 0 {
+        return Ok(());
+    }
+    put_totals(found, hit, tally, text)
+}
+
+/// Appends one total.
 fn put_total<A: Allocator>(kind: TotalKind, value: u64, text: &mut Bytes<A>) -> Result<(), Memory>
     ensures { OnOk result (text.new ≡ text.old ++ printed (Total kind value)) }
 {
