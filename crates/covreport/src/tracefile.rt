@@ -1,6 +1,7 @@
 //! The merged tracefile as text (geninfo(1), section FILES): a section for each file and test with a row.
 
-ghost use Rattle.std.specs.Prelude.{◌≡◌, ◌++◌, [], ◌∷◌, IfOk, OnOk};
+ghost use Rattle.std.specs.Prelude.{◌≡◌, ◌≢◌, ◌++◌, true, [], ◌∷◌, IfOk, OnOk, OnErr};
+ghost use Rattle.covreport.specs.Choice.{is_chosen};
 ghost use Rattle.covreport.specs.ChoiceView.{choice_data};
 ghost use Rattle.covreport.specs.Report.{section_text, report_text};
 
@@ -18,13 +19,14 @@ use covstore::{Section, Store};
 use std::alloc::Allocator;
 
 /// The text of the sections of all chosen files, in order. It takes memory for the text, and for the functions of one
-/// section.
+/// section: none where no section is chosen.
 pub fn trace_text<A: Allocator + Copy>(
     alloc: A,
     store: &Store<A>,
     choice: &Choice<A>,
 ) -> Result<Bytes<A>, Memory>
-    ensures { IfOk result (λ t. t ≡ report_text (choice_data choice.now) store.now.sections) }
+    ensures text { IfOk result (λ t. t ≡ report_text (choice_data choice.now) store.now.sections) }
+    ensures refused { OnErr result (report_text (choice_data choice.now) store.now.sections ≢ []) }
 {
     let mut text = Bytes::new(alloc);
     for section in store.sections() {
@@ -40,7 +42,8 @@ fn put_chosen<A: Allocator + Copy>(
     choice: &Choice<A>,
     text: &mut Bytes<A>,
 ) -> Result<(), Memory>
-    ensures { OnOk result (text.new ≡ text.old ++ report_text (choice_data choice.now) (section.now ∷ [])) }
+    ensures ok { OnOk result (text.new ≡ text.old ++ report_text (choice_data choice.now) (section.now ∷ [])) }
+    ensures refused { OnErr result (is_chosen (choice_data choice.now) section.now.key.file ≡ true) }
 {
     if !choice.takes(section.file()) {
         return Ok(());
