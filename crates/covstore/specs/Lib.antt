@@ -12,6 +12,5 @@ pub mod RefuseView
 pub mod ValueView
 pub mod KeyView
 pub mod Walk
-pub mod BranchKeyView
 pub mod ClashView
 pub mod ChecksumView
