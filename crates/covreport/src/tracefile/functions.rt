@@ -7,8 +7,8 @@ ghost use Rattle.covreport.specs.FunctionView.{printed_function};
 ghost use Rattle.covreport.specs.Report.{by_start, start_record, call_record, function_records, functions_hit};
 ghost use Rattle.covstore.specs.ValueView.{function_data};
 
-use super::totals::{Tally, no_points, put_totals_if_any};
-use covline::{Bytes, Memory, TotalKind, TraceLine, put_line};
+use super::totals::{no_points, put_totals_if_any};
+use covline::{Bytes, Memory, Tally, TotalKind, TraceLine, put_line};
 use covstore::{FunctionValue, Section};
 use std::alloc::Allocator;
 
