@@ -1,5 +1,5 @@
 -- A text that is printed part by part, and counted; the parts of a section.
-use Rattle.std.proofs.Common.{◌≡◌, ℕ, ◌+◌, ◌^◌, ◌<◌, Bool, true, false, cond, List, [], ◌∷◌, ◌++◌, length, map, filter, count_by, refl, sym, ap, ap₂, ◌∙◌, append_assoc, arith}
+use Rattle.std.proofs.Common.{◌≡◌, ℕ, ◌+◌, ◌^◌, ◌<◌, ◌≤◌, Bool, true, false, cond, List, [], ◌∷◌, ◌++◌, length, map, filter, count_by, refl, sym, ap, ◌∙◌, append_assoc, arith}
 use Rattle.std.specs.List.{flat_map}
 use Rattle.std.proofs.lemmas.List.{append-nil}
 use Rattle.std.proofs.lemmas.List.Concat.{flat_map-append}
@@ -30,6 +30,11 @@ pub record IsPrinted {X : Type 0} (part : X → List ℕ) (is_hit : X → Bool) 
   pub written : text ++ flat_map part left ≡ before ++ flat_map part all
   pub counted : found + length left ≡ length all
   pub hits : hit + count_by is_hit left ≡ count_by is_hit all
+  pub fewer : hit ≤ found
+
+at_most_one : (b : Bool) → cond {A = ℕ} b 1 0 ≤ 1
+at_most_one false = omega arith
+at_most_one true = omega arith
 
 module _ {X : Type 0} (part : X → List ℕ) (is_hit : X → Bool) (all : List X) (before : List ℕ) where
   pub printed_none : (left : List X) (found hit : ℕ) → left ≡ all → found ≡ 0 → hit ≡ 0 → IsPrinted part is_hit all left before before found hit
@@ -37,6 +42,7 @@ module _ {X : Type 0} (part : X → List ℕ) (is_hit : X → Bool) (all : List 
     written = ap (λ (xs : List X). before ++ flat_map part xs) is;
     counted = omega (arith, ap length is, f);
     hits = omega (arith, ap (count_by is_hit) is, h);
+    fewer = omega (arith, f, h);
   }
 
   pub printed_more : (x : X) (b : Bool) (left more : List X) (text new : List ℕ) (found hit found_now hit_now : ℕ) → left ≡ x ∷ more → IsPrinted part is_hit all left before text found hit → new ≡ text ++ part x
@@ -48,6 +54,7 @@ module _ {X : Type 0} (part : X → List ℕ) (is_hit : X → Bool) (all : List 
         written = goes_on part (before ++ flat_map part all) text new x left more next so_far.written put;
         counted = omega (arith, ap length next, so_far.counted, f);
         hits = omega (arith, ap (count_by is_hit) next, one, so_far.hits, h);
+        fewer = omega (arith, at_most_one b, so_far.fewer, f, h);
       }
 
   pub printed_all : (left : List X) (text : List ℕ) (found hit : ℕ) → left ≡ [] → IsPrinted part is_hit all left before text found hit

@@ -7,8 +7,8 @@ ghost use Rattle.covreport.specs.Report.{branch_record, branch_records};
 ghost use Rattle.covstore.specs.Value.{is_taken as value_is_taken};
 ghost use Rattle.covstore.specs.ValueView.{branch_data};
 
-use super::totals::{no_points, put_totals_if_any};
-use covline::{Bytes, Memory, TotalKind, TraceLine, put_line};
+use super::totals::put_totals_if_any;
+use covline::{Bytes, Memory, Tally, TotalKind, TraceLine, put_line};
 use covstore::{BranchValue, Section};
 use std::alloc::Allocator;
 
@@ -19,7 +19,7 @@ pub(super) fn put_branches<A: Allocator>(
 ) -> Result<(), Memory>
     ensures { OnOk result (text.new ≡ text.old ++ flat_map printed (branch_records section.now.branches)) }
 {
-    let mut tally = no_points();
+    let mut tally = Tally::NONE;
     for branch in section.branches() {
         put_branch(&branch, text)?;
         tally = tally.and(is_taken(branch.taken));

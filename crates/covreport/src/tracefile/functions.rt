@@ -7,7 +7,7 @@ ghost use Rattle.covreport.specs.FunctionView.{printed_function};
 ghost use Rattle.covreport.specs.Report.{by_start, start_record, call_record, function_records, functions_hit};
 ghost use Rattle.covstore.specs.ValueView.{function_data};
 
-use super::totals::{no_points, put_totals_if_any};
+use super::totals::put_totals_if_any;
 use covline::{Bytes, Memory, Tally, TotalKind, TraceLine, put_line};
 use covstore::{FunctionValue, Section};
 use std::alloc::Allocator;
@@ -92,7 +92,7 @@ fn put_counts<A: Allocator>(
     ensures found { IfOk result (λ t. t.found ≡ length functions.now) }
     ensures hit { IfOk result (λ t. t.hit ≡ functions_hit (map printed_function functions.now)) }
 {
-    let mut tally = no_points();
+    let mut tally = Tally::NONE;
     for function in functions {
         let says = TraceLine::FuncCount {
             count: function.count,

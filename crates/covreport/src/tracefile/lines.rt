@@ -6,8 +6,8 @@ ghost use Rattle.covline.specs.Printed.{printed};
 ghost use Rattle.covreport.specs.Report.{line_record, line_records};
 ghost use Rattle.covstore.specs.ValueView.{line_data};
 
-use super::totals::{no_points, put_totals};
-use covline::{Bytes, Memory, TotalKind, TraceLine, put_line};
+use super::totals::put_totals;
+use covline::{Bytes, Memory, Tally, TotalKind, TraceLine, put_line};
 use covstore::{LineValue, Section};
 use std::alloc::Allocator;
 
@@ -18,7 +18,7 @@ pub(super) fn put_lines<A: Allocator>(
 ) -> Result<(), Memory>
     ensures { OnOk result (text.new ≡ text.old ++ flat_map printed (line_records section.now.lines)) }
 {
-    let mut tally = no_points();
+    let mut tally = Tally::NONE;
     for line in section.lines() {
         put_count(&line, text)?;
         tally = tally.and(line.count > 0);

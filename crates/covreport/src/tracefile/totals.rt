@@ -9,14 +9,6 @@ ghost use Rattle.covreport.specs.Report.{totals, totals_if_any};
 use covline::{Bytes, Memory, Tally, TotalKind, TraceLine, put_line};
 use std::alloc::Allocator;
 
-/// The tally of no points. This is a call, since a loop's proof would take a constant apart.
-pub(super) fn no_points() -> Tally
-    ensures found { result.found ≡ 0 }
-    ensures hit { result.hit ≡ 0 }
-{
-    Tally::NONE
-}
-
 /// Appends the two totals of a kind of points.
 pub(super) fn put_totals<A: Allocator>(
     found: TotalKind,

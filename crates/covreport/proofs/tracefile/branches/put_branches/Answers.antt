@@ -1,4 +1,4 @@
-use Rattle.std.proofs.Common.{◌++◌, length, ap, ap₂, ◌∙◌, arith}
+use Rattle.std.proofs.Common.{refl, ◌++◌, length, ap, ap₂, ◌∙◌, arith}
 use Rattle.std.specs.List.{flat_map}
 use Rattle.std.proofs.lemmas.Result.{on_ok_weaker}
 use Rattle.covline.specs.Printed.{printed}
@@ -13,11 +13,11 @@ use Rattle.covreport.proofs.tracefile.branches.put_branches.Goals as goal
 pub loop-branch-init : goal.loop-branch-init
 loop-branch-init g c =
     printed_none (λ (v : BranchValueData). printed (branch_record v)) (λ (v : BranchValueData). is_taken v.taken) c.args.section.now.branches c.args.text.now _ _ _
-    (c.into_iter-branch-iterator.ensures.into_iter_gives ∙ c.branches-branch-items.ensures.value) c.no_points-tally.ensures.found c.no_points-tally.ensures.hit
+    (c.into_iter-branch-iterator.ensures.into_iter_gives ∙ c.branches-branch-items.ensures.value) refl refl
 
 pub and-tally-requires : goal.and-tally-requires
 and-tally-requires g c =
-    count_fits (λ (v : BranchValueData). printed (branch_record v)) (λ (v : BranchValueData). is_taken v.taken) c.args.section.now.branches c.args.text.now (branch_data c.in-Some.branch) _ _ c.loop-branch.text c.loop-branch.tally.found c.loop-branch.tally.hit
+    count_fits (λ (v : BranchValueData). printed (branch_record v)) (λ (v : BranchValueData). is_taken v.taken) c.args.section.now.branches c.args.text.now (branch_data c.in-Some.branch) _ _ c.loop-branch.text c.loop-branch.tally.0 c.loop-branch.tally.1.0
     (omega (arith, ap length c.branches-branch-items.ensures.value, c.branches-branch-items.ensures.few)) c.in-Some.ensures.steps c.loop-branch.invariant
 
 pub loop-branch-preserved : goal.loop-branch-preserved
@@ -27,7 +27,7 @@ loop-branch-preserved g c =
 
 pub returns : goal.returns
 returns g c =
-    let all = printed_all (λ (v : BranchValueData). printed (branch_record v)) (λ (v : BranchValueData). is_taken v.taken) c.args.section.now.branches c.args.text.now _ c.loop-branch.text c.loop-branch.tally.found c.loop-branch.tally.hit
+    let all = printed_all (λ (v : BranchValueData). printed (branch_record v)) (λ (v : BranchValueData). is_taken v.taken) c.args.section.now.branches c.args.text.now _ c.loop-branch.text c.loop-branch.tally.0 c.loop-branch.tally.1.0
     c.in-None.ensures.steps.0 c.loop-branch.invariant in
     on_ok_weaker c.put_totals_if_any.result
     (λ e. with_tail branch_record c.args.section.now.branches (totals_if_any BranchFound BranchHit _ (branches_hit c.args.section.now.branches)) c.args.text.now c.loop-branch.text c.put_totals_if_any.new.text all.0

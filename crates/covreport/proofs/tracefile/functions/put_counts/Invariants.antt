@@ -8,4 +8,4 @@ use Rattle.covreport.proofs.tracefile.functions.put_counts.Given as goal
 
 abbrev pub invariant-loop-function : goal.invariant-loop-function
 invariant-loop-function g l =
-    IsPrinted (λ (f : FunctionValueData). printed (call_record f)) (λ (f : FunctionValueData). nat_lt 0 f.count) (map printed_function l.functions) (map printed_function (drop l.function-index l.functions)) l.fn.text l.text l.tally.found l.tally.hit
+    IsPrinted (λ (f : FunctionValueData). printed (call_record f)) (λ (f : FunctionValueData). nat_lt 0 f.count) (map printed_function l.functions) (map printed_function (drop l.function-index l.functions)) l.fn.text l.text l.tally.0 l.tally.1.0

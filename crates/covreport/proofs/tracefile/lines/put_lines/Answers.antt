@@ -12,11 +12,11 @@ use Rattle.covreport.proofs.tracefile.lines.put_lines.Goals as goal
 pub loop-line-init : goal.loop-line-init
 loop-line-init g c =
     printed_none (λ (v : LineValueData). printed (line_record v)) (λ (v : LineValueData). nat_lt 0 v.count) c.args.section.now.lines c.args.text.now _ _ _
-    (c.into_iter-line-iterator.ensures.into_iter_gives ∙ c.lines-line-items.ensures.value) c.no_points-tally.ensures.found c.no_points-tally.ensures.hit
+    (c.into_iter-line-iterator.ensures.into_iter_gives ∙ c.lines-line-items.ensures.value) refl refl
 
 pub and-tally-requires : goal.and-tally-requires
 and-tally-requires g c =
-    count_fits (λ (v : LineValueData). printed (line_record v)) (λ (v : LineValueData). nat_lt 0 v.count) c.args.section.now.lines c.args.text.now (line_data c.in-Some.line) _ _ c.loop-line.text c.loop-line.tally.found c.loop-line.tally.hit
+    count_fits (λ (v : LineValueData). printed (line_record v)) (λ (v : LineValueData). nat_lt 0 v.count) c.args.section.now.lines c.args.text.now (line_data c.in-Some.line) _ _ c.loop-line.text c.loop-line.tally.0 c.loop-line.tally.1.0
     (omega (arith, ap length c.lines-line-items.ensures.value, c.lines-line-items.ensures.few)) c.in-Some.ensures.steps c.loop-line.invariant
 
 pub loop-line-preserved : goal.loop-line-preserved
@@ -26,7 +26,7 @@ loop-line-preserved g c =
 
 pub returns : goal.returns
 returns g c =
-    let all = printed_all (λ (v : LineValueData). printed (line_record v)) (λ (v : LineValueData). nat_lt 0 v.count) c.args.section.now.lines c.args.text.now _ c.loop-line.text c.loop-line.tally.found c.loop-line.tally.hit
+    let all = printed_all (λ (v : LineValueData). printed (line_record v)) (λ (v : LineValueData). nat_lt 0 v.count) c.args.section.now.lines c.args.text.now _ c.loop-line.text c.loop-line.tally.0 c.loop-line.tally.1.0
     c.in-None.ensures.steps.0 c.loop-line.invariant in
     on_ok_weaker c.put_totals.result
     (λ e. with_tail line_record c.args.section.now.lines (totals LineFound LineHit _ (lines_hit c.args.section.now.lines)) c.args.text.now c.loop-line.text c.put_totals.new.text all.0
