@@ -8,7 +8,7 @@ use Rattle.covstore.specs.Totals.{totals_of}
 use Rattle.covreport.specs.Choice.{AllFiles, Extracted, Removed}
 use Rattle.covreport.specs.Report.{report_text}
 use Rattle.covreport.specs.Summary.{summary_of}
-use Rattle.covbook.specs.Op.{OpData, SubmitOp, ReportOp, ExtractOp, RemoveOp, SummaryOp, AnswerData, AcceptedAnswer, ClashAnswer, TextAnswer, EntryData}
+use Rattle.covbook.specs.Op.{OpData, SubmitOp, ReportOp, ExtractOp, RemoveOp, SummaryOp, AnswerData, AcceptedAnswer, ClashAnswer, TextAnswer, EntryData, ReceiptData}
 
 -- a submission that clashes is refused whole; another one is accepted with the next number
 abbrev pub answer_to_submit : Table → SubmissionData → Option ClashData → AnswerData
@@ -61,6 +61,14 @@ answers_in entries = map (λ e. e.answer) entries
 -- a history is legal: its answers are those of the run over its operations
 abbrev pub IsLegal : List EntryData → Type 0
 IsLegal entries = answers_in entries ≡ answers_to (ops_in entries)
+
+-- the entry that an operation of a job appends to a history
+abbrev pub next_entry : List EntryData → ℕ → OpData → EntryData
+next_entry history job op = record { job = job; op = op; answer = answer_of (table_of (ops_in history)) op }
+
+-- what the asking job gets of an entry that is appended to a history
+abbrev pub receipt_of : List EntryData → EntryData → ReceiptData
+receipt_of history entry = record { place = length history; op = entry.op; answer = entry.answer }
 
 -- how many entries one history has at the most
 abbrev pub most_entries : ℕ

@@ -41,7 +41,7 @@ impl<A: Allocator> Entries<A> {
     ghost use Rattle.std.specs.Prelude.{◌≡◌, ◌++◌, [], ◌∷◌, OnOk, OnErr, map};
     ghost use Rattle.covbook.specs.EntryView.{entry_data};
 
-    /// The empty list.
+    /// The empty list. Takes no memory.
     pub fn new(alloc: A) -> Entries<A>
         ensures { result ≡ [] }
     {
@@ -64,6 +64,28 @@ impl<A: Allocator> Entries<A> {
         ensures { map entry_data result.now ≡ self.now }
     {
         self.entries.as_slice()
+    }
+}
+
+impl<A: Allocator + Copy> Entries<A> {
+    ghost use Rattle.std.specs.Prelude.{◌≡◌, ◌++◌, [], ◌∷◌, IfOk, OnOk, OnErr};
+    ghost use Rattle.covbook.specs.EntryView.{entry_data, receipt_data};
+    ghost use Rattle.covbook.specs.Step.{receipt_of};
+
+    /// Appends an entry, and gives its receipt, which has copies of the operation and the answer. A refusal gives the
+    /// entry up and leaves the list as it was.
+    pub(crate) fn append(&mut self, alloc: A, entry: Entry<A>) -> Result<Receipt<A>, Memory>
+        ensures receipt { IfOk result (λ r. receipt_data r ≡ receipt_of self.old (entry_data entry)) }
+        ensures entry { OnOk result (self.new ≡ self.old ++ entry_data entry ∷ []) }
+        ensures refused { OnErr result (self.new ≡ self.old) }
+    {
+        let receipt = Receipt {
+            place: self.entries.len() as u64,
+            op: entry.op.copy(alloc)?,
+            answer: entry.answer.copy(alloc)?,
+        };
+        self.push(entry)?;
+        Ok(receipt)
     }
 }
 
