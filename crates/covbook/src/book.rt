@@ -107,13 +107,20 @@ impl<A: Allocator + Copy> Book<A> {
         if self.entries.get().len() as u64 == MOST_ENTRIES {
             return Err(BookFault::Full);
         }
-        let receipt = match op {
-            Op::Submit(submission) => self.submit(alloc, job, submission)?,
-            Op::Report | Op::Extract(_) | Op::Remove(_) | Op::Summary => {
-                self.tell(alloc, job, op)?
-            }
-        };
-        Ok(receipt)
+        Ok(self.answered(alloc, job, op)?)
+    }
+
+    /// A step where there is room for it.
+    fn answered(&mut self, alloc: A, job: u32, op: &Op<A>) -> Result<Receipt<A>, Memory>
+        requires { length self.old.entries < most_entries }
+        ensures receipt { IfOk result (λ r. receipt_data r ≡ receipt_of self.old.entries (next_entry self.old.entries job (op_data op.now))) }
+        ensures entry { OnOk result (self.new.entries ≡ self.old.entries ++ next_entry self.old.entries job (op_data op.now) ∷ []) }
+        ensures refused { OnErr result (self.new ≡ self.old) }
+    {
+        match op {
+            Op::Submit(submission) => self.submit(alloc, job, submission),
+            Op::Report | Op::Extract(_) | Op::Remove(_) | Op::Summary => self.tell(alloc, job, op),
+        }
     }
 
     /// The submission is held too, unless it clashes. All growths come before the first change.
