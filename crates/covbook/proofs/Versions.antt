@@ -6,7 +6,7 @@ use Rattle.std.specs.Prelude.{Option, Some, None, ◌↔◌}
 use Rattle.covline.specs.Row.{Row, SubmissionData, rows_of}
 use Rattle.covstore.specs.Clash.{Checksum, ClashData, Agree, checksums_in, checksum_of_row, first_clash}
 use Rattle.covstore.specs.Table.{Table, all_rows, clash_at}
-use Rattle.covbook.specs.Op.{OpData, SubmitOp, ReportOp, ExtractOp, RemoveOp, SummaryOp}
+use Rattle.covbook.specs.Op.{OpData, SubmitOp}
 use Rattle.covbook.specs.Step.{table_after, table_after_submit, table_from}
 
 -- what covstore's law says: where none is told, no two differ
@@ -26,10 +26,7 @@ agree_submitted law table s None is agree = subst Agree (sym (checksums-push tab
 
 agree_after : NoneDiffer → (table : Table) (op : OpData) → Agree (checksums_in (all_rows table)) → Agree (checksums_in (all_rows (table_after table op)))
 agree_after law table (SubmitOp s) agree = agree_submitted law table s (clash_at table s) refl agree
-agree_after law table ReportOp agree = agree
-agree_after law table (ExtractOp patterns) agree = agree
-agree_after law table (RemoveOp patterns) agree = agree
-agree_after law table SummaryOp agree = agree
+agree_after law table text agree = agree
 
 agree_from : NoneDiffer → (table : Table) (ops : List OpData) → Agree (checksums_in (all_rows table)) → Agree (checksums_in (all_rows (table_from table ops)))
 agree_from law table [] agree = agree

@@ -27,13 +27,10 @@ answer_of table (ExtractOp patterns) = TextAnswer (report_text (Extracted patter
 answer_of table (RemoveOp patterns) = TextAnswer (report_text (Removed patterns) (content_at table))
 answer_of table SummaryOp = TextAnswer (summary_of (totals_of (content_at table)))
 
--- the table that it leaves
+-- the table that it leaves: a text changes nothing
 abbrev pub table_after : Table → OpData → Table
 table_after table (SubmitOp submission) = table_after_submit table submission (clash_at table submission)
-table_after table ReportOp = table
-table_after table (ExtractOp patterns) = table
-table_after table (RemoveOp patterns) = table
-table_after table SummaryOp = table
+table_after table text = table
 
 -- the answers to operations one after another, and the table that they leave
 abbrev pub answers_from : Table → List OpData → List AnswerData
