@@ -1,4 +1,4 @@
-use Rattle.std.proofs.Common.{[], ◌∷◌, ◌++◌, ap, ◌∙◌}
+use Rattle.std.proofs.Common.{[], ◌∷◌, ◌++◌, refl, ap, ◌∙◌}
 use Rattle.covbook.specs.Held.{BookData}
 use Rattle.covbook.specs.Op.{SubmitOp, EntryData}
 use Rattle.covbook.specs.Step.{next_entry, receipt_of}
@@ -8,6 +8,14 @@ use Rattle.covbook.proofs.book.Book.submit.Goals as goal
 pub invariant_of-self : goal.invariant_of-self
 invariant_of-self g c =
     book_still c.self.inside.store c.prepare.new.self c.self.inside.accepted c.self.inside.entries c.append.new.self c.self.invariant c.prepare.ensures.content c.in_err-receipt-in-Ok.ensures.refused
+
+pub invariant_of-self-in_err-answer-in-Err : goal.invariant_of-self-in_err-answer-in-Err
+invariant_of-self-in_err-answer-in-Err g c =
+    book_still c.self.inside.store c.prepare.new.self c.self.inside.accepted c.self.inside.entries c.self.inside.entries c.self.invariant c.prepare.ensures.content refl
+
+pub invariant_of-self-in-Err : goal.invariant_of-self-in-Err
+invariant_of-self-in-Err g c =
+    book_still c.self.inside.store c.prepare.new.self c.self.inside.accepted c.self.inside.entries c.self.inside.entries c.self.invariant c.prepare.ensures.content refl
 
 pub invariant_of-self-in-Ok : goal.invariant_of-self-in-Ok
 invariant_of-self-in-Ok g c =
