@@ -63,9 +63,9 @@ IsLegal entries = answers_in entries ≡ answers_to (ops_in entries)
 abbrev pub next_entry : List EntryData → ℕ → OpData → EntryData
 next_entry history job op = record { job = job; op = op; answer = answer_of (table_of (ops_in history)) op }
 
--- what the asking job gets of an entry that is appended to a history
-abbrev pub receipt_of : List EntryData → EntryData → ReceiptData
-receipt_of history entry = record { place = length history; op = entry.op; answer = entry.answer }
+-- what the asking job gets of the entry at a place
+abbrev pub receipt_of : ℕ → EntryData → ReceiptData
+receipt_of place entry = record { place = place; op = entry.op; answer = entry.answer }
 
 -- how many entries one history has at the most
 abbrev pub most_entries : ℕ

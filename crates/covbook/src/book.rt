@@ -113,7 +113,7 @@ impl<A: Allocator + Copy> Book<A> {
     /// A step where there is room for it.
     fn answered(&mut self, alloc: A, job: u32, op: &Op<A>) -> Result<Receipt<A>, Memory>
         requires { length self.old.entries < most_entries }
-        ensures receipt { IfOk result (λ r. receipt_data r ≡ receipt_of self.old.entries (next_entry self.old.entries job (op_data op.now))) }
+        ensures receipt { IfOk result (λ r. receipt_data r ≡ receipt_of (length self.old.entries) (next_entry self.old.entries job (op_data op.now))) }
         ensures entry { OnOk result (self.new.entries ≡ self.old.entries ++ next_entry self.old.entries job (op_data op.now) ∷ []) }
         ensures refused { OnErr result (self.new ≡ self.old) }
     {
@@ -126,7 +126,7 @@ impl<A: Allocator + Copy> Book<A> {
     /// The submission is held too, unless it clashes. All growths come before the first change.
     fn submit(&mut self, alloc: A, job: u32, submission: &SubRef<A>) -> Result<Receipt<A>, Memory>
         requires { length self.old.entries < most_entries }
-        ensures receipt { IfOk result (λ r. receipt_data r ≡ receipt_of self.old.entries (next_entry self.old.entries job (SubmitOp submission.now))) }
+        ensures receipt { IfOk result (λ r. receipt_data r ≡ receipt_of (length self.old.entries) (next_entry self.old.entries job (SubmitOp submission.now))) }
         ensures entry { OnOk result (self.new.entries ≡ self.old.entries ++ next_entry self.old.entries job (SubmitOp submission.now) ∷ []) }
         ensures refused { OnErr result (self.new ≡ self.old) }
     {
@@ -156,7 +156,7 @@ impl<A: Allocator + Copy> Book<A> {
     fn tell(&mut self, alloc: A, job: u32, op: &Op<A>) -> Result<Receipt<A>, Memory>
         requires room { length self.old.entries < most_entries }
         requires text { IsText (op_data op.now) }
-        ensures receipt { IfOk result (λ r. receipt_data r ≡ receipt_of self.old.entries (next_entry self.old.entries job (op_data op.now))) }
+        ensures receipt { IfOk result (λ r. receipt_data r ≡ receipt_of (length self.old.entries) (next_entry self.old.entries job (op_data op.now))) }
         ensures entry { OnOk result (self.new.entries ≡ self.old.entries ++ next_entry self.old.entries job (op_data op.now) ∷ []) }
         ensures refused { OnErr result (self.new ≡ self.old) }
     {
@@ -189,7 +189,7 @@ impl<A: Allocator + Copy> Book<A> {
         requires room { length self.old.entries < most_entries }
         requires next { entry_data entry ≡ next_entry self.old.entries entry.job (op_data entry.op) }
         requires still { table_after (table_of (ops_in self.old.entries)) (op_data entry.op) ≡ table_of (ops_in self.old.entries) }
-        ensures receipt { IfOk result (λ r. receipt_data r ≡ receipt_of self.old.entries (entry_data entry)) }
+        ensures receipt { IfOk result (λ r. receipt_data r ≡ receipt_of (length self.old.entries) (entry_data entry)) }
         ensures entry { OnOk result (self.new.entries ≡ self.old.entries ++ entry_data entry ∷ []) }
         ensures refused { OnErr result (self.new ≡ self.old) }
     {

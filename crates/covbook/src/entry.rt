@@ -13,6 +13,23 @@ pub struct Entry<A: Allocator = Global> {
     pub answer: Answer<A>,
 }
 
+impl<A: Allocator + Copy> Entry<A> {
+    ghost use Rattle.std.specs.Prelude.{◌≡◌, IfOk};
+    ghost use Rattle.covbook.specs.EntryView.{entry_data, receipt_data};
+    ghost use Rattle.covbook.specs.Step.{receipt_of};
+
+    /// The receipt of the entry at this place, with copies of the operation and the answer.
+    fn receipt(&self, alloc: A, place: u64) -> Result<Receipt<A>, Memory>
+        ensures { IfOk result (λ r. receipt_data r ≡ receipt_of place (entry_data self.now)) }
+    {
+        Ok(Receipt {
+            place,
+            op: self.op.copy(alloc)?,
+            answer: self.answer.copy(alloc)?,
+        })
+    }
+}
+
 /// What the asking job gets of its operation: its place in the history, counted from 0, and the answer.
 #[derive(Drop)]
 pub struct Receipt<A: Allocator = Global> {
@@ -68,22 +85,17 @@ impl<A: Allocator> Entries<A> {
 }
 
 impl<A: Allocator + Copy> Entries<A> {
-    ghost use Rattle.std.specs.Prelude.{◌≡◌, ◌++◌, [], ◌∷◌, IfOk, OnOk, OnErr};
+    ghost use Rattle.std.specs.Prelude.{◌≡◌, ◌++◌, [], ◌∷◌, length, IfOk, OnOk, OnErr};
     ghost use Rattle.covbook.specs.EntryView.{entry_data, receipt_data};
     ghost use Rattle.covbook.specs.Step.{receipt_of};
 
-    /// Appends an entry, and gives its receipt, which has copies of the operation and the answer. A refusal gives the
-    /// entry up and leaves the list as it was.
+    /// Appends an entry, and gives its receipt. A refusal gives the entry up and leaves the list as it was.
     pub(crate) fn append(&mut self, alloc: A, entry: Entry<A>) -> Result<Receipt<A>, Memory>
-        ensures receipt { IfOk result (λ r. receipt_data r ≡ receipt_of self.old (entry_data entry)) }
+        ensures receipt { IfOk result (λ r. receipt_data r ≡ receipt_of (length self.old) (entry_data entry)) }
         ensures entry { OnOk result (self.new ≡ self.old ++ entry_data entry ∷ []) }
         ensures refused { OnErr result (self.new ≡ self.old) }
     {
-        let receipt = Receipt {
-            place: self.entries.len() as u64,
-            op: entry.op.copy(alloc)?,
-            answer: entry.answer.copy(alloc)?,
-        };
+        let receipt = entry.receipt(alloc, self.get().len() as u64)?;
         self.push(entry)?;
         Ok(receipt)
     }

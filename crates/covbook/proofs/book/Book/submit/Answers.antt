@@ -1,4 +1,4 @@
-use Rattle.std.proofs.Common.{[], ◌∷◌, ◌++◌, refl, ap, ◌∙◌}
+use Rattle.std.proofs.Common.{[], ◌∷◌, ◌++◌, length, refl, ap, ◌∙◌}
 use Rattle.covbook.specs.Held.{BookData}
 use Rattle.covbook.specs.Op.{SubmitOp, EntryData}
 use Rattle.covbook.specs.Step.{next_entry, receipt_of}
@@ -31,8 +31,8 @@ returns-in_ok-receipt-in-Ok-clause-receipt g c =
     let book = c.self.inside in
     let next = accepted-next book.store book.accepted book.entries c.args.job c.args.submission.now c.in_ok-copy.field-0 c.get-given.result.now c.items.result c.odd.result c.self.invariant c.in-Ok.ensures.agrees
     c.get-given.ensures c.in_ok-copy.ensures c.items.ensures.count c.odd.ensures in
-    c.in_ok-receipt-in-Ok.ensures.receipt ∙ ap (receipt_of book.entries) next
-    ∙ ap (λ (b : BookData). receipt_of b.entries (next_entry b.entries c.args.job (SubmitOp c.args.submission.now))) c.self.view_is
+    c.in_ok-receipt-in-Ok.ensures.receipt ∙ ap (receipt_of (length book.entries)) next
+    ∙ ap (λ (b : BookData). receipt_of (length b.entries) (next_entry b.entries c.args.job (SubmitOp c.args.submission.now))) c.self.view_is
 
 pub returns-in_ok-receipt-in-Ok-clause-entry : goal.returns-in_ok-receipt-in-Ok-clause-entry
 returns-in_ok-receipt-in-Ok-clause-entry g c =
