@@ -10,9 +10,6 @@ use std::alloc::{Allocator, Global};
 use std::marker::Model;
 use thiserror::Error;
 
-/// How many entries one history has at the most.
-pub const MOST_ENTRIES: u64 = 1_048_576;
-
 /// Why a book takes no step.
 #[derive(Clone, Copy, Debug, PartialEq, Eq, Error)]
 pub enum BookFault {
@@ -104,7 +101,7 @@ impl<A: Allocator + Copy> Book<A> {
         ensures refused { OnErr result (self.new ≡ self.old) }
         ensures full { (result ≡ Err BookFault.Full) ↔ (length self.old.entries ≡ most_entries) }
     {
-        if self.entries.get().len() as u64 == MOST_ENTRIES {
+        if self.entries.is_full() {
             return Err(BookFault::Full);
         }
         Ok(self.answered(alloc, job, op)?)

@@ -5,6 +5,9 @@ use covline::Memory;
 use std::alloc::{Allocator, Global};
 use std::marker::Model;
 
+/// How many entries one history has at the most.
+pub const MOST_ENTRIES: u64 = 1_048_576;
+
 /// One operation that a book was asked, by which job, and what it answered.
 #[derive(Drop)]
 pub struct Entry<A: Allocator = Global> {
@@ -85,9 +88,16 @@ impl<A: Allocator> Entries<A> {
 }
 
 impl<A: Allocator + Copy> Entries<A> {
-    ghost use Rattle.std.specs.Prelude.{◌≡◌, ◌++◌, [], ◌∷◌, length, IfOk, OnOk, OnErr};
+    ghost use Rattle.std.specs.Prelude.{◌≡◌, ◌↔◌, ◌++◌, [], ◌∷◌, length, IsTrue, IfOk, OnOk, OnErr};
     ghost use Rattle.covbook.specs.EntryView.{entry_data, receipt_data};
-    ghost use Rattle.covbook.specs.Step.{receipt_of};
+    ghost use Rattle.covbook.specs.Step.{most_entries, receipt_of};
+
+    /// Whether a history with these entries takes no more.
+    pub(crate) fn is_full(&self) -> bool
+        ensures { IsTrue result ↔ (length self.now ≡ most_entries) }
+    {
+        self.get().len() as u64 == MOST_ENTRIES
+    }
 
     /// Appends an entry, and gives its receipt. A refusal gives the entry up and leaves the list as it was.
     pub(crate) fn append(&mut self, alloc: A, entry: Entry<A>) -> Result<Receipt<A>, Memory>

@@ -22,8 +22,8 @@ pub mod laws;
 mod op;
 mod shared;
 
-pub use book::{Book, BookFault, MOST_ENTRIES};
-pub use entry::{Entries, Entry, Receipt, Receipts};
+pub use book::{Book, BookFault};
+pub use entry::{Entries, Entry, MOST_ENTRIES, Receipt, Receipts};
 pub use op::{Answer, Op};
 pub use shared::{SubRef, TextRef};
 
