@@ -157,7 +157,7 @@ impl<A: Allocator> Model for Items<A> {
 impl<A: Allocator + Copy> Items<A> {
     ghost use Rattle.std.specs.Prelude.{◌≡◌, IfOk};
 
-    /// An equal list, in memory of its own and with no unused room.
+    /// An equal list, in memory of its own.
     pub fn copy(&self, alloc: A) -> Result<Items<A>, Memory>
         ensures { IfOk result (λ s. s ≡ self.now) }
     {
@@ -201,7 +201,7 @@ impl<A: Allocator> Items<A> {
         self.items.len()
     }
 
-    /// Gives the unused room back: for a list that is finished.
+    /// Lets unused room go: for a list that is finished.
     pub fn shrink(&mut self)
         ensures { self.new ≡ self.old }
     {

@@ -6,6 +6,7 @@ pub mod Table
 pub mod Content
 pub mod Totals
 pub mod TotalsSteps
+pub mod Counted
 pub mod Stored
 pub mod Held
 pub mod RefuseView

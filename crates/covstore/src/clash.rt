@@ -13,12 +13,13 @@ ghost use Rattle.covstore.specs.Stored.{ClashRefuse};
 ghost use Rattle.covstore.specs.Table.{clash_at};
 
 use crate::refuse::Refuse;
+use crate::rows::is_of_file;
 use covline::{Bytes, Item, Memory, Sect, Submission};
 use std::alloc::Allocator;
 
 /// Two checksums of one line of one file that differ.
 #[derive(Clone, Copy)]
-pub struct FoundClash<'a> {
+pub(crate) struct FoundClash<'a> {
     pub file: &'a [u8],
     pub line: u64,
     pub held: &'a [u8],
@@ -26,7 +27,7 @@ pub struct FoundClash<'a> {
 }
 
 impl FoundClash<'_> {
-    /// The refusal that tells of the clash, with texts of its own. Nothing else of a clash can be refused.
+    /// The refusal that tells of the clash, with texts of its own.
     pub(crate) fn told<A: Allocator + Copy>(&self, alloc: A) -> Result<Refuse<A>, Memory>
         ensures { IfOk result (λ r. refuse_data r ≡ ClashRefuse (clash_data self.now)) }
     {
@@ -41,7 +42,7 @@ impl FoundClash<'_> {
 
 /// The checksum of a line of a file.
 #[derive(Clone, Copy)]
-pub struct LineChecksum<'a> {
+pub(crate) struct LineChecksum<'a> {
     pub file: &'a [u8],
     pub line: u64,
     pub checksum: &'a [u8],
@@ -173,7 +174,7 @@ fn other_in_sects<'a, A: Allocator>(
 fn other_in_sect<'a, A: Allocator>(sect: &'a Sect<A>, given: LineChecksum<'_>) -> Option<&'a [u8]>
     ensures { option_map (λ c. c.now) result ≡ other_checksum (checksum_data given.entry) (checksums_in (rows_of_sect (sect_data sect.now))) }
 {
-    if sect.file.get() == given.file {
+    if is_of_file(sect, given.file) {
         other_in_items(sect.items.get(), given)
     } else {
         None

@@ -8,6 +8,7 @@ ghost use Rattle.covline.specs.Row.{ItemData, Row, SubmissionData, rows_of};
 ghost use Rattle.covstore.specs.Ascending.{IsAscendingOf};
 ghost use Rattle.covstore.specs.Clash.{Checksum, ClashData, Agree, IsFirstClash, checksums_in, first_clash};
 ghost use Rattle.covstore.specs.Content.{SectionData, content_of};
+ghost use Rattle.covstore.specs.Counted.{lines, functions, branches, found, hit};
 ghost use Rattle.covstore.specs.Table.{Table, all_rows, clash_at};
 ghost use Rattle.covstore.specs.Totals.{AreTotals, totals_of};
 ghost use Rattle.covstore.specs.TotalsSteps.{totals_over};
@@ -48,6 +49,20 @@ pub fn the_first_clash_is_told()
 pub fn accepted_rows_agree()
     ensures empty { Agree (checksums_in (all_rows [])) }
     ensures accepted { (table : Table) (s : SubmissionData) → clash_at table s ≡ None → Agree (checksums_in (all_rows table)) → Agree (checksums_in (all_rows (table ++ rows_of s ∷ []))) }
+{}
+
+/// The totals are what they are called: found is how many different points of a kind all rows have, each in its file, and
+/// hit is how many of these some test has with a value above 0.
+pub fn totals_count_different_points()
+    ensures lines { (rows : List Row) → ((totals_of (content_of rows)).lf ≡ found lines rows) × ((totals_of (content_of rows)).lh ≡ hit lines rows) }
+    ensures functions { (rows : List Row) → ((totals_of (content_of rows)).ff ≡ found functions rows) × ((totals_of (content_of rows)).fh ≡ hit functions rows) }
+    ensures branches { (rows : List Row) → ((totals_of (content_of rows)).bf ≡ found branches rows) × ((totals_of (content_of rows)).bh ≡ hit branches rows) }
+{}
+
+/// Of each kind no more points are hit than found, in any sections, and so in what any rows add up to.
+pub fn no_more_are_hit_than_found()
+    ensures sections { (sections : List SectionData) → AreTotals (totals_of sections) }
+    ensures rows { (rows : List Row) → AreTotals (totals_of (content_of rows)) }
 {}
 
 /// The totals of what rows add up to are those of the rows: for each file its different points, over all tests, and of

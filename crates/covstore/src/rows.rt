@@ -2,6 +2,7 @@
 //! memory.
 
 ghost use Rattle.std.specs.Prelude.{◌≡◌};
+ghost use Rattle.std.specs.Str.{bytes_eq};
 ghost use Rattle.covline.specs.SectView.{sect_data};
 ghost use Rattle.covstore.specs.Walk.{has_row_of_test};
 
@@ -61,6 +62,13 @@ impl<'a, A: Allocator> Iterator for Sects<'a, A> {
             self.sects = submission.sects();
         }
     }
+}
+
+/// Whether the section is of this file.
+pub(crate) fn is_of_file<A: Allocator>(sect: &Sect<A>, file: &[u8]) -> bool
+    ensures { result ≡ bytes_eq (sect_data sect.now).file file.now }
+{
+    sect.file.get() == file
 }
 
 /// Whether the section has a row of this test: it is of the test, and has an item.

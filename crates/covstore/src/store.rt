@@ -66,7 +66,8 @@ impl<A: Allocator + Copy> Store<A> {
         ensures refused { IfErr result (λ e. (table : Table) → StandsFor self.old table → IsRefusedAt table submission.now (refuse_data e)) }
     {
         if let Some(clash) = first_clash(self.held.as_slice(), submission) {
-            return Err(clash.told(alloc)?);
+            let refusal = clash.told(alloc)?;
+            return Err(refusal);
         }
         let given = self.make_room(alloc, submission)?;
         Ok(self.plan_of(given))

@@ -1,9 +1,9 @@
-use Rattle.std.proofs.Common.{List, map, rules, tests, ap, ◌∙◌, refl}
+use Rattle.std.proofs.Common.{List, rules, tests, ap, ◌∙◌}
 use Rattle.std.specs.Str.{bytes_eq}
 use Rattle.std.specs.List.{list_any}
 use Rattle.std.proofs.lemmas.Iterator.Consumers.{YieldsList-from_first}
 use Rattle.std.proofs.lemmas.Iterator.Search.{any_from_yields_List}
-use Rattle.covline.specs.Row.{SectData, SubmissionData}
+use Rattle.covline.specs.Row.{SubmissionData}
 use Rattle.covline.specs.SectView.{sect_data}
 use Rattle.covstore.specs.Content.{SectionData}
 use Rattle.covstore.specs.Stored.{StoreData}

@@ -13,7 +13,7 @@ pub returns-in-Some-clause-refused : goal.returns-in-Some-clause-refused
 returns-in-Some-clause-refused g c = λ table stands.
     let s = c.args.submission.now in
     let clash = clash_data c.in-Some.clash in
-    subst (IsRefusedAt table s) (sym c.in_ok-told.ensures)
+    subst (IsRefusedAt table s) (sym c.in_ok-refusal.ensures)
     (told_too c.self.inside.held.items (vec_capacity c.self.inside.held) c.args.self.now c.self.view_is c.self.invariant s c.as_slice.result.now c.as_slice.ensures.value (Some clash) c.in-Some.ensures.told table stands)
 
 pub plan_of-requires-clause-agrees : goal.plan_of-requires-clause-agrees
