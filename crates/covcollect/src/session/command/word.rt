@@ -2,10 +2,19 @@
 
 ghost use Rattle.std.specs.Prelude.{◌≡◌, ◌≢◌, [], codes, option_map};
 ghost use Rattle.covline.specs.Lines.{strip};
-ghost use Rattle.covcollect.specs.Streams.{before_space, IsWord, IsWordWith};
+ghost use Rattle.covcollect.specs.Command.{before_space, IsWord, IsWordWith};
 
 use covline::text_lines::without_returns;
 use memchr::memchr;
+
+/// Which files a pattern chooses.
+#[derive(Clone, Copy, Debug, PartialEq, Eq)]
+pub enum Pick {
+    /// `extract`, those that match; none without a pattern.
+    Extract,
+    /// `remove`, those that don't match; all without a pattern.
+    Remove,
+}
 
 /// What a command line asks for.
 #[derive(Clone, Copy, Debug, PartialEq, Eq)]
@@ -16,10 +25,8 @@ pub enum Word<'a> {
     Report,
     /// `summary`, how much is hit.
     Summary,
-    /// `extract`, the files that match the pattern behind the first space; none without a pattern.
-    Extract(Option<&'a [u8]>),
-    /// `remove`, the files that don't match the pattern behind the first space; all without a pattern.
-    Remove(Option<&'a [u8]>),
+    /// A choice of files, by the pattern behind the first space where there is one.
+    Choose(Pick, Option<&'a [u8]>),
     /// `trace`, a tracefile follows.
     Trace,
     /// Something unknown.
@@ -54,9 +61,9 @@ fn choice_of(words: &[u8]) -> Word<'_>
 {
     let (name, pattern) = split_at_space(words);
     if name == b"extract".as_slice() {
-        Word::Extract(pattern)
+        Word::Choose(Pick::Extract, pattern)
     } else if name == b"remove".as_slice() {
-        Word::Remove(pattern)
+        Word::Choose(Pick::Remove, pattern)
     } else {
         Word::Other
     }

@@ -2,21 +2,22 @@ use Rattle.std.proofs.Common.{◌≡◌, ◌++◌, [], ◌∷◌, rules, refl, s
 use Rattle.std.proofs.lemmas.Bool.{false≢true}
 use Rattle.std.specs.List.{concat}
 use Rattle.covline.specs.Lines.{line_feed}
-use Rattle.covcollect.specs.Streams.{moment, TakesLine, line_bytes, line_pieces, line_after}
+use Rattle.covcollect.specs.Streams.{moment, TakesLine, line_bytes, line_pieces}
+use Rattle.covcollect.specs.Text.{line_after}
 use Rattle.covcollect.specs.declared.session.text.LineSoFar.TheVariants.{Nothing, Dot}
 use Rattle.covcollect.specs.declared.session.text.LineEnd.{LineEnd}
 use Rattle.covcollect.specs.declared.session.text.LineEnd.TheVariants.{Feed, Input}
 use Rattle.covcollect.proofs.SessionPieces.{takes_more, text_done, text_rest, is_taken, body_more, not_last, more_cut, more_moves, more_turns, more_collected, same_line}
-use Rattle.covcollect.proofs.session.lines.take_text.Goals as goal
+use Rattle.covcollect.proofs.session.trace.take_text.Goals as goal
 
 pub loop-text-init : goal.loop-text-init
 loop-text-init g c = ([], tt, λ more. refl, search rules, search rules, c.new-text.ensures.empty, c.new-text.ensures.limit)
 
 pub returns-then-is_last : goal.returns-then-is_last
 returns-then-is_last g c =
-    let m = moment g.I.Source.left g.I.Source.reads g.I.Source.failed_reads g.O.Sink.written g.O.Sink.failed_writes c.args.block.now c.args.source.now c.args.waiting.now.items c.args.sink.now in
-    let n = moment g.I.Source.left g.I.Source.reads g.I.Source.failed_reads g.O.Sink.written g.O.Sink.failed_writes c.loop-text.block c.loop-text.source c.loop-text.waiting.items c.loop-text.sink in
-    let o = moment g.I.Source.left g.I.Source.reads g.I.Source.failed_reads g.O.Sink.written g.O.Sink.failed_writes c.take_line.new.block c.take_line.new.source c.take_line.new.waiting.items c.take_line.new.sink in
+    let m = moment c.args.input.now c.args.output.now in
+    let n = moment c.loop-text.input c.loop-text.output in
+    let o = moment c.take_line.new.self c.take_line.new.output in
     let i = c.loop-text.invariant in
     let t = c.in_ok-ending.ensures.taken in
     let col = t.2 (concat i.0) [] i.5 in
@@ -28,9 +29,9 @@ returns-then-is_last g c =
 
 pub returns-in-Input : goal.returns-in-Input
 returns-in-Input g c =
-    let m = moment g.I.Source.left g.I.Source.reads g.I.Source.failed_reads g.O.Sink.written g.O.Sink.failed_writes c.args.block.now c.args.source.now c.args.waiting.now.items c.args.sink.now in
-    let n = moment g.I.Source.left g.I.Source.reads g.I.Source.failed_reads g.O.Sink.written g.O.Sink.failed_writes c.loop-text.block c.loop-text.source c.loop-text.waiting.items c.loop-text.sink in
-    let o = moment g.I.Source.left g.I.Source.reads g.I.Source.failed_reads g.O.Sink.written g.O.Sink.failed_writes c.take_line.new.block c.take_line.new.source c.take_line.new.waiting.items c.take_line.new.sink in
+    let m = moment c.args.input.now c.args.output.now in
+    let n = moment c.loop-text.input c.loop-text.output in
+    let o = moment c.take_line.new.self c.take_line.new.output in
     let i = c.loop-text.invariant in
     let t = c.in_ok-ending.ensures.taken in
     let col = t.2 (concat i.0) [] i.5 in
@@ -44,9 +45,9 @@ returns-in-Input g c =
 
 pub loop-text-preserved : goal.loop-text-preserved
 loop-text-preserved g c =
-    let m = moment g.I.Source.left g.I.Source.reads g.I.Source.failed_reads g.O.Sink.written g.O.Sink.failed_writes c.args.block.now c.args.source.now c.args.waiting.now.items c.args.sink.now in
-    let n = moment g.I.Source.left g.I.Source.reads g.I.Source.failed_reads g.O.Sink.written g.O.Sink.failed_writes c.loop-text.block c.loop-text.source c.loop-text.waiting.items c.loop-text.sink in
-    let o = moment g.I.Source.left g.I.Source.reads g.I.Source.failed_reads g.O.Sink.written g.O.Sink.failed_writes c.take_line.new.block c.take_line.new.source c.take_line.new.waiting.items c.take_line.new.sink in
+    let m = moment c.args.input.now c.args.output.now in
+    let n = moment c.loop-text.input c.loop-text.output in
+    let o = moment c.take_line.new.self c.take_line.new.output in
     let i = c.loop-text.invariant in
     let t = c.in_ok-ending.ensures.taken in
     let col = t.2 (concat i.0) [] i.5 in
