@@ -8,4 +8,3 @@ pub mod ReadNumbers
 pub mod Checksums
 pub mod ReadForms
 pub mod ReadLaws
-pub mod ReadDispatch

@@ -2,9 +2,9 @@
 
 ghost use Rattle.std.specs.Prelude.{◌≡◌, ◌↔◌, ◌≢◌, ◌==◌, ℕ, true, false, ◌&&◌, List, [], ◌∷◌, ◌++◌, not, All};
 ghost use Rattle.std.specs.List.Sorted.{IsPermutation, IsSorted};
-ghost use Rattle.covstore.specs.Content.{FunctionValueData, function_cmp};
+ghost use Rattle.covstore.specs.Content.{FunctionValueData};
 ghost use Rattle.covreport.specs.Pattern.{matches, in_body};
-ghost use Rattle.covreport.specs.Report.{by_start};
+ghost use Rattle.covreport.specs.Report.{by_start, function_cmp};
 
 /// A pattern means what its first part means, and then the rest: nothing is left only of the empty path; `?` takes any
 /// byte, `\` the next byte as itself, and at the end itself; a byte that is none of `*`, `?`, `[` and `\` takes itself.

@@ -3,7 +3,6 @@
 mod branches;
 mod functions;
 mod lines;
-mod tally;
 
 ghost use Rattle.std.specs.Prelude.{◌≡◌, map, option_map, option_to_list};
 ghost use Rattle.std.specs.Cmp.Lexicographic.{slice_cmp};

@@ -1,5 +1,4 @@
-use crate::text_lines::without_returns;
-use crate::{Bytes, good_test, laws, lines};
+use crate::{Bytes, good_test, laws, lines, without_returns};
 use std::test::*;
 
 #[test]

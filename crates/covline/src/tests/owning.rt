@@ -74,7 +74,7 @@ fn lists(rt: HostRuntime) -> Result<(), Fail> {
         items,
     })?;
     sects.shrink();
-    assert_eq!(rt; sects.len(), 1);
+    assert_eq!(rt; sects.get().len(), 1);
     for sect in sects.get() {
         assert_eq!(rt; sect.file.get(), b"a.c".as_slice());
         assert!(rt; is_in_order(sect.items.get()));

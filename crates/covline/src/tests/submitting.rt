@@ -87,7 +87,7 @@ fn unlawful_texts(rt: HostRuntime) -> Result<(), Fail> {
             Ok(_submission) => assert!(rt; false, "{name}"),
             Err((sects, fault)) => {
                 assert_eq!(rt; fault, BadSubmission::BadText { sect: 1 }, "{name}");
-                assert_eq!(rt; sects.len(), 3, "{name}");
+                assert_eq!(rt; sects.get().len(), 3, "{name}");
             }
         }
     }
