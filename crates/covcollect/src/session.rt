@@ -48,7 +48,7 @@ fn answer_command<I: Source, O: Sink, A: Allocator + Copy>(
 ) -> Result<LineEnd, SessionFault>
     requires { CanCall (moment input.old output.old) }
     ensures { IfOk result (λ ending. TakesCommand (moment input.old output.old) (moment input.new output.new)
-        (ops_in book.old) (ops_in book.new) ending) }
+        (ops_in book.old.entries) (ops_in book.new.entries) ending) }
 {
     let mut line = Text::new(alloc, usize::MAX);
     let ending = input.take_line(&mut line, output)?;

@@ -2,7 +2,7 @@
 
 ghost use Rattle.std.specs.Prelude.{◌≡◌, ◌↔◌, ◌^◌, ◌<◌, [], ◌∷◌, ◌++◌, length, Err, IfOk, IfErr, OnOk, option_map};
 ghost use Rattle.covbook.specs.Op.{OpData};
-ghost use Rattle.covbook.specs.Step.{answer_of, most_entries, table_of, ops_in};
+ghost use Rattle.covbook.specs.Step.{answer_of, most_entries, next_entry, table_of, ops_in};
 ghost use Rattle.covbook.specs.View.{op_data};
 ghost use Rattle.covcollect.specs.Command.{asked_by, pick_op, IsListOf};
 ghost use Rattle.covcollect.specs.Session.{answer_text, text_after, Asks};
@@ -31,10 +31,10 @@ pub fn step<O: Sink, A: Allocator + Copy>(
     output: &mut Output<'_, O, A>,
 ) -> Result<(), SessionFault>
     requires { output.old.failed_writes < 2 ^ 63 }
-    ensures said { OnOk result (Says output.old output.new (answer_text (answer_of (table_of (ops_in book.old)) (op_data op.now)))) }
-    ensures asked { OnOk result (ops_in book.new ≡ ops_in book.old ++ op_data op.now ∷ []) }
-    ensures entry { OnOk result (book.new ≡ book.old ++ record { job = 0; op = op_data op.now; answer = answer_of (table_of (ops_in book.old)) (op_data op.now) } ∷ []) }
-    ensures full { (result ≡ Err session_faults.Full) ↔ (length book.old ≡ most_entries) }
+    ensures said { OnOk result (Says output.old output.new (answer_text (answer_of (table_of (ops_in book.old.entries)) (op_data op.now)))) }
+    ensures asked { OnOk result (ops_in book.new.entries ≡ ops_in book.old.entries ++ op_data op.now ∷ []) }
+    ensures entry { OnOk result (book.new.entries ≡ book.old.entries ++ next_entry book.old.entries 0 (op_data op.now) ∷ []) }
+    ensures full { (result ≡ Err session_faults.Full) ↔ (length book.old.entries ≡ most_entries) }
 {
     let receipt = book.step(alloc, SESSION_JOB, op)?;
     say_answer(alloc, &receipt.answer, output)
@@ -77,8 +77,8 @@ pub fn answer_word<O: Sink, A: Allocator + Copy>(
     output: &mut Output<'_, O, A>,
 ) -> Result<(), SessionFault>
     requires { output.old.failed_writes < 2 ^ 63 }
-    ensures asks { OnOk result (Asks (asked_by word.entry) (ops_in book.old) (ops_in book.new)) }
-    ensures says { OnOk result (Says output.old output.new (text_after (table_of (ops_in book.old)) (asked_by word.entry))) }
+    ensures asks { OnOk result (Asks (asked_by word.entry) (ops_in book.old.entries) (ops_in book.new.entries)) }
+    ensures says { OnOk result (Says output.old output.new (text_after (table_of (ops_in book.old.entries)) (asked_by word.entry))) }
 {
     match word {
         Word::Blank => output.say(b""),

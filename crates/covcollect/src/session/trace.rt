@@ -87,8 +87,8 @@ fn submit<O: Sink, A: Allocator + Copy>(
     ensures { OnOk result ((outcome : Result SubmissionData Fault)
         × IsOutcome text.items outcome
         × ((other : Result SubmissionData Fault) → IsOutcome text.items other → other ≡ outcome)
-        × Asks (asked_for outcome) (ops_in book.old) (ops_in book.new)
-        × Says output.old output.new (text_after (table_of (ops_in book.old)) (asked_for outcome))) }
+        × Asks (asked_for outcome) (ops_in book.old.entries) (ops_in book.new.entries)
+        × Says output.old output.new (text_after (table_of (ops_in book.old.entries)) (asked_for outcome))) }
 {
     let read = read_trace(alloc, text.as_slice());
     drop(text);
@@ -115,8 +115,8 @@ fn answer_taken<O: Sink, A: Allocator + Copy>(
 ) -> Result<(), SessionFault>
     requires { output.old.failed_writes < 2 ^ 63 }
     ensures { OnOk result ((commands : List Command) × IsAnsweredAs taken commands
-        × Asks commands (ops_in book.old) (ops_in book.new)
-        × Says output.old output.new (text_after (table_of (ops_in book.old)) commands)) }
+        × Asks commands (ops_in book.old.entries) (ops_in book.new.entries)
+        × Says output.old output.new (text_after (table_of (ops_in book.old.entries)) commands)) }
 {
     match taken {
         Taken::Whole(text) => {
@@ -143,7 +143,7 @@ pub fn answer_trace<I: Source, O: Sink, A: Allocator + Copy>(
 ) -> Result<LineEnd, SessionFault>
     requires { CanCall (moment input.old output.old) }
     ensures { IfOk result (λ ending. TakesTrace (moment input.old output.old) (moment input.new output.new)
-        (ops_in book.old) (ops_in book.new) ending) }
+        (ops_in book.old.entries) (ops_in book.new.entries) ending) }
 {
     let (taken, ending) = take_text(alloc, input, output)?;
     answer_taken(alloc, book, taken, output)?;

@@ -5,7 +5,7 @@ use Rattle.covcollect.proofs.session.answer_all.Given as goal
 
 abbrev pub invariant-loop-book : goal.invariant-loop-book
 invariant-loop-book g l = IsSoFar (moment l.initial.input l.initial.output)
-    (moment l.input l.output) (ops_in l.book)
+    (moment l.input l.output) (ops_in l.book.entries)
 
 abbrev pub decreases-loop-book : goal.decreases-loop-book
 decreases-loop-book g l = turns l.input

@@ -18,7 +18,7 @@ returns-then-text_follows g c =
     let o = moment c.answer_trace.new.input c.answer_trace.new.output in
     let follows = c.if-text_follows.ensures.text refl in
     let Q : Word → Type 0 = λ u. IsWord (strip t.0) u in
-    trace_command m n o t.0 c.in_ok-ended.ended c.in_ok-ending.ending (ops_in c.args.book.now) (ops_in c.answer_trace.new.book)
+    trace_command m n o t.0 c.in_ok-ended.ended c.in_ok-ending.ending (ops_in c.args.book.now.entries) (ops_in c.answer_trace.new.book.entries)
     t.1 follows.1 (subst Q follows.0 word) c.in_ok-ended.ensures
 
 pub returns : goal.returns
@@ -30,6 +30,6 @@ returns g c =
     let P : List ℕ → Type 0 = λ u. IsWord (strip u) c.word_of-word.result in
     let word : IsWord (strip t.0) c.word_of-word.result = subst P same c.word_of-word.ensures in
     line_command m n c.answer_word.new.output t.0 c.in_ok-ending.ending c.word_of-word.result
-    (ops_in c.args.book.now) (ops_in c.answer_word.new.book)
+    (ops_in c.args.book.now.entries) (ops_in c.answer_word.new.book.entries)
     t.1 word (c.if-text_follows.ensures.no_text refl)
     c.in_ok-answer_word.ensures.asks c.in_ok-answer_word.ensures.says

@@ -4,7 +4,7 @@ ghost use Rattle.std.specs.Prelude.{◌≡◌, ◌≢◌, [], codes, option_map}
 ghost use Rattle.covline.specs.Lines.{strip};
 ghost use Rattle.covcollect.specs.Command.{before_space, IsWord, IsWordWith};
 
-use covline::text_lines::without_returns;
+use covline::without_returns;
 use memchr::memchr;
 
 /// Which files a pattern chooses.

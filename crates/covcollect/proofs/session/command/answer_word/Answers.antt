@@ -13,12 +13,12 @@ returns-in-Summary-clause-says g c = let h = ok_says _ _ _ _ c.step-in-Summary.e
 
 pub returns-in-Trace-clause-says : goal.returns-in-Trace-clause-says
 returns-in-Trace-clause-says g c =
-    let P : Word → Type 0 = λ w. OnOk c.say-in-Trace.result (Says c.args.output.now c.say-in-Trace.new.self (text_after (table_of (ops_in c.args.book.now)) (asked_by w))) in
+    let P : Word → Type 0 = λ w. OnOk c.say-in-Trace.result (Says c.args.output.now c.say-in-Trace.new.self (text_after (table_of (ops_in c.args.book.now.entries)) (asked_by w))) in
     subst P (sym c.in-Trace.is) c.say-in-Trace.ensures.says
 
 pub returns-in-Some-clause-says : goal.returns-in-Some-clause-says
 returns-in-Some-clause-says g c =
-    let Q : List Command → Type 0 = λ cs. OnOk c.step-in-Some.result (Says c.args.output.now c.step-in-Some.new.output (text_after (table_of (ops_in c.args.book.now)) cs)) in
+    let Q : List Command → Type 0 = λ cs. OnOk c.step-in-Some.result (Says c.args.output.now c.step-in-Some.new.output (text_after (table_of (ops_in c.args.book.now.entries)) cs)) in
     let P : Word → Type 0 = λ w. Q (asked_by w) in
     let R : OpData → Type 0 = λ op. Q (Ask op ∷ []) in
     let pattern : Option (List ℕ) = option_map (λ p. p.now) c.in-Choose.pattern in
