@@ -30,7 +30,7 @@ pub fn put_line<A: Allocator>(line: &TraceLine<'_>, text: &mut Bytes<A>) -> Resu
     put
 }
 
-/// Appends the line. A refusal leaves bytes behind the text, as those below do that append more than one part.
+/// Appends the line. A refusal may leave a part of it behind the text, and so it is with the functions below.
 fn append_line<A: Allocator>(line: &TraceLine<'_>, text: &mut Bytes<A>) -> Result<(), Memory>
     ensures ok { OnOk result (text.new ≡ text.old ++ printed (line_data line.now)) }
     ensures err { OnErr result ((more : List ℕ) × (text.new ≡ text.old ++ more)) }

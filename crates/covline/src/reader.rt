@@ -1,7 +1,7 @@
 //! Reading one line of a tracefile: its key by its first bytes, then the key's fields from left to right, each key by a
 //! function of its own. Nothing is copied.
 
-ghost use Rattle.std.specs.Prelude.{◌≡◌, ◌≤◌, ◌++◌, ℕ, Some, Ok, codes, option_map, Err, MatchOption, MatchResult, IfOk, IfErr};
+ghost use Rattle.std.specs.Prelude.{◌≡◌, ◌≤◌, ◌++◌, Some, Ok, codes, option_map, Err, MatchResult, IfOk, IfErr};
 ghost use Rattle.covline.specs.declared.trace_line.LineFault.{LineFault};
 ghost use Rattle.covline.specs.Spells.{LineData, line_data, Spells, HasFault};
 ghost use Rattle.covline.specs.Reading.{Gives, behind_key, with_digit, digits_from, number_at, number_of, count_at, before_comma, field_at, taken_of, only_checksum, checksum_of, fit, start_fields, calls_fields, branch_of, branch_fields, line_fields, total_fields, path_fields, read_of};
@@ -45,7 +45,8 @@ fn push_digit(number: Number, digit: u8) -> Number
     }
 }
 
-/// The largest number that is below 2^64 with any one digit more behind it. All numbers of 18 digits are below it.
+/// The largest number that stays below 2^64 with any one digit more behind it. All numbers of 18 digits are below it, so
+/// a number of up to 19 digits is read without a checked step.
 const MOST_BEFORE_DIGIT: u64 = 1_844_674_407_370_955_160;
 
 /// The digits at the front of the text, and what follows them.
@@ -68,7 +69,7 @@ fn read_digits(text: &[u8]) -> (Number, &[u8])
     (Number::Value(value), rest)
 }
 
-/// The number with the digits at the front of the text behind it, and what follows them.
+/// The number with the digits at the front of the text behind it, each by a checked step, and what follows them.
 #[cold]
 fn read_more_digits(front: Number, text: &[u8]) -> (Number, &[u8])
     ensures value { result.0 ≡ (digits_from front text.now).0 }
