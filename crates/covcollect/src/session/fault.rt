@@ -35,18 +35,33 @@ impl SessionFault {
 }
 
 impl From<AllocError> for SessionFault {
+    ghost use Rattle.std.specs.Prelude.{◌≡◌};
+    ghost use Rattle.covcollect.specs.declared.session.fault.SessionFault.TheVariants as faults;
+
+    ghost from_gives = { λ _ f. f ≡ faults.Memory };
+
     fn from(_refused: AllocError) -> SessionFault {
         SessionFault::Memory
     }
 }
 
 impl From<Memory> for SessionFault {
+    ghost use Rattle.std.specs.Prelude.{◌≡◌};
+    ghost use Rattle.covcollect.specs.declared.session.fault.SessionFault.TheVariants as faults;
+
+    ghost from_gives = { λ _ f. f ≡ faults.Memory };
+
     fn from(_refused: Memory) -> SessionFault {
         SessionFault::Memory
     }
 }
 
 impl From<BookFault> for SessionFault {
+    ghost use Rattle.std.specs.Prelude.{◌≡◌};
+    ghost use Rattle.covcollect.specs.SessionFaults.{of_book};
+
+    ghost from_gives = { λ fault f. f ≡ of_book fault };
+
     fn from(fault: BookFault) -> SessionFault {
         match fault {
             BookFault::Full => SessionFault::Full,
