@@ -100,7 +100,8 @@ fn put_value<A: Allocator>(
     ensures { OnOk result (text.new ≡ text.old ++ value_text words.now.one.now words.now.many.now hit found) }
 {
     if found == 0 {
-        return text.append(b"no data found");
+        text.append(b"no data found")?;
+        return Ok(());
     }
     put_tenths(tenths(hit, found), text)?;
     text.append(b"% (")?;

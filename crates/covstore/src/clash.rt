@@ -19,7 +19,7 @@ use std::alloc::Allocator;
 
 /// Two checksums of one line of one file that differ.
 #[derive(Clone, Copy)]
-pub struct FoundClash<'a> {
+pub(crate) struct FoundClash<'a> {
     pub file: &'a [u8],
     pub line: u64,
     pub held: &'a [u8],
@@ -27,7 +27,7 @@ pub struct FoundClash<'a> {
 }
 
 impl FoundClash<'_> {
-    /// The refusal that tells of the clash, with texts of its own. Nothing else of a clash can be refused.
+    /// The refusal that tells of the clash, with texts of its own.
     pub(crate) fn told<A: Allocator + Copy>(&self, alloc: A) -> Result<Refuse<A>, Memory>
         ensures { IfOk result (λ r. refuse_data r ≡ ClashRefuse (clash_data self.now)) }
     {
@@ -42,7 +42,7 @@ impl FoundClash<'_> {
 
 /// The checksum of a line of a file.
 #[derive(Clone, Copy)]
-pub struct LineChecksum<'a> {
+pub(crate) struct LineChecksum<'a> {
     pub file: &'a [u8],
     pub line: u64,
     pub checksum: &'a [u8],
