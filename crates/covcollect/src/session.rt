@@ -81,7 +81,8 @@ fn answer_all<I: Source, O: Sink, A: Allocator + Copy>(
 }
 
 /// Runs one book, with job 0, on the commands of the source, and writes the answers to the sink. A text of more than
-/// 67,108,864 bytes isn't kept. Output is written when much of it waits, before each read, and at the end.
+/// 67,108,864 bytes isn't kept. Output is written when more than 65,536 bytes of it wait, before each read, and at the
+/// end.
 pub fn session<I: Source, O: Sink, A: Allocator + Copy>(
     alloc: A,
     source: &mut I,

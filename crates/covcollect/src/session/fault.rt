@@ -3,22 +3,17 @@
 use covbook::BookFault;
 use covline::Memory;
 use std::alloc::AllocError;
-use thiserror::Error;
 
 /// Why a session ended before its input.
-#[derive(Clone, Copy, Debug, PartialEq, Eq, Error)]
+#[derive(Clone, Copy, Debug, PartialEq, Eq)]
 pub enum SessionFault {
     /// A read failed, or 2^32 reads were made.
-    #[error("read fault")]
     Read = 1,
     /// A write failed, or took none of some bytes.
-    #[error("write fault")]
     Write = 2,
     /// A growth was refused.
-    #[error("out of memory")]
     Memory = 3,
     /// The history has no room for another entry.
-    #[error("book full")]
     Full = 4,
 }
 

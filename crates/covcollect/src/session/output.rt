@@ -1,6 +1,6 @@
 //! The output of a session: what it says is collected, and written in large pieces.
 
-ghost use Rattle.std.specs.Prelude.{◌≡◌, ◌≢◌, ◌^◌, ◌+◌, ◌<◌, [], IfErr, OnOk, OnErr};
+ghost use Rattle.std.specs.Prelude.{◌≡◌, ◌≢◌, ◌^◌, ◌+◌, ◌<◌, ◌≤◌, [], length, IfErr, OnOk, OnErr};
 ghost use Rattle.std.specs.Io.KnownBytes.{Appends, Keeps};
 ghost use Rattle.covcollect.specs.Streams.{said_so_far, Says};
 ghost use Rattle.covcollect.specs.declared.session.fault.SessionFault.TheVariants as session_faults;
@@ -71,10 +71,11 @@ impl<'s, O: Sink, A: Allocator> Output<'s, O, A> {
         Ok(())
     }
 
-    /// Says the bytes: they wait, or are written.
+    /// Says the bytes: they wait, or are written with all that waits. At most 65,536 bytes wait then.
     pub fn say(&mut self, bytes: &[u8]) -> Result<(), SessionFault>
         requires { self.old.failed_writes < 2 ^ 63 }
         ensures says { OnOk result (Says self.old self.new bytes.now) }
+        ensures few { OnOk result (length self.new.waiting ≤ 65536) }
         ensures fault { IfErr result (λ f. f ≢ session_faults.Full) }
     {
         if bytes.len() >= MOST_WAITING {
