@@ -12,10 +12,9 @@ all: build/covcollect
 toolchain:
 	@command -v rt >/dev/null 2>&1 || { echo "covcollect: the Rattle toolchain's command 'rt' isn't on PATH (rattle-kit-13b is wanted)" >&2; exit 1; }
 
-# Proves every crate and builds the program. rt keeps what it did, so a second call is quick.
+# Proves every crate and builds the program, with a line for each crate; the prover's own words go to build/log.
 build/covcollect: toolchain
-	@mkdir -p build
-	cd $(PROGRAM) && rt run >/dev/null <stdin
+	@scripts/build
 	@cmp -s $(PROGRAM)/out/covcollect $@ || cp $(PROGRAM)/out/covcollect $@
 
 # The stored session: its input, and what the program answers.
@@ -25,7 +24,7 @@ run: build/covcollect
 
 # The gate: every proof from nothing, the edits that must fail, the tests and the stored run.
 test: toolchain
-	rt ci
+	@scripts/gate
 
 install: build/covcollect
 	install -d $(DESTDIR)$(PREFIX)/bin

@@ -1,8 +1,7 @@
 """Tracefiles for bench/read.sh: `tracefiles.py KIND SIZE` writes one to standard output.
 
 KIND is `files`, `kinds` (SIZE in bytes: many sections, of lines alone or of all kinds of records), or `lines`,
-`shuffled`, `functions`, `branches` (SIZE in records: one section that has only these). The last section stays open, so
-that a session reads the whole text, refuses it, and merges and prints nothing.
+`shuffled`, `functions`, `branches` (SIZE in records: one section that has only these).
 """
 import random
 import sys
@@ -83,4 +82,3 @@ def text_of(kind, size):
 random.seed(12345)
 for part in text_of(sys.argv[1], int(sys.argv[2])):
     sys.stdout.write(part)
-print("SF:/open")

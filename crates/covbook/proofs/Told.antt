@@ -1,5 +1,5 @@
 -- The texts that a book tells are those of the table that its store stands for.
-use Rattle.std.proofs.Common.{◌≡◌, ℕ, List, Result, Ok, Err, IfOk, ap, ◌∙◌}
+use Rattle.std.proofs.Common.{◌≡◌, ℕ, List, Result, Ok, Err, IfOk, sym, ap, ◌∙◌}
 use Rattle.covstore.specs.declared.totals.Totals.{Totals}
 use Rattle.covstore.specs.Content.{SectionData, content_at}
 use Rattle.covstore.specs.Stored.{StoreData, StandsFor}
@@ -8,6 +8,7 @@ use Rattle.covstore.specs.Totals.{totals_of}
 use Rattle.covreport.specs.Choice.{ChoiceData}
 use Rattle.covreport.specs.Report.{report_text}
 use Rattle.covreport.specs.Summary.{summary_of}
+use Rattle.covbook.specs.Held.{BookData}
 use Rattle.covbook.specs.Op.{OpData, TextAnswer, EntryData}
 use Rattle.covbook.specs.Step.{answer_of, table_of, ops_in}
 
@@ -17,9 +18,9 @@ report_is choice store table stands = ap (λ (sections : List SectionData). Text
 pub summary_is : (totals : Totals) (store : StoreData) (table : Table) → totals ≡ totals_of store.sections → StandsFor store table → TextAnswer (summary_of totals) ≡ TextAnswer (summary_of (totals_of (content_at table)))
 summary_is totals store table is stands = ap (λ (t : Totals). TextAnswer (summary_of t)) (is ∙ ap totals_of stands.content)
 
--- a text is the answer to an operation, where it is that to an equal operation at an equal history
-pub told : {E : Type 0} (result : Result (List ℕ) E) (text : List ℕ) (entries now : List EntryData) (own op : OpData) → entries ≡ now → own ≡ op
-    → TextAnswer text ≡ answer_of (table_of (ops_in entries)) own → IfOk result (λ t. t ≡ text) → IfOk result (λ t. TextAnswer t ≡ answer_of (table_of (ops_in now)) op)
-told (Ok t) text entries now own op same equal is said =
-    ap TextAnswer said ∙ is ∙ ap (λ (xs : List EntryData). answer_of (table_of (ops_in xs)) own) same ∙ ap (answer_of (table_of (ops_in now))) equal
-told (Err refused) text entries now own op same equal is said = tt
+-- a text is the answer to an operation at a book, where it is that to an equal operation at the book's entries
+pub told : {E : Type 0} (result : Result (List ℕ) E) (text : List ℕ) (entries : List EntryData) (book : BookData) (own op : OpData) → record { entries = entries } ≡ book → op ≡ own
+    → TextAnswer text ≡ answer_of (table_of (ops_in entries)) own → IfOk result (λ t. t ≡ text) → IfOk result (λ t. TextAnswer t ≡ answer_of (table_of (ops_in book.entries)) op)
+told (Ok t) text entries book own op view equal is said =
+    ap TextAnswer said ∙ is ∙ ap (λ (b : BookData). answer_of (table_of (ops_in b.entries)) own) view ∙ ap (answer_of (table_of (ops_in book.entries))) (sym equal)
+told (Err refused) text entries book own op view equal is said = tt

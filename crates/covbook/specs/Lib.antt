@@ -5,3 +5,4 @@ pub mod EntryView
 pub mod Held
 pub mod Fault
 pub mod Texts
+pub mod Refusal

@@ -8,7 +8,7 @@ use Rattle.covstore.specs.Totals.{totals_of}
 use Rattle.covreport.specs.Choice.{AllFiles, Extracted, Removed}
 use Rattle.covreport.specs.Report.{report_text}
 use Rattle.covreport.specs.Summary.{summary_of}
-use Rattle.covbook.specs.Op.{OpData, SubmitOp, ReportOp, ExtractOp, RemoveOp, SummaryOp, AnswerData, AcceptedAnswer, ClashAnswer, TextAnswer, EntryData}
+use Rattle.covbook.specs.Op.{OpData, SubmitOp, ReportOp, ExtractOp, RemoveOp, SummaryOp, AnswerData, AcceptedAnswer, ClashAnswer, TextAnswer, EntryData, ReceiptData}
 
 -- a submission that clashes is refused whole; another one is accepted with the next number
 abbrev pub answer_to_submit : Table → SubmissionData → Option ClashData → AnswerData
@@ -27,13 +27,10 @@ answer_of table (ExtractOp patterns) = TextAnswer (report_text (Extracted patter
 answer_of table (RemoveOp patterns) = TextAnswer (report_text (Removed patterns) (content_at table))
 answer_of table SummaryOp = TextAnswer (summary_of (totals_of (content_at table)))
 
--- the table that it leaves
+-- the table that it leaves: a text changes nothing
 abbrev pub table_after : Table → OpData → Table
 table_after table (SubmitOp submission) = table_after_submit table submission (clash_at table submission)
-table_after table ReportOp = table
-table_after table (ExtractOp patterns) = table
-table_after table (RemoveOp patterns) = table
-table_after table SummaryOp = table
+table_after table text = table
 
 -- the answers to operations one after another, and the table that they leave
 abbrev pub answers_from : Table → List OpData → List AnswerData
@@ -61,6 +58,14 @@ answers_in entries = map (λ e. e.answer) entries
 -- a history is legal: its answers are those of the run over its operations
 abbrev pub IsLegal : List EntryData → Type 0
 IsLegal entries = answers_in entries ≡ answers_to (ops_in entries)
+
+-- the entry that an operation of a job appends to a history
+abbrev pub next_entry : List EntryData → ℕ → OpData → EntryData
+next_entry history job op = record { job = job; op = op; answer = answer_of (table_of (ops_in history)) op }
+
+-- what the asking job gets of the entry at a place
+abbrev pub receipt_of : ℕ → EntryData → ReceiptData
+receipt_of place entry = record { place = place; op = entry.op; answer = entry.answer }
 
 -- how many entries one history has at the most
 abbrev pub most_entries : ℕ

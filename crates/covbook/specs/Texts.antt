@@ -1,9 +1,6 @@
 -- The operations that are answered by a text.
-use Rattle.covbook.specs.Op.{OpData, SubmitOp, ReportOp, ExtractOp, RemoveOp, SummaryOp}
+use Rattle.covbook.specs.Op.{OpData, SubmitOp}
 
 abbrev pub IsText : OpData → Type 0
 IsText (SubmitOp submission) = ⊥
-IsText ReportOp = Unit {0}
-IsText (ExtractOp patterns) = Unit {0}
-IsText (RemoveOp patterns) = Unit {0}
-IsText SummaryOp = Unit {0}
+IsText text = Unit {0}

@@ -5,13 +5,10 @@ use crate::op::{Answer, Op};
 use crate::shared::{SubRef, TextRef};
 use covline::{Bytes, Memory};
 use covreport::{Choice, summary_text, trace_text};
-use covstore::{Plan, Refuse, Store};
+use covstore::{Refuse, Store};
 use std::alloc::{Allocator, Global};
 use std::marker::Model;
 use thiserror::Error;
-
-/// How many entries one history has at the most.
-pub const MOST_ENTRIES: u64 = 1_048_576;
 
 /// Why a book takes no step.
 #[derive(Clone, Copy, Debug, PartialEq, Eq, Error)]
@@ -57,13 +54,11 @@ pub struct Book<A: Allocator = Global> {
 }
 
 impl<A: Allocator> Model for Book<A> {
-    ghost use Rattle.std.specs.Prelude.{List};
-    ghost use Rattle.covbook.specs.Op.{EntryData};
-    ghost use Rattle.covbook.specs.Held.{IsBook};
+    ghost use Rattle.covbook.specs.Held.{BookData, IsBook};
 
-    ghost Value = { List EntryData };
+    ghost Value = { BookData };
 
-    ghost view = { λ a. a.entries };
+    ghost view = { λ a. record { entries = a.entries } };
 
     ghost invariant = { λ a. IsBook a.store a.accepted a.entries };
 }
@@ -71,14 +66,14 @@ impl<A: Allocator> Model for Book<A> {
 impl<A: Allocator + Copy> Book<A> {
     ghost use Rattle.std.specs.Prelude.{◌≡◌, ◌↔◌, ◌<◌, ◌++◌, [], ◌∷◌, length, IfOk, OnOk, OnErr, Err, map};
     ghost use Rattle.covbook.specs.Op.{SubmitOp, TextAnswer};
-    ghost use Rattle.covbook.specs.Step.{IsLegal, answer_of, table_after, table_of, ops_in, most_entries};
+    ghost use Rattle.covbook.specs.Step.{IsLegal, answer_of, next_entry, receipt_of, table_after, table_of, ops_in, most_entries};
     ghost use Rattle.covbook.specs.Texts.{IsText};
     ghost use Rattle.covbook.specs.View.{op_data, answer_data};
-    ghost use Rattle.covbook.specs.EntryView.{entry_data};
+    ghost use Rattle.covbook.specs.EntryView.{entry_data, receipt_data};
 
-    /// A book without entries.
+    /// A book without entries. Takes no memory.
     pub fn new(alloc: A) -> Book<A>
-        ensures { result ≡ [] }
+        ensures { result.entries ≡ [] }
     {
         Book {
             store: Store::new(alloc),
@@ -89,8 +84,8 @@ impl<A: Allocator + Copy> Book<A> {
 
     /// The history, in order. It is legal.
     pub fn entries(&self) -> &[Entry<A>]
-        ensures entries { map entry_data result.now ≡ self.now }
-        ensures legal { IsLegal self.now }
+        ensures entries { map entry_data result.now ≡ self.now.entries }
+        ensures legal { IsLegal self.now.entries }
     {
         self.entries.get()
     }
@@ -98,86 +93,80 @@ impl<A: Allocator + Copy> Book<A> {
     /// One step of the table: the operation is answered, and its entry appended. A refusal leaves the book as it
     /// was.
     pub fn step(&mut self, alloc: A, job: u32, op: &Op<A>) -> Result<Receipt<A>, BookFault>
-        ensures answer { IfOk result (λ r. answer_data r.answer ≡ answer_of (table_of (ops_in self.old)) (op_data op.now)) }
-        ensures place { IfOk result (λ r. r.place ≡ length self.old) }
+        ensures answer { IfOk result (λ r. answer_data r.answer ≡ answer_of (table_of (ops_in self.old.entries)) (op_data op.now)) }
+        ensures place { IfOk result (λ r. r.place ≡ length self.old.entries) }
         ensures asked { IfOk result (λ r. op_data r.op ≡ op_data op.now) }
-        ensures entry { IfOk result (λ r. self.new ≡ self.old ++ record { job = job; op = op_data op.now; answer = answer_data r.answer } ∷ []) }
-        ensures legal { IsLegal self.new }
+        ensures entry { OnOk result (self.new.entries ≡ self.old.entries ++ next_entry self.old.entries job (op_data op.now) ∷ []) }
+        ensures legal { IsLegal self.new.entries }
         ensures refused { OnErr result (self.new ≡ self.old) }
-        ensures full { (result ≡ Err BookFault.Full) ↔ (length self.old ≡ most_entries) }
+        ensures full { (result ≡ Err BookFault.Full) ↔ (length self.old.entries ≡ most_entries) }
     {
-        if self.entries.get().len() as u64 == MOST_ENTRIES {
+        if self.entries.is_full() {
             return Err(BookFault::Full);
         }
+        Ok(self.answered(alloc, job, op)?)
+    }
+
+    /// A step where there is room for it.
+    fn answered(&mut self, alloc: A, job: u32, op: &Op<A>) -> Result<Receipt<A>, Memory>
+        requires { length self.old.entries < most_entries }
+        ensures receipt { IfOk result (λ r. receipt_data r ≡ receipt_of (length self.old.entries) (next_entry self.old.entries job (op_data op.now))) }
+        ensures entry { OnOk result (self.new.entries ≡ self.old.entries ++ next_entry self.old.entries job (op_data op.now) ∷ []) }
+        ensures refused { OnErr result (self.new ≡ self.old) }
+    {
         match op {
-            Op::Submit(submission) => Ok(self.submit(alloc, job, submission)?),
-            Op::Report | Op::Extract(_) | Op::Remove(_) | Op::Summary => {
-                Ok(self.tell(alloc, job, op)?)
-            }
+            Op::Submit(submission) => self.submit(alloc, job, submission),
+            Op::Report | Op::Extract(_) | Op::Remove(_) | Op::Summary => self.tell(alloc, job, op),
         }
     }
 
     /// The submission is held too, unless it clashes. All growths come before the first change.
     fn submit(&mut self, alloc: A, job: u32, submission: &SubRef<A>) -> Result<Receipt<A>, Memory>
-        requires { length self.old < most_entries }
-        ensures answer { IfOk result (λ r. answer_data r.answer ≡ answer_of (table_of (ops_in self.old)) (SubmitOp submission.now)) }
-        ensures place { IfOk result (λ r. r.place ≡ length self.old) }
-        ensures asked { IfOk result (λ r. op_data r.op ≡ SubmitOp submission.now) }
-        ensures entry { IfOk result (λ r. self.new ≡ self.old ++ record { job = job; op = SubmitOp submission.now; answer = answer_data r.answer } ∷ []) }
+        requires { length self.old.entries < most_entries }
+        ensures receipt { IfOk result (λ r. receipt_data r ≡ receipt_of (length self.old.entries) (next_entry self.old.entries job (SubmitOp submission.now))) }
+        ensures entry { OnOk result (self.new.entries ≡ self.old.entries ++ next_entry self.old.entries job (SubmitOp submission.now) ∷ []) }
         ensures refused { OnErr result (self.new ≡ self.old) }
     {
-        let shared = submission.copy()?;
-        match self.store.prepare(alloc, submission.get()) {
+        let op = Op::Submit(submission.copy()?);
+        let given = submission.get();
+        match self.store.prepare(alloc, given) {
             Ok(plan) => {
                 let number = self.accepted + 1;
-                let items = submission.get().items();
-                let odd = submission.get().odd();
-                let op = Op::Submit(shared);
-                let answer = Answer::Accepted { number, items, odd };
-                let receipt = append(alloc, &mut self.entries, job, op, answer)?;
+                let answer = Answer::Accepted {
+                    number,
+                    items: given.items(),
+                    odd: given.odd(),
+                };
+                let receipt = self.entries.append(alloc, Entry { job, op, answer })?;
                 self.store.commit(plan);
                 self.accepted = number;
                 Ok(receipt)
             }
-            Err(
-                Refuse::Clash {
-                    file,
-                    line,
-                    held,
-                    given,
-                },
-            ) => {
-                let answer = Answer::Clash {
-                    file,
-                    line,
-                    held,
-                    given,
-                };
-                let receipt = self.note(alloc, job, Op::Submit(shared), answer)?;
-                Ok(receipt)
+            Err(refuse) => {
+                let answer = clash_of(refuse)?;
+                self.note(alloc, Entry { job, op, answer })
             }
-            Err(Refuse::Memory) => Err(Memory),
         }
     }
 
     /// A text is printed, and shared between the entry and the receipt.
     fn tell(&mut self, alloc: A, job: u32, op: &Op<A>) -> Result<Receipt<A>, Memory>
-        requires room { length self.old < most_entries }
+        requires room { length self.old.entries < most_entries }
         requires text { IsText (op_data op.now) }
-        ensures answer { IfOk result (λ r. answer_data r.answer ≡ answer_of (table_of (ops_in self.old)) (op_data op.now)) }
-        ensures place { IfOk result (λ r. r.place ≡ length self.old) }
-        ensures asked { IfOk result (λ r. op_data r.op ≡ op_data op.now) }
-        ensures entry { IfOk result (λ r. self.new ≡ self.old ++ record { job = job; op = op_data op.now; answer = answer_data r.answer } ∷ []) }
+        ensures receipt { IfOk result (λ r. receipt_data r ≡ receipt_of (length self.old.entries) (next_entry self.old.entries job (op_data op.now))) }
+        ensures entry { OnOk result (self.new.entries ≡ self.old.entries ++ next_entry self.old.entries job (op_data op.now) ∷ []) }
         ensures refused { OnErr result (self.new ≡ self.old) }
     {
         let text = TextRef::of(alloc, self.text_of(alloc, op)?)?;
-        self.note(alloc, job, op.copy(alloc)?, Answer::Text(text))
+        let op = op.copy(alloc)?;
+        let answer = Answer::Text(text);
+        self.note(alloc, Entry { job, op, answer })
     }
 
     /// The text that an operation asks for.
     fn text_of(&self, alloc: A, op: &Op<A>) -> Result<Bytes<A>, Memory>
-        requires text { IsText (op_data op.now) }
-        ensures { IfOk result (λ t. TextAnswer t ≡ answer_of (table_of (ops_in self.now)) (op_data op.now)) }
+        requires { IsText (op_data op.now) }
+        ensures { IfOk result (λ t. TextAnswer t ≡ answer_of (table_of (ops_in self.now.entries)) (op_data op.now)) }
     {
         match op {
             Op::Submit(_) => unreachable!(),
@@ -193,50 +182,40 @@ impl<A: Allocator + Copy> Book<A> {
     }
 
     /// Appends the entry of an operation that leaves the table as it is.
-    fn note(
-        &mut self,
-        alloc: A,
-        job: u32,
-        op: Op<A>,
-        answer: Answer<A>,
-    ) -> Result<Receipt<A>, Memory>
-        requires room { length self.old < most_entries }
-        requires answered { answer_data answer ≡ answer_of (table_of (ops_in self.old)) (op_data op) }
-        requires still { table_after (table_of (ops_in self.old)) (op_data op) ≡ table_of (ops_in self.old) }
-        ensures answer { IfOk result (λ r. answer_data r.answer ≡ answer_data answer) }
-        ensures place { IfOk result (λ r. r.place ≡ length self.old) }
-        ensures asked { IfOk result (λ r. op_data r.op ≡ op_data op) }
-        ensures entry { OnOk result (self.new ≡ self.old ++ record { job = job; op = op_data op; answer = answer_data answer } ∷ []) }
+    fn note(&mut self, alloc: A, entry: Entry<A>) -> Result<Receipt<A>, Memory>
+        requires room { length self.old.entries < most_entries }
+        requires next { entry_data entry ≡ next_entry self.old.entries entry.job (op_data entry.op) }
+        requires still { table_after (table_of (ops_in self.old.entries)) (op_data entry.op) ≡ table_of (ops_in self.old.entries) }
+        ensures receipt { IfOk result (λ r. receipt_data r ≡ receipt_of (length self.old.entries) (entry_data entry)) }
+        ensures entry { OnOk result (self.new.entries ≡ self.old.entries ++ entry_data entry ∷ []) }
         ensures refused { OnErr result (self.new ≡ self.old) }
     {
-        let receipt = append(alloc, &mut self.entries, job, op, answer)?;
+        let receipt = self.entries.append(alloc, entry)?;
         Ok(receipt)
     }
 }
 
-ghost use Rattle.std.specs.Prelude.{◌≡◌, ◌++◌, [], ◌∷◌, length, IfOk, OnOk, OnErr};
-ghost use Rattle.covbook.specs.View.{op_data, answer_data};
+ghost use Rattle.std.specs.Prelude.{◌≡◌, Some, None, MatchResult};
+ghost use Rattle.covstore.specs.RefuseView.{refuse_data};
+ghost use Rattle.covbook.specs.Refusal.{refusal_answer};
+ghost use Rattle.covbook.specs.View.{answer_data};
 
-/// Appends an entry with copies of the operation and its answer, which go into the receipt.
-fn append<A: Allocator + Copy>(
-    alloc: A,
-    entries: &mut Entries<A>,
-    job: u32,
-    op: Op<A>,
-    answer: Answer<A>,
-) -> Result<Receipt<A>, Memory>
-    ensures answer { IfOk result (λ r. answer_data r.answer ≡ answer_data answer) }
-    ensures place { IfOk result (λ r. r.place ≡ length entries.old) }
-    ensures asked { IfOk result (λ r. op_data r.op ≡ op_data op) }
-    ensures entry { OnOk result (entries.new ≡ entries.old ++ record { job = job; op = op_data op; answer = answer_data answer } ∷ []) }
-    ensures refused { OnErr result (entries.new ≡ entries.old) }
+/// The answer that tells of a clash. A want of memory has none.
+fn clash_of<A: Allocator>(refuse: Refuse<A>) -> Result<Answer<A>, Memory>
+    ensures { MatchResult result (λ a. refusal_answer (refuse_data refuse) ≡ Some (answer_data a)) (λ _. refusal_answer (refuse_data refuse) ≡ None) }
 {
-    let place = entries.get().len() as u64;
-    let entry = Entry {
-        job,
-        op: op.copy(alloc)?,
-        answer: answer.copy(alloc)?,
-    };
-    entries.push(entry)?;
-    Ok(Receipt { place, op, answer })
+    match refuse {
+        Refuse::Clash {
+            file,
+            line,
+            held,
+            given,
+        } => Ok(Answer::Clash {
+            file,
+            line,
+            held,
+            given,
+        }),
+        Refuse::Memory => Err(Memory),
+    }
 }

@@ -5,12 +5,32 @@ use covline::Memory;
 use std::alloc::{Allocator, Global};
 use std::marker::Model;
 
+/// How many entries one history has at the most.
+pub const MOST_ENTRIES: u64 = 1_048_576;
+
 /// One operation that a book was asked, by which job, and what it answered.
 #[derive(Drop)]
 pub struct Entry<A: Allocator = Global> {
     pub job: u32,
     pub op: Op<A>,
     pub answer: Answer<A>,
+}
+
+impl<A: Allocator + Copy> Entry<A> {
+    ghost use Rattle.std.specs.Prelude.{◌≡◌, IfOk};
+    ghost use Rattle.covbook.specs.EntryView.{entry_data, receipt_data};
+    ghost use Rattle.covbook.specs.Step.{receipt_of};
+
+    /// The receipt of the entry at this place, with copies of the operation and the answer.
+    fn receipt(&self, alloc: A, place: u64) -> Result<Receipt<A>, Memory>
+        ensures { IfOk result (λ r. receipt_data r ≡ receipt_of place (entry_data self.now)) }
+    {
+        Ok(Receipt {
+            place,
+            op: self.op.copy(alloc)?,
+            answer: self.answer.copy(alloc)?,
+        })
+    }
 }
 
 /// What the asking job gets of its operation: its place in the history, counted from 0, and the answer.
@@ -41,7 +61,7 @@ impl<A: Allocator> Entries<A> {
     ghost use Rattle.std.specs.Prelude.{◌≡◌, ◌++◌, [], ◌∷◌, OnOk, OnErr, map};
     ghost use Rattle.covbook.specs.EntryView.{entry_data};
 
-    /// The empty list.
+    /// The empty list. Takes no memory.
     pub fn new(alloc: A) -> Entries<A>
         ensures { result ≡ [] }
     {
@@ -64,6 +84,30 @@ impl<A: Allocator> Entries<A> {
         ensures { map entry_data result.now ≡ self.now }
     {
         self.entries.as_slice()
+    }
+}
+
+impl<A: Allocator + Copy> Entries<A> {
+    ghost use Rattle.std.specs.Prelude.{◌≡◌, ◌↔◌, ◌++◌, [], ◌∷◌, length, IsTrue, IfOk, OnOk, OnErr};
+    ghost use Rattle.covbook.specs.EntryView.{entry_data, receipt_data};
+    ghost use Rattle.covbook.specs.Step.{most_entries, receipt_of};
+
+    /// Whether a history with these entries takes no more.
+    pub(crate) fn is_full(&self) -> bool
+        ensures { IsTrue result ↔ (length self.now ≡ most_entries) }
+    {
+        self.get().len() as u64 == MOST_ENTRIES
+    }
+
+    /// Appends an entry, and gives its receipt. A refusal gives the entry up and leaves the list as it was.
+    pub(crate) fn append(&mut self, alloc: A, entry: Entry<A>) -> Result<Receipt<A>, Memory>
+        ensures receipt { IfOk result (λ r. receipt_data r ≡ receipt_of (length self.old) (entry_data entry)) }
+        ensures entry { OnOk result (self.new ≡ self.old ++ entry_data entry ∷ []) }
+        ensures refused { OnErr result (self.new ≡ self.old) }
+    {
+        let receipt = entry.receipt(alloc, self.get().len() as u64)?;
+        self.push(entry)?;
+        Ok(receipt)
     }
 }
 

@@ -6,10 +6,14 @@ ghost use Rattle.covbook.specs.Step.{answer_of, answers_to, table_after, table_o
 ghost use Rattle.covstore.specs.Clash.{Agree, checksums_in};
 ghost use Rattle.covstore.specs.Table.{all_rows};
 
+use covstore::laws::accepted_rows_agree;
+
 /// No run mixes two versions of a source: the rows of its table have no two different checksums of one line of a file.
 pub fn no_versions_are_mixed()
     ensures { (ops : List OpData) → Agree (checksums_in (all_rows (table_of ops))) }
-{}
+{
+    accepted_rows_agree();
+}
 
 /// A run goes on where it stood: with one operation more the answers get one more, and the table goes one step on.
 pub fn a_run_goes_on()

@@ -1,16 +1,28 @@
-//! The book: one step of the table of counts at a time, and the history of all steps.
+//! The book of one collector: a table of counts, and the history of all that the table was asked and what it answered.
+//!
+//! An `Op` is an operation on the table: add a submission, or print a text of what is held. `Book::step` answers one and
+//! appends its entry; the job that asked gets a `Receipt` with the entry's place and answer. The history is legal at every
+//! moment: its answers are those of a run over its operations that begins with nothing.
+//!
+//! A sketch, which no test runs:
+//!
+//! ```text
+//! let mut book = Book::new(alloc);
+//! let submission = SubRef::of(alloc, read_trace(alloc, bytes)?)?;
+//! book.step(alloc, 1, &Op::Submit(submission))?; // Answer::Accepted, or Answer::Clash
+//! let receipt = book.step(alloc, 2, &Op::Report)?; // Answer::Text, of all that is held
+//! assert_eq!(receipt.place, 1);
+//! assert_eq!(book.entries().len(), 2);
+//! ```
 #![tactic(auto)]
 
-pub mod book;
-pub mod entry;
+mod book;
+mod entry;
 pub mod laws;
-pub mod op;
-pub mod shared;
+mod op;
+mod shared;
 
 pub use book::{Book, BookFault};
-pub use entry::{Entries, Entry, Receipt, Receipts};
+pub use entry::{Entries, Entry, MOST_ENTRIES, Receipt, Receipts};
 pub use op::{Answer, Op};
 pub use shared::{SubRef, TextRef};
-
-#[cfg(test)]
-mod tests;

@@ -5,10 +5,51 @@ use std::alloc::{Allocator, Global};
 use std::marker::Model;
 use std::sync::Arc;
 
+/// A value that several owners share. Contracts see the value.
+#[derive(Drop)]
+struct Shared<T: Drop, A: Allocator> {
+    value: Arc<T, A>,
+}
+
+impl<T: Drop, A: Allocator> Model for Shared<T, A> {
+    ghost Value = { T };
+
+    ghost view = { λ a. a.value.value };
+}
+
+impl<T: Drop, A: Allocator> Shared<T, A> {
+    ghost use Rattle.std.specs.Prelude.{◌≡◌, IfOk};
+
+    /// The value, to be shared. A refusal gives it up.
+    fn of(alloc: A, value: T) -> Result<Shared<T, A>, Memory>
+        ensures { IfOk result (λ s. s ≡ value) }
+    {
+        Ok(Shared {
+            value: Arc::new(alloc, value)?,
+        })
+    }
+
+    /// What is shared.
+    fn get(&self) -> &T
+        ensures { result.now ≡ self.now }
+    {
+        &self.value
+    }
+
+    /// One more owner of the same value.
+    fn copy(&self) -> Result<Shared<T, A>, Memory>
+        ensures { IfOk result (λ s. s ≡ self.now) }
+    {
+        Ok(Shared {
+            value: self.value.clone()?,
+        })
+    }
+}
+
 /// A submission that operations, entries and receipts share.
 #[derive(Drop)]
 pub struct SubRef<A: Allocator = Global> {
-    shared: Arc<Submission<A>, A>,
+    shared: Shared<Submission<A>, A>,
 }
 
 impl<A: Allocator> Model for SubRef<A> {
@@ -16,7 +57,7 @@ impl<A: Allocator> Model for SubRef<A> {
 
     ghost Value = { SubmissionData };
 
-    ghost view = { λ a. a.shared.value };
+    ghost view = { λ a. a.shared };
 }
 
 impl<A: Allocator> SubRef<A> {
@@ -27,7 +68,7 @@ impl<A: Allocator> SubRef<A> {
         ensures { IfOk result (λ s. s ≡ submission) }
     {
         Ok(SubRef {
-            shared: Arc::new(alloc, submission)?,
+            shared: Shared::of(alloc, submission)?,
         })
     }
 
@@ -35,7 +76,7 @@ impl<A: Allocator> SubRef<A> {
     pub fn get(&self) -> &Submission<A>
         ensures { result.now ≡ self.now }
     {
-        &self.shared
+        self.shared.get()
     }
 
     /// One more owner of the same submission.
@@ -43,7 +84,7 @@ impl<A: Allocator> SubRef<A> {
         ensures { IfOk result (λ s. s ≡ self.now) }
     {
         Ok(SubRef {
-            shared: self.shared.clone()?,
+            shared: self.shared.copy()?,
         })
     }
 }
@@ -51,7 +92,7 @@ impl<A: Allocator> SubRef<A> {
 /// A text that entries and receipts share.
 #[derive(Drop)]
 pub struct TextRef<A: Allocator = Global> {
-    shared: Arc<Bytes<A>, A>,
+    shared: Shared<Bytes<A>, A>,
 }
 
 impl<A: Allocator> Model for TextRef<A> {
@@ -59,7 +100,7 @@ impl<A: Allocator> Model for TextRef<A> {
 
     ghost Value = { List ℕ };
 
-    ghost view = { λ a. a.shared.value };
+    ghost view = { λ a. a.shared };
 }
 
 impl<A: Allocator> TextRef<A> {
@@ -70,7 +111,7 @@ impl<A: Allocator> TextRef<A> {
         ensures { IfOk result (λ t. t ≡ text) }
     {
         Ok(TextRef {
-            shared: Arc::new(alloc, text)?,
+            shared: Shared::of(alloc, text)?,
         })
     }
 
@@ -78,7 +119,7 @@ impl<A: Allocator> TextRef<A> {
     pub fn get(&self) -> &Bytes<A>
         ensures { result.now ≡ self.now }
     {
-        &self.shared
+        self.shared.get()
     }
 
     /// One more owner of the same text.
@@ -86,7 +127,7 @@ impl<A: Allocator> TextRef<A> {
         ensures { IfOk result (λ t. t ≡ self.now) }
     {
         Ok(TextRef {
-            shared: self.shared.clone()?,
+            shared: self.shared.copy()?,
         })
     }
 }

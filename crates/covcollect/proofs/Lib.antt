@@ -4,3 +4,4 @@ pub mod SessionPieces
 pub mod SessionRun
 pub mod SessionSteps
 pub mod SessionWords
+pub mod SessionLaw

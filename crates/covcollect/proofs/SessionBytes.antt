@@ -5,7 +5,7 @@ use Rattle.std.proofs.lemmas.List.{take_rest, take-append-drop, take_all, length
 use Rattle.memchr.specs.Find.{IsFirstByte, is_byte}
 use Rattle.std.specs.Io.KnownBytes.{Consumes, Appends, prepend_known}
 use Rattle.covline.specs.Lines.{line_feed, before_feed}
-use Rattle.covcollect.specs.Streams.{line_after, line_with, IsCollected}
+use Rattle.covcollect.specs.Text.{line_after, line_with, IsCollected}
 use Rattle.covcollect.specs.declared.session.text.LineSoFar.{LineSoFar}
 use Rattle.covcollect.specs.declared.session.text.LineSoFar.TheVariants.{Nothing, Other}
 

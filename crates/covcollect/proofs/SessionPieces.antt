@@ -3,8 +3,9 @@ use Rattle.std.proofs.Common.{◌≡◌, ◌≢◌, ℕ, ◌<◌, ◌≤◌, Boo
 use Rattle.std.proofs.lemmas.Bool.{eqb-true}
 use Rattle.std.specs.List.{concat}
 use Rattle.covline.specs.Lines.{line_feed, carriage_return, before_feed, before_stripped, strip, pieces_of, onto_first, line_of}
-use Rattle.covcollect.specs.Session.{IsBody}
-use Rattle.covcollect.specs.Streams.{Moment, Moves, TakesLine, TakesPieces, AreCut, EndsAs, turns, line_after, line_with, line_bytes, line_pieces, IsTaken, IsTextOf, HasCollected}
+use Rattle.covcollect.specs.Command.{IsBody}
+use Rattle.covcollect.specs.Streams.{InputData, Moment, Moves, TakesLine, TakesPieces, AreCut, EndsAs, turns, line_bytes, line_pieces}
+use Rattle.covcollect.specs.Text.{line_after, line_with, IsTaken, IsTextOf, HasCollected}
 use Rattle.covcollect.specs.declared.session.text.Text.{Text}
 use Rattle.covcollect.specs.declared.session.text.Taken.{Taken}
 use Rattle.covcollect.specs.declared.session.text.Taken.TheVariants.{Whole, TooLong, Unfinished}
@@ -121,18 +122,18 @@ dot_pieces Input [] h = absurd (no_byte h)
 dot_pieces Input (b ∷ bs) h = refl
 
 -- one line more
-ends_more : (m n o : Moment) (ending : LineEnd) → turns n.block ≤ turns m.block → EndsAs ending n o → EndsAs ending m o
+ends_more : (m n o : InputData) (ending : LineEnd) → turns n ≤ turns m → EndsAs ending n o → EndsAs ending m o
 ends_more m n o Feed le h = omega arith
 ends_more m n o Input le h = h
 
 pub takes_more : (m n o : Moment) (bytes line : List ℕ) (pieces : List (List ℕ)) (ending : LineEnd)
-    → AreCut Feed bytes pieces → Moves m n bytes [] → turns n.block ≤ turns m.block → TakesLine n o line ending
+    → AreCut Feed bytes pieces → Moves m n bytes [] → turns n.input ≤ turns m.input → TakesLine n o line ending
     → TakesPieces m o (pieces ++ line_pieces ending line) ending []
 takes_more m n o bytes line pieces ending cut moves le h = record {
   bytes = bytes ++ line_bytes ending line;
   moves = Moves-trans m n o bytes (line_bytes ending line) [] [] moves h.moves;
   cut = cut_append ending bytes (line_bytes ending line) pieces (line_pieces ending line) cut (cut_ending ending line h.one_line);
-  ended = ends_more m n o ending le h.ended;
+  ended = ends_more m.input n.input o.input ending le h.ended;
 }
 
 pub body_more : (body : List (List ℕ)) (piece : List ℕ) → IsBody body → line_of piece ≢ codes "." → IsBody (body ++ piece ∷ [])
@@ -145,7 +146,7 @@ concat_more (p ∷ ps) piece = ap (λ (u : List ℕ). p ++ u) (concat_more ps pi
 
 -- the line that ends a text was taken
 pub text_done : (m n o : Moment) (body : List (List ℕ)) (line : List ℕ) (ending : LineEnd)
-    → AreCut Feed (concat body) body → Moves m n (concat body) [] → turns n.block ≤ turns m.block → TakesLine n o line ending
+    → AreCut Feed (concat body) body → Moves m n (concat body) [] → turns n.input ≤ turns m.input → TakesLine n o line ending
     → line_after Nothing line ≡ Dot → TakesPieces m o (body ++ line_bytes ending line ∷ []) ending []
 text_done m n o body line ending cut moves le h dot =
     let P : List (List ℕ) → Type 0 = λ u. TakesPieces m o (body ++ u) ending [] in
@@ -180,8 +181,8 @@ more_moves m n o body line moves h =
     let P : List ℕ → Type 0 = λ u. Moves m o u [] in
     subst P (sym (concat_more body (line ++ line_feed ∷ []))) (Moves-trans m n o (concat body) (line ++ line_feed ∷ []) [] [] moves h.moves)
 
-pub more_turns : (m n o : Moment) (line : List ℕ) → turns n.block ≤ turns m.block → TakesLine n o line Feed → turns o.block ≤ turns m.block
-more_turns m n o line le h = let lt : turns o.block < turns n.block = h.ended in omega arith
+pub more_turns : (m n o : Moment) (line : List ℕ) → turns n.input ≤ turns m.input → TakesLine n o line Feed → turns o.input ≤ turns m.input
+more_turns m n o line le h = let lt : turns o.input < turns n.input = h.ended in omega arith
 
 pub more_collected : {A : Type 0} (text : Text A) (body : List (List ℕ)) (line : List ℕ)
     → HasCollected text (concat body ++ (line ++ line_feed ∷ [])) [] → HasCollected text (concat (body ++ (line ++ line_feed ∷ []) ∷ [])) []

@@ -11,8 +11,10 @@ use Rattle.covcollect.specs.declared.session.text.LineEnd.{LineEnd}
 use Rattle.covcollect.specs.declared.session.text.LineEnd.TheVariants.{Feed, Input}
 use Rattle.covread.specs.Outcome.{IsOutcome, Answers, IsOrMemory}
 use Rattle.covread.specs.declared.fault.ReadFault.TheVariants as faults
-use Rattle.covcollect.specs.Session.{Command, Blank, Ask, RefusePattern, Submit, Refuse, Unknown, Unfinished, AsksFor, IsTooLong, IsUnknown, IsBody, IsCommand, EndsInput, AreCommands, ops_of, answer_text, refused_text, refused_pattern_text, said}
-use Rattle.covcollect.specs.Run.{asked_for, text_after, IsRun, IsTold}
+use Rattle.covcollect.specs.Command.{Command, Blank, Ask, RefusePattern, Submit, Refuse, Unknown, Unfinished, AsksFor, IsTooLong, IsUnknown, IsBody, IsCommand, EndsInput, AreCommands, ops_of}
+use Rattle.covcollect.specs.Session.{answer_text, refused_text, refused_pattern_text, said, text_after}
+use Rattle.covcollect.specs.Text.{asked_for, IsTold}
+use Rattle.covcollect.specs.Run.{IsRun}
 use Rattle.covcollect.proofs.SessionWords.{IsSingle, single_unique, not_trace}
 
 -- what commands are answered, and then further ones

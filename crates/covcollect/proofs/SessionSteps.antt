@@ -1,7 +1,7 @@
 -- The steps of a session from one command to the next, and the whole session.
-use Rattle.std.proofs.Common.{◌≡◌, ℕ, ◌<◌, ◌≤◌, Bool, true, false, cond, leb, List, [], ◌∷◌, ◌++◌, length, Result, Ok, Err, Option, None, Some, option_map, refl, sym, ◌∙◌, ap, subst, arith, append-nil, codes, inl, inr}
+use Rattle.std.proofs.Common.{◌≡◌, ℕ, ◌+◌, ◌<◌, ◌≤◌, Bool, true, false, cond, leb, List, [], ◌∷◌, ◌++◌, length, Result, Ok, Err, OnOk, Option, None, Some, option_map, refl, sym, ◌∙◌, ap, subst, arith, append-nil, codes, inl, inr}
 use Rattle.std.specs.List.{concat}
-use Rattle.std.proofs.lemmas.Bool.{leb-true, leb-false}
+use Rattle.std.proofs.lemmas.Bool.{leb-true, leb-false, le-leb}
 use Rattle.std.proofs.lemmas.List.Concat.{flat_map-append}
 use Rattle.std.specs.Option.{IfSome}
 use Rattle.std.specs.Io.KnownBytes.{Consumes, Appends, Keeps, IsAtEnd, prepend_known, append_known}
@@ -17,41 +17,32 @@ use Rattle.covcollect.specs.declared.session.text.LineEnd.{LineEnd}
 use Rattle.covcollect.specs.declared.session.text.LineEnd.TheVariants.{Feed, Input}
 use Rattle.covcollect.specs.declared.session.text.Taken.{Taken}
 use Rattle.covcollect.specs.declared.session.text.Taken.TheVariants as taken
-use Rattle.covcollect.specs.declared.session.word.Word.{Word}
-use Rattle.covcollect.specs.declared.session.word.Word.TheVariants as words
+use Rattle.covcollect.specs.declared.session.command.word.Pick.{Pick}
+use Rattle.covcollect.specs.declared.session.command.word.Pick.TheVariants as picks
+use Rattle.covcollect.specs.declared.session.command.word.Word.{Word}
+use Rattle.covcollect.specs.declared.session.command.word.Word.TheVariants as words
 use Rattle.covread.specs.Outcome.{IsOutcome, most_bytes}
-use Rattle.covcollect.specs.Session.{Command, Blank, Ask, RefusePattern, Submit, Refuse, Unknown, Unfinished, AsksFor, IsTooLong, IsUnknown, IsBody, IsSession, AreCommands, ops_of, ops_asked}
-use Rattle.covcollect.specs.Streams.{Moment, Moves, TakesLine, TakesPieces, EndsAs, turns, unread, said_so_far, line_bytes, line_pieces, IsTaken, IsWord, IsWordWith, IsWholeSession}
-use Rattle.covcollect.specs.Run.{asked_for, asked_by, chosen_by, text_after, Asks, IsRun, IsAnsweredAs, TakesTrace, TakesCommand, IsSoFar, IsDone}
-use Rattle.covcollect.proofs.SessionBytes.{Appends-trans}
-use Rattle.covcollect.proofs.SessionMoves.{Moves-trans}
+use Rattle.covcollect.specs.Command.{Command, Blank, Ask, RefusePattern, Submit, Refuse, Unknown, Unfinished, AsksFor, IsTooLong, IsUnknown, IsBody, AreCommands, ops_of, ops_asked, IsWord, IsWordWith, pick_name, pick_op, asked_by, chosen_by, IsListOf}
+use Rattle.covcollect.specs.Session.{IsSession, IsWholeSession, text_after, Asks}
+use Rattle.covcollect.specs.Streams.{InputData, OutputData, Moment, Takes, Says, Moves, TakesLine, TakesPieces, EndsAs, turns, unread, said_so_far, line_bytes, line_pieces}
+use Rattle.covcollect.specs.Text.{IsTaken, asked_for, IsAnsweredAs}
+use Rattle.covcollect.specs.Run.{IsRun, TakesTrace, TakesCommand, IsSoFar, IsDone}
+use Rattle.covcollect.proofs.SessionMoves.{Says-trans, Moves-trans, Moves-none}
 use Rattle.covcollect.proofs.SessionPieces.{cut_append, cut_ending, line_of_bytes}
 use Rattle.covcollect.proofs.SessionRun.{text_more, run_none, run_one, run_one_input, run_more, single_determined, whole_determined, open_determined}
 
-ends_as : (m n : Moment) (ending : LineEnd) (waiting : List ℕ) (written : Option (List ℕ)) (failed : ℕ)
-    → EndsAs ending m n → EndsAs ending m (record n { waiting = waiting; written = written; failed_writes = failed })
-ends_as m n Feed waiting written failed h = h
-ends_as m n Input waiting written failed h = h
-
 -- pieces were taken, and then something was said
-pub says_on : (m n : Moment) (pieces : List (List ℕ)) (ending : LineEnd) (waiting : List ℕ) (written : Option (List ℕ)) (failed : ℕ) (text : List ℕ)
-    → TakesPieces m n pieces ending [] → Appends (said_so_far n.written n.waiting) (said_so_far written waiting) text → failed ≡ n.failed_writes
-    → TakesPieces m (record n { waiting = waiting; written = written; failed_writes = failed }) pieces ending text
-says_on m n pieces ending waiting written failed text h says same = record {
+pub says_on : (m n : Moment) (p : OutputData) (pieces : List (List ℕ)) (ending : LineEnd) (text : List ℕ)
+    → TakesPieces m n pieces ending [] → Says n.output p text → TakesPieces m (record n { output = p }) pieces ending text
+says_on m n p pieces ending text h says = record {
   bytes = h.bytes;
-  moves = record {
-    took = h.moves.took;
-    says = Appends-trans (said_so_far m.written m.waiting) (said_so_far n.written n.waiting) (said_so_far written waiting) [] text h.moves.says says;
-    counted = h.moves.counted;
-    failed_reads = h.moves.failed_reads;
-    failed_writes = same ∙ h.moves.failed_writes;
-  };
+  moves = record { takes = h.moves.takes; says = Says-trans m.output n.output p [] text h.moves.says says };
   cut = h.cut;
-  ended = ends_as m n ending waiting written failed h.ended;
+  ended = h.ended;
 }
 
 -- pieces and then further pieces
-ends_trans : (m n o : Moment) (ending : LineEnd) → EndsAs Feed m n → EndsAs ending n o → EndsAs ending m o
+ends_trans : (m n o : InputData) (ending : LineEnd) → EndsAs Feed m n → EndsAs ending n o → EndsAs ending m o
 ends_trans m n o Feed h k = omega arith
 ends_trans m n o Input h k = k
 
@@ -61,7 +52,7 @@ pieces_trans m n o ps qs ending x y h k = record {
   bytes = h.bytes ++ k.bytes;
   moves = Moves-trans m n o h.bytes k.bytes x y h.moves k.moves;
   cut = cut_append ending h.bytes k.bytes ps qs h.cut k.cut;
-  ended = ends_trans m n o ending h.ended k.ended;
+  ended = ends_trans m.input n.input o.input ending h.ended k.ended;
 }
 
 pub line_taken : (m n : Moment) (line : List ℕ) (ending : LineEnd) → TakesLine m n line ending → TakesPieces m n (line_pieces ending line) ending []
@@ -73,7 +64,7 @@ line_taken m n line ending h = record {
 }
 
 -- a text behind a line `trace`
-whole_run : (ending : LineEnd) (first : List ℕ) (body : List (List ℕ)) (last : List ℕ) (outcome : Result SubmissionData ReadFault)
+pub whole_run : (ending : LineEnd) (first : List ℕ) (body : List (List ℕ)) (last : List ℕ) (outcome : Result SubmissionData ReadFault)
     → line_of first ≡ codes "trace" → IsBody body → line_of last ≡ codes "." → IsOutcome (concat body) outcome
     → ((other : Result SubmissionData ReadFault) → IsOutcome (concat body) other → other ≡ outcome)
     → IsRun ending (first ∷ (body ++ last ∷ [])) (asked_for outcome)
@@ -110,18 +101,18 @@ taken_run taken.Unfinished pieces ending commands (no_last, ends) asked first tr
     (run_one_input (first ∷ pieces) Unfinished (first, pieces, refl, trace, no_last) refl (open_determined first pieces trace no_last)))
 
 -- a command of one line
-blank_run : (ending : LineEnd) (piece : List ℕ) → line_of piece ≡ [] → IsRun ending (piece ∷ []) (Blank ∷ [])
+pub blank_run : (ending : LineEnd) (piece : List ℕ) → line_of piece ≡ [] → IsRun ending (piece ∷ []) (Blank ∷ [])
 blank_run ending piece e = run_one ending (piece ∷ []) Blank (piece, refl, e) (λ rest. tt) (λ rest. single_determined piece rest Blank e)
 
-ask_run : (ending : LineEnd) (piece : List ℕ) (op : OpData) → AsksFor op (line_of piece) → IsRun ending (piece ∷ []) (Ask op ∷ [])
+pub ask_run : (ending : LineEnd) (piece : List ℕ) (op : OpData) → AsksFor op (line_of piece) → IsRun ending (piece ∷ []) (Ask op ∷ [])
 ask_run ending piece op h =
     run_one ending (piece ∷ []) (Ask op) (line_of piece, (piece, refl, refl), h) (λ rest. tt) (λ rest. single_determined piece rest (Ask op) h)
 
-long_run : (ending : LineEnd) (piece : List ℕ) → IsTooLong (line_of piece) → IsRun ending (piece ∷ []) (RefusePattern ∷ [])
+pub long_run : (ending : LineEnd) (piece : List ℕ) → IsTooLong (line_of piece) → IsRun ending (piece ∷ []) (RefusePattern ∷ [])
 long_run ending piece h =
     run_one ending (piece ∷ []) RefusePattern (line_of piece, (piece, refl, refl), h) (λ rest. tt) (λ rest. single_determined piece rest RefusePattern h)
 
-unknown_run : (ending : LineEnd) (piece : List ℕ) → IsUnknown (line_of piece) → IsRun ending (piece ∷ []) (Unknown ∷ [])
+pub unknown_run : (ending : LineEnd) (piece : List ℕ) → IsUnknown (line_of piece) → IsRun ending (piece ∷ []) (Unknown ∷ [])
 unknown_run ending piece h =
     run_one ending (piece ∷ []) Unknown (line_of piece, (piece, refl, refl), h) (λ rest. tt) (λ rest. single_determined piece rest Unknown h)
 
@@ -133,16 +124,13 @@ fit_run ending piece pattern op true e asks long = ask_run ending piece op (asks
 fit_run ending piece pattern op false e asks long = long_run ending piece (long (leb-false (length pattern) most_pattern_bytes e))
 
 -- a choice of files
-extract_run : (ending : LineEnd) (piece : List ℕ) (pattern : Option (List ℕ)) → IsWordWith (line_of piece) (codes "extract") pattern
-    → IsRun ending (piece ∷ []) (chosen_by ExtractOp pattern)
-extract_run ending piece None h = ask_run ending piece (ExtractOp []) h
-extract_run ending piece (Some pattern) h =
+choose_run : (ending : LineEnd) (piece : List ℕ) (pick : Pick) (pattern : Option (List ℕ)) → IsWordWith (line_of piece) (pick_name pick) pattern
+    → IsRun ending (piece ∷ []) (chosen_by (pick_op pick) pattern)
+choose_run ending piece picks.Extract None h = ask_run ending piece (ExtractOp []) h
+choose_run ending piece picks.Extract (Some pattern) h =
     fit_run ending piece pattern (ExtractOp (pattern ∷ [])) (leb (length pattern) most_pattern_bytes) refl (λ fits. (h, fits)) (λ long. (pattern, long, inl h))
-
-remove_run : (ending : LineEnd) (piece : List ℕ) (pattern : Option (List ℕ)) → IsWordWith (line_of piece) (codes "remove") pattern
-    → IsRun ending (piece ∷ []) (chosen_by RemoveOp pattern)
-remove_run ending piece None h = ask_run ending piece (RemoveOp []) h
-remove_run ending piece (Some pattern) h =
+choose_run ending piece picks.Remove None h = ask_run ending piece (RemoveOp []) h
+choose_run ending piece picks.Remove (Some pattern) h =
     fit_run ending piece pattern (RemoveOp (pattern ∷ [])) (leb (length pattern) most_pattern_bytes) refl (λ fits. (h, fits)) (λ long. (pattern, long, inr h))
 
 word_run : (ending : LineEnd) (piece : List ℕ) (word : Word) → IsWord (line_of piece) word → (word ≡ words.Trace → ending ≡ Input)
@@ -150,8 +138,7 @@ word_run : (ending : LineEnd) (piece : List ℕ) (word : Word) → IsWord (line_
 word_run ending piece words.Blank h last = blank_run ending piece h
 word_run ending piece words.Report h last = ask_run ending piece ReportOp h
 word_run ending piece words.Summary h last = ask_run ending piece SummaryOp h
-word_run ending piece (words.Extract pattern) h last = extract_run ending piece (option_map (λ p. p.now) pattern) h
-word_run ending piece (words.Remove pattern) h last = remove_run ending piece (option_map (λ p. p.now) pattern) h
+word_run ending piece (words.Choose pick pattern) h last = choose_run ending piece pick (option_map (λ p. p.now) pattern) h
 word_run ending piece words.Other h last = unknown_run ending piece h
 word_run ending piece words.Trace h last =
     let Q : LineEnd → Type 0 = λ u. IsRun u (piece ∷ []) (Unfinished ∷ []) in
@@ -174,8 +161,8 @@ nothing_run : (word : Word) → IsWord [] word → LineRun Input [] word
 nothing_run words.Blank h = record { commands = []; run = run_none Input; same_text = λ table. refl; same_ops = refl }
 nothing_run words.Report h = absurd (let nothing : ⊥ = cc in nothing)
 nothing_run words.Summary h = absurd (let nothing : ⊥ = cc in nothing)
-nothing_run (words.Extract pattern) h = absurd (no_choice (codes "extract") (option_map (λ p. p.now) pattern) (omega arith) h)
-nothing_run (words.Remove pattern) h = absurd (no_choice (codes "remove") (option_map (λ p. p.now) pattern) (omega arith) h)
+nothing_run (words.Choose picks.Extract pattern) h = absurd (no_choice (codes "extract") (option_map (λ p. p.now) pattern) (omega arith) h)
+nothing_run (words.Choose picks.Remove pattern) h = absurd (no_choice (codes "remove") (option_map (λ p. p.now) pattern) (omega arith) h)
 nothing_run words.Trace h = absurd (let nothing : ⊥ = cc in nothing)
 nothing_run words.Other h = absurd (h.some refl)
 
@@ -198,20 +185,18 @@ line_run Input (b ∷ bs) word one h last =
     piece_line Input (b ∷ bs) word (subst P (sym (line_of_bytes Input (b ∷ bs) one)) h) last
 
 -- a line and its answer are a command
-pub line_command : (m n : Moment) (line : List ℕ) (ending : LineEnd) (word : Word) (waiting : List ℕ) (written : Option (List ℕ)) (failed : ℕ) (before after : List OpData)
+pub line_command : (m n : Moment) (p : OutputData) (line : List ℕ) (ending : LineEnd) (word : Word) (before after : List OpData)
     → TakesLine m n line ending → IsWord (strip line) word → (word ≡ words.Trace → ending ≡ Input)
-    → Asks (asked_by word) before after
-    → Appends (said_so_far n.written n.waiting) (said_so_far written waiting) (text_after (table_of before) (asked_by word)) → failed ≡ n.failed_writes
-    → TakesCommand m (record n { waiting = waiting; written = written; failed_writes = failed }) before after ending
-line_command m n line ending word waiting written failed before after h is last asks says same =
+    → Asks (asked_by word) before after → Says n.output p (text_after (table_of before) (asked_by word))
+    → TakesCommand m (record n { output = p }) before after ending
+line_command m n p line ending word before after h is last asks says =
     let r = line_run ending line word h.one_line is last in
-    let o : Moment = record n { waiting = waiting; written = written; failed_writes = failed } in
-    let P : List ℕ → Type 0 = λ u. TakesPieces m o (line_pieces ending line) ending u in
+    let P : List ℕ → Type 0 = λ u. TakesPieces m (record n { output = p }) (line_pieces ending line) ending u in
     record {
       pieces = line_pieces ending line;
       commands = r.commands;
       taken = subst P (sym (r.same_text (table_of before)))
-          (says_on m n (line_pieces ending line) ending waiting written failed (text_after (table_of before) (asked_by word)) (line_taken m n line ending h) says same);
+          (says_on m n p (line_pieces ending line) ending (text_after (table_of before) (asked_by word)) (line_taken m n line ending h) says);
       asks = asks ∙ ap (λ (u : List OpData). before ++ u) (sym r.same_ops);
       run = r.run;
     }
@@ -230,27 +215,13 @@ trace_command m n o line ending first before after h feed is t =
       run = t.run (line ++ line_feed ∷ []) (line_of_bytes Feed line h.one_line ∙ is);
     }
 
-consumes_none : (a : Option (List ℕ)) → Consumes a a []
-consumes_none None = tt
-consumes_none (Some xs) = refl
-
-appends_none : (a : Option (List ℕ)) → Appends a a []
-appends_none None = tt
-appends_none (Some xs) = sym (append-nil xs)
-
 -- the whole session
 pub so_far_none : (m : Moment) (history : List OpData) → history ≡ [] → IsSoFar m m history
 so_far_none m history e = record {
   bytes = [];
   pieces = [];
   commands = [];
-  moves = record {
-    took = consumes_none (unread m.block m.left);
-    says = appends_none (said_so_far m.written m.waiting);
-    counted = refl;
-    failed_reads = refl;
-    failed_writes = refl;
-  };
+  moves = Moves-none m;
   cut = λ more. refl;
   run = run_none Feed;
   asked = e;
@@ -272,7 +243,7 @@ more_said m n o before after ending s t =
     subst P (more_text before s.commands t.commands s.asked)
     (Moves-trans m n o s.bytes t.taken.bytes (text_after [] s.commands) (text_after (table_of before) t.commands) s.moves t.taken.moves)
 
-fewer_turns : (m n o : Moment) → turns n.block ≤ turns m.block → EndsAs Feed n o → turns o.block ≤ turns m.block
+fewer_turns : (m n o : InputData) → turns n ≤ turns m → EndsAs Feed n o → turns o ≤ turns m
 fewer_turns m n o h k = omega arith
 
 pub so_far_more : (m n o : Moment) (before after : List OpData) → IsSoFar m n before → TakesCommand n o before after Feed → IsSoFar m o after
@@ -284,7 +255,7 @@ so_far_more m n o before after s t = record {
   cut = cut_append Feed s.bytes t.taken.bytes s.pieces t.pieces s.cut t.taken.cut;
   run = run_more Feed s.pieces t.pieces s.commands t.commands s.run t.run;
   asked = both_asked after before s.commands t.commands s.asked t.asks;
-  fewer = fewer_turns m n o s.fewer t.taken.ended;
+  fewer = fewer_turns m.input n.input o.input s.fewer t.taken.ended;
 }
 
 pub so_far_done : (m n o : Moment) (before after : List OpData) → IsSoFar m n before → TakesCommand n o before after Input → IsDone m o
@@ -297,7 +268,6 @@ so_far_done m n o before after s t =
       moves = more_said m n o before after Input s t;
       run = subst P (sym cut) (run_more Input s.pieces t.pieces s.commands t.commands s.run t.run);
       ended = t.taken.ended;
-      failed = t.taken.moves.failed_writes ∙ s.moves.failed_writes;
     }
 
 -- the last writes
@@ -320,27 +290,43 @@ end_took (Some xs) pending bytes None h e = absurd h
 end_took (Some xs) pending bytes (Some ys) h e =
     h ∙ ap (λ (u : List ℕ). bytes ++ u) (e ∙ sym (none_front pending ys e))
 
-end_says : (first middle last flushed : Option (List ℕ)) (waiting text : List ℕ) → Appends (append_known first []) (append_known middle waiting) text
-    → Appends middle last waiting → Keeps last flushed → Appends first flushed text
-end_says None middle last flushed waiting text h k f = tt
-end_says (Some xs) None last flushed waiting text h k f = absurd h
-end_says (Some xs) (Some ys) None flushed waiting text h k f = absurd k
-end_says (Some xs) (Some ys) (Some zs) None waiting text h k f = absurd f
-end_says (Some xs) (Some ys) (Some zs) (Some us) waiting text h k f =
-    f ∙ k ∙ h ∙ ap (λ (u : List ℕ). u ++ text) (append-nil xs)
+end_says : (first last : Option (List ℕ)) (before after text : List ℕ) → before ≡ [] → after ≡ []
+    → Appends (append_known first before) (append_known last after) (text ++ []) → Appends first last text
+end_says None last before after text e f h = tt
+end_says (Some xs) None before after text e f h = absurd h
+end_says (Some xs) (Some ys) before after text e f h =
+    sym (append-nil ys) ∙ ap (λ (u : List ℕ). ys ++ u) (sym f) ∙ h ∙ ap (λ (u : List ℕ). u ++ (text ++ [])) (ap (λ (u : List ℕ). xs ++ u) e ∙ append-nil xs)
+    ∙ ap (λ (u : List ℕ). xs ++ u) (append-nil text)
 
-pub whole_session : (m n : Moment) (last flushed : Option (List ℕ)) → IsDone m n → m.block.pending ≡ [] → m.waiting ≡ []
-    → Appends n.written last n.waiting → Keeps last flushed → IsWholeSession m.left n.left m.written flushed
-whole_session m n last flushed d none empty k f =
-    let P : List ℕ → Type 0 = λ u. Consumes (prepend_known u m.left) (unread n.block n.left) d.bytes in
-    let Q : List ℕ → Type 0 = λ u. Appends (append_known m.written u) (said_so_far n.written n.waiting) (text_after [] d.commands) in (
-      d.bytes,
-      text_after [] d.commands,
-      end_took m.left n.block.pending d.bytes n.left (start_took m.left (unread n.block n.left) d.bytes (subst P none d.moves.took)) d.ended,
-      end_left n.block.pending n.left d.ended,
-      (d.commands, d.run.are, refl),
-      end_says m.written n.written last flushed n.waiting (text_after [] d.commands) (subst Q empty d.moves.says) k f,
-    )
+-- all commands were answered, and then all that waited was written
+pub record IsEnded (m n : Moment) (p : OutputData) : Type 0 where
+  pub done : IsDone m n
+  pub fresh : m.input.pending ≡ []
+  pub empty : m.output.waiting ≡ []
+  pub says : Says n.output p []
+  pub emptied : p.waiting ≡ []
+
+ended_took : (m n : Moment) (p : OutputData) (e : IsEnded m n p) → Consumes m.input.left n.input.left e.done.bytes
+ended_took m n p e =
+    let P : List ℕ → Type 0 = λ u. Consumes (prepend_known u m.input.left) (unread n.input) e.done.bytes in
+    end_took m.input.left n.input.pending e.done.bytes n.input.left
+    (start_took m.input.left (unread n.input) e.done.bytes (subst P e.fresh e.done.moves.takes.took)) e.done.ended
+
+ended_says : (m n : Moment) (p : OutputData) (e : IsEnded m n p) → Appends m.output.written p.written (text_after [] e.done.commands)
+ended_says m n p e =
+    let text = text_after [] e.done.commands in
+    end_says m.output.written p.written m.output.waiting p.waiting text e.empty e.emptied
+    (Says-trans m.output n.output p text [] e.done.moves.says e.says).says
+
+pub whole_session : (m n : Moment) (p : OutputData) → IsEnded m n p → IsWholeSession m.input.left n.input.left m.output.written p.written
+whole_session m n p e = (
+  e.done.bytes,
+  text_after [] e.done.commands,
+  ended_took m n p e,
+  end_left n.input.pending n.input.left e.done.ended,
+  (e.done.commands, e.done.run.are, refl),
+  ended_says m n p e,
+)
 
 only_session : (left left_after written written_after : Option (List ℕ)) (bytes : List ℕ) (commands : List Command)
     → Consumes left left_after bytes → IsAtEnd left_after → IsRun Input (pieces_of bytes) commands
@@ -355,19 +341,50 @@ only_session (Some input) (Some rest) written written_after bytes commands took 
     let Q : List ℕ → Type 0 = λ u. Appends written written_after u in
     subst Q (ap (λ (u : List Command). text_after [] u) (sym same) ∙ sym is) says
 
-pub only_whole : (m n : Moment) (last flushed : Option (List ℕ)) → IsDone m n → m.block.pending ≡ [] → m.waiting ≡ []
-    → Appends n.written last n.waiting → Keeps last flushed
-    → IfSome m.left (λ input. (output : List ℕ) → IsSession input output → Appends m.written flushed output)
-only_whole m n last flushed d none empty k f =
-    let P : List ℕ → Type 0 = λ u. Consumes (prepend_known u m.left) (unread n.block n.left) d.bytes in
-    let Q : List ℕ → Type 0 = λ u. Appends (append_known m.written u) (said_so_far n.written n.waiting) (text_after [] d.commands) in
-    only_session m.left n.left m.written flushed d.bytes d.commands
-    (end_took m.left n.block.pending d.bytes n.left (start_took m.left (unread n.block n.left) d.bytes (subst P none d.moves.took)) d.ended)
-    (end_left n.block.pending n.left d.ended) d.run
-    (end_says m.written n.written last flushed n.waiting (text_after [] d.commands) (subst Q empty d.moves.says) k f)
+pub only_whole : (m n : Moment) (p : OutputData) → IsEnded m n p
+    → IfSome m.input.left (λ input. (output : List ℕ) → IsSession input output → Appends m.output.written p.written output)
+only_whole m n p e =
+    only_session m.input.left n.input.left m.output.written p.written e.done.bytes e.done.commands
+    (ended_took m n p e) (end_left n.input.pending n.input.left e.done.ended) e.done.run (ended_says m n p e)
+
+-- the same for a source and a sink that are at these moments
+pub whole_at : (m n : Moment) (p : OutputData) (left left_after written written_after : Option (List ℕ)) → IsEnded m n p
+    → m.input.left ≡ left → left_after ≡ n.input.left → m.output.written ≡ written → written_after ≡ p.written
+    → IsWholeSession left left_after written written_after
+whole_at m n p left left_after written written_after e l la w wa =
+    let P : Option (List ℕ) → Type 0 = λ u. IsWholeSession u left_after written written_after in
+    let Q : Option (List ℕ) → Type 0 = λ u. IsWholeSession m.input.left u written written_after in
+    let R : Option (List ℕ) → Type 0 = λ u. IsWholeSession m.input.left n.input.left u written_after in
+    let S : Option (List ℕ) → Type 0 = λ u. IsWholeSession m.input.left n.input.left m.output.written u in
+    subst P l (subst Q (sym la) (subst R w (subst S (sym wa) (whole_session m n p e))))
+
+pub only_at : (m n : Moment) (p : OutputData) (left written written_after : Option (List ℕ)) → IsEnded m n p
+    → m.input.left ≡ left → m.output.written ≡ written → written_after ≡ p.written
+    → IfSome left (λ input. (output : List ℕ) → IsSession input output → Appends written written_after output)
+only_at m n p left written written_after e l w wa =
+    let P : Option (List ℕ) → Type 0 = λ u. IfSome u (λ input. (output : List ℕ) → IsSession input output → Appends written written_after output) in
+    let R : Option (List ℕ) → Type 0 = λ u. IfSome m.input.left (λ input. (output : List ℕ) → IsSession input output → Appends u written_after output) in
+    let S : Option (List ℕ) → Type 0 = λ u. IfSome m.input.left (λ input. (output : List ℕ) → IsSession input output → Appends m.output.written u output) in
+    subst P l (subst R w (subst S (sym wa) (only_whole m n p e)))
+
+-- no more reads than may follow
+pub few_reads : (i j : InputData) (most : ℕ) (bytes : List ℕ) → i.reads_left ≡ most → Takes i j bytes → j.reads ≤ i.reads + most
+few_reads i j most bytes e h = let counted = h.counted in omega arith
 
 pub answered : {A : Type 0} (taken other : Taken A) (commands : List Command) → taken ≡ other → IsAnsweredAs other commands → IsAnsweredAs taken commands
 answered {A} taken other commands e h = let P : Taken A → Type 0 = λ t. IsAnsweredAs t commands in subst P (sym e) h
 
-pub appends_nil : (a b : Option (List ℕ)) (text : List ℕ) → Appends a b text → Appends a b (text ++ [])
-appends_nil a b text h = let P : List ℕ → Type 0 = λ u. Appends a b u in subst P (sym (append-nil text)) h
+pub says_nil : (o p : OutputData) (text : List ℕ) → Says o p text → Says o p (text ++ [])
+says_nil o p text h = let P : List ℕ → Type 0 = λ u. Says o p u in subst P (sym (append-nil text)) h
+
+-- the one answer of a command
+pub ok_says : {E : Type 0} (r : Result (Unit {0}) E) (o p : OutputData) (text : List ℕ) → OnOk r (Says o p text) → OnOk r (Says o p (text ++ []))
+ok_says (Ok x) o p text h = says_nil o p text h
+ok_says (Err e) o p text h = h
+
+-- what is asked with the list of a pattern, or of none
+pub chosen_asks : (op : List (List ℕ) → OpData) (pattern : Option (List ℕ)) (patterns : List (List ℕ)) → IsListOf pattern (Some patterns)
+    → chosen_by op pattern ≡ Ask (op patterns) ∷ []
+chosen_asks op None patterns h = ap (λ (u : List (List ℕ)). Ask (op u) ∷ []) (sym h)
+chosen_asks op (Some pattern) patterns h =
+    rw (le-leb (length pattern) most_pattern_bytes h.1) (ap (λ (u : List (List ℕ)). Ask (op u) ∷ []) (sym h.0))

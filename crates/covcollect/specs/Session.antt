@@ -1,116 +1,15 @@
 -- What a session reads and writes: commands, a line each, and the answers to them.
-use Rattle.std.specs.Prelude.{◌≡◌, ◌≢◌, ◌⊎◌, ◌<◌, ◌≤◌, ℕ, length, List, [], ◌∷◌, ◌++◌, codes, decimal, Ok, Err}
-use Rattle.std.specs.List.{concat, flat_map, AllByRecursion}
-use Rattle.covline.specs.Row.{SubmissionData}
-use Rattle.covline.specs.Lines.{line_feed, pieces_of, line_of}
+use Rattle.std.specs.Io.KnownBytes.{Consumes, Appends, IsAtEnd}
+use Rattle.std.specs.Prelude.{◌≡◌, ℕ, List, [], ◌∷◌, ◌++◌, codes, decimal, Option}
+use Rattle.covbook.specs.Op.{OpData, AnswerData, AcceptedAnswer, ClashAnswer, TextAnswer}
+use Rattle.covbook.specs.Step.{answers_to, answers_from}
+use Rattle.covline.specs.Lines.{line_feed, pieces_of}
 use Rattle.covline.specs.declared.trace_line.LineFault.{LineFault}
 use Rattle.covline.specs.declared.trace_line.LineFault.TheVariants.{BadLine, NumberTooLarge, EmptyPath}
-use Rattle.covbook.specs.Op.{OpData, SubmitOp, ReportOp, ExtractOp, RemoveOp, SummaryOp, AnswerData, AcceptedAnswer, ClashAnswer, TextAnswer}
-use Rattle.covbook.specs.Step.{answers_to}
-use Rattle.covreport.specs.Choice.{most_pattern_bytes}
 use Rattle.covread.specs.declared.fault.ReadFault.{ReadFault}
 use Rattle.covread.specs.declared.fault.ReadFault.TheVariants as faults
-use Rattle.covread.specs.Outcome.{IsOutcome}
-
--- the byte between a command's word and its pattern
-abbrev pub space : ℕ
-space = 32
-
--- what an input asks for, one command after another
-pub data Command : Type 0 where
-  Blank : Command
-  Ask : (op : OpData) → Command
-  RefusePattern : Command
-  Submit : (submission : SubmissionData) → Command
-  Refuse : (fault : ReadFault) → Command
-  Unknown : Command
-  Unfinished : Command
-
--- the command is one line
-abbrev pub IsLine : List (List ℕ) → List ℕ → Type 0
-IsLine pieces line = (piece : List ℕ) × (pieces ≡ piece ∷ []) × (line_of piece ≡ line)
-
--- a word, and behind a space one pattern, which may be empty; or the word alone and no pattern
-abbrev pub IsChoice : List ℕ → List (List ℕ) → List ℕ → Type 0
-IsChoice word [] line = line ≡ word
-IsChoice word (pattern ∷ []) line = (line ≡ word ++ space ∷ pattern) × (length pattern ≤ most_pattern_bytes)
-IsChoice word (pattern ∷ other ∷ more) line = ⊥
-
--- the line asks the book for a text
-abbrev pub AsksFor : OpData → List ℕ → Type 0
-AsksFor (SubmitOp submission) line = ⊥
-AsksFor ReportOp line = line ≡ codes "report"
-AsksFor SummaryOp line = line ≡ codes "summary"
-AsksFor (ExtractOp patterns) line = IsChoice (codes "extract") patterns line
-AsksFor (RemoveOp patterns) line = IsChoice (codes "remove") patterns line
-
--- the line has a pattern that no list takes
-abbrev pub IsTooLong : List ℕ → Type 0
-IsTooLong line =
-    (pattern : List ℕ) × (most_pattern_bytes < length pattern)
-    × ((line ≡ codes "extract" ++ space ∷ pattern) ⊎ (line ≡ codes "remove" ++ space ∷ pattern))
-
--- the line is none of the commands
-pub record IsUnknown (line : List ℕ) : Type 0 where
-  pub some : line ≢ []
-  pub no_trace : line ≢ codes "trace"
-  pub no_op : (op : OpData) → AsksFor op line → ⊥
-  pub short : IsTooLong line → ⊥
-
--- no piece is the line that ends a text
-abbrev pub IsBody : List (List ℕ) → Type 0
-IsBody body = AllByRecursion (λ piece. line_of piece ≢ codes ".") body
-
--- a line `trace`, a text, and a line `.`; the text's bytes are all between the two lines, line ends included
-abbrev pub IsTrace : List (List ℕ) → List ℕ → Type 0
-IsTrace pieces text =
-    (first : List ℕ) × (body : List (List ℕ)) × (last : List ℕ) × (pieces ≡ first ∷ (body ++ last ∷ []))
-    × (line_of first ≡ codes "trace") × IsBody body × (line_of last ≡ codes ".") × (text ≡ concat body)
-
--- a line `trace`, and no line `.` after it
-abbrev pub IsUnfinished : List (List ℕ) → Type 0
-IsUnfinished pieces =
-    (first : List ℕ) × (body : List (List ℕ)) × (pieces ≡ first ∷ body) × (line_of first ≡ codes "trace") × IsBody body
-
--- the pieces are this command
-abbrev pub IsCommand : List (List ℕ) → Command → Type 0
-IsCommand pieces Blank = IsLine pieces []
-IsCommand pieces (Ask op) = (line : List ℕ) × IsLine pieces line × AsksFor op line
-IsCommand pieces RefusePattern = (line : List ℕ) × IsLine pieces line × IsTooLong line
-IsCommand pieces (Submit submission) = (text : List ℕ) × IsTrace pieces text × IsOutcome text (Ok submission)
-IsCommand pieces (Refuse fault) = (text : List ℕ) × IsTrace pieces text × IsOutcome text (Err fault)
-IsCommand pieces Unknown = (line : List ℕ) × IsLine pieces line × IsUnknown line
-IsCommand pieces Unfinished = IsUnfinished pieces
-
--- a text without its end goes to the end of the input
-abbrev pub EndsInput : Command → List (List ℕ) → Type 0
-EndsInput Unfinished rest = rest ≡ []
-EndsInput Blank rest = Unit {0}
-EndsInput (Ask op) rest = Unit {0}
-EndsInput RefusePattern rest = Unit {0}
-EndsInput (Submit submission) rest = Unit {0}
-EndsInput (Refuse fault) rest = Unit {0}
-EndsInput Unknown rest = Unit {0}
-
--- the pieces of an input are these commands, one after another
-abbrev pub AreCommands : List (List ℕ) → List Command → Type 0
-AreCommands pieces [] = pieces ≡ []
-AreCommands pieces (command ∷ commands) =
-    (these : List (List ℕ)) × (rest : List (List ℕ)) × (pieces ≡ these ++ rest)
-    × IsCommand these command × EndsInput command rest × AreCommands rest commands
-
--- what the book is asked
-abbrev pub ops_asked : Command → List OpData
-ops_asked (Submit submission) = SubmitOp submission ∷ []
-ops_asked (Ask op) = op ∷ []
-ops_asked RefusePattern = []
-ops_asked Blank = []
-ops_asked (Refuse fault) = []
-ops_asked Unknown = []
-ops_asked Unfinished = []
-
-abbrev pub ops_of : List Command → List OpData
-ops_of commands = flat_map ops_asked commands
+use Rattle.covstore.specs.Table.{Table}
+use Rattle.covcollect.specs.Command.{Command, AreCommands, ops_of, Blank, Ask, RefusePattern, Submit, Refuse, Unknown, Unfinished}
 
 -- a line of output
 abbrev pub said : List ℕ → List ℕ
@@ -163,3 +62,17 @@ session_text commands = output_of commands (answers_to (ops_of commands))
 -- the input asks for some commands, and the output is the answers to them
 abbrev pub IsSession : List ℕ → List ℕ → Type 0
 IsSession input output = (commands : List Command) × AreCommands (pieces_of input) commands × (output ≡ session_text commands)
+
+-- a whole input was read, and its session text written and nothing else
+abbrev pub IsWholeSession : Option (List ℕ) → Option (List ℕ) → Option (List ℕ) → Option (List ℕ) → Type 0
+IsWholeSession left left_after written written_after =
+    (input : List ℕ) × (output : List ℕ) × Consumes left left_after input × IsAtEnd left_after
+    × IsSession input output × Appends written written_after output
+
+-- what commands are answered at a table
+abbrev pub text_after : Table → List Command → List ℕ
+text_after table commands = output_of commands (answers_from table (ops_of commands))
+
+-- the history has these commands' operations more
+abbrev pub Asks : List Command → List OpData → List OpData → Type 0
+Asks commands before after = after ≡ before ++ ops_of commands

@@ -1,39 +1,37 @@
-//! covcollect, a coverage collector for lcov tracefiles: a session on standard input and output.
+//! covcollect, a coverage collector for lcov tracefiles. It reads commands from standard input, a line each, answers
+//! them on standard output, and tells a fault that ends it on standard error and by its exit status.
+//!
+//! What stands in its modules: `stream` is where bytes come from and go to, `session` answers the commands of a
+//! source to a sink, `program` is a session with its exit status and the words of its fault, and `laws` says what
+//! holds of every session. `main` only makes the streams.
+//!
+//! ```text
+//! $ covcollect <<'END'
+//! trace
+//! SF:/src/a.c
+//! DA:1,2
+//! end_of_record
+//! .
+//! summary
+//! END
+//! ```
 #![tactic(auto)]
 
-ghost use Rattle.std.specs.Prelude.{◌≡◌};
+pub mod laws;
+mod program;
+mod session;
+mod stream;
 
-pub mod session;
-pub mod stream;
-
-use crate::session::{SessionFault, session};
+use crate::program::run_session;
 use crate::stream::{FromRead, FromWrite};
 use std::io;
 use std::process::ExitCode;
 
-/// The exit status of a session that ended in a fault.
-fn status_of(fault: SessionFault) -> u8
-    ensures read { fault ≡ SessionFault.Read → result ≡ 1 }
-    ensures write { fault ≡ SessionFault.Write → result ≡ 1 }
-    ensures memory { fault ≡ SessionFault.Memory → result ≡ 3 }
-    ensures full { fault ≡ SessionFault.Full → result ≡ 3 }
-{
-    match fault {
-        SessionFault::Read | SessionFault::Write => 1,
-        SessionFault::Memory | SessionFault::Full => 3,
-    }
-}
-
 fn main(rt: HostRuntime) -> ExitCode {
     let mut source = FromRead::new(rt.reader());
     let mut sink = FromWrite::new(io::writer(&rt));
-    match session(rt.alloc(), &mut source, &mut sink) {
-        Ok(()) => ExitCode::SUCCESS,
-        Err(fault) => {
-            let _ = eprintln!(rt; "{fault}");
-            ExitCode::from(status_of(fault))
-        }
-    }
+    let mut faults = FromWrite::new(rt.stderr());
+    ExitCode::from(run_session(rt.alloc(), &mut source, &mut sink, &mut faults))
 }
 
 #[cfg(test)]

@@ -2,10 +2,10 @@ pub mod GoodTexts
 pub mod Cut
 pub mod SectLaws
 pub mod PrintedLaws
+pub mod ItemStarts
 pub mod LineLaws
 pub mod ReadKeys
 pub mod ReadNumbers
 pub mod Checksums
 pub mod ReadForms
 pub mod ReadLaws
-pub mod ReadDispatch

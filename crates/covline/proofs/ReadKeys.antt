@@ -1,5 +1,5 @@
 -- What follows a key, and which lines begin with one.
-use Rattle.std.proofs.Common.{◌≡◌, ◌≢◌, ℕ, ◌+◌, take, drop, length, Bor, ◌⊎◌, inl, inr, true, false, eqb, List, [], ◌∷◌, ◌++◌, Option, Some, None, refl, sym}
+use Rattle.std.proofs.Common.{◌≡◌, ◌≢◌, ℕ, ◌+◌, take, drop, length, Bor, ◌⊎◌, inl, inr, true, false, eqb, List, [], ◌∷◌, ◌++◌, Option, Some, None, option_map, refl, sym, ap, ◌∙◌}
 use Rattle.std.specs.Prelude.{MatchOption}
 use Rattle.std.specs.Cmp.Lexicographic.{pointwise}
 use Rattle.std.proofs.lemmas.Bool.{eq-eqb, ne_eqb, cases_eq}
@@ -46,10 +46,11 @@ behind_key-none (k ∷ ks) (b ∷ bs) other =
       | inr differ ↦ let test : eqb k b ≡ false = ne_eqb k b differ in rw test refl
     ]
 
-stripped_cases : (key line : List ℕ) (r : Option (Bor (List ℕ))) → MatchOption r ((rest : List ℕ) → line ≢ key ++ rest) (λ x. line ≡ key ++ x.now) → MatchOption r (¬ Begins line key) (λ rest. line ≡ key ++ rest.now)
-stripped_cases key line None other = λ begins. other begins.0 begins.1
-stripped_cases key line (Some x) same = same
+-- the key stands at the line's front, or doesn't
+stripped_cases : (key line : List ℕ) (r : Option (Bor (List ℕ))) → MatchOption r ((rest : List ℕ) → line ≢ key ++ rest) (λ x. line ≡ key ++ x.now) → option_map (λ rest. rest.now) r ≡ behind_key key line
+stripped_cases key line None other = sym (behind_key-none key line (λ begins. other begins.0 begins.1))
+stripped_cases key line (Some x) same = sym (ap (behind_key key) same ∙ behind_key-same key x.now)
 
 -- what std's `strip_prefix` gives
-pub stripped_is : (key line : List ℕ) (r : Option (Bor (List ℕ))) → MatchOption r (pointwise eqb (take (length key) line) key ≡ false) (λ x. (pointwise eqb (take (length key) line) key ≡ true) × (x.now ≡ drop (length key) line) × (length x.now + length key ≡ length line)) → MatchOption r (¬ Begins line key) (λ rest. line ≡ key ++ rest.now)
+pub stripped_is : (key line : List ℕ) (r : Option (Bor (List ℕ))) → MatchOption r (pointwise eqb (take (length key) line) key ≡ false) (λ x. (pointwise eqb (take (length key) line) key ≡ true) × (x.now ≡ drop (length key) line) × (length x.now + length key ≡ length line)) → option_map (λ rest. rest.now) r ≡ behind_key key line
 stripped_is key line r cases = stripped_cases key line r (strip_prefix_is Decides-eqb line key r cases)

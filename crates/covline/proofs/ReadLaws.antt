@@ -293,6 +293,3 @@ found_meaning line (Err fault) means = inr (fault, means)
 
 pub some_meaning : (line : List ℕ) → ((says : LineData) × Spells line says) ⊎ ((fault : LineFault) × HasFault line fault)
 some_meaning line = found_meaning line (read_of line) (meaning_of line)
-
-pub skip_of : (line : List ℕ) → ¬ HasKey line → ¬ Begins line (codes "end_of_record") → read_of line ≡ Ok Skip
-skip_of line no_key no_end = form_read line Skip (no_key, no_end)

@@ -1,6 +1,7 @@
 pub mod Row
 pub mod Points
 pub mod SectView
+pub mod PointView
 pub mod Lines
 pub mod Lawful
 pub mod Spells

@@ -8,7 +8,7 @@ use Rattle.covline.specs.declared.trace_line.TotalKind.{TotalKind}
 use Rattle.covline.specs.declared.trace_line.TotalKind.TheVariants.{FuncFound, FuncHit, BranchFound, BranchHit, LineFound, LineHit}
 use Rattle.covline.specs.declared.trace_line.LineFault.{LineFault}
 use Rattle.covline.specs.declared.trace_line.LineFault.TheVariants.{BadLine, NumberTooLarge, EmptyPath}
-use Rattle.covline.specs.Spells.{LineData, Test, Path, FuncStart, FuncCount, Branch, Line, Total, End, Skip, line_data, comma, minus, BeginsWithOneOf}
+use Rattle.covline.specs.Spells.{LineData, Test, Path, FuncStart, FuncCount, Branch, Line, Total, End, Skip, line_data, comma, minus}
 
 -- what a function returned is what reading gives
 abbrev pub Gives : Result TraceLine LineFault → Result LineData LineFault → Type 0
@@ -172,20 +172,6 @@ test_fields name = Ok (Test name)
 abbrev pub path_fields : Fields
 path_fields [] = Err EmptyPath
 path_fields (b ∷ bs) = Ok (Path (b ∷ bs))
-
--- the keys by what they tell of: tests, files and lines, then functions, then branches
-abbrev pub line_keys : List (List ℕ)
-line_keys = codes "DA:" ∷ codes "SF:" ∷ codes "TN:" ∷ codes "LF:" ∷ codes "LH:" ∷ []
-
-abbrev pub function_keys : List (List ℕ)
-function_keys = codes "FNDA:" ∷ codes "FN:" ∷ codes "FNF:" ∷ codes "FNH:" ∷ []
-
-abbrev pub branch_keys : List (List ℕ)
-branch_keys = codes "BRDA:" ∷ codes "BRF:" ∷ codes "BRH:" ∷ []
-
--- the line begins with none of the keys
-pub record Lacks (keys : List (List ℕ)) (line : List ℕ) : Type 0 where
-  pub none : ¬ BeginsWithOneOf keys line
 
 -- what follows the key
 abbrev pub behind_key : List ℕ → List ℕ → Option (List ℕ)

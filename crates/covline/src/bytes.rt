@@ -1,4 +1,4 @@
-ghost use Rattle.std.specs.Prelude.{◌≡◌, IfOk, OnOk, OnErr, ◌++◌, [], length, take};
+ghost use Rattle.std.specs.Prelude.{◌≡◌, IfOk, OnOk, OnErr, IsOk, ◌++◌, [], length, take};
 
 use crate::memory::Memory;
 use std::alloc::{Allocator, Global};
@@ -45,23 +45,24 @@ impl<A: Allocator> Bytes<A> {
     }
 
     /// How many bytes there are.
-    pub fn len(&self) -> usize
+    pub(crate) fn len(&self) -> usize
         ensures { result ≡ length self.now }
     {
         self.text.len()
     }
 
-    /// Appends the bytes. A refusal leaves the text as it was.
+    /// Appends the bytes. A refusal leaves the text as it was. No bytes are never refused.
     pub fn append(&mut self, more: &[u8]) -> Result<(), Memory>
         ensures ok { OnOk result (self.new ≡ self.old ++ more.now) }
         ensures err { OnErr result (self.new ≡ self.old) }
+        ensures nothing { more.now ≡ [] → IsOk result }
     {
         self.text.extend_from_slice(more)?;
         Ok(())
     }
 
-    /// Keeps the first bytes, at most this many of them, and the memory.
-    pub fn truncate(&mut self, len: usize)
+    /// Keeps the first bytes, at most this many of them.
+    pub(crate) fn truncate(&mut self, len: usize)
         ensures { self.new ≡ take len self.old }
     {
         self.text.truncate(len);

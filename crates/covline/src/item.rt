@@ -2,6 +2,7 @@
 
 use crate::bytes::Bytes;
 use crate::memory::Memory;
+use crate::point::BranchPoint;
 use std::alloc::{Allocator, Global};
 use std::marker::Model;
 
@@ -29,6 +30,62 @@ pub enum Item<A: Allocator = Global> {
         branch: u64,
         taken: Option<u64>,
     },
+}
+
+impl<A: Allocator> Item<A> {
+    ghost use Rattle.std.specs.Prelude.{◌≡◌, option_map, option_to_list};
+    ghost use Rattle.covline.specs.Row.{item_data};
+    ghost use Rattle.covline.specs.Points.{line_point, func_point, branch_point, is_hit};
+    ghost use Rattle.covline.specs.PointView.{branch_point_data};
+
+    /// The line that a line's item speaks of.
+    pub fn line_point(&self) -> Option<u64>
+        ensures { option_to_list result ≡ line_point (item_data self.now) }
+    {
+        match self {
+            Item::Line { line, .. } => Some(*line),
+            Item::Func { .. } | Item::Branch { .. } => None,
+        }
+    }
+
+    /// The name of the function that a function's item speaks of.
+    pub fn function_name(&self) -> Option<&[u8]>
+        ensures { option_to_list (option_map (λ n. n.now) result) ≡ func_point (item_data self.now) }
+    {
+        match self {
+            Item::Func { name, .. } => Some(name.get()),
+            Item::Line { .. } | Item::Branch { .. } => None,
+        }
+    }
+
+    /// The branch that a branch's item speaks of.
+    pub fn branch_point(&self) -> Option<BranchPoint>
+        ensures { option_to_list (option_map branch_point_data result) ≡ branch_point (item_data self.now) }
+    {
+        match self {
+            Item::Branch {
+                line,
+                block,
+                branch,
+                ..
+            } => Some(BranchPoint {
+                line: *line,
+                block: *block,
+                branch: *branch,
+            }),
+            Item::Line { .. } | Item::Func { .. } => None,
+        }
+    }
+
+    /// Whether the item's count is above 0. A branch whose block was never executed has none.
+    pub fn is_hit(&self) -> bool
+        ensures { result ≡ is_hit (item_data self.now) }
+    {
+        match *self {
+            Item::Line { count, .. } | Item::Func { count, .. } => count > 0,
+            Item::Branch { taken, .. } => taken.is_some_and(|times| times > 0),
+        }
+    }
 }
 
 impl<A: Allocator + Copy> Item<A> {
@@ -100,7 +157,7 @@ impl<A: Allocator> Model for Items<A> {
 impl<A: Allocator + Copy> Items<A> {
     ghost use Rattle.std.specs.Prelude.{◌≡◌, IfOk};
 
-    /// An equal list, in memory of its own and with no unused room.
+    /// An equal list, in memory of its own.
     pub fn copy(&self, alloc: A) -> Result<Items<A>, Memory>
         ensures { IfOk result (λ s. s ≡ self.now) }
     {
@@ -115,8 +172,8 @@ impl<A: Allocator + Copy> Items<A> {
 }
 
 impl<A: Allocator> Items<A> {
-    ghost use Rattle.std.specs.Prelude.{◌≡◌, ◌++◌, [], ◌∷◌, OnOk, OnErr, length, map};
-    ghost use Rattle.covline.specs.Row.{item_data};
+    ghost use Rattle.std.specs.Prelude.{◌≡◌, ◌<◌, ◌++◌, List, [], ◌∷◌, OnOk, OnErr, length, map};
+    ghost use Rattle.covline.specs.Row.{ItemData, item_data, with_start};
     ghost use Rattle.covline.specs.Lawful.{AllFit64};
 
     /// The empty list.
@@ -137,6 +194,16 @@ impl<A: Allocator> Items<A> {
         Ok(())
     }
 
+    /// Gives the function's item at this place another start line. An item of another kind stays as it is.
+    pub fn set_start(&mut self, at: usize, line: u64)
+        requires { at < length self.old }
+        ensures { (before after : List ItemData) (item : ItemData) → self.old ≡ before ++ item ∷ after → at ≡ length before → self.new ≡ before ++ with_start line item ∷ after }
+    {
+        if let Item::Func { line: start, .. } = &mut self.items[at] {
+            *start = line;
+        }
+    }
+
     /// How many items there are.
     pub fn len(&self) -> usize
         ensures { result ≡ length self.now }
@@ -144,11 +211,18 @@ impl<A: Allocator> Items<A> {
         self.items.len()
     }
 
-    /// Gives the unused room back: for a list that is finished.
+    /// Lets unused room go: for a list that is finished.
     pub fn shrink(&mut self)
         ensures { self.new ≡ self.old }
     {
         self.items.shrink_to_fit();
+    }
+
+    /// The items in order, each to be moved elsewhere.
+    pub fn into_vec(self) -> Vec<Item<A>, A>
+        ensures { map item_data result.items ≡ self }
+    {
+        self.items
     }
 
     /// The items in order.

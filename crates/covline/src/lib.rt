@@ -1,30 +1,51 @@
-//! Lines of lcov tracefiles, and what they say: items, sections and submissions.
+//! Lines of lcov tracefiles (geninfo(1) of LCOV 1.x, section FILES), and what they say: records, items, sections and
+//! submissions.
+//!
+//! A text is cut into lines, each line is read by itself, and a line is printed so that it reads back. Items (the counts
+//! of lines, functions and branches) stand in sections (a test and a source file), and sections with lawful texts make a
+//! submission.
+//!
+//! A sketch: the counted lines of a tracefile, printed again.
+//!
+//! ```text
+//! let mut printed = Bytes::new(alloc);
+//! for line in lines(text) {
+//!     match read_line(line) {
+//!         Ok(record @ TraceLine::Line { .. }) => put_line(&record, &mut printed)?,
+//!         Ok(_) => {}
+//!         Err(fault) => return Err(fault.into()),
+//!     }
+//! }
+//! ```
 #![tactic(auto)]
 
-pub mod bytes;
+mod bytes;
 mod checks;
-pub mod item;
+mod item;
+mod iter;
 pub mod laws;
-pub mod memory;
-pub mod names;
-pub mod print;
-pub mod reader;
-pub mod sect;
-pub mod submission;
-pub mod text_lines;
-pub mod trace_line;
+mod memory;
+mod names;
+mod point;
+mod print;
+mod reader;
+mod sect;
+mod submission;
+mod tally;
+mod text_lines;
+mod trace_line;
 
 pub use bytes::Bytes;
 pub use item::{Item, Items};
+pub use iter::Lines;
 pub use laws::{each_line_has_one_meaning, lines_are_the_text};
 pub use memory::Memory;
 pub use names::good_test;
+pub use point::BranchPoint;
 pub use print::put_line;
 pub use reader::read_line;
 pub use sect::{Sect, Sects};
 pub use submission::{BadSubmission, Submission};
-pub use text_lines::{TextLines, lines};
+pub use tally::Tally;
+pub use text_lines::{lines, without_returns};
 pub use trace_line::{LineFault, TotalKind, TraceLine};
-
-#[cfg(test)]
-mod tests;

@@ -1,21 +1,23 @@
 //! Printing one line of a tracefile.
 
-ghost use Rattle.std.specs.Prelude.{◌≡◌, ◌++◌, ◌∷◌, [], OnOk, OnErr, ℕ, List, decimal, option_map};
+ghost use Rattle.std.specs.Prelude.{◌≡◌, ◌++◌, ◌∷◌, [], OnOk, OnErr, IsOk, ℕ, List, decimal, option_map};
 ghost use Rattle.covline.specs.Lines.{line_feed, lines_of};
-ghost use Rattle.covline.specs.Spells.{Branch, Line, line_data, comma, key_of, Spells};
+ghost use Rattle.covline.specs.Spells.{Branch, Line, Skip, line_data, comma, key_of, Spells};
 ghost use Rattle.covline.specs.Printed.{checksum_text, line_text, printed, taken_text, IsReadable};
 
 use crate::bytes::Bytes;
 use crate::memory::Memory;
+use crate::point::BranchPoint;
 use crate::trace_line::{TotalKind, TraceLine};
 use itoa::Buffer;
 use std::alloc::Allocator;
 
-/// Appends the line that says this, and a line feed; nothing for a skipped line. A refusal leaves the text as
-/// it was.
+/// Appends the line that says this, and a line feed; nothing for a skipped line, which is never refused. A refusal leaves
+/// the text as it was.
 pub fn put_line<A: Allocator>(line: &TraceLine<'_>, text: &mut Bytes<A>) -> Result<(), Memory>
     ensures ok { OnOk result (text.new ≡ text.old ++ printed (line_data line.now)) }
     ensures err { OnErr result (text.new ≡ text.old) }
+    ensures skip { line_data line.now ≡ Skip → IsOk result }
     ensures spells { IsReadable (line_data line.now)
         → (lines_of (printed (line_data line.now)) ≡ line_text (line_data line.now) ∷ [])
         × Spells (line_text (line_data line.now)) (line_data line.now) }
@@ -28,10 +30,11 @@ pub fn put_line<A: Allocator>(line: &TraceLine<'_>, text: &mut Bytes<A>) -> Resu
     put
 }
 
-/// Appends the line. A refusal leaves what was appended before it came.
+/// Appends the line. A refusal may leave a part of it behind the text, and so it is with the functions below.
 fn append_line<A: Allocator>(line: &TraceLine<'_>, text: &mut Bytes<A>) -> Result<(), Memory>
     ensures ok { OnOk result (text.new ≡ text.old ++ printed (line_data line.now)) }
     ensures err { OnErr result ((more : List ℕ) × (text.new ≡ text.old ++ more)) }
+    ensures skip { line_data line.now ≡ Skip → IsOk result }
 {
     match *line {
         TraceLine::Test(name) => append_text(b"TN:", name, text),
@@ -43,7 +46,14 @@ fn append_line<A: Allocator>(line: &TraceLine<'_>, text: &mut Bytes<A>) -> Resul
             block,
             branch,
             taken,
-        } => append_branch(line, block, branch, taken, text),
+        } => {
+            let branch = BranchPoint {
+                line,
+                block,
+                branch,
+            };
+            append_branch(branch, taken, text)
+        }
         TraceLine::Line {
             line,
             count,
@@ -83,19 +93,18 @@ fn append_named<A: Allocator>(
 
 /// Appends the record of a branch.
 fn append_branch<A: Allocator>(
-    line: u64,
-    block: u64,
-    branch: u64,
+    branch: BranchPoint,
     taken: Option<u128>,
     text: &mut Bytes<A>,
 ) -> Result<(), Memory>
-    ensures ok { OnOk result (text.new ≡ text.old ++ printed (Branch line block branch taken)) }
+    ensures ok { OnOk result
+        (text.new ≡ text.old ++ printed (Branch branch.line branch.block branch.branch taken)) }
     ensures err { OnErr result ((more : List ℕ) × (text.new ≡ text.old ++ more)) }
 {
     text.append(b"BRDA:")?;
-    append_field(u128::from(line), text)?;
-    append_field(u128::from(block), text)?;
-    append_field(u128::from(branch), text)?;
+    append_field(u128::from(branch.line), text)?;
+    append_field(u128::from(branch.block), text)?;
+    append_field(u128::from(branch.branch), text)?;
     append_taken(taken, text)?;
     text.append(b"\n")
 }

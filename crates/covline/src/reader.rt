@@ -1,10 +1,10 @@
-//! Reading one line of a tracefile: its key, then the key's fields from left to right, each key by a function of
-//! its own. Nothing is copied, and each byte is looked at once behind the key.
+//! Reading one line of a tracefile: its key by its first bytes, then the key's fields from left to right, each key by a
+//! function of its own. Nothing is copied.
 
-ghost use Rattle.std.specs.Prelude.{◌≡◌, ◌≤◌, ◌++◌, ℕ, Some, option_map, Err, MatchOption, MatchResult, IfOk, IfErr};
+ghost use Rattle.std.specs.Prelude.{◌≡◌, ◌≤◌, ◌++◌, Some, Ok, codes, option_map, Err, MatchResult, IfOk, IfErr};
 ghost use Rattle.covline.specs.declared.trace_line.LineFault.{LineFault};
-ghost use Rattle.covline.specs.Spells.{LineData, line_data, Spells, HasFault, Begins};
-ghost use Rattle.covline.specs.Reading.{Gives, with_digit, digits_from, number_at, number_of, count_at, before_comma, field_at, taken_of, only_checksum, checksum_of, fit, start_fields, calls_fields, branch_of, branch_fields, line_fields, total_fields, path_fields, Lacks, line_keys, function_keys, branch_keys, read_of};
+ghost use Rattle.covline.specs.Spells.{LineData, line_data, Spells, HasFault};
+ghost use Rattle.covline.specs.Reading.{Gives, behind_key, with_digit, digits_from, number_at, number_of, count_at, before_comma, field_at, taken_of, only_checksum, checksum_of, fit, start_fields, calls_fields, branch_of, branch_fields, line_fields, total_fields, path_fields, read_of};
 
 use crate::names::good_checksum;
 use crate::trace_line::{LineFault, TotalKind, TraceLine};
@@ -45,12 +45,37 @@ fn push_digit(number: Number, digit: u8) -> Number
     }
 }
 
+/// The largest number that stays below 2^64 with any one digit more behind it. All numbers of 18 digits are below it, so
+/// a number of up to 19 digits is read without a checked step.
+const MOST_BEFORE_DIGIT: u64 = 1_844_674_407_370_955_160;
+
 /// The digits at the front of the text, and what follows them.
 fn read_digits(text: &[u8]) -> (Number, &[u8])
     ensures value { result.0 ≡ (digits_from (Number.Value 0) text.now).0 }
     ensures rest { result.1.now ≡ (digits_from (Number.Value 0) text.now).1 }
 {
-    let mut number = Number::Value(0);
+    let mut value = 0;
+    let mut rest = text;
+    while let [digit, after @ ..] = rest {
+        if !digit.is_ascii_digit() {
+            break;
+        }
+        if value > MOST_BEFORE_DIGIT {
+            return read_more_digits(Number::Value(value), rest);
+        }
+        value = value * 10 + u64::from(*digit - b'0');
+        rest = after;
+    }
+    (Number::Value(value), rest)
+}
+
+/// The number with the digits at the front of the text behind it, each by a checked step, and what follows them.
+#[cold]
+fn read_more_digits(front: Number, text: &[u8]) -> (Number, &[u8])
+    ensures value { result.0 ≡ (digits_from front text.now).0 }
+    ensures rest { result.1.now ≡ (digits_from front text.now).1 }
+{
+    let mut number = front;
     let mut rest = text;
     while let [digit, after @ ..] = rest {
         if !digit.is_ascii_digit() {
@@ -84,6 +109,7 @@ fn read_whole(text: &[u8]) -> Option<Number>
 
 /// The execution count at the front of the text, and what follows it. One with a minus counts as 0, whatever its
 /// digits are.
+#[inline]
 fn read_count(text: &[u8]) -> Option<(Number, &[u8])>
     ensures { option_map (λ front. (front.0, front.1.now)) result ≡ count_at text.now }
 {
@@ -251,86 +277,77 @@ fn path_record(path: &[u8]) -> Result<TraceLine<'_>, LineFault>
     Ok(TraceLine::Path(path))
 }
 
-/// What follows the key, where the line begins with it.
-fn behind<'a>(line: &'a [u8], key: &[u8]) -> Option<&'a [u8]>
-    ensures { MatchOption result (¬ Begins line.now key.now) (λ rest. line.now ≡ key.now ++ rest.now) }
+/// A line that begins with `BR`, behind that: a key of branches, or no key.
+#[tactic(auto, unfolding(crate::specs::Reading::read_of))]
+fn branch_key(rest: &[u8]) -> Result<TraceLine<'_>, LineFault>
+    ensures { Gives result (read_of (codes "BR" ++ rest.now)) }
 {
-    line.strip_prefix(key)
+    match rest {
+        [b'D', b'A', b':', fields @ ..] => branch_record(fields),
+        [b'F', b':', found @ ..] => total_record(TotalKind::BranchFound, found),
+        [b'H', b':', hit @ ..] => total_record(TotalKind::BranchHit, hit),
+        _ => Ok(TraceLine::Skip),
+    }
 }
 
-/// A line with a key of tests, files and lines, the most frequent key first.
-fn read_line_key(line: &[u8]) -> Option<Result<TraceLine<'_>, LineFault>>
-    ensures { MatchOption result (Lacks line_keys line.now) (λ read. Gives read (read_of line.now)) }
+/// A line that begins with `FN`, behind that: a key of functions, or no key.
+#[tactic(auto, unfolding(crate::specs::Reading::read_of))]
+fn function_key(rest: &[u8]) -> Result<TraceLine<'_>, LineFault>
+    ensures { Gives result (read_of (codes "FN" ++ rest.now)) }
 {
-    if let Some(fields) = behind(line, b"DA:") {
-        return Some(line_record(fields));
+    match rest {
+        [b'D', b'A', b':', fields @ ..] => calls_record(fields),
+        [b':', fields @ ..] => start_record(fields),
+        [b'F', b':', found @ ..] => total_record(TotalKind::FuncFound, found),
+        [b'H', b':', hit @ ..] => total_record(TotalKind::FuncHit, hit),
+        _ => Ok(TraceLine::Skip),
     }
-    if let Some(path) = behind(line, b"SF:") {
-        return Some(path_record(path));
-    }
-    if let Some(name) = behind(line, b"TN:") {
-        return Some(Ok(TraceLine::Test(name)));
-    }
-    if let Some(found) = behind(line, b"LF:") {
-        return Some(total_record(TotalKind::LineFound, found));
-    }
-    if let Some(hit) = behind(line, b"LH:") {
-        return Some(total_record(TotalKind::LineHit, hit));
-    }
-    None
 }
 
-/// A line with a key of functions.
-fn read_function_key(line: &[u8]) -> Option<Result<TraceLine<'_>, LineFault>>
-    ensures { MatchOption result (Lacks function_keys line.now) (λ read. Gives read (read_of line.now)) }
+/// A line that begins with `L`, behind that: a total of lines, or no key.
+#[tactic(auto, unfolding(crate::specs::Reading::read_of))]
+fn line_total(rest: &[u8]) -> Result<TraceLine<'_>, LineFault>
+    ensures { Gives result (read_of (codes "L" ++ rest.now)) }
 {
-    if let Some(fields) = behind(line, b"FNDA:") {
-        return Some(calls_record(fields));
+    match rest {
+        [b'F', b':', found @ ..] => total_record(TotalKind::LineFound, found),
+        [b'H', b':', hit @ ..] => total_record(TotalKind::LineHit, hit),
+        _ => Ok(TraceLine::Skip),
     }
-    if let Some(fields) = behind(line, b"FN:") {
-        return Some(start_record(fields));
-    }
-    if let Some(found) = behind(line, b"FNF:") {
-        return Some(total_record(TotalKind::FuncFound, found));
-    }
-    if let Some(hit) = behind(line, b"FNH:") {
-        return Some(total_record(TotalKind::FuncHit, hit));
-    }
-    None
 }
 
-/// A line with a key of branches.
-fn read_branch_key(line: &[u8]) -> Option<Result<TraceLine<'_>, LineFault>>
-    ensures { MatchOption result (Lacks branch_keys line.now) (λ read. Gives read (read_of line.now)) }
+/// What follows the key, where the text begins with it.
+fn behind<'a>(text: &'a [u8], key: &[u8]) -> Option<&'a [u8]>
+    ensures { option_map (λ rest. rest.now) result ≡ behind_key key.now text.now }
 {
-    if let Some(fields) = behind(line, b"BRDA:") {
-        return Some(branch_record(fields));
-    }
-    if let Some(found) = behind(line, b"BRF:") {
-        return Some(total_record(TotalKind::BranchFound, found));
-    }
-    if let Some(hit) = behind(line, b"BRH:") {
-        return Some(total_record(TotalKind::BranchHit, hit));
-    }
-    None
+    text.strip_prefix(key)
 }
 
-/// What the line says.
+/// A line that begins with `e`, behind that: it ends a section, or says nothing.
+#[tactic(auto, unfolding(crate::specs::Reading::read_of))]
+fn end_key(rest: &[u8]) -> TraceLine<'_>
+    ensures { read_of (codes "e" ++ rest.now) ≡ Ok (line_data result) }
+{
+    match behind(rest, b"nd_of_record") {
+        Some(_) => TraceLine::End,
+        None => TraceLine::Skip,
+    }
+}
+
+/// What the line says: its key by its first bytes, then the key's fields.
+#[tactic(auto, unfolding(crate::specs::Reading::read_of))]
 fn read_any(line: &[u8]) -> Result<TraceLine<'_>, LineFault>
     ensures { Gives result (read_of line.now) }
 {
-    if let Some(read) = read_line_key(line) {
-        return read;
-    }
-    if let Some(read) = read_branch_key(line) {
-        return read;
-    }
-    if let Some(read) = read_function_key(line) {
-        return read;
-    }
-    match behind(line, b"end_of_record") {
-        Some(_) => Ok(TraceLine::End),
-        None => Ok(TraceLine::Skip),
+    match line {
+        [b'D', b'A', b':', fields @ ..] => line_record(fields),
+        [b'B', b'R', rest @ ..] => branch_key(rest),
+        [b'F', b'N', rest @ ..] => function_key(rest),
+        [b'L', rest @ ..] => line_total(rest),
+        [b'S', b'F', b':', path @ ..] => path_record(path),
+        [b'T', b'N', b':', name @ ..] => Ok(TraceLine::Test(name)),
+        [b'e', rest @ ..] => Ok(end_key(rest)),
+        _ => Ok(TraceLine::Skip),
     }
 }
 

@@ -52,7 +52,7 @@ impl<A: Allocator> Model for Sects<A> {
 impl<A: Allocator + Copy> Sects<A> {
     ghost use Rattle.std.specs.Prelude.{◌≡◌, IfOk};
 
-    /// An equal list, in memory of its own and with no unused room.
+    /// An equal list, in memory of its own.
     pub fn copy(&self, alloc: A) -> Result<Sects<A>, Memory>
         ensures { IfOk result (λ s. s ≡ self.now) }
     {
@@ -67,7 +67,7 @@ impl<A: Allocator + Copy> Sects<A> {
 }
 
 impl<A: Allocator> Sects<A> {
-    ghost use Rattle.std.specs.Prelude.{◌≡◌, ◌++◌, [], ◌∷◌, OnOk, OnErr, length, map};
+    ghost use Rattle.std.specs.Prelude.{◌≡◌, ◌++◌, [], ◌∷◌, OnOk, OnErr, map};
     ghost use Rattle.covline.specs.SectView.{sect_data};
 
     /// The empty list.
@@ -88,14 +88,7 @@ impl<A: Allocator> Sects<A> {
         Ok(())
     }
 
-    /// How many sections there are.
-    pub fn len(&self) -> usize
-        ensures { result ≡ length self.now }
-    {
-        self.sects.len()
-    }
-
-    /// Gives the unused room of the list itself back: for a list that is finished.
+    /// Lets unused room of the list itself go: for a list that is finished.
     pub fn shrink(&mut self)
         ensures { self.new ≡ self.old }
     {

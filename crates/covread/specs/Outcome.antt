@@ -2,7 +2,7 @@
 use Rattle.std.specs.Prelude.{◌⊎◌, ◌≡◌, ℕ, ◌+◌, ◌<◌, ◌≤◌, List, [], ◌∷◌, ◌++◌, length, Result, Ok, Err}
 use Rattle.covline.specs.Row.{SubmissionData}
 use Rattle.covline.specs.Lines.{lines_of}
-use Rattle.covline.specs.Spells.{LineData, Test, Path, FuncStart, FuncCount, Branch, Line, Total, End, Skip, Spells, HasFault}
+use Rattle.covline.specs.Spells.{LineData, Test, Path, Skip, Spells, HasFault}
 use Rattle.covread.specs.declared.fault.ReadFault.{ReadFault}
 use Rattle.covread.specs.declared.fault.ReadFault.TheVariants as faults
 use Rattle.covread.specs.Reads.{Reads}
@@ -29,26 +29,15 @@ pub record IsFirstFaulty (lines : List (List ℕ)) (at : ℕ) (line : List ℕ) 
 
 -- start lines, counts, totals and ends stand in sections alone; test names and paths stand outside of them alone
 abbrev pub NeedsSection : LineData → Type 0
-NeedsSection (FuncStart line name) = Unit {0}
-NeedsSection (FuncCount count name) = Unit {0}
-NeedsSection (Branch line block branch taken) = Unit {0}
-NeedsSection (Line line count checksum) = Unit {0}
-NeedsSection (Total kind value) = Unit {0}
-NeedsSection End = Unit {0}
 NeedsSection (Test name) = ⊥
 NeedsSection (Path path) = ⊥
 NeedsSection Skip = ⊥
+NeedsSection says = Unit {0}
 
 abbrev pub NeedsOutside : LineData → Type 0
 NeedsOutside (Test name) = Unit {0}
 NeedsOutside (Path path) = Unit {0}
-NeedsOutside (FuncStart line name) = ⊥
-NeedsOutside (FuncCount count name) = ⊥
-NeedsOutside (Branch line block branch taken) = ⊥
-NeedsOutside (Line line count checksum) = ⊥
-NeedsOutside (Total kind value) = ⊥
-NeedsOutside End = ⊥
-NeedsOutside Skip = ⊥
+NeedsOutside says = ⊥
 
 -- the first fault of lines. A line's own fault comes before a fault of its place
 abbrev pub IsFirstFault : List (List ℕ) → ReadFault → Type 0

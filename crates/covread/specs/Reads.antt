@@ -25,25 +25,14 @@ pub data Part : Type 0 where
 abbrev pub IsOutside : LineData → Type 0
 IsOutside (Test name) = Unit {0}
 IsOutside Skip = Unit {0}
-IsOutside (Path path) = ⊥
-IsOutside (FuncStart line name) = ⊥
-IsOutside (FuncCount count name) = ⊥
-IsOutside (Branch line block branch taken) = ⊥
-IsOutside (Line line count checksum) = ⊥
-IsOutside (Total kind value) = ⊥
-IsOutside End = ⊥
+IsOutside says = ⊥
 
--- inside of a section stand start lines, counts, totals and skipped lines
+-- inside of a section stand start lines, counts, totals and skipped lines: all but test names, paths and ends
 abbrev pub IsInside : LineData → Type 0
-IsInside (FuncStart line name) = Unit {0}
-IsInside (FuncCount count name) = Unit {0}
-IsInside (Branch line block branch taken) = Unit {0}
-IsInside (Line line count checksum) = Unit {0}
-IsInside (Total kind value) = Unit {0}
-IsInside Skip = Unit {0}
 IsInside (Test name) = ⊥
 IsInside (Path path) = ⊥
 IsInside End = ⊥
+IsInside says = Unit {0}
 
 abbrev pub IsLawfulPart : Part → Type 0
 IsLawfulPart (Outside says) = IsOutside says
@@ -57,14 +46,7 @@ records_of (Section path inside) = Path path ∷ (inside ++ End ∷ [])
 -- the start line that a record gives to the function of this name
 abbrev pub start_said : List ℕ → LineData → List ℕ
 start_said name (FuncStart line other) = if bytes_eq other name then line ∷ [] else []
-start_said name (FuncCount count other) = []
-start_said name (Branch line block branch taken) = []
-start_said name (Line line count checksum) = []
-start_said name (Total kind value) = []
-start_said name (Test other) = []
-start_said name (Path path) = []
-start_said name End = []
-start_said name Skip = []
+start_said name says = []
 
 -- the least start line of a function in a section, before or behind the place that asks; none where no record gives one
 abbrev pub start_in : List ℕ → List LineData → Option ℕ
@@ -81,11 +63,7 @@ items_said inside (FuncStart line name) = FuncItem name line 0 ∷ []
 items_said inside (FuncCount count name) = counted name count (start_in name inside)
 items_said inside (Branch line block branch taken) = BranchItem line block branch taken ∷ []
 items_said inside (Line line count checksum) = LineItem line count checksum ∷ []
-items_said inside (Total kind value) = []
-items_said inside (Test name) = []
-items_said inside (Path path) = []
-items_said inside End = []
-items_said inside Skip = []
+items_said inside says = []
 
 -- the items of a section, in the order of their lines
 abbrev pub items_of : List LineData → List ItemData
@@ -113,13 +91,7 @@ own_total LineHit items = distinct nat_eq (line_points (filter is_hit items))
 abbrev pub is_odd : List LineData → LineData → Bool
 is_odd inside (FuncCount count name) = is_none (start_in name inside)
 is_odd inside (Total kind value) = not (value == own_total kind (items_of inside))
-is_odd inside (FuncStart line name) = false
-is_odd inside (Branch line block branch taken) = false
-is_odd inside (Line line count checksum) = false
-is_odd inside (Test name) = false
-is_odd inside (Path path) = false
-is_odd inside End = false
-is_odd inside Skip = false
+is_odd inside says = false
 
 abbrev pub odd_in : Part → ℕ
 odd_in (Outside says) = 0
@@ -128,14 +100,7 @@ odd_in (Section path inside) = count_by (is_odd inside) inside
 -- the test's name behind a line outside of sections
 abbrev pub test_after : List ℕ → LineData → List ℕ
 test_after test (Test name) = name
-test_after test (Path path) = test
-test_after test (FuncStart line name) = test
-test_after test (FuncCount count name) = test
-test_after test (Branch line block branch taken) = test
-test_after test (Line line count checksum) = test
-test_after test (Total kind value) = test
-test_after test End = test
-test_after test Skip = test
+test_after test says = test
 
 -- the sections of the parts. A section's test is the name in the last test line before it, at first the one given
 abbrev pub sects_from : List ℕ → List Part → List SectData

@@ -10,9 +10,9 @@ use Rattle.std.proofs.lemmas.Cmp.{nat_cmp_total, nat_list_cmp_total, on_total, t
 use Rattle.std.proofs.lemmas.List.{append-nil, get_or-map, length-map, map_push}
 use Rattle.std.proofs.lemmas.List.Sorted.{IsPermutation-map, length_permutation, sum_by-IsPermutation}
 use Rattle.std.proofs.lemmas.Map.Lookups.{CmpEqualImpliesEq, exact_unsigned, exact_bytes}
-use Rattle.covreport.specs.Report.{by_start, functions_hit}
+use Rattle.covreport.specs.Report.{by_start, function_cmp, functions_hit}
 use Rattle.covreport.proofs.Sorting.{moved_sorted, rises_sorted, sorted_from_rises, sorted_is}
-use Rattle.covstore.specs.Content.{FunctionValueData, function_cmp}
+use Rattle.covstore.specs.Content.{FunctionValueData}
 
 -- ---- the order tells all functions apart
 

@@ -1,17 +1,14 @@
 -- A text that is printed part by part, and counted; the parts of a section.
-use Rattle.std.proofs.Common.{◌≡◌, ℕ, ◌+◌, ◌^◌, ◌<◌, Bool, true, false, cond, eqb, List, [], ◌∷◌, ◌++◌, length, map, filter, count_by, refl, sym, ap, ap₂, ◌∙◌, append_assoc, arith}
+use Rattle.std.proofs.Common.{◌≡◌, ℕ, ◌+◌, ◌^◌, ◌<◌, ◌≤◌, Bool, true, false, cond, List, [], ◌∷◌, ◌++◌, length, map, filter, count_by, refl, sym, ap, ◌∙◌, append_assoc, arith}
 use Rattle.std.specs.List.{flat_map}
-use Rattle.std.proofs.lemmas.Bool.{cond-false, ne_eqb}
 use Rattle.std.proofs.lemmas.List.{append-nil}
 use Rattle.std.proofs.lemmas.List.Concat.{flat_map-append}
 use Rattle.std.proofs.lemmas.List.Elements.{filter-append}
 use Rattle.std.proofs.lemmas.List.Folds.{flat_map-map}
 use Rattle.std.proofs.lemmas.List.Sums.{sum_by-cons}
-use Rattle.covline.specs.declared.trace_line.TotalKind.{TotalKind}
 use Rattle.covline.specs.Spells.{LineData, Test, Path, End}
 use Rattle.covline.specs.Printed.{printed}
-use Rattle.covreport.specs.Printing.{totals, totals_if_any}
-use Rattle.covreport.specs.Report.{where_any, function_records, branch_records, line_records, section_text, report_text}
+use Rattle.covreport.specs.Report.{function_records, branch_records, line_records, section_text, report_text}
 use Rattle.covreport.specs.Choice.{ChoiceData, is_chosen}
 use Rattle.covstore.specs.Content.{SectionData}
 
@@ -33,6 +30,11 @@ pub record IsPrinted {X : Type 0} (part : X → List ℕ) (is_hit : X → Bool) 
   pub written : text ++ flat_map part left ≡ before ++ flat_map part all
   pub counted : found + length left ≡ length all
   pub hits : hit + count_by is_hit left ≡ count_by is_hit all
+  pub fewer : hit ≤ found
+
+at_most_one : (b : Bool) → cond {A = ℕ} b 1 0 ≤ 1
+at_most_one false = omega arith
+at_most_one true = omega arith
 
 module _ {X : Type 0} (part : X → List ℕ) (is_hit : X → Bool) (all : List X) (before : List ℕ) where
   pub printed_none : (left : List X) (found hit : ℕ) → left ≡ all → found ≡ 0 → hit ≡ 0 → IsPrinted part is_hit all left before before found hit
@@ -40,6 +42,7 @@ module _ {X : Type 0} (part : X → List ℕ) (is_hit : X → Bool) (all : List 
     written = ap (λ (xs : List X). before ++ flat_map part xs) is;
     counted = omega (arith, ap length is, f);
     hits = omega (arith, ap (count_by is_hit) is, h);
+    fewer = omega (arith, f, h);
   }
 
   pub printed_more : (x : X) (b : Bool) (left more : List X) (text new : List ℕ) (found hit found_now hit_now : ℕ) → left ≡ x ∷ more → IsPrinted part is_hit all left before text found hit → new ≡ text ++ part x
@@ -51,6 +54,7 @@ module _ {X : Type 0} (part : X → List ℕ) (is_hit : X → Bool) (all : List 
         written = goes_on part (before ++ flat_map part all) text new x left more next so_far.written put;
         counted = omega (arith, ap length next, so_far.counted, f);
         hits = omega (arith, ap (count_by is_hit) next, one, so_far.hits, h);
+        fewer = omega (arith, at_most_one b, so_far.fewer, f, h);
       }
 
   pub printed_all : (left : List X) (text : List ℕ) (found hit : ℕ) → left ≡ [] → IsPrinted part is_hit all left before text found hit
@@ -73,13 +77,6 @@ with_tail {X} record_of all tail t t1 t2 first second =
     ∙ ap (λ (x : List ℕ). x ++ flat_map printed tail) (first ∙ ap (λ (x : List ℕ). t ++ x) (sym (flat_map-map printed record_of all)))
     ∙ append_assoc t (flat_map printed (map record_of all)) (flat_map printed tail)
     ∙ ap (λ (x : List ℕ). t ++ x) (sym (flat_map-append printed (map record_of all) tail))
-
-pub any_is : {X : Type 0} (found_kind hit_kind : TotalKind) (all : List X) (found hit hits : ℕ) → found ≡ length all → hit ≡ hits
-    → totals_if_any found_kind hit_kind found hit ≡ where_any all (totals found_kind hit_kind (length all) hits)
-any_is found_kind hit_kind [] found hit hits f h = ap (λ (n : ℕ). totals_if_any found_kind hit_kind n hit) f
-any_is found_kind hit_kind (x ∷ xs) found hit hits f h =
-    ap₂ (totals_if_any found_kind hit_kind) f h
-    ∙ cond-false (eqb (length (x ∷ xs)) 0) [] (totals found_kind hit_kind (length (x ∷ xs)) hits) (ne_eqb (length (x ∷ xs)) 0 (λ e. omega (arith, e)))
 
 -- ---- the parts of a section
 

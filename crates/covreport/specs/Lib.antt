@@ -3,7 +3,7 @@ pub mod Choice
 pub mod ChoiceView
 pub mod PatternFault
 pub mod Report
-pub mod Printing
+pub mod FunctionView
 pub mod Summary
 pub mod PatternParts
 pub mod PatternSteps

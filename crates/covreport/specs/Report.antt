@@ -1,12 +1,14 @@
 -- The printed tracefile of sections (geninfo(1), FILES).
-use Rattle.std.specs.Prelude.{ℕ, List, [], ◌∷◌, ◌++◌, length, map, filter, nat_lt, count_by}
+use Rattle.std.specs.Prelude.{ℕ, ◌==◌, List, [], ◌∷◌, ◌++◌, length, map, filter, nat_lt, count_by, if◌then◌else◌}
 use Rattle.std.specs.declared.cmp.Ordering.{Ordering}
-use Rattle.std.specs.Ordering.{match_ordering}
+use Rattle.std.specs.Ordering.{match_ordering, ordering_then, nat_cmp}
+use Rattle.std.specs.Cmp.Lexicographic.{slice_cmp}
 use Rattle.std.specs.List.{flat_map}
+use Rattle.covline.specs.declared.trace_line.TotalKind.{TotalKind}
 use Rattle.covline.specs.declared.trace_line.TotalKind.TheVariants.{FuncFound, FuncHit, BranchFound, BranchHit, LineFound, LineHit}
 use Rattle.covline.specs.Spells.{LineData, Test, Path, FuncStart, FuncCount, Branch, Line, Total, End}
 use Rattle.covline.specs.Printed.{printed}
-use Rattle.covstore.specs.Content.{FunctionValueData, BranchValueData, LineValueData, SectionData, function_cmp}
+use Rattle.covstore.specs.Content.{FunctionValueData, BranchValueData, LineValueData, SectionData}
 use Rattle.covstore.specs.Value.{is_taken}
 use Rattle.covreport.specs.Choice.{ChoiceData, is_chosen}
 
@@ -19,12 +21,19 @@ abbrev pub sorted : {X : Type 0} → (X → X → Ordering) → List X → List 
 sorted cmp [] = []
 sorted cmp (x ∷ xs) = put_in cmp x (sorted cmp xs)
 
--- records that are printed only where there is a member of the list
-abbrev pub where_any : {X : Type 0} → List X → List LineData → List LineData
-where_any [] records = []
-where_any (x ∷ xs) records = records
+-- how many points there are, and how many of them are hit
+abbrev pub totals : TotalKind → TotalKind → ℕ → ℕ → List LineData
+totals found_kind hit_kind found hit = Total found_kind found ∷ Total hit_kind hit ∷ []
 
--- functions are printed by their start lines, and by their names' bytes where these are the same
+-- the same, but nothing where there are no points
+abbrev pub totals_if_any : TotalKind → TotalKind → ℕ → ℕ → List LineData
+totals_if_any found_kind hit_kind found hit = if found == 0 then [] else totals found_kind hit_kind found hit
+
+-- the order of printed functions: by start line and then by the name's bytes. The counts decide nothing among functions of
+-- different names, and those of one section differ in their names
+abbrev pub function_cmp : FunctionValueData → FunctionValueData → Ordering
+function_cmp a b = ordering_then (nat_cmp a.line b.line) (ordering_then (slice_cmp nat_cmp a.name b.name) (nat_cmp a.count b.count))
+
 abbrev pub by_start : List FunctionValueData → List FunctionValueData
 by_start functions = sorted function_cmp functions
 
@@ -41,7 +50,7 @@ functions_hit functions = count_by (λ f. nat_lt 0 f.count) functions
 abbrev pub function_records : List FunctionValueData → List LineData
 function_records functions =
     map start_record (by_start functions) ++ (map call_record (by_start functions)
-    ++ where_any functions (Total FuncFound (length functions) ∷ Total FuncHit (functions_hit functions) ∷ []))
+    ++ totals_if_any FuncFound FuncHit (length functions) (functions_hit functions))
 
 -- branches, and how many there are and how many of them were taken
 abbrev pub branch_record : BranchValueData → LineData
@@ -53,7 +62,7 @@ branches_hit branches = count_by (λ b. is_taken b.taken) branches
 abbrev pub branch_records : List BranchValueData → List LineData
 branch_records branches =
     map branch_record branches
-    ++ where_any branches (Total BranchFound (length branches) ∷ Total BranchHit (branches_hit branches) ∷ [])
+    ++ totals_if_any BranchFound BranchHit (length branches) (branches_hit branches)
 
 -- lines, and how many there are and how many of them have a count above 0: these two totals are always printed
 abbrev pub line_record : LineValueData → LineData
@@ -63,7 +72,7 @@ abbrev pub lines_hit : List LineValueData → ℕ
 lines_hit lines = count_by (λ l. nat_lt 0 l.count) lines
 
 abbrev pub line_records : List LineValueData → List LineData
-line_records lines = map line_record lines ++ (Total LineFound (length lines) ∷ Total LineHit (lines_hit lines) ∷ [])
+line_records lines = map line_record lines ++ totals LineFound LineHit (length lines) (lines_hit lines)
 
 abbrev pub section_records : SectionData → List LineData
 section_records s =

@@ -1,7 +1,6 @@
 //! Which files a text speaks of.
 
 use crate::patterns::Patterns;
-use covline::Memory;
 use std::alloc::{Allocator, Global};
 
 /// The files of a tracefile that are kept (lcov(1), `--extract` and `--remove`).

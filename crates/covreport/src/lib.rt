@@ -1,18 +1,25 @@
-//! Printed texts of what a store holds: the merged tracefile and the summary, and the patterns that choose files.
+//! What a store holds, told in texts: the merged tracefile (geninfo(1), FILES), of all files or of those that patterns
+//! choose (lcov(1), `--extract` and `--remove`), and the summary of totals (lcov(1), `--summary`).
+//!
+//! A sketch of its use, where `store` is a `covstore::Store` with the allocator `alloc`:
+//!
+//! ```text
+//! let mut patterns = Patterns::new(alloc);
+//! patterns.add(alloc, b"/src/*.c")?;
+//! let tracefile = trace_text(alloc, &store, &Choice::Extract(patterns))?;
+//! let summary = summary_text(alloc, &store.totals())?;
+//! ```
 #![tactic(auto)]
 
-pub mod choice;
+mod choice;
 pub mod laws;
-pub mod pattern;
-pub mod patterns;
-pub mod summary;
-pub mod tracefile;
+mod pattern;
+mod patterns;
+mod summary;
+mod tracefile;
 
 pub use choice::Choice;
 pub use pattern::matches;
-pub use patterns::{PatternFault, Patterns};
+pub use patterns::{MOST_PATTERN_BYTES, MOST_PATTERNS, PatternFault, Patterns};
 pub use summary::{summary_text, tenths};
 pub use tracefile::trace_text;
-
-#[cfg(test)]
-mod tests;

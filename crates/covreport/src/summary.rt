@@ -72,7 +72,7 @@ struct Words<'a> {
     many: &'a [u8],
 }
 
-/// Appends the line of a kind of points. A refusal leaves what was appended before it came.
+/// Appends the line of a kind of points.
 fn put_summary<A: Allocator>(
     words: &Words<'_>,
     hit: u64,
@@ -89,7 +89,7 @@ fn put_summary<A: Allocator>(
     text.append(b"\n")
 }
 
-/// Appends the rate of points hit, where there are any points. A refusal leaves what was appended before it came.
+/// Appends the rate of points hit, where there are any points.
 fn put_value<A: Allocator>(
     words: &Words<'_>,
     hit: u64,
@@ -100,14 +100,15 @@ fn put_value<A: Allocator>(
     ensures { OnOk result (text.new ≡ text.old ++ value_text words.now.one.now words.now.many.now hit found) }
 {
     if found == 0 {
-        return text.append(b"no data found");
+        text.append(b"no data found")?;
+        return Ok(());
     }
     put_tenths(tenths(hit, found), text)?;
     text.append(b"% (")?;
     put_parts(words, hit, found, text)
 }
 
-/// Appends how many points are hit, of how many. A refusal leaves what was appended before it came.
+/// Appends how many points are hit, of how many.
 fn put_parts<A: Allocator>(
     words: &Words<'_>,
     hit: u64,
@@ -132,8 +133,7 @@ fn noun<'a>(words: &Words<'a>, found: u64) -> &'a [u8]
     if found == 1 { words.one } else { words.many }
 }
 
-/// Appends tenths of a percent as a number of percent with one place behind the point. A refusal leaves what was appended
-/// before it came.
+/// Appends tenths of a percent as a number of percent with one place behind the point.
 fn put_tenths<A: Allocator>(tenths: u32, text: &mut Bytes<A>) -> Result<(), Memory>
     ensures { OnOk result (text.new ≡ text.old ++ (decimal (tenths / 10) ++ (codes "." ++ decimal (tenths % 10)))) }
 {
@@ -142,7 +142,7 @@ fn put_tenths<A: Allocator>(tenths: u32, text: &mut Bytes<A>) -> Result<(), Memo
     put_number(u64::from(tenths % 10), text)
 }
 
-/// Appends a number in decimal. A refusal leaves the text as it was.
+/// Appends a number in decimal.
 fn put_number<A: Allocator>(number: u64, text: &mut Bytes<A>) -> Result<(), Memory>
     ensures { OnOk result (text.new ≡ text.old ++ decimal number) }
 {

@@ -1,13 +1,14 @@
 //! The merged tracefile as text (geninfo(1), section FILES): a section for each file and test with a row.
 
-ghost use Rattle.std.specs.Prelude.{◌≡◌, ◌++◌, [], ◌∷◌, IfOk, OnOk};
+ghost use Rattle.std.specs.Prelude.{◌≡◌, ◌≢◌, ◌++◌, true, [], ◌∷◌, IfOk, OnOk, OnErr};
+ghost use Rattle.covreport.specs.Choice.{is_chosen};
 ghost use Rattle.covreport.specs.ChoiceView.{choice_data};
 ghost use Rattle.covreport.specs.Report.{section_text, report_text};
 
 mod branches;
 mod functions;
 mod lines;
-mod tally;
+mod totals;
 
 use self::branches::put_branches;
 use self::functions::put_functions;
@@ -18,13 +19,14 @@ use covstore::{Section, Store};
 use std::alloc::Allocator;
 
 /// The text of the sections of all chosen files, in order. It takes memory for the text, and for the functions of one
-/// section.
+/// section: none where no section is chosen.
 pub fn trace_text<A: Allocator + Copy>(
     alloc: A,
     store: &Store<A>,
     choice: &Choice<A>,
 ) -> Result<Bytes<A>, Memory>
-    ensures { IfOk result (λ t. t ≡ report_text (choice_data choice.now) store.now.sections) }
+    ensures text { IfOk result (λ t. t ≡ report_text (choice_data choice.now) store.now.sections) }
+    ensures refused { OnErr result (report_text (choice_data choice.now) store.now.sections ≢ []) }
 {
     let mut text = Bytes::new(alloc);
     for section in store.sections() {
@@ -33,14 +35,15 @@ pub fn trace_text<A: Allocator + Copy>(
     Ok(text)
 }
 
-/// Appends a section if its file is chosen. A refusal leaves what was appended before it came.
+/// Appends a section if its file is chosen.
 fn put_chosen<A: Allocator + Copy>(
     alloc: A,
     section: &Section<'_, A>,
     choice: &Choice<A>,
     text: &mut Bytes<A>,
 ) -> Result<(), Memory>
-    ensures { OnOk result (text.new ≡ text.old ++ report_text (choice_data choice.now) (section.now ∷ [])) }
+    ensures ok { OnOk result (text.new ≡ text.old ++ report_text (choice_data choice.now) (section.now ∷ [])) }
+    ensures refused { OnErr result (is_chosen (choice_data choice.now) section.now.key.file ≡ true) }
 {
     if !choice.takes(section.file()) {
         return Ok(());
@@ -48,7 +51,7 @@ fn put_chosen<A: Allocator + Copy>(
     put_section(alloc, section, text)
 }
 
-/// Appends a section. A refusal leaves what was appended before it came.
+/// Appends a section.
 fn put_section<A: Allocator + Copy>(
     alloc: A,
     section: &Section<'_, A>,
@@ -58,8 +61,8 @@ fn put_section<A: Allocator + Copy>(
 {
     put_line(&TraceLine::Test(section.test()), text)?;
     put_line(&TraceLine::Path(section.file()), text)?;
-    put_functions(alloc, section.functions(), text)?;
-    put_branches(section.branches(), text)?;
-    put_lines(section.lines(), text)?;
+    put_functions(alloc, section, text)?;
+    put_branches(section, text)?;
+    put_lines(section, text)?;
     put_line(&TraceLine::End, text)
 }

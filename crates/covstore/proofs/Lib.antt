@@ -13,6 +13,7 @@ pub mod TotalsCounts
 pub mod TotalsTally
 pub mod TotalsRows
 pub mod TotalsKinds
+pub mod TotalsDifferent
 pub mod TotalsFiles
 pub mod Looks
 pub mod Clashes

@@ -1,4 +1,4 @@
--- The orders of lines, names, keys, functions and branches tell all of them apart.
+-- The orders of lines, names, keys and branches tell all of them apart.
 use Rattle.std.proofs.Common.{◌≡◌, ℕ, List, refl, ap, ◌∙◌}
 use Rattle.std.specs.Cmp.{IsTotalOrder}
 use Rattle.std.specs.declared.cmp.Ordering.{Ordering}
@@ -8,7 +8,6 @@ use Rattle.std.specs.Cmp.Lexicographic.{slice_cmp}
 use Rattle.std.proofs.lemmas.Cmp.{nat_cmp_total, nat_list_cmp_total, on_total, then_total}
 use Rattle.std.proofs.lemmas.Map.Lookups.{CmpEqualImpliesEq, exact_unsigned, exact_bytes}
 use Rattle.covline.specs.Points.{BranchPoint}
-use Rattle.covstore.specs.Content.{FunctionValueData, function_cmp}
 use Rattle.covstore.specs.Value.{Key, key_cmp, branch_cmp}
 use Rattle.covstore.proofs.Ascend.{IsExactOrder}
 
@@ -41,29 +40,6 @@ key_cmp_exact a b e =
 
 pub keys_order : IsExactOrder key_cmp
 keys_order = record { total = key_cmp_total; exact = key_cmp_exact }
-
--- ---- functions
-
-function_cmp_total : IsTotalOrder function_cmp
-function_cmp_total =
-    then_total (on_total (λ (f : FunctionValueData). f.line) nat_cmp_total)
-    (then_total (on_total (λ (f : FunctionValueData). f.name) nat_list_cmp_total) (on_total (λ (f : FunctionValueData). f.count) nat_cmp_total))
-
-function_with : ℕ → List ℕ → ℕ → FunctionValueData
-function_with line name count = record { line = line; name = name; count = count }
-
-function_cmp_exact : CmpEqualImpliesEq function_cmp
-unfolding function_with
-function_cmp_exact a b e =
-    let p = both_equal (nat_cmp a.line b.line) (ordering_then (slice_cmp nat_cmp a.name b.name) (nat_cmp a.count b.count)) e in
-    let q = both_equal (slice_cmp nat_cmp a.name b.name) (nat_cmp a.count b.count) p.1 in
-    let line : a.line ≡ b.line = exact_unsigned a.line b.line p.0 in
-    let name : a.name ≡ b.name = exact_bytes a.name b.name q.0 in
-    let count : a.count ≡ b.count = exact_unsigned a.count b.count q.1 in
-    ap (λ (line : ℕ). function_with line a.name a.count) line ∙ ap (λ (name : List ℕ). function_with b.line name a.count) name ∙ ap (λ (count : ℕ). function_with b.line b.name count) count
-
-pub functions_order : IsExactOrder function_cmp
-functions_order = record { total = function_cmp_total; exact = function_cmp_exact }
 
 -- ---- branches
 

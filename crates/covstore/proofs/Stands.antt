@@ -1,6 +1,6 @@
 -- What a list of submissions stands for, also with one submission more.
-use Rattle.std.proofs.Common.{◌≡◌, ℕ, ◌<◌, ◌≤◌, List, [], ◌∷◌, ◌++◌, length, map, refl, sym, ap, ◌∙◌, subst, inl, inr, arith}
-use Rattle.std.specs.Prelude.{◌⊎◌, Option, Some, None}
+use Rattle.std.proofs.Common.{◌≡◌, ℕ, ◌<◌, ◌≤◌, List, [], ◌∷◌, ◌++◌, length, map, refl, sym, ap, ◌∙◌, subst, arith}
+use Rattle.std.specs.Prelude.{Option, None}
 use Rattle.std.specs.List.{AllByRecursion}
 use Rattle.std.proofs.lemmas.List.{append-nil, length-map, length_push, map_push}
 use Rattle.std.proofs.lemmas.List.Concat.{flat_map-append}
@@ -9,7 +9,7 @@ use Rattle.covline.specs.Lawful.{IsLawful, most_items}
 use Rattle.covstore.specs.Clash.{Agree, checksums_in, ClashData}
 use Rattle.covstore.specs.Content.{content_at, content_of}
 use Rattle.covstore.specs.Held.{IsHeld}
-use Rattle.covstore.specs.Stored.{StoreData, StandsFor, SameContent, RefuseData, ClashRefuse, MemoryRefuse, IsRefusedAt, most_members}
+use Rattle.covstore.specs.Stored.{StoreData, StandsFor, SameContent, most_members}
 use Rattle.covstore.specs.Table.{Table, all_rows, clash_at}
 use Rattle.covstore.proofs.Bounds.{length-rows_of_sects}
 use Rattle.covstore.proofs.Clashes.{agree_submitted}
@@ -89,12 +89,6 @@ module _ (held : List SubmissionData) (room : ℕ) (store : StoreData) (is : sto
   told_too all same told found table stands =
       sym (clash_by_content (all_rows (map rows_of held)) (all_rows table) (rows_of s) h.agree stands.agree (content_own table stands))
       ∙ sym (found ∙ ap (λ (these : List SubmissionData). clash_at (map rows_of these) s) same)
-
--- ---- a refusal
-
-pub refused_at : (table : Table) (s : SubmissionData) (clash : ClashData) (refused : RefuseData) → clash_at table s ≡ Some clash → (refused ≡ ClashRefuse clash) ⊎ (refused ≡ MemoryRefuse) → IsRefusedAt table s refused
-refused_at table s clash refused is (inl e) = subst (IsRefusedAt table s) (sym e) is
-refused_at table s clash refused is (inr e) = subst (IsRefusedAt table s) (sym e) tt
 
 -- ---- a store with the same content
 

@@ -34,7 +34,7 @@ line_hit_is line (LineItem at count checksum) = above_if (at == line) count
 line_hit_is line (FuncItem name start count) = refl
 line_hit_is line (BranchItem at block branch taken) = refl
 
-line_above : (line : ℕ) (items : List ItemData) → nat_lt 0 (line_value line items) ≡ list_any (hits_line line) items
+pub line_above : (line : ℕ) (items : List ItemData) → nat_lt 0 (line_value line items) ≡ list_any (hits_line line) items
 line_above line items = sum_above (line_added line) items ∙ any_agree (λ item. nat_lt 0 (line_added line item)) (hits_line line) (line_hit_is line) items
 
 line_speaks : (line : ℕ) (item : ItemData) → hits_line line item ≡ true → In line (line_point item)
@@ -68,7 +68,7 @@ function_hit_is name (FuncItem other line count) = above_if (bytes_eq other name
 function_hit_is name (LineItem line count checksum) = refl
 function_hit_is name (BranchItem line block branch taken) = refl
 
-function_above : (name : List ℕ) (items : List ItemData) → nat_lt 0 (function_count name items) ≡ list_any (hits_function name) items
+pub function_above : (name : List ℕ) (items : List ItemData) → nat_lt 0 (function_count name items) ≡ list_any (hits_function name) items
 function_above name items = sum_above (function_added name) items ∙ any_agree (λ item. nat_lt 0 (function_added name item)) (hits_function name) (function_hit_is name) items
 
 function_speaks : (name : List ℕ) (item : ItemData) → hits_function name item ≡ true → In name (func_point item)
@@ -119,7 +119,7 @@ taken_above : (numbers : List ℕ) → is_taken (sum_if_any numbers) ≡ list_an
 taken_above [] = refl
 taken_above (n ∷ numbers) = sum_above (λ m. m) (n ∷ numbers)
 
-branch_above : (point : BranchPoint) (items : List ItemData) → is_taken (branch_value point items) ≡ list_any (hits_branch point) items
+pub branch_above : (point : BranchPoint) (items : List ItemData) → is_taken (branch_value point items) ≡ list_any (hits_branch point) items
 branch_above point items =
     taken_above (flat_map (taken_said point) items) ∙ any_flat (nat_lt 0) (taken_said point) items
     ∙ any_agree (λ item. list_any (nat_lt 0) (taken_said point item)) (hits_branch point) (branch_hit_is point) items
@@ -127,7 +127,7 @@ branch_above point items =
 branch_point_of : ℕ → ℕ → ℕ → BranchPoint
 branch_point_of line block branch = record { line = line; block = block; branch = branch }
 
-same_branch : (point : BranchPoint) (line block branch : ℕ) → is_branch point line block branch ≡ true → record { line = line; block = block; branch = branch } ≡ point
+pub same_branch : (point : BranchPoint) (line block branch : ℕ) → is_branch point line block branch ≡ true → record { line = line; block = block; branch = branch } ≡ point
 unfolding branch_point_of
 same_branch point line block branch h =
     let p = and_parts (line == point.line && block == point.block) (branch == point.branch) h in
@@ -136,7 +136,7 @@ same_branch point line block branch h =
     ∙ ap (λ (n : ℕ). branch_point_of point.line n branch) (eqb-true block point.block q.1)
     ∙ ap (λ (n : ℕ). branch_point_of point.line point.block n) (eqb-true branch point.branch p.1)
 
-itself : (point : BranchPoint) → is_branch point point.line point.block point.branch ≡ true
+pub itself : (point : BranchPoint) → is_branch point point.line point.block point.branch ≡ true
 itself point =
     and_from (point.line == point.line && point.block == point.block) (point.branch == point.branch)
     (and_from (point.line == point.line) (point.block == point.block) (eq-eqb point.line point.line refl) (eq-eqb point.block point.block refl)) (eq-eqb point.branch point.branch refl)
@@ -167,11 +167,11 @@ branch_hits_are file rows point = hit_in_file (λ s. list_any (branch_test point
 
 -- ---- all files
 
-sum_agree : {X : Type 0} (f g : X → ℕ) → ((x : X) → f x ≡ g x) → (xs : List X) → sum_by f xs ≡ sum_by g xs
+pub sum_agree : {X : Type 0} (f g : X → ℕ) → ((x : X) → f x ≡ g x) → (xs : List X) → sum_by f xs ≡ sum_by g xs
 sum_agree f g same [] = refl
 sum_agree f g same (x ∷ xs) = omega (arith, sum_by-cons f x xs, sum_by-cons g x xs, same x, sum_agree f g same xs)
 
-count_agree : {X : Type 0} (p q : X → Bool) → ((x : X) → p x ≡ q x) → (xs : List X) → count_by p xs ≡ count_by q xs
+pub count_agree : {X : Type 0} (p q : X → Bool) → ((x : X) → p x ≡ q x) → (xs : List X) → count_by p xs ≡ count_by q xs
 count_agree p q same xs = sum_agree (λ x. cond (p x) 1 0) (λ x. cond (q x) 1 0) (λ x. ap (λ (b : Bool). cond {A = ℕ} b 1 0) (same x)) xs
 
 over_are : (count : List SectionData → ℕ) (f : List ℕ → ℕ) (rows : List Row) → ((file : List ℕ) → count (sections_of file (content_of rows)) ≡ f file) → over_files count (content_of rows) ≡ sum_by f (files_of rows)

@@ -25,31 +25,31 @@ In-filter_at x y ys p true e (inl is) = inl (is, ap p (sym is) ∙ e)
 In-filter_at x y ys p true e (inr i) = inr i
 In-filter_at x y ys p false e i = inr i
 
-In-filter : {X : Type 0} (p : X → Bool) (xs : List X) (x : X) → In x (filter p xs) → In x xs × (p x ≡ true)
+pub In-filter : {X : Type 0} (p : X → Bool) (xs : List X) (x : X) → In x (filter p xs) → In x xs × (p x ≡ true)
 In-filter p [] x i = absurd i
 In-filter p (y ∷ ys) x i =
     ⊎_elim (λ found. (inl found.0, found.1)) (λ j. let later = In-filter p ys x j in (inr later.0, later.1)) (In-filter_at x y (filter p ys) p (p y) refl i)
 
-In-to_filter : {X : Type 0} (p : X → Bool) (xs : List X) (x : X) → In x xs → p x ≡ true → In x (filter p xs)
+pub In-to_filter : {X : Type 0} (p : X → Bool) (xs : List X) (x : X) → In x xs → p x ≡ true → In x (filter p xs)
 In-to_filter p [] x i h = absurd i
 In-to_filter {X} p (y ∷ ys) x (inl is) h = subst (In x) (sym (cond-true (p y) (y ∷ filter p ys) (filter p ys) (ap p is ∙ h))) (inl is)
 In-to_filter {X} p (y ∷ ys) x (inr i) h =
     ⊎_elim (λ (e : p y ≡ true). subst (In x) (sym (cond-true (p y) (y ∷ filter p ys) (filter p ys) e)) (inr (In-to_filter p ys x i h)))
     (λ (e : p y ≡ false). subst (In x) (sym (cond-false (p y) (y ∷ filter p ys) (filter p ys) e)) (In-to_filter p ys x i h)) (cases_Bool (p y))
 
-In-flat : {X Y : Type 0} (f : X → List Y) (xs : List X) (y : Y) → In y (flat_map f xs) → (x : X) × In x xs × In y (f x)
+pub In-flat : {X Y : Type 0} (f : X → List Y) (xs : List X) (y : Y) → In y (flat_map f xs) → (x : X) × In x xs × In y (f x)
 In-flat f [] y i = absurd i
 In-flat f (x ∷ xs) y i =
     ⊎_elim (λ here. (x, inl refl, here)) (λ there. let found = In-flat f xs y there in (found.0, inr found.1, found.2)) (In-parts (f x) (flat_map f xs) y i)
 
-In-to_flat : {X Y : Type 0} (f : X → List Y) (xs : List X) (x : X) (y : Y) → In x xs → In y (f x) → In y (flat_map f xs)
+pub In-to_flat : {X Y : Type 0} (f : X → List Y) (xs : List X) (x : X) (y : Y) → In x xs → In y (f x) → In y (flat_map f xs)
 In-to_flat f [] x y i j = absurd i
 In-to_flat f (z ∷ xs) x y (inl is) j = In-joined (f z) (flat_map f xs) y (inl (subst (λ w. In y (f w)) (sym is) j))
 In-to_flat f (z ∷ xs) x y (inr i) j = In-joined (f z) (flat_map f xs) y (inr (In-to_flat f xs x y i j))
 
 -- ---- some member passes
 
-any_from_in : {X : Type 0} (p : X → Bool) (xs : List X) (x : X) → In x xs → p x ≡ true → list_any p xs ≡ true
+pub any_from_in : {X : Type 0} (p : X → Bool) (xs : List X) (x : X) → In x xs → p x ≡ true → list_any p xs ≡ true
 any_from_in p [] x i h = absurd i
 any_from_in p (y ∷ ys) x (inl is) h = or_left (p y) (list_any p ys) (ap p is ∙ h)
 any_from_in p (y ∷ ys) x (inr i) h = or_right (p y) (list_any p ys) (any_from_in p ys x i h)
@@ -58,7 +58,7 @@ in_from_one : {X : Type 0} (b : Bool) (p : X → Bool) (y : X) (ys : List X) →
 in_from_one true p y ys e rest h = (y, inl refl, e)
 in_from_one false p y ys e rest h = let found = rest h in (found.0, inr found.1, found.2)
 
-in_from_any : {X : Type 0} (p : X → Bool) (xs : List X) → list_any p xs ≡ true → (x : X) × In x xs × (p x ≡ true)
+pub in_from_any : {X : Type 0} (p : X → Bool) (xs : List X) → list_any p xs ≡ true → (x : X) × In x xs × (p x ≡ true)
 in_from_any p [] h = absurd (false≢true h)
 in_from_any p (y ∷ ys) h = in_from_one (p y) p y ys refl (in_from_any p ys) h
 
@@ -67,10 +67,10 @@ same_truth true b to from = sym (to refl)
 same_truth false true to from = from refl
 same_truth false false to from = refl
 
-abbrev SameMembers : {X : Type 0} → List X → List X → Type 0
+abbrev pub SameMembers : {X : Type 0} → List X → List X → Type 0
 SameMembers {X} xs ys = ((x : X) → In x xs → In x ys) × ((x : X) → In x ys → In x xs)
 
-any_same_members : {X : Type 0} (p : X → Bool) (xs ys : List X) → SameMembers xs ys → list_any p xs ≡ list_any p ys
+pub any_same_members : {X : Type 0} (p : X → Bool) (xs ys : List X) → SameMembers xs ys → list_any p xs ≡ list_any p ys
 any_same_members p xs ys same =
     same_truth (list_any p xs) (list_any p ys)
     (λ h. let found = in_from_any p xs h in any_from_in p ys found.0 (same.0 found.0 found.1) found.2)

@@ -3,7 +3,7 @@
 use Rattle.std.specs.Prelude.{◌≡◌, ℕ, Bool, true, false, ◌==◌, ◌&&◌, not, List, [], ◌∷◌, ◌++◌, Option, Some, None, Contains}
 use Rattle.std.specs.Str.{bytes_eq}
 use Rattle.std.specs.List.{flat_map, find}
-use Rattle.covline.specs.Row.{ItemData, LineItem, FuncItem, BranchItem, Row}
+use Rattle.covline.specs.Row.{ItemData, LineItem, Row}
 
 -- the checksum of a line of a file
 pub record Checksum : Type 0 where
@@ -13,9 +13,7 @@ pub record Checksum : Type 0 where
 
 abbrev pub checksum_of : List ℕ → ItemData → List Checksum
 checksum_of file (LineItem line count (Some checksum)) = record { file = file; line = line; checksum = checksum } ∷ []
-checksum_of file (LineItem line count None) = []
-checksum_of file (FuncItem name line count) = []
-checksum_of file (BranchItem line block branch taken) = []
+checksum_of file item = []
 
 abbrev pub checksum_of_row : Row → List Checksum
 checksum_of_row row = checksum_of row.file row.item

@@ -1,8 +1,5 @@
 -- What rows add up to: a section for each file and test with a row, and in it each point with its value.
 use Rattle.std.specs.Prelude.{ℕ, List, Option, map}
-use Rattle.std.specs.declared.cmp.Ordering.{Ordering}
-use Rattle.std.specs.Ordering.{ordering_then, nat_cmp}
-use Rattle.std.specs.Cmp.Lexicographic.{slice_cmp}
 use Rattle.covline.specs.Points.{BranchPoint}
 use Rattle.covline.specs.Row.{ItemData, Row}
 use Rattle.covstore.specs.Table.{Table, all_rows}
@@ -13,10 +10,6 @@ pub record FunctionValueData : Type 0 where
   pub line : ℕ
   pub name : List ℕ
   pub count : ℕ
-
--- by start line and then by the name's bytes. The counts decide nothing among functions of different names
-abbrev pub function_cmp : FunctionValueData → FunctionValueData → Ordering
-function_cmp a b = ordering_then (nat_cmp a.line b.line) (ordering_then (slice_cmp nat_cmp a.name b.name) (nat_cmp a.count b.count))
 
 -- a branch, and how often it was taken
 pub record BranchValueData : Type 0 where

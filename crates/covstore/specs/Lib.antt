@@ -6,12 +6,12 @@ pub mod Table
 pub mod Content
 pub mod Totals
 pub mod TotalsSteps
+pub mod Counted
 pub mod Stored
 pub mod Held
 pub mod RefuseView
 pub mod ValueView
 pub mod KeyView
 pub mod Walk
-pub mod BranchKeyView
 pub mod ClashView
 pub mod ChecksumView

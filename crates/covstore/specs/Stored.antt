@@ -32,13 +32,14 @@ pub record StandsFor (store : StoreData) (table : Table) : Type 0 where
   pub few : length table ≤ most_members
   pub small : AllByRecursion (λ rows. length rows ≤ most_items) table
 
--- what is planned: a submission, and the totals with it
+-- what is planned: a submission, and the totals with it. It is the store's own, and so is what makes it a plan of a store
 pub record PlanData : Type 0 where
   pub given : SubmissionData
   pub after : Totals
 
--- the plan is for this submission at this store: the submission is lawful and clashes with no table that the store stands
--- for, the totals are those that stand with it, and there is room for one more, among as many as may be held
+-- the store is as `prepare` left it when it made this plan for this submission: the submission is lawful and clashes with no
+-- table that the store stands for, the totals are those that stand with it, and there is room for one more, among as many
+-- as may be held. Callers hand it from `prepare` to `commit` and look at none of its parts
 pub record IsPlanOf (store : StoreData) (submission : SubmissionData) (plan : PlanData) : Type 0 where
   pub given : plan.given ≡ submission
   pub lawful : IsLawful submission

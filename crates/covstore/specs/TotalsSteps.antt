@@ -45,20 +45,17 @@ file_point sect = file_if_any sect.file sect.items
 -- the item has this line with a count above 0
 abbrev pub hits_line : ℕ → ItemData → Bool
 hits_line line (LineItem at count checksum) = at == line && nat_lt 0 count
-hits_line line (FuncItem name start count) = false
-hits_line line (BranchItem at block branch taken) = false
+hits_line line item = false
 
 -- likewise this function
 abbrev pub hits_function : List ℕ → ItemData → Bool
 hits_function name (FuncItem other line count) = bytes_eq other name && nat_lt 0 count
-hits_function name (LineItem line count checksum) = false
-hits_function name (BranchItem line block branch taken) = false
+hits_function name item = false
 
 -- and this branch
 abbrev pub hits_branch : BranchPoint → ItemData → Bool
 hits_branch point (BranchItem line block branch taken) = is_branch point line block branch && is_taken taken
-hits_branch point (LineItem line count checksum) = false
-hits_branch point (FuncItem name line count) = false
+hits_branch point item = false
 
 -- some item hits the point
 abbrev pub is_hit_in : {X : Type 0} → (X → ItemData → Bool) → List ItemData → X → Bool

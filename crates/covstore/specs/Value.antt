@@ -42,8 +42,7 @@ lines_in items = ascending nat_cmp (line_points items)
 -- the count that an item adds to this line
 abbrev pub line_added : ℕ → ItemData → ℕ
 line_added line (LineItem at count checksum) = if at == line then count else 0
-line_added line (FuncItem name start count) = 0
-line_added line (BranchItem at block branch taken) = 0
+line_added line item = 0
 
 -- the value of a line: the sum of its counts
 abbrev pub line_value : ℕ → List ItemData → ℕ
@@ -51,10 +50,8 @@ line_value line items = sum_by (line_added line) items
 
 -- the checksum that an item has for this line
 abbrev pub checksum_said : ℕ → ItemData → List (List ℕ)
-checksum_said line (LineItem at count None) = []
 checksum_said line (LineItem at count (Some checksum)) = if at == line then checksum ∷ [] else []
-checksum_said line (FuncItem name start count) = []
-checksum_said line (BranchItem at block branch taken) = []
+checksum_said line item = []
 
 abbrev pub first_of : {X : Type 0} → List X → Option X
 first_of [] = None
@@ -73,8 +70,7 @@ names_in items = ascending (slice_cmp nat_cmp) (func_points items)
 -- the start line that an item has for this function
 abbrev pub start_said : List ℕ → ItemData → List ℕ
 start_said name (FuncItem other line count) = if bytes_eq other name then line ∷ [] else []
-start_said name (LineItem line count checksum) = []
-start_said name (BranchItem line block branch taken) = []
+start_said name item = []
 
 -- the value of a function: its least start line (0 where no item speaks of it), and the sum of its counts
 abbrev pub function_start : List ℕ → List ItemData → ℕ
@@ -82,8 +78,7 @@ function_start name items = unwrap_or (least (flat_map (start_said name) items))
 
 abbrev pub function_added : List ℕ → ItemData → ℕ
 function_added name (FuncItem other line count) = if bytes_eq other name then count else 0
-function_added name (LineItem line count checksum) = 0
-function_added name (BranchItem line block branch taken) = 0
+function_added name item = 0
 
 abbrev pub function_count : List ℕ → List ItemData → ℕ
 function_count name items = sum_by (function_added name) items
@@ -103,10 +98,8 @@ is_branch point line block branch = line == point.line && block == point.block &
 
 -- the number that an item has for this branch
 abbrev pub taken_said : BranchPoint → ItemData → List ℕ
-taken_said point (BranchItem line block branch None) = []
 taken_said point (BranchItem line block branch (Some taken)) = if is_branch point line block branch then taken ∷ [] else []
-taken_said point (LineItem line count checksum) = []
-taken_said point (FuncItem name line count) = []
+taken_said point item = []
 
 -- none where there are no numbers, else their sum
 abbrev pub sum_if_any : List ℕ → Option ℕ

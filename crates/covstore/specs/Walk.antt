@@ -1,5 +1,6 @@
 -- A walk over what is held: section by section, and in each section of one file and test item by item.
-use Rattle.std.specs.Prelude.{List, [], ◌∷◌, if◌then◌else◌}
+use Rattle.std.specs.Prelude.{ℕ, Bool, false, List, [], ◌∷◌, if◌then◌else◌}
+use Rattle.std.specs.Str.{bytes_eq}
 use Rattle.std.specs.List.{flat_map}
 use Rattle.covline.specs.Row.{ItemData, SectData, SubmissionData}
 use Rattle.covstore.specs.KeyView.{is_sect_of}
@@ -23,3 +24,11 @@ key_if_any key (item ∷ items) = key ∷ []
 
 abbrev pub key_point : SectData → List Key
 key_point sect = key_if_any (record { file = sect.file; test = sect.test }) sect.items
+
+-- a section with an item has a row of its test
+abbrev pub is_if_any : Bool → List ItemData → Bool
+is_if_any is [] = false
+is_if_any is (item ∷ items) = is
+
+abbrev pub has_row_of_test : List ℕ → SectData → Bool
+has_row_of_test test sect = is_if_any (bytes_eq sect.test test) sect.items

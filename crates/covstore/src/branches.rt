@@ -3,9 +3,9 @@
 ghost use Rattle.std.specs.Prelude.{◌≡◌, ◌<◌, ◌^◌, ℕ, List, map, option_map, option_to_list};
 ghost use Rattle.std.specs.Iterator.{Drains, IsFinite, Yields};
 ghost use Rattle.std.specs.List.{sum_by};
-ghost use Rattle.covline.specs.Points.{branch_point, branch_points};
+ghost use Rattle.covline.specs.Points.{branch_points};
 ghost use Rattle.covline.specs.Row.{item_data, rows_of};
-ghost use Rattle.covstore.specs.BranchKeyView.{branch_key_data};
+ghost use Rattle.covline.specs.PointView.{branch_point_data};
 ghost use Rattle.covstore.specs.Held.{IsHeld};
 ghost use Rattle.covstore.specs.KeyView.{key_data};
 ghost use Rattle.covstore.specs.Next.{IsNext};
@@ -15,45 +15,21 @@ ghost use Rattle.covstore.specs.Value.{items_at, branch_cmp, branch_value, sum_i
 use crate::keys::SectKey;
 use crate::next::next_of;
 use crate::rows::ItemsAt;
-use covline::{Item, Submission};
+use covline::{BranchPoint, Item, Submission};
 use std::alloc::Allocator;
-
-/// A branch: its line, its block and its number in the block. Branches stand in this order.
-#[derive(Clone, Copy, PartialEq, Eq, PartialOrd, Ord)]
-pub struct BranchKey {
-    pub line: u64,
-    pub block: u64,
-    pub branch: u64,
-}
 
 /// The least branch behind the last one that the rows of this file and test speak of.
 pub(crate) fn next_branch<A: Allocator>(
     held: &[Submission<A>],
     key: SectKey<'_>,
-    last: Option<BranchKey>,
-) -> Option<BranchKey>
-    ensures { IsNext branch_cmp (option_map branch_key_data last) (branch_points (items_at (key_data key.entry) (all_rows (map rows_of held.now)))) (option_map branch_key_data result) }
+    last: Option<BranchPoint>,
+) -> Option<BranchPoint>
+    ensures { IsNext branch_cmp (option_map branch_point_data last) (branch_points (items_at (key_data key.entry) (all_rows (map rows_of held.now)))) (option_map branch_point_data result) }
 {
-    next_of(ItemsAt::of(held, key).flat_map(branch_of), last)
-}
-
-/// The branch that a branch's item speaks of.
-fn branch_of<A: Allocator>(item: &Item<A>) -> Option<BranchKey>
-    ensures { option_to_list (option_map branch_key_data result) ≡ branch_point (item_data item.now) }
-{
-    match item {
-        Item::Branch {
-            line,
-            block,
-            branch,
-            ..
-        } => Some(BranchKey {
-            line: *line,
-            block: *block,
-            branch: *branch,
-        }),
-        Item::Line { .. } | Item::Func { .. } => None,
-    }
+    next_of(
+        ItemsAt::of(held, key).flat_map(|item| item.branch_point()),
+        last,
+    )
 }
 
 /// How often a branch was taken: the sum over the rows of this file and test that have a number for it, and none where
@@ -61,10 +37,10 @@ fn branch_of<A: Allocator>(item: &Item<A>) -> Option<BranchKey>
 pub(crate) fn times_taken<A: Allocator>(
     held: &[Submission<A>],
     key: SectKey<'_>,
-    branch: BranchKey,
+    branch: BranchPoint,
 ) -> Option<u128>
     requires { IsHeld held.now }
-    ensures { result ≡ branch_value (branch_key_data branch) (items_at (key_data key.entry) (all_rows (map rows_of held.now))) }
+    ensures { result ≡ branch_value (branch_point_data branch) (items_at (key_data key.entry) (all_rows (map rows_of held.now))) }
 {
     total(ItemsAt::of(held, key).flat_map(|item| taken_in(item, branch)))
 }
@@ -84,11 +60,11 @@ fn total<I: Iterator<Item = u64> + Drop>(numbers: I) -> Option<u128>
 }
 
 /// The number that an item has for this branch.
-fn taken_in<A: Allocator>(item: &Item<A>, branch: BranchKey) -> Option<u64>
-    ensures { option_to_list result ≡ taken_said (branch_key_data branch) (item_data item.now) }
+fn taken_in<A: Allocator>(item: &Item<A>, branch: BranchPoint) -> Option<u64>
+    ensures { option_to_list result ≡ taken_said (branch_point_data branch) (item_data item.now) }
 {
     match item {
-        Item::Branch { taken, .. } if branch_of(item) == Some(branch) => *taken,
+        Item::Branch { taken, .. } if item.branch_point() == Some(branch) => *taken,
         Item::Branch { .. } | Item::Line { .. } | Item::Func { .. } => None,
     }
 }

@@ -1,7 +1,7 @@
 //! Whether a submission has another checksum of a line than the one that is held, found by passing over the rows. It
 //! takes no memory. Each row with a checksum costs a pass over the sections of its file; the others cost nothing more.
 
-ghost use Rattle.std.specs.Prelude.{◌≡◌, ◌⊎◌, ◌++◌, ◌∷◌, [], IfOk, MatchOption, map, option_map};
+ghost use Rattle.std.specs.Prelude.{◌≡◌, ◌++◌, ◌∷◌, [], IfOk, MatchOption, map, option_map};
 ghost use Rattle.covline.specs.Lawful.{IsLawful};
 ghost use Rattle.covline.specs.Row.{item_data, rows_of, rows_of_sect};
 ghost use Rattle.covline.specs.SectView.{sect_data};
@@ -9,16 +9,17 @@ ghost use Rattle.covstore.specs.ChecksumView.{checksum_data, checksums_held, che
 ghost use Rattle.covstore.specs.Clash.{checksum_of as said_by, checksums_in, first_clash as first_told};
 ghost use Rattle.covstore.specs.ClashView.{clash_data};
 ghost use Rattle.covstore.specs.RefuseView.{refuse_data};
-ghost use Rattle.covstore.specs.Stored.{ClashRefuse, MemoryRefuse};
+ghost use Rattle.covstore.specs.Stored.{ClashRefuse};
 ghost use Rattle.covstore.specs.Table.{clash_at};
 
 use crate::refuse::Refuse;
+use crate::rows::is_of_file;
 use covline::{Bytes, Item, Memory, Sect, Submission};
 use std::alloc::Allocator;
 
 /// Two checksums of one line of one file that differ.
 #[derive(Clone, Copy)]
-pub struct FoundClash<'a> {
+pub(crate) struct FoundClash<'a> {
     pub file: &'a [u8],
     pub line: u64,
     pub held: &'a [u8],
@@ -26,18 +27,8 @@ pub struct FoundClash<'a> {
 }
 
 impl FoundClash<'_> {
-    /// The refusal that tells of the clash, with texts of its own; or that a growth for these was refused.
-    pub(crate) fn refusal<A: Allocator + Copy>(&self, alloc: A) -> Refuse<A>
-        ensures { (refuse_data result ≡ ClashRefuse (clash_data self.now)) ⊎ (refuse_data result ≡ MemoryRefuse) }
-    {
-        match self.told(alloc) {
-            Ok(refuse) => refuse,
-            Err(refused) => Refuse::from(refused),
-        }
-    }
-
     /// The refusal that tells of the clash, with texts of its own.
-    fn told<A: Allocator + Copy>(&self, alloc: A) -> Result<Refuse<A>, Memory>
+    pub(crate) fn told<A: Allocator + Copy>(&self, alloc: A) -> Result<Refuse<A>, Memory>
         ensures { IfOk result (λ r. refuse_data r ≡ ClashRefuse (clash_data self.now)) }
     {
         Ok(Refuse::Clash {
@@ -51,7 +42,7 @@ impl FoundClash<'_> {
 
 /// The checksum of a line of a file.
 #[derive(Clone, Copy)]
-pub struct LineChecksum<'a> {
+pub(crate) struct LineChecksum<'a> {
     pub file: &'a [u8],
     pub line: u64,
     pub checksum: &'a [u8],
@@ -183,7 +174,7 @@ fn other_in_sects<'a, A: Allocator>(
 fn other_in_sect<'a, A: Allocator>(sect: &'a Sect<A>, given: LineChecksum<'_>) -> Option<&'a [u8]>
     ensures { option_map (λ c. c.now) result ≡ other_checksum (checksum_data given.entry) (checksums_in (rows_of_sect (sect_data sect.now))) }
 {
-    if sect.file.get() == given.file {
+    if is_of_file(sect, given.file) {
         other_in_items(sect.items.get(), given)
     } else {
         None

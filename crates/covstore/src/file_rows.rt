@@ -1,6 +1,6 @@
 //! The items that the held rows have for one file over all tests. The walk takes no memory.
 
-use crate::rows::Sects;
+use crate::rows::{Sects, is_of_file};
 use covline::{Item, Submission};
 use std::alloc::Allocator;
 use std::marker::Model;
@@ -58,7 +58,7 @@ impl<'a, 'f, A: Allocator> Iterator for ItemsOf<'a, 'f, A> {
                 return Some(item);
             }
             let sect = self.sections.next()?;
-            if sect.file.get() == self.file {
+            if is_of_file(sect, self.file) {
                 self.items = sect.items.get();
             }
         }

@@ -3,7 +3,7 @@
 ghost use Rattle.std.specs.Prelude.{◌≡◌, map, option_map, option_to_list};
 ghost use Rattle.std.specs.Ordering.{nat_cmp};
 ghost use Rattle.std.specs.Cmp.Lexicographic.{slice_cmp};
-ghost use Rattle.covline.specs.Points.{func_point, func_points};
+ghost use Rattle.covline.specs.Points.{func_points};
 ghost use Rattle.covline.specs.Row.{item_data, rows_of};
 ghost use Rattle.covstore.specs.Held.{IsHeld};
 ghost use Rattle.covstore.specs.KeyView.{key_data};
@@ -25,18 +25,10 @@ pub(crate) fn next_name<'a, A: Allocator>(
 ) -> Option<&'a [u8]>
     ensures { IsNext (slice_cmp nat_cmp) (option_map (λ n. n.now) last.entry) (func_points (items_at (key_data key.entry) (all_rows (map rows_of held.now)))) (option_map (λ n. n.now) result) }
 {
-    // A closure: of the function's own name the prover doesn't know how long what it returns lives.
-    next_of(ItemsAt::of(held, key).flat_map(|item| name_of(item)), last)
-}
-
-/// The name of the function that a function's item speaks of.
-fn name_of<A: Allocator>(item: &Item<A>) -> Option<&[u8]>
-    ensures { option_to_list (option_map (λ n. n.now) result) ≡ func_point (item_data item.now) }
-{
-    match item {
-        Item::Func { name, .. } => Some(name.get()),
-        Item::Line { .. } | Item::Branch { .. } => None,
-    }
+    next_of(
+        ItemsAt::of(held, key).flat_map(|item| item.function_name()),
+        last,
+    )
 }
 
 /// The line that a function starts at: the least one that the rows of this file and test have for it.

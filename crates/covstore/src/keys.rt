@@ -17,7 +17,7 @@ use std::alloc::Allocator;
 
 /// The file and the test that a section is of. Keys stand in this order, each name by its bytes.
 #[derive(Clone, Copy, PartialEq, Eq, PartialOrd, Ord)]
-pub struct SectKey<'a> {
+pub(crate) struct SectKey<'a> {
     pub file: &'a [u8],
     pub test: &'a [u8],
 }

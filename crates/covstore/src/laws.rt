@@ -1,14 +1,16 @@
 //! Laws of the definitions that this crate's contracts cite. The functions do nothing: the contract is the law.
 
-ghost use Rattle.std.specs.Prelude.{◌≡◌, ◌↔◌, List, ◌++◌, ℕ, Some, None, map};
+ghost use Rattle.std.specs.Prelude.{◌≡◌, ◌↔◌, List, [], ◌∷◌, ◌++◌, ℕ, Some, None, map};
 ghost use Rattle.std.specs.Cmp.Lexicographic.{slice_cmp};
 ghost use Rattle.std.specs.Ordering.{nat_cmp};
 ghost use Rattle.covline.specs.Points.{BranchPoint, line_points, func_points, branch_points};
-ghost use Rattle.covline.specs.Row.{ItemData, Row};
+ghost use Rattle.covline.specs.Row.{ItemData, Row, SubmissionData, rows_of};
 ghost use Rattle.covstore.specs.Ascending.{IsAscendingOf};
-ghost use Rattle.covstore.specs.Clash.{Checksum, ClashData, Agree, IsFirstClash, first_clash};
-ghost use Rattle.covstore.specs.Content.{FunctionValueData, content_of, function_cmp};
-ghost use Rattle.covstore.specs.Totals.{totals_of};
+ghost use Rattle.covstore.specs.Clash.{Checksum, ClashData, Agree, IsFirstClash, checksums_in, first_clash};
+ghost use Rattle.covstore.specs.Content.{SectionData, content_of};
+ghost use Rattle.covstore.specs.Counted.{lines, functions, branches, found, hit};
+ghost use Rattle.covstore.specs.Table.{Table, all_rows, clash_at};
+ghost use Rattle.covstore.specs.Totals.{AreTotals, totals_of};
 ghost use Rattle.covstore.specs.TotalsSteps.{totals_over};
 ghost use Rattle.covstore.specs.Value.{Key, key_cmp, key_of_row, keys_of, lines_in, names_in, branch_cmp, branches_in};
 
@@ -25,10 +27,11 @@ pub fn points_stand_in_order()
     ensures lines { (items : List ItemData) → IsAscendingOf nat_cmp (line_points items) (lines_in items) }
 {}
 
-/// There is at most one strictly ascending list of given members, of files and tests, functions, branches or lines.
+/// There is at most one strictly ascending list of given members: of files and tests, of functions by their names' bytes, of
+/// branches or of lines.
 pub fn order_is_unique()
     ensures keys { (all some others : List Key) → IsAscendingOf key_cmp all some → IsAscendingOf key_cmp all others → some ≡ others }
-    ensures functions { (all some others : List FunctionValueData) → IsAscendingOf function_cmp all some → IsAscendingOf function_cmp all others → some ≡ others }
+    ensures functions { (all some others : List (List ℕ)) → IsAscendingOf (slice_cmp nat_cmp) all some → IsAscendingOf (slice_cmp nat_cmp) all others → some ≡ others }
     ensures branches { (all some others : List BranchPoint) → IsAscendingOf branch_cmp all some → IsAscendingOf branch_cmp all others → some ≡ others }
     ensures lines { (all some others : List ℕ) → IsAscendingOf nat_cmp all some → IsAscendingOf nat_cmp all others → some ≡ others }
 {}
@@ -39,6 +42,27 @@ pub fn order_is_unique()
 pub fn the_first_clash_is_told()
     ensures first { (held given : List Checksum) (clash : ClashData) → Agree held → first_clash held given ≡ Some clash ↔ IsFirstClash held given clash }
     ensures none { (held given : List Checksum) → Agree held → first_clash held given ≡ None ↔ Agree (held ++ given) }
+{}
+
+/// No table comes to have two different checksums of one line of a file: the empty one has none, and the rows of a
+/// submission that doesn't clash bring none.
+pub fn accepted_rows_agree()
+    ensures empty { Agree (checksums_in (all_rows [])) }
+    ensures accepted { (table : Table) (s : SubmissionData) → clash_at table s ≡ None → Agree (checksums_in (all_rows table)) → Agree (checksums_in (all_rows (table ++ rows_of s ∷ []))) }
+{}
+
+/// The totals are what they are called: found is how many different points of a kind all rows have, each in its file, and
+/// hit is how many of these some test has with a value above 0.
+pub fn totals_count_different_points()
+    ensures lines { (rows : List Row) → ((totals_of (content_of rows)).lf ≡ found lines rows) × ((totals_of (content_of rows)).lh ≡ hit lines rows) }
+    ensures functions { (rows : List Row) → ((totals_of (content_of rows)).ff ≡ found functions rows) × ((totals_of (content_of rows)).fh ≡ hit functions rows) }
+    ensures branches { (rows : List Row) → ((totals_of (content_of rows)).bf ≡ found branches rows) × ((totals_of (content_of rows)).bh ≡ hit branches rows) }
+{}
+
+/// Of each kind no more points are hit than found, in any sections, and so in what any rows add up to.
+pub fn no_more_are_hit_than_found()
+    ensures sections { (sections : List SectionData) → AreTotals (totals_of sections) }
+    ensures rows { (rows : List Row) → AreTotals (totals_of (content_of rows)) }
 {}
 
 /// The totals of what rows add up to are those of the rows: for each file its different points, over all tests, and of

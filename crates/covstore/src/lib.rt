@@ -1,31 +1,50 @@
-//! The store of merged execution counts: the value of all submissions that it holds.
+//! The store of merged execution counts: what all submissions that it holds add up to. Counts are added up for matching
+//! test and file (lcov(1), --add-tracefile), and two versions of one source are never mixed.
+//!
+//! A submission is held in two steps. `prepare` tells whether it clashes, makes all growths and gives a plan; `commit`
+//! holds it, and needs no memory. Between the two the caller can make its own growths, and drop the plan where one is
+//! refused.
 //!
 //! This is the plain program: the store keeps the submissions in a list, and finds what is asked by passing over their
 //! rows.
+//!
+//! A sketch: a submission is held, and the counts of all lines are passed over.
+//!
+//! ```text
+//! let mut store = Store::new(alloc);
+//! match store.prepare(alloc, &submission) {
+//!     Ok(plan) => store.commit(plan),
+//!     Err(Refuse::Clash { file, line, .. }) => return Ok(Answer::TwoVersions(file, line)),
+//!     Err(Refuse::Memory) => return Err(Memory),
+//! }
+//! for section in store.sections() {
+//!     for line in section.lines() {
+//!         put_count(section.file(), section.test(), line.line, line.count)?;
+//!     }
+//! }
+//! let hit = store.totals().lh;
+//! ```
 #![tactic(auto)]
 
 mod branches;
 mod clash;
-pub mod content;
+mod content;
 mod file_rows;
 mod functions;
 mod keys;
 pub mod laws;
 mod lines;
 mod next;
-pub mod plan;
-pub mod refuse;
+mod plan;
+mod refuse;
 mod rows;
-pub mod store;
-pub mod totals;
-pub mod values;
+mod store;
+mod totals;
+mod values;
 
 pub use content::{Branches, Functions, Lines, Section, Sections};
 pub use plan::Plan;
 pub use refuse::Refuse;
-pub use store::{MOST_MEMBERS, Store};
+pub use store::Store;
 pub use totals::Totals;
 pub use values::{BranchValue, FunctionValue, LineValue};
-
-#[cfg(test)]
-mod tests;

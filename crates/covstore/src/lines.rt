@@ -2,7 +2,7 @@
 
 ghost use Rattle.std.specs.Prelude.{◌≡◌, map, option_map, option_to_list};
 ghost use Rattle.std.specs.Ordering.{nat_cmp};
-ghost use Rattle.covline.specs.Points.{line_point, line_points};
+ghost use Rattle.covline.specs.Points.{line_points};
 ghost use Rattle.covline.specs.Row.{item_data, rows_of};
 ghost use Rattle.covstore.specs.Held.{IsHeld};
 ghost use Rattle.covstore.specs.KeyView.{key_data};
@@ -24,17 +24,10 @@ pub(crate) fn next_line<A: Allocator>(
 ) -> Option<u64>
     ensures { IsNext nat_cmp last (line_points (items_at (key_data key.entry) (all_rows (map rows_of held.now)))) result }
 {
-    next_of(ItemsAt::of(held, key).flat_map(line_of), last)
-}
-
-/// The line that a line's item speaks of.
-fn line_of<A: Allocator>(item: &Item<A>) -> Option<u64>
-    ensures { option_to_list result ≡ line_point (item_data item.now) }
-{
-    match item {
-        Item::Line { line, .. } => Some(*line),
-        Item::Func { .. } | Item::Branch { .. } => None,
-    }
+    next_of(
+        ItemsAt::of(held, key).flat_map(|item| item.line_point()),
+        last,
+    )
 }
 
 /// The execution count of a line: the sum over the rows of this file and test.

@@ -15,17 +15,22 @@ pub struct Plan<A: Allocator = Global> {
 
 impl<A: Allocator> Model for Plan<A> {
     ghost use Rattle.covstore.specs.Stored.{PlanData};
+    ghost use Rattle.covstore.specs.Totals.{AreTotals};
 
     ghost Value = { PlanData };
 
     ghost view = { λ a. record { given = a.given; after = a.after } };
+
+    ghost invariant = { λ a. AreTotals a.after };
 }
 
 impl<A: Allocator> Plan<A> {
     ghost use Rattle.std.specs.Prelude.{◌≡◌};
+    ghost use Rattle.covstore.specs.Totals.{AreTotals};
 
     /// The plan to hold this submission, after which these totals stand.
     pub(crate) fn new(given: Submission<A>, after: Totals) -> Plan<A>
+        requires { AreTotals after }
         ensures given { result.given ≡ given }
         ensures after { result.after ≡ after }
     {
@@ -34,7 +39,8 @@ impl<A: Allocator> Plan<A> {
 
     /// The totals that stand after the commit. Takes no memory.
     pub fn after(&self) -> Totals
-        ensures { result ≡ self.now.after }
+        ensures value { result ≡ self.now.after }
+        ensures bounds { AreTotals result }
     {
         self.after
     }

@@ -1,6 +1,11 @@
 //! The held sections, and the items that these have for one file and test: the one walk over what is held. It takes no
 //! memory.
 
+ghost use Rattle.std.specs.Prelude.{◌≡◌};
+ghost use Rattle.std.specs.Str.{bytes_eq};
+ghost use Rattle.covline.specs.SectView.{sect_data};
+ghost use Rattle.covstore.specs.Walk.{has_row_of_test};
+
 use crate::keys::SectKey;
 use covline::{Item, Sect, Submission};
 use std::alloc::Allocator;
@@ -57,6 +62,23 @@ impl<'a, A: Allocator> Iterator for Sects<'a, A> {
             self.sects = submission.sects();
         }
     }
+}
+
+/// Whether the section is of this file.
+pub(crate) fn is_of_file<A: Allocator>(sect: &Sect<A>, file: &[u8]) -> bool
+    ensures { result ≡ bytes_eq (sect_data sect.now).file file.now }
+{
+    sect.file.get() == file
+}
+
+/// Whether the section has a row of this test: it is of the test, and has an item.
+pub(crate) fn has_row_of_test<A: Allocator>(sect: &Sect<A>, test: &[u8]) -> bool
+    ensures { result ≡ has_row_of_test test.now (sect_data sect.now) }
+{
+    if sect.items.get().is_empty() {
+        return false;
+    }
+    sect.test.get() == test
 }
 
 /// Goes over the items that submissions have for one file and test. Contracts see the items that are left.

@@ -4,16 +4,15 @@ use crate::clash::first_clash;
 use crate::content::Sections;
 use crate::plan::Plan;
 use crate::refuse::Refuse;
+use crate::rows::{Sects, has_row_of_test};
 use crate::totals::{Totals, totals_of};
 use covline::{Memory, Submission};
 use std::alloc::{Allocator, Global};
 use std::marker::Model;
 
-/// How many submissions a store holds at the most.
-pub const MOST_MEMBERS: u64 = 1_048_576;
-
-/// The value of every line, function and branch at its file and test, over all submissions that are held. Contracts see
-/// these values as sections, how many submissions there are, and for how many there is room.
+/// The value of every line, function and branch at its file and test, over all submissions that are held, of which there
+/// are at most 1,048,576. Contracts see these values as sections, how many submissions there are, and for how many there
+/// is room.
 #[derive(Drop)]
 pub struct Store<A: Allocator = Global> {
     held: Vec<Submission<A>, A>,
@@ -54,7 +53,10 @@ impl<A: Allocator + Copy> Store<A> {
         }
     }
 
-    /// Makes all ready to hold the submission too, or says why it can't be held. The content stays as it is.
+    /// Makes all ready to hold the submission too, or says why it can't be held: it clashes with what is held, or a growth
+    /// was refused. The content stays as it is. What a plan holds is the store's own business: callers know of it that the
+    /// submission clashes with no table that the store stands for, and the totals behind it, and that it is a plan of this
+    /// store as it is left here, which `commit` asks for.
     pub fn prepare(&mut self, alloc: A, submission: &Submission<A>) -> Result<Plan<A>, Refuse<A>>
         requires { self.old.members < most_members }
         ensures content { SameContent self.old self.new }
@@ -64,7 +66,8 @@ impl<A: Allocator + Copy> Store<A> {
         ensures refused { IfErr result (λ e. (table : Table) → StandsFor self.old table → IsRefusedAt table submission.now (refuse_data e)) }
     {
         if let Some(clash) = first_clash(self.held.as_slice(), submission) {
-            return Err(clash.refusal(alloc));
+            let refusal = clash.told(alloc)?;
+            return Err(refusal);
         }
         let given = self.make_room(alloc, submission)?;
         Ok(self.plan_of(given))
@@ -100,7 +103,7 @@ impl<A: Allocator + Copy> Store<A> {
         Plan::new(given, after)
     }
 
-    /// Holds the planned submission too. Takes no memory.
+    /// Holds the planned submission too, where the store is as `prepare` left it. Takes no memory.
     pub fn commit(&mut self, plan: Plan<A>)
         requires { (s : SubmissionData) × IsPlanOf self.old s plan }
         ensures stands { (s : SubmissionData) (table : Table) → IsPlanOf self.old s plan → StandsFor self.old table → StandsFor self.new (table ++ rows_of s ∷ []) }
@@ -108,11 +111,12 @@ impl<A: Allocator + Copy> Store<A> {
         self.held.push_reserved(plan.submission());
     }
 
-    /// Whether some row has this test. Takes no memory.
+    /// Whether some section is of this test, and so some row: found by one pass over what is held. Takes no memory.
     pub fn has_test(&self, test: &[u8]) -> bool
-        ensures { (table : Table) → StandsFor self.now table → result ≡ list_any (λ row. bytes_eq row.test test.now) (all_rows table) }
+        ensures value { result ≡ list_any (λ s. bytes_eq s.key.test test.now) self.now.sections }
+        ensures rows { (table : Table) → StandsFor self.now table → result ≡ list_any (λ row. bytes_eq row.test test.now) (all_rows table) }
     {
-        self.sections().any(|section| section.test() == test)
+        Sects::of(self.held.as_slice()).any(|sect| has_row_of_test(sect, test))
     }
 
     /// The totals over all files and tests. Takes no memory.

@@ -3,7 +3,6 @@
 mod branches;
 mod functions;
 mod lines;
-mod tally;
 
 ghost use Rattle.std.specs.Prelude.{◌≡◌, map, option_map, option_to_list};
 ghost use Rattle.std.specs.Cmp.Lexicographic.{slice_cmp};
@@ -22,7 +21,7 @@ use crate::rows::Sects;
 use covline::{Sect, Submission};
 use std::alloc::Allocator;
 
-/// The totals of a store (geninfo(1): `LF:`, `LH:`, `FNF:`, `FNH:`, `BRF:`, `BRH:`), each of at most 2^46 points. A point
+/// The totals of a store (geninfo(1): `LF:`, `LH:`, `FNF:`, `FNH:`, `BRF:`, `BRH:`). A point
 /// is found once for each file, over all tests, and hit if some test has it above 0.
 #[derive(Clone, Copy, Debug, PartialEq, Eq)]
 pub struct Totals {

@@ -1,9 +1,7 @@
 //! Points of a section with their values: what the counts of all rows of a file and a test add up to.
 
-/// A function with its least start line and the sum of its execution counts (geninfo(1): `FN:`, `FNDA:`). Its own order
-/// is that of printing: by start line, then by the name's bytes (counts come last and decide nothing among different
-/// names).
-#[derive(Clone, Copy, PartialEq, Eq, PartialOrd, Ord)]
+/// A function with its least start line and the sum of its execution counts (geninfo(1): `FN:`, `FNDA:`).
+#[derive(Clone, Copy)]
 pub struct FunctionValue<'a> {
     pub line: u64,
     pub name: &'a [u8],

@@ -1,14 +1,14 @@
 //! The lines that a session answers.
 
-ghost use Rattle.std.specs.Prelude.{◌≡◌, ◌^◌, ◌<◌, codes, decimal, IfOk, OnOk, ◌++◌};
-ghost use Rattle.std.specs.Io.KnownBytes.{Appends};
+ghost use Rattle.std.specs.Prelude.{◌≡◌, ◌≢◌, ◌^◌, ◌<◌, codes, decimal, IfOk, IfErr, OnOk, ◌++◌};
 ghost use Rattle.covbook.specs.Op.{AcceptedAnswer, ClashAnswer};
 ghost use Rattle.covbook.specs.View.{answer_data};
 ghost use Rattle.covcollect.specs.Session.{said, answer_text, line_fault_name, fault_text, refused_text};
-ghost use Rattle.covcollect.specs.Streams.{said_so_far};
+ghost use Rattle.covcollect.specs.Streams.{Says};
+ghost use Rattle.covcollect.specs.declared.session.fault.SessionFault.TheVariants as session_faults;
 
 use crate::session::fault::SessionFault;
-use crate::session::output::say;
+use crate::session::output::Output;
 use crate::stream::Sink;
 use covbook::Answer;
 use covline::LineFault;
@@ -16,14 +16,15 @@ use covread::ReadFault;
 use itoa::Buffer;
 use std::alloc::Allocator;
 
-/// The line that says that a submission was accepted.
-pub fn accepted_line<A: Allocator>(
+// The line that says that a submission was accepted.
+fn accepted_line<A: Allocator>(
     alloc: A,
     number: u64,
     items: u64,
     odd: u64,
 ) -> Result<Vec<u8, A>, SessionFault>
-    ensures { IfOk result (λ line. line.items ≡ answer_text (AcceptedAnswer number items odd)) }
+    ensures line { IfOk result (λ line. line.items ≡ answer_text (AcceptedAnswer number items odd)) }
+    ensures fault { IfErr result (λ f. f ≡ session_faults.Memory) }
 {
     let mut line = Vec::from_slice(alloc, b"accepted ")?;
     line.extend_from_slice(Buffer::new().format(number).as_bytes())?;
@@ -35,24 +36,33 @@ pub fn accepted_line<A: Allocator>(
     Ok(line)
 }
 
-/// The line that says that a submission clashes: the file, the line, the checksum that is held and the given one.
-pub fn clash_line<A: Allocator>(
-    alloc: A,
-    file: &[u8],
+// Where a submission clashes, with the checksum that is held and the given one.
+#[derive(Clone, Copy, Debug)]
+struct Clash<'a> {
+    file: &'a [u8],
     line: u64,
-    held: &[u8],
-    given: &[u8],
-) -> Result<Vec<u8, A>, SessionFault>
-    ensures { IfOk result (λ text. text.items ≡ answer_text (ClashAnswer (record { file = file.now; line = line; held = held.now; given = given.now }))) }
+    held: &'a [u8],
+    given: &'a [u8],
+}
+
+// The line that says that a submission clashes.
+fn clash_line<A: Allocator>(alloc: A, clash: Clash<'_>) -> Result<Vec<u8, A>, SessionFault>
+    ensures line { IfOk result (λ text. text.items ≡ answer_text (ClashAnswer (record {
+      file = clash.entry.file.now;
+      line = clash.entry.line;
+      held = clash.entry.held.now;
+      given = clash.entry.given.now;
+    }))) }
+    ensures fault { IfErr result (λ f. f ≡ session_faults.Memory) }
 {
     let mut text = Vec::from_slice(alloc, b"clash ")?;
-    text.extend_from_slice(file)?;
+    text.extend_from_slice(clash.file)?;
     text.extend_from_slice(b" ")?;
-    text.extend_from_slice(Buffer::new().format(line).as_bytes())?;
+    text.extend_from_slice(Buffer::new().format(clash.line).as_bytes())?;
     text.extend_from_slice(b" ")?;
-    text.extend_from_slice(held)?;
+    text.extend_from_slice(clash.held)?;
     text.extend_from_slice(b" ")?;
-    text.extend_from_slice(given)?;
+    text.extend_from_slice(clash.given)?;
     text.extend_from_slice(b"\n")?;
     Ok(text)
 }
@@ -85,8 +95,8 @@ fn text_alone<A: Allocator>(alloc: A, name: &[u8]) -> Result<Vec<u8, A>, Session
     Ok(Vec::from_slice(alloc, name)?)
 }
 
-/// What a fault is called, with its line where it has one.
-pub fn fault_words<A: Allocator>(alloc: A, fault: ReadFault) -> Result<Vec<u8, A>, SessionFault>
+// What a fault is called, with its line where it has one.
+fn fault_words<A: Allocator>(alloc: A, fault: ReadFault) -> Result<Vec<u8, A>, SessionFault>
     ensures { IfOk result (λ text. text.items ≡ fault_text fault) }
 {
     match fault {
@@ -117,18 +127,16 @@ pub fn refused_line<A: Allocator + Copy>(
 pub fn say_answer<O: Sink, A: Allocator + Copy>(
     alloc: A,
     answer: &Answer<A>,
-    waiting: &mut Vec<u8, A>,
-    sink: &mut O,
+    output: &mut Output<'_, O, A>,
 ) -> Result<(), SessionFault>
-    requires { O.failed_writes sink.old < 2 ^ 63 }
-    ensures said { OnOk result (Appends (said_so_far (O.written sink.old) waiting.old.items)
-        (said_so_far (O.written sink.new) waiting.new.items) (answer_text (answer_data answer.now))) }
-    ensures failed { OnOk result (O.failed_writes sink.new ≡ O.failed_writes sink.old) }
+    requires { output.old.failed_writes < 2 ^ 63 }
+    ensures says { OnOk result (Says output.old output.new (answer_text (answer_data answer.now))) }
+    ensures fault { IfErr result (λ f. f ≢ session_faults.Full) }
 {
     match answer {
         Answer::Accepted { number, items, odd } => {
             let line = accepted_line(alloc, *number, *items, *odd)?;
-            say(line.as_slice(), waiting, sink)
+            output.say(line.as_slice())
         }
         Answer::Clash {
             file,
@@ -136,12 +144,18 @@ pub fn say_answer<O: Sink, A: Allocator + Copy>(
             held,
             given,
         } => {
-            let text = clash_line(alloc, file.get(), *line, held.get(), given.get())?;
-            say(text.as_slice(), waiting, sink)
+            let clash = Clash {
+                file: file.get(),
+                line: *line,
+                held: held.get(),
+                given: given.get(),
+            };
+            let text = clash_line(alloc, clash)?;
+            output.say(text.as_slice())
         }
         Answer::Text(text) => {
-            say(text.get().get(), waiting, sink)?;
-            say(b".\n", waiting, sink)
+            output.say(text.get().get())?;
+            output.say(b".\n")
         }
     }
 }

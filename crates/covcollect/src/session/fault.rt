@@ -3,22 +3,17 @@
 use covbook::BookFault;
 use covline::Memory;
 use std::alloc::AllocError;
-use thiserror::Error;
 
 /// Why a session ended before its input.
-#[derive(Clone, Copy, Debug, PartialEq, Eq, Error)]
+#[derive(Clone, Copy, Debug, PartialEq, Eq)]
 pub enum SessionFault {
     /// A read failed, or 2^32 reads were made.
-    #[error("read fault")]
     Read = 1,
     /// A write failed, or took none of some bytes.
-    #[error("write fault")]
     Write = 2,
     /// A growth was refused.
-    #[error("out of memory")]
     Memory = 3,
     /// The history has no room for another entry.
-    #[error("book full")]
     Full = 4,
 }
 
@@ -35,18 +30,33 @@ impl SessionFault {
 }
 
 impl From<AllocError> for SessionFault {
+    ghost use Rattle.std.specs.Prelude.{◌≡◌};
+    ghost use Rattle.covcollect.specs.declared.session.fault.SessionFault.TheVariants as faults;
+
+    ghost from_gives = { λ _ f. f ≡ faults.Memory };
+
     fn from(_refused: AllocError) -> SessionFault {
         SessionFault::Memory
     }
 }
 
 impl From<Memory> for SessionFault {
+    ghost use Rattle.std.specs.Prelude.{◌≡◌};
+    ghost use Rattle.covcollect.specs.declared.session.fault.SessionFault.TheVariants as faults;
+
+    ghost from_gives = { λ _ f. f ≡ faults.Memory };
+
     fn from(_refused: Memory) -> SessionFault {
         SessionFault::Memory
     }
 }
 
 impl From<BookFault> for SessionFault {
+    ghost use Rattle.std.specs.Prelude.{◌≡◌};
+    ghost use Rattle.covcollect.specs.SessionFaults.{of_book};
+
+    ghost from_gives = { λ fault f. f ≡ of_book fault };
+
     fn from(fault: BookFault) -> SessionFault {
         match fault {
             BookFault::Full => SessionFault::Full,

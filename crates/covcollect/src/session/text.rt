@@ -3,7 +3,7 @@
 ghost use Rattle.std.specs.Prelude.{◌≡◌, ◌↔◌, ℕ, List, [], ◌∷◌, ◌++◌, take, IsTrue, OnOk};
 ghost use Rattle.covline.specs.Lines.{line_feed};
 ghost use Rattle.covread.specs.Outcome.{most_bytes};
-ghost use Rattle.covcollect.specs.Streams.{line_after, line_with, HasCollected, IsTextOf};
+ghost use Rattle.covcollect.specs.Text.{line_after, line_with, HasCollected, IsTextOf};
 
 use crate::session::fault::SessionFault;
 use std::alloc::Allocator;

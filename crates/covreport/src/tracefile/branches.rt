@@ -1,34 +1,33 @@
 //! The branches of a section.
 
-ghost use Rattle.std.specs.Prelude.{◌≡◌, ◌<◌, ◌^◌, ◌++◌, OnOk, length};
+ghost use Rattle.std.specs.Prelude.{◌≡◌, ◌++◌, OnOk};
 ghost use Rattle.std.specs.List.{flat_map};
 ghost use Rattle.covline.specs.Printed.{printed};
 ghost use Rattle.covreport.specs.Report.{branch_record, branch_records};
 ghost use Rattle.covstore.specs.Value.{is_taken as value_is_taken};
 ghost use Rattle.covstore.specs.ValueView.{branch_data};
 
-use super::tally::Tally;
-use covline::{Bytes, Memory, TotalKind, TraceLine, put_line};
-use covstore::{BranchValue, Branches};
+use super::totals::put_totals_if_any;
+use covline::{Bytes, Memory, Tally, TotalKind, TraceLine, put_line};
+use covstore::{BranchValue, Section};
 use std::alloc::Allocator;
 
-/// Appends the branches of a section and their totals. A refusal leaves what was appended before it came.
+/// Appends the branches of a section and their totals.
 pub(super) fn put_branches<A: Allocator>(
-    branches: Branches<'_, A>,
+    section: &Section<'_, A>,
     text: &mut Bytes<A>,
 ) -> Result<(), Memory>
-    requires { length branches < 2 ^ 64 }
-    ensures { OnOk result (text.new ≡ text.old ++ flat_map printed (branch_records branches.entry)) }
+    ensures { OnOk result (text.new ≡ text.old ++ flat_map printed (branch_records section.now.branches)) }
 {
-    let mut tally = Tally::new();
-    for branch in branches {
+    let mut tally = Tally::NONE;
+    for branch in section.branches() {
         put_branch(&branch, text)?;
         tally = tally.and(is_taken(branch.taken));
     }
-    tally.put_if_any(TotalKind::BranchFound, TotalKind::BranchHit, text)
+    put_totals_if_any(TotalKind::BranchFound, TotalKind::BranchHit, tally, text)
 }
 
-/// Appends a branch with its value. A refusal leaves the text as it was.
+/// Appends a branch with its value.
 fn put_branch<A: Allocator>(branch: &BranchValue, text: &mut Bytes<A>) -> Result<(), Memory>
     ensures { OnOk result (text.new ≡ text.old ++ printed (branch_record (branch_data branch.now))) }
 {

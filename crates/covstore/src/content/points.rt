@@ -1,11 +1,11 @@
 //! The functions, branches and lines of a section, each with its value.
 
-use crate::branches::{BranchKey, next_branch, times_taken};
+use crate::branches::{next_branch, times_taken};
 use crate::functions::{calls_of, next_name, start_of};
 use crate::keys::SectKey;
 use crate::lines::{checksum_of_line, line_count, next_line};
 use crate::values::{BranchValue, FunctionValue, LineValue};
-use covline::Submission;
+use covline::{BranchPoint, Submission};
 use std::alloc::{Allocator, Global};
 use std::marker::Model;
 
@@ -83,12 +83,12 @@ impl<'a, A: Allocator> Iterator for Functions<'a, A> {
 pub struct Branches<'a, A: Allocator = Global> {
     held: &'a [Submission<A>],
     key: SectKey<'a>,
-    last: Option<BranchKey>,
+    last: Option<BranchPoint>,
 }
 
 impl<'a, A: Allocator> Model for Branches<'a, A> {
     ghost use Rattle.std.specs.Prelude.{List, map, option_map};
-    ghost use Rattle.covstore.specs.BranchKeyView.{branch_key_data};
+    ghost use Rattle.covline.specs.PointView.{branch_point_data};
     ghost use Rattle.covline.specs.Row.{rows_of};
     ghost use Rattle.covstore.specs.Content.{BranchValueData, branch_at};
     ghost use Rattle.covstore.specs.Held.{IsHeld};
@@ -99,7 +99,7 @@ impl<'a, A: Allocator> Model for Branches<'a, A> {
 
     ghost Value = { List BranchValueData };
 
-    ghost view = { λ s. map (branch_at (items_at (key_data s.key) (all_rows (map rows_of s.held.now)))) (rest_after branch_cmp (option_map branch_key_data s.last) (branches_in (items_at (key_data s.key) (all_rows (map rows_of s.held.now))))) };
+    ghost view = { λ s. map (branch_at (items_at (key_data s.key) (all_rows (map rows_of s.held.now)))) (rest_after branch_cmp (option_map branch_point_data s.last) (branches_in (items_at (key_data s.key) (all_rows (map rows_of s.held.now))))) };
 
     ghost invariant = { λ s. IsHeld s.held.now };
 }

@@ -3,18 +3,16 @@
 ghost use Rattle.std.specs.Prelude.{◌≡◌, map, option_map, option_to_list};
 ghost use Rattle.covline.specs.Points.{branch_point, branch_points};
 ghost use Rattle.covline.specs.Row.{item_data, rows_of};
-ghost use Rattle.covstore.specs.BranchKeyView.{branch_key_data};
+ghost use Rattle.covline.specs.PointView.{branch_point_data};
 ghost use Rattle.covstore.specs.Held.{IsHeld};
 ghost use Rattle.covstore.specs.Next.{IsNext};
 ghost use Rattle.covstore.specs.Table.{all_rows};
 ghost use Rattle.covstore.specs.TotalsSteps.{found_in, hit_in, hits_branch, is_hit_in, items_of_file};
 ghost use Rattle.covstore.specs.Value.{branch_cmp};
 
-use super::tally::{Tally, nothing, one_more};
-use crate::branches::BranchKey;
 use crate::file_rows::ItemsOf;
 use crate::next::next_of;
-use covline::{Item, Submission};
+use covline::{BranchPoint, Item, Submission, Tally};
 use std::alloc::Allocator;
 
 /// The branches of this file.
@@ -23,10 +21,10 @@ pub(super) fn tally_of<A: Allocator>(held: &[Submission<A>], file: &[u8]) -> Tal
     ensures found { result.found ≡ found_in branch_cmp branch_point (items_of_file file.now (all_rows (map rows_of held.now))) }
     ensures hit { result.hit ≡ hit_in branch_cmp branch_point hits_branch (items_of_file file.now (all_rows (map rows_of held.now))) }
 {
-    let mut tally = nothing();
+    let mut tally = Tally::NONE;
     let mut last = None;
     while let Some(branch) = next_branch(held, file, last) {
-        tally = one_more(tally, is_hit(held, file, branch));
+        tally = tally.and(is_hit(held, file, branch));
         last = Some(branch);
     }
     tally
@@ -36,52 +34,26 @@ pub(super) fn tally_of<A: Allocator>(held: &[Submission<A>], file: &[u8]) -> Tal
 fn next_branch<A: Allocator>(
     held: &[Submission<A>],
     file: &[u8],
-    last: Option<BranchKey>,
-) -> Option<BranchKey>
-    ensures { IsNext branch_cmp (option_map branch_key_data last) (branch_points (items_of_file file.now (all_rows (map rows_of held.now)))) (option_map branch_key_data result) }
+    last: Option<BranchPoint>,
+) -> Option<BranchPoint>
+    ensures { IsNext branch_cmp (option_map branch_point_data last) (branch_points (items_of_file file.now (all_rows (map rows_of held.now)))) (option_map branch_point_data result) }
 {
-    next_of(ItemsOf::of(held, file).flat_map(branch_of), last)
-}
-
-/// The branch that a branch's item speaks of.
-fn branch_of<A: Allocator>(item: &Item<A>) -> Option<BranchKey>
-    ensures { option_to_list (option_map branch_key_data result) ≡ branch_point (item_data item.now) }
-{
-    match item {
-        Item::Branch {
-            line,
-            block,
-            branch,
-            ..
-        } => Some(BranchKey {
-            line: *line,
-            block: *block,
-            branch: *branch,
-        }),
-        Item::Line { .. } | Item::Func { .. } => None,
-    }
+    next_of(
+        ItemsOf::of(held, file).flat_map(|item| item.branch_point()),
+        last,
+    )
 }
 
 /// Whether some row of this file has the branch above 0.
-fn is_hit<A: Allocator>(held: &[Submission<A>], file: &[u8], branch: BranchKey) -> bool
-    ensures { result ≡ is_hit_in hits_branch (items_of_file file.now (all_rows (map rows_of held.now))) (branch_key_data branch) }
+fn is_hit<A: Allocator>(held: &[Submission<A>], file: &[u8], branch: BranchPoint) -> bool
+    ensures { result ≡ is_hit_in hits_branch (items_of_file file.now (all_rows (map rows_of held.now))) (branch_point_data branch) }
 {
     ItemsOf::of(held, file).any(|item| hits(item, branch))
 }
 
 /// Whether the item has this branch above 0.
-fn hits<A: Allocator>(item: &Item<A>, branch: BranchKey) -> bool
-    ensures { result ≡ hits_branch (branch_key_data branch) (item_data item.now) }
+fn hits<A: Allocator>(item: &Item<A>, branch: BranchPoint) -> bool
+    ensures { result ≡ hits_branch (branch_point_data branch) (item_data item.now) }
 {
-    match item {
-        Item::Branch {
-            line,
-            block,
-            branch: number,
-            taken: Some(taken),
-        } => {
-            *line == branch.line && *block == branch.block && *number == branch.branch && *taken > 0
-        }
-        Item::Branch { .. } | Item::Line { .. } | Item::Func { .. } => false,
-    }
+    item.branch_point() == Some(branch) && item.is_hit()
 }

@@ -10,10 +10,9 @@ ghost use Rattle.covstore.specs.Next.{IsNext};
 ghost use Rattle.covstore.specs.Table.{all_rows};
 ghost use Rattle.covstore.specs.TotalsSteps.{found_in, hit_in, hits_function, is_hit_in, items_of_file};
 
-use super::tally::{Tally, nothing, one_more};
 use crate::file_rows::ItemsOf;
 use crate::next::next_of;
-use covline::{Item, Submission};
+use covline::{Item, Submission, Tally};
 use std::alloc::Allocator;
 
 /// The functions of this file.
@@ -22,10 +21,10 @@ pub(super) fn tally_of<A: Allocator>(held: &[Submission<A>], file: &[u8]) -> Tal
     ensures found { result.found ≡ found_in (slice_cmp nat_cmp) func_point (items_of_file file.now (all_rows (map rows_of held.now))) }
     ensures hit { result.hit ≡ hit_in (slice_cmp nat_cmp) func_point hits_function (items_of_file file.now (all_rows (map rows_of held.now))) }
 {
-    let mut tally = nothing();
+    let mut tally = Tally::NONE;
     let mut last = None;
     while let Some(name) = next_name(held, file, last) {
-        tally = one_more(tally, is_hit(held, file, name));
+        tally = tally.and(is_hit(held, file, name));
         last = Some(name);
     }
     tally
@@ -39,18 +38,10 @@ fn next_name<'a, A: Allocator>(
 ) -> Option<&'a [u8]>
     ensures { IsNext (slice_cmp nat_cmp) (option_map (λ n. n.now) last.entry) (func_points (items_of_file file.now (all_rows (map rows_of held.now)))) (option_map (λ n. n.now) result) }
 {
-    // A closure: of the function's own name the prover doesn't know how long what it returns lives.
-    next_of(ItemsOf::of(held, file).flat_map(|item| name_of(item)), last)
-}
-
-/// The name of the function that a function's item speaks of.
-fn name_of<A: Allocator>(item: &Item<A>) -> Option<&[u8]>
-    ensures { option_to_list (option_map (λ n. n.now) result) ≡ func_point (item_data item.now) }
-{
-    match item {
-        Item::Func { name, .. } => Some(name.get()),
-        Item::Line { .. } | Item::Branch { .. } => None,
-    }
+    next_of(
+        ItemsOf::of(held, file).flat_map(|item| item.function_name()),
+        last,
+    )
 }
 
 /// Whether some row of this file has the function above 0.
@@ -64,12 +55,5 @@ fn is_hit<A: Allocator>(held: &[Submission<A>], file: &[u8], name: &[u8]) -> boo
 fn hits<A: Allocator>(item: &Item<A>, name: &[u8]) -> bool
     ensures { result ≡ hits_function name.now (item_data item.now) }
 {
-    match item {
-        Item::Func {
-            name: other,
-            count,
-            ..
-        } => other.get() == name && *count > 0,
-        Item::Line { .. } | Item::Branch { .. } => false,
-    }
+    item.function_name() == Some(name) && item.is_hit()
 }

@@ -9,10 +9,9 @@ ghost use Rattle.covstore.specs.Next.{IsNext};
 ghost use Rattle.covstore.specs.Table.{all_rows};
 ghost use Rattle.covstore.specs.TotalsSteps.{found_in, hit_in, hits_line, is_hit_in, items_of_file};
 
-use super::tally::{Tally, nothing, one_more};
 use crate::file_rows::ItemsOf;
 use crate::next::next_of;
-use covline::{Item, Submission};
+use covline::{Item, Submission, Tally};
 use std::alloc::Allocator;
 
 /// The lines of this file.
@@ -21,10 +20,10 @@ pub(super) fn tally_of<A: Allocator>(held: &[Submission<A>], file: &[u8]) -> Tal
     ensures found { result.found ≡ found_in nat_cmp line_point (items_of_file file.now (all_rows (map rows_of held.now))) }
     ensures hit { result.hit ≡ hit_in nat_cmp line_point hits_line (items_of_file file.now (all_rows (map rows_of held.now))) }
 {
-    let mut tally = nothing();
+    let mut tally = Tally::NONE;
     let mut last = None;
     while let Some(line) = next_line(held, file, last) {
-        tally = one_more(tally, is_hit(held, file, line));
+        tally = tally.and(is_hit(held, file, line));
         last = Some(line);
     }
     tally
@@ -34,17 +33,10 @@ pub(super) fn tally_of<A: Allocator>(held: &[Submission<A>], file: &[u8]) -> Tal
 fn next_line<A: Allocator>(held: &[Submission<A>], file: &[u8], last: Option<u64>) -> Option<u64>
     ensures { IsNext nat_cmp last (line_points (items_of_file file.now (all_rows (map rows_of held.now)))) result }
 {
-    next_of(ItemsOf::of(held, file).flat_map(line_of), last)
-}
-
-/// The line that a line's item speaks of.
-fn line_of<A: Allocator>(item: &Item<A>) -> Option<u64>
-    ensures { option_to_list result ≡ line_point (item_data item.now) }
-{
-    match item {
-        Item::Line { line, .. } => Some(*line),
-        Item::Func { .. } | Item::Branch { .. } => None,
-    }
+    next_of(
+        ItemsOf::of(held, file).flat_map(|item| item.line_point()),
+        last,
+    )
 }
 
 /// Whether some row of this file has the line above 0.
@@ -58,12 +50,5 @@ fn is_hit<A: Allocator>(held: &[Submission<A>], file: &[u8], line: u64) -> bool
 fn hits<A: Allocator>(item: &Item<A>, line: u64) -> bool
     ensures { result ≡ hits_line line (item_data item.now) }
 {
-    match item {
-        Item::Line {
-            line: at,
-            count,
-            ..
-        } => *at == line && *count > 0,
-        Item::Func { .. } | Item::Branch { .. } => false,
-    }
+    item.line_point() == Some(line) && item.is_hit()
 }

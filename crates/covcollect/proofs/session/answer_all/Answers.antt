@@ -8,20 +8,20 @@ use Rattle.covcollect.proofs.session.answer_all.Goals as goal
 
 pub loop-book-init : goal.loop-book-init
 loop-book-init g c =
-    so_far_none (moment g.I.Source.left g.I.Source.reads g.I.Source.failed_reads g.O.Sink.written g.O.Sink.failed_writes c.args.block.now c.args.source.now c.args.waiting.now.items c.args.sink.now) (ops_in c.new-book.result) (ap ops_in c.new-book.ensures)
+    so_far_none (moment c.args.input.now c.args.output.now) (ops_in c.new-book.result.entries) (ap ops_in c.new-book.ensures)
 
 pub loop-book-preserved : goal.loop-book-preserved
 loop-book-preserved g c =
-    let m = moment g.I.Source.left g.I.Source.reads g.I.Source.failed_reads g.O.Sink.written g.O.Sink.failed_writes c.args.block.now c.args.source.now c.args.waiting.now.items c.args.sink.now in
-    let n = moment g.I.Source.left g.I.Source.reads g.I.Source.failed_reads g.O.Sink.written g.O.Sink.failed_writes c.loop-book.block c.loop-book.source c.loop-book.waiting.items c.loop-book.sink in
-    let o = moment g.I.Source.left g.I.Source.reads g.I.Source.failed_reads g.O.Sink.written g.O.Sink.failed_writes c.answer_command.new.block c.answer_command.new.source c.answer_command.new.waiting.items c.answer_command.new.sink in
-    let P : LineEnd → Type 0 = λ e. TakesCommand n o (ops_in c.loop-book.book) (ops_in c.answer_command.new.book) e in
-    so_far_more m n o (ops_in c.loop-book.book) (ops_in c.answer_command.new.book) c.loop-book.invariant (subst P c.in-Feed.is c.in_ok-answer_command.ensures)
+    let m = moment c.args.input.now c.args.output.now in
+    let n = moment c.loop-book.input c.loop-book.output in
+    let o = moment c.answer_command.new.input c.answer_command.new.output in
+    let P : LineEnd → Type 0 = λ e. TakesCommand n o (ops_in c.loop-book.book.entries) (ops_in c.answer_command.new.book.entries) e in
+    so_far_more m n o (ops_in c.loop-book.book.entries) (ops_in c.answer_command.new.book.entries) c.loop-book.invariant (subst P c.in-Feed.is c.in_ok-answer_command.ensures)
 
 pub returns-in-Input : goal.returns-in-Input
 returns-in-Input g c =
-    let m = moment g.I.Source.left g.I.Source.reads g.I.Source.failed_reads g.O.Sink.written g.O.Sink.failed_writes c.args.block.now c.args.source.now c.args.waiting.now.items c.args.sink.now in
-    let n = moment g.I.Source.left g.I.Source.reads g.I.Source.failed_reads g.O.Sink.written g.O.Sink.failed_writes c.loop-book.block c.loop-book.source c.loop-book.waiting.items c.loop-book.sink in
-    let o = moment g.I.Source.left g.I.Source.reads g.I.Source.failed_reads g.O.Sink.written g.O.Sink.failed_writes c.answer_command.new.block c.answer_command.new.source c.answer_command.new.waiting.items c.answer_command.new.sink in
-    let P : LineEnd → Type 0 = λ e. TakesCommand n o (ops_in c.loop-book.book) (ops_in c.answer_command.new.book) e in
-    so_far_done m n o (ops_in c.loop-book.book) (ops_in c.answer_command.new.book) c.loop-book.invariant (subst P c.in-Input.is c.in_ok-answer_command.ensures)
+    let m = moment c.args.input.now c.args.output.now in
+    let n = moment c.loop-book.input c.loop-book.output in
+    let o = moment c.answer_command.new.input c.answer_command.new.output in
+    let P : LineEnd → Type 0 = λ e. TakesCommand n o (ops_in c.loop-book.book.entries) (ops_in c.answer_command.new.book.entries) e in
+    so_far_done m n o (ops_in c.loop-book.book.entries) (ops_in c.answer_command.new.book.entries) c.loop-book.invariant (subst P c.in-Input.is c.in_ok-answer_command.ensures)

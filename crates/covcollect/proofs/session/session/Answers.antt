@@ -1,17 +1,35 @@
+use Rattle.std.proofs.Common.{rules, arith, ◌^◌}
 use Rattle.covcollect.specs.Streams.{moment}
-use Rattle.covcollect.proofs.SessionSteps.{whole_session, only_whole}
+use Rattle.covcollect.proofs.SessionSteps.{whole_at, only_at, few_reads}
 use Rattle.covcollect.proofs.session.session.Goals as goal
 
 pub returns-clause-whole : goal.returns-clause-whole
 returns-clause-whole g c =
-    whole_session (moment g.I.Source.left g.I.Source.reads g.I.Source.failed_reads g.O.Sink.written g.O.Sink.failed_writes c.in_ok-block.block c.args.source.now c.new-waiting.result.items c.args.sink.now)
-    (moment g.I.Source.left g.I.Source.reads g.I.Source.failed_reads g.O.Sink.written g.O.Sink.failed_writes c.answer_all.new.block c.answer_all.new.source c.answer_all.new.waiting.items c.answer_all.new.sink)
-    (g.O.Sink.written c.put_out.new.sink) (g.O.Sink.written c.flush.new.sink)
-    c.in_ok-answer_all.ensures c.in_ok-block.ensures.empty c.new-waiting.ensures.items c.in_ok-put_out.ensures.written c.in_ok-flush.ensures.kept
+    whole_at (moment c.in_ok-input.input c.new-output.result) (moment c.answer_all.new.input c.answer_all.new.output) c.finish.new.self
+    (g.I.Source.left c.args.source.now) _ (g.O.Sink.written c.args.sink.now) _
+    (record {
+      done = c.in_ok-answer_all.ensures;
+      fresh = c.in_ok-input.ensures.empty;
+      empty = c.new-output.ensures.empty;
+      says = c.in_ok-finish.ensures.says;
+      emptied = c.in_ok-finish.ensures.emptied;
+    })
+    c.in_ok-input.ensures.left (search rules) c.new-output.ensures.written (search rules)
 
 pub returns-clause-only : goal.returns-clause-only
 returns-clause-only g c =
-    only_whole (moment g.I.Source.left g.I.Source.reads g.I.Source.failed_reads g.O.Sink.written g.O.Sink.failed_writes c.in_ok-block.block c.args.source.now c.new-waiting.result.items c.args.sink.now)
-    (moment g.I.Source.left g.I.Source.reads g.I.Source.failed_reads g.O.Sink.written g.O.Sink.failed_writes c.answer_all.new.block c.answer_all.new.source c.answer_all.new.waiting.items c.answer_all.new.sink)
-    (g.O.Sink.written c.put_out.new.sink) (g.O.Sink.written c.flush.new.sink)
-    c.in_ok-answer_all.ensures c.in_ok-block.ensures.empty c.new-waiting.ensures.items c.in_ok-put_out.ensures.written c.in_ok-flush.ensures.kept
+    only_at (moment c.in_ok-input.input c.new-output.result) (moment c.answer_all.new.input c.answer_all.new.output) c.finish.new.self
+    (g.I.Source.left c.args.source.now) (g.O.Sink.written c.args.sink.now) _
+    (record {
+      done = c.in_ok-answer_all.ensures;
+      fresh = c.in_ok-input.ensures.empty;
+      empty = c.new-output.ensures.empty;
+      says = c.in_ok-finish.ensures.says;
+      emptied = c.in_ok-finish.ensures.emptied;
+    })
+    c.in_ok-input.ensures.left c.new-output.ensures.written (search rules)
+
+pub returns-clause-few_reads : goal.returns-clause-few_reads
+returns-clause-few_reads g c =
+    let few = few_reads c.in_ok-input.input c.answer_all.new.input (2 ^ 32) _ c.in_ok-input.ensures.fresh c.in_ok-answer_all.ensures.moves.takes in
+    search (rules, arith)

@@ -2,4 +2,4 @@ use Rattle.covline.proofs.ReadKeys.{stripped_is}
 use Rattle.covline.proofs.reader.behind.Goals as goal
 
 pub returns : goal.returns
-returns c = stripped_is c.args.key.now c.args.line.now c.strip_prefix.result c.strip_prefix.ensures.cases
+returns c = stripped_is c.args.key.now c.args.text.now c.strip_prefix.result c.strip_prefix.ensures.cases

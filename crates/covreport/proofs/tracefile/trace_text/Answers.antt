@@ -13,8 +13,8 @@ loop-section-init g c =
 pub loop-section-preserved : goal.loop-section-preserved
 loop-section-preserved g c =
     report_goes_on (choice_data c.args.choice.now) c.args.store.now.sections c.loop-section.text c.put_chosen.new.text c.in-Some.section _ c.next.new.self
-    c.in-Some.ensures.steps c.loop-section.invariant c.in_ok-put_chosen.ensures
+    c.in-Some.ensures.steps c.loop-section.invariant c.in_ok-put_chosen.ensures.ok
 
-pub returns : goal.returns
-returns g c =
+pub returns-clause-text : goal.returns-clause-text
+returns-clause-text g c =
     report_ends (choice_data c.args.choice.now) c.args.store.now.sections c.loop-section.text _ c.in-None.ensures.steps.0 c.loop-section.invariant

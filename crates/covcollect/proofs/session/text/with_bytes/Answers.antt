@@ -1,5 +1,5 @@
 use Rattle.std.proofs.Common.{◌≡◌, rules, drop, sym, ◌∙◌, ap}
-use Rattle.covcollect.specs.Streams.{line_after}
+use Rattle.covcollect.specs.Text.{line_after}
 use Rattle.covcollect.specs.declared.session.text.LineSoFar.{LineSoFar}
 use Rattle.covcollect.specs.declared.session.text.LineSoFar.TheVariants.{Other}
 use Rattle.covcollect.proofs.SessionBytes.{line_after-other}

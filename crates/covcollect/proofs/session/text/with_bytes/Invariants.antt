@@ -1,5 +1,5 @@
 use Rattle.std.proofs.Common.{◌≡◌, drop}
-use Rattle.covcollect.specs.Streams.{line_after}
+use Rattle.covcollect.specs.Text.{line_after}
 use Rattle.covcollect.proofs.session.text.with_bytes.Given as goal
 
 abbrev pub invariant-loop-byte : goal.invariant-loop-byte

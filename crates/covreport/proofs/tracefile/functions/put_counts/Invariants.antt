@@ -3,9 +3,9 @@ use Rattle.covline.specs.Printed.{printed}
 use Rattle.covreport.specs.Report.{call_record}
 use Rattle.covreport.proofs.Texts.{IsPrinted}
 use Rattle.covstore.specs.Content.{FunctionValueData}
-use Rattle.covstore.specs.ValueView.{function_data}
+use Rattle.covreport.specs.FunctionView.{printed_function}
 use Rattle.covreport.proofs.tracefile.functions.put_counts.Given as goal
 
 abbrev pub invariant-loop-function : goal.invariant-loop-function
 invariant-loop-function g l =
-    IsPrinted (λ (f : FunctionValueData). printed (call_record f)) (λ (f : FunctionValueData). nat_lt 0 f.count) (map function_data l.functions) (map function_data (drop l.function-index l.functions)) l.fn.text l.text l.tally.found l.tally.hit
+    IsPrinted (λ (f : FunctionValueData). printed (call_record f)) (λ (f : FunctionValueData). nat_lt 0 f.count) (map printed_function l.functions) (map printed_function (drop l.function-index l.functions)) l.fn.text l.text l.tally.0 l.tally.1.0

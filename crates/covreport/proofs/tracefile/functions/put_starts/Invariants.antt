@@ -3,10 +3,10 @@ use Rattle.std.specs.List.{flat_map}
 use Rattle.covline.specs.Printed.{printed}
 use Rattle.covreport.specs.Report.{start_record}
 use Rattle.covstore.specs.Content.{FunctionValueData}
-use Rattle.covstore.specs.ValueView.{function_data}
+use Rattle.covreport.specs.FunctionView.{printed_function}
 use Rattle.covreport.proofs.tracefile.functions.put_starts.Given as goal
 
 abbrev pub invariant-loop-function : goal.invariant-loop-function
 invariant-loop-function g l =
     let part = λ (f : FunctionValueData). printed (start_record f) in
-    l.text ++ flat_map part (map function_data (drop l.function-index l.functions)) ≡ l.fn.text ++ flat_map part (map function_data l.functions)
+    l.text ++ flat_map part (map printed_function (drop l.function-index l.functions)) ≡ l.fn.text ++ flat_map part (map printed_function l.functions)

@@ -3,20 +3,18 @@ use Rattle.std.specs.Prelude.{Some, None, vec_capacity}
 use Rattle.covline.specs.Row.{SubmissionData, rows_of}
 use Rattle.covstore.specs.ClashView.{clash_data}
 use Rattle.covstore.specs.Content.{content_at}
-use Rattle.covstore.specs.RefuseView.{refuse_data}
-use Rattle.covstore.specs.Stored.{StoreData, IsPlanOf}
+use Rattle.covstore.specs.Stored.{StoreData, IsPlanOf, IsRefusedAt}
 use Rattle.covstore.specs.Table.{clash_at}
 use Rattle.covstore.specs.Totals.{totals_of}
-use Rattle.covstore.proofs.Stands.{told_too, refused_at, stands_before, stands_after}
+use Rattle.covstore.proofs.Stands.{told_too, stands_before, stands_after}
 use Rattle.covstore.proofs.store.Store.prepare.Goals as goal
 
 pub returns-in-Some-clause-refused : goal.returns-in-Some-clause-refused
 returns-in-Some-clause-refused g c = λ table stands.
     let s = c.args.submission.now in
     let clash = clash_data c.in-Some.clash in
-    refused_at table s clash (refuse_data c.refusal.result)
+    subst (IsRefusedAt table s) (sym c.in_ok-refusal.ensures)
     (told_too c.self.inside.held.items (vec_capacity c.self.inside.held) c.args.self.now c.self.view_is c.self.invariant s c.as_slice.result.now c.as_slice.ensures.value (Some clash) c.in-Some.ensures.told table stands)
-    c.refusal.ensures
 
 pub plan_of-requires-clause-agrees : goal.plan_of-requires-clause-agrees
 plan_of-requires-clause-agrees g c = λ table stands.

@@ -1,5 +1,5 @@
 use Rattle.std.proofs.Common.{ℕ, ◌+◌, ◌-◌, ◌^◌, min, length, ◌∙◌, ap}
-use Rattle.covcollect.specs.Streams.{line_after}
+use Rattle.covcollect.specs.Text.{line_after}
 use Rattle.covcollect.specs.declared.session.text.LineSoFar.{LineSoFar}
 use Rattle.covcollect.proofs.SessionBytes.{collected_add}
 use Rattle.covcollect.proofs.session.text.Text.add.Goals as goal

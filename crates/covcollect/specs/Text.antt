@@ -1,0 +1,80 @@
+-- A text behind a line `trace`: how it is collected, taken and answered.
+use Rattle.std.specs.List.{concat}
+use Rattle.std.specs.Prelude.{◌≡◌, ◌<◌, ◌≤◌, ℕ, length, List, [], ◌∷◌, ◌++◌, codes, Ok, Err, ◌-◌, ◌^◌, ◌==◌, min, if◌then◌else◌, take, Result}
+use Rattle.covline.specs.Lines.{line_of, carriage_return}
+use Rattle.covline.specs.Row.{SubmissionData}
+use Rattle.covread.specs.Outcome.{IsOutcome, most_bytes}
+use Rattle.covread.specs.declared.fault.ReadFault.{ReadFault}
+use Rattle.covread.specs.declared.fault.ReadFault.TheVariants as faults
+use Rattle.covcollect.specs.Command.{Command, IsBody, Submit, Refuse, Unfinished}
+use Rattle.covcollect.specs.declared.session.text.LineEnd.{LineEnd}
+use Rattle.covcollect.specs.declared.session.text.LineEnd.TheVariants.{Input}
+use Rattle.covcollect.specs.declared.session.text.LineSoFar.{LineSoFar}
+use Rattle.covcollect.specs.declared.session.text.LineSoFar.TheVariants.{Nothing, Dot, Other}
+use Rattle.covcollect.specs.declared.session.text.Taken.{Taken}
+use Rattle.covcollect.specs.declared.session.text.Taken.TheVariants as taken
+use Rattle.covcollect.specs.declared.session.text.Taken.TheVariants.{Whole, TooLong}
+use Rattle.covcollect.specs.declared.session.text.Text.{Text}
+
+-- a line that was begun, after one byte more: it may still be the line that ends a text
+abbrev pub line_with : LineSoFar → ℕ → LineSoFar
+line_with Nothing b = if b == 46 then Dot else Other
+line_with Dot b = if b == carriage_return then Dot else Other
+line_with Other b = Other
+
+-- the same after some bytes more
+abbrev pub line_after : LineSoFar → List ℕ → LineSoFar
+line_after so_far [] = so_far
+line_after so_far (b ∷ bs) = line_after (line_with so_far b) bs
+
+-- so much was collected of a text whose whole lines are those before: at most the limit is kept
+pub record IsCollected (limit : ℕ) (kept : List ℕ) (total begins : ℕ) (line : LineSoFar) (before now : List ℕ) : Type 0 where
+  pub keeps : kept ≡ take limit (before ++ now)
+  pub all : total ≡ min (length (before ++ now)) (2 ^ 64 - 1)
+  pub start : begins ≡ min (length before) (2 ^ 64 - 1)
+  pub so_far : line ≡ line_after Nothing now
+
+-- so much is collected of it
+abbrev pub HasCollected : {A : Type 0} → Text A → List ℕ → List ℕ → Type 0
+HasCollected text before now = IsCollected text.limit text.kept.items text.total text.begins text.line before now
+
+-- what was taken is this text, which is kept unless it is too long
+abbrev pub IsTextOf : {A : Type 0} → List ℕ → Taken A → Type 0
+IsTextOf text (Whole kept) = (kept.items ≡ text) × (length text ≤ most_bytes)
+IsTextOf text TooLong = most_bytes < length text
+IsTextOf text taken.Unfinished = ⊥
+
+-- the pieces behind a line `trace`: a text and its last line
+abbrev pub IsTextTaken : {A : Type 0} → List (List ℕ) → Taken A → Type 0
+IsTextTaken pieces taken =
+    (body : List (List ℕ)) × (last : List ℕ) × (pieces ≡ body ++ last ∷ []) × IsBody body × (line_of last ≡ codes ".")
+    × IsTextOf (concat body) taken
+
+-- they are a text that was taken so, or all the rest of the input
+abbrev pub IsTaken : {A : Type 0} → List (List ℕ) → LineEnd → Taken A → Type 0
+IsTaken pieces ending (Whole kept) = IsTextTaken pieces (Whole kept)
+IsTaken pieces ending TooLong = (body : List (List ℕ)) × (last : List ℕ) × (pieces ≡ body ++ last ∷ []) × IsBody body × (line_of last ≡ codes ".")
+    × (most_bytes < length (concat body))
+IsTaken pieces ending taken.Unfinished = IsBody pieces × (ending ≡ Input)
+
+-- the command that a text is, by what it is read as
+abbrev pub asked_for : Result SubmissionData ReadFault → List Command
+asked_for (Ok submission) = Submit submission ∷ []
+asked_for (Err fault) = Refuse fault ∷ []
+
+-- a fault that is told of a text: memory that ran out isn't one
+abbrev pub IsTold : ReadFault → Type 0
+IsTold faults.TooLong = Unit {0}
+IsTold (faults.Line at fault) = Unit {0}
+IsTold (faults.Outside at) = Unit {0}
+IsTold (faults.Inside at) = Unit {0}
+IsTold faults.OpenEnd = Unit {0}
+IsTold faults.Memory = ⊥
+
+-- what was taken of a text is these commands
+abbrev pub IsAnsweredAs : {A : Type 0} → Taken A → List Command → Type 0
+IsAnsweredAs (Whole kept) commands =
+    (outcome : Result SubmissionData ReadFault) × (commands ≡ asked_for outcome) × IsOutcome kept.items outcome
+    × ((other : Result SubmissionData ReadFault) → IsOutcome kept.items other → other ≡ outcome)
+IsAnsweredAs TooLong commands = commands ≡ Refuse faults.TooLong ∷ []
+IsAnsweredAs taken.Unfinished commands = commands ≡ Unfinished ∷ []

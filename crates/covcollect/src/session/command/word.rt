@@ -1,0 +1,81 @@
+//! What a command line asks for.
+
+ghost use Rattle.std.specs.Prelude.{◌≡◌, ◌≢◌, [], codes, option_map};
+ghost use Rattle.covline.specs.Lines.{strip};
+ghost use Rattle.covcollect.specs.Command.{before_space, IsWord, IsWordWith};
+
+use covline::without_returns;
+use memchr::memchr;
+
+/// Which files a pattern chooses.
+#[derive(Clone, Copy, Debug, PartialEq, Eq)]
+pub enum Pick {
+    /// `extract`, those that match; none without a pattern.
+    Extract,
+    /// `remove`, those that don't match; all without a pattern.
+    Remove,
+}
+
+/// What a command line asks for.
+#[derive(Clone, Copy, Debug, PartialEq, Eq)]
+pub enum Word<'a> {
+    /// Nothing: the line is blank.
+    Blank,
+    /// `report`, the merged tracefile.
+    Report,
+    /// `summary`, how much is hit.
+    Summary,
+    /// A choice of files, by the pattern behind the first space where there is one.
+    Choose(Pick, Option<&'a [u8]>),
+    /// `trace`, a tracefile follows.
+    Trace,
+    /// Something unknown.
+    Other,
+}
+
+/// What a line asks for.
+pub fn word_of(line: &[u8]) -> Word<'_>
+    ensures { IsWord (strip line.now) result }
+{
+    let words = without_returns(line);
+    if words.is_empty() {
+        Word::Blank
+    } else if words == b"report".as_slice() {
+        Word::Report
+    } else if words == b"summary".as_slice() {
+        Word::Summary
+    } else if words == b"trace".as_slice() {
+        Word::Trace
+    } else {
+        choice_of(words)
+    }
+}
+
+/// Which choice of files a line asks for that is no other command.
+fn choice_of(words: &[u8]) -> Word<'_>
+    requires some { words.now ≢ [] }
+    requires no_report { words.now ≢ codes "report" }
+    requires no_summary { words.now ≢ codes "summary" }
+    requires no_trace { words.now ≢ codes "trace" }
+    ensures { IsWord words.now result }
+{
+    let (name, pattern) = split_at_space(words);
+    if name == b"extract".as_slice() {
+        Word::Choose(Pick::Extract, pattern)
+    } else if name == b"remove".as_slice() {
+        Word::Choose(Pick::Remove, pattern)
+    } else {
+        Word::Other
+    }
+}
+
+/// What stands before the first space, and what behind it, where there is one.
+fn split_at_space(words: &[u8]) -> (&[u8], Option<&[u8]>)
+    ensures name { result.0.now ≡ before_space words.now }
+    ensures whole { IsWordWith words.now result.0.now (option_map (λ p. p.now) result.1) }
+{
+    match memchr(b' ', words) {
+        Some(at) => (&words[..at], Some(&words[at + 1..])),
+        None => (words, None),
+    }
+}

@@ -1,0 +1,151 @@
+//! A text behind a line `trace`: it is taken, read and submitted, or refused.
+
+ghost use Rattle.std.specs.Prelude.{◌≡◌, ℕ, ◌^◌, ◌<◌, List, [], Result, IfOk, IfErr, OnOk};
+ghost use Rattle.covline.specs.Row.{SubmissionData};
+ghost use Rattle.covbook.specs.Step.{table_of, ops_in};
+ghost use Rattle.covread.specs.declared.fault.ReadFault.{ReadFault as Fault};
+ghost use Rattle.covread.specs.declared.fault.ReadFault.TheVariants as read_faults;
+ghost use Rattle.covread.specs.Outcome.{IsOutcome};
+ghost use Rattle.covcollect.specs.Command.{Command};
+ghost use Rattle.covcollect.specs.Session.{refused_text, text_after, Asks};
+ghost use Rattle.covcollect.specs.Streams.{moment, CanCall, Says, TakesPieces};
+ghost use Rattle.covcollect.specs.Text.{asked_for, IsAnsweredAs, IsTaken, IsTold};
+ghost use Rattle.covcollect.specs.Run.{TakesTrace};
+ghost use Rattle.covcollect.specs.declared.session.fault.SessionFault.TheVariants as session_faults;
+
+use crate::session::answers::refused_line;
+use crate::session::command::step;
+use crate::session::fault::SessionFault;
+use crate::session::input::Input;
+use crate::session::output::Output;
+use crate::session::text::{LineEnd, Taken, Text};
+use crate::stream::{Sink, Source};
+use covbook::{Book, Op, SubRef};
+use covread::{MOST_BYTES, ReadFault, read_trace};
+use std::alloc::Allocator;
+
+// Takes the lines of a text, up to a line `.`, and answers what they are and how the last line ended.
+fn take_text<I: Source, O: Sink, A: Allocator>(
+    alloc: A,
+    input: &mut Input<'_, I, A>,
+    output: &mut Output<'_, O, A>,
+) -> Result<(Taken<A>, LineEnd), SessionFault>
+    requires { CanCall (moment input.old output.old) }
+    ensures { IfOk result (λ r. (pieces : List (List ℕ))
+        × TakesPieces (moment input.old output.old) (moment input.new output.new) pieces r.1 []
+        × IsTaken pieces r.1 r.0) }
+{
+    let mut text = Text::new(alloc, MOST_BYTES);
+    loop {
+        let ending = input.take_line(&mut text, output)?;
+        if text.is_last() {
+            return Ok((text.body(), ending));
+        }
+        match ending {
+            LineEnd::Feed => text.next_line()?,
+            LineEnd::Input => return Ok((Taken::Unfinished, LineEnd::Input)),
+        }
+    }
+}
+
+// A fault that isn't told of a text ends the session: memory that ran out.
+fn told(fault: ReadFault) -> Result<(), SessionFault>
+    ensures told { OnOk result (IsTold fault) }
+    ensures fault { IfErr result (λ f. (fault ≡ read_faults.Memory) × (f ≡ session_faults.Memory)) }
+{
+    match fault {
+        ReadFault::TooLong
+        | ReadFault::Line { .. }
+        | ReadFault::Outside { .. }
+        | ReadFault::Inside { .. }
+        | ReadFault::OpenEnd => Ok(()),
+        ReadFault::Memory => Err(SessionFault::Memory),
+    }
+}
+
+// Says why a text was refused.
+fn refuse<O: Sink, A: Allocator + Copy>(
+    alloc: A,
+    fault: ReadFault,
+    output: &mut Output<'_, O, A>,
+) -> Result<(), SessionFault>
+    requires { output.old.failed_writes < 2 ^ 63 }
+    ensures { OnOk result (Says output.old output.new (refused_text fault)) }
+{
+    let line = refused_line(alloc, fault)?;
+    output.say(line.as_slice())
+}
+
+// Reads a text and submits what it says, or says why it is refused. The text is let go as soon as it is read.
+fn submit<O: Sink, A: Allocator + Copy>(
+    alloc: A,
+    book: &mut Book<A>,
+    text: Vec<u8, A>,
+    output: &mut Output<'_, O, A>,
+) -> Result<(), SessionFault>
+    requires { output.old.failed_writes < 2 ^ 63 }
+    ensures { OnOk result ((outcome : Result SubmissionData Fault)
+        × IsOutcome text.items outcome
+        × ((other : Result SubmissionData Fault) → IsOutcome text.items other → other ≡ outcome)
+        × Asks (asked_for outcome) (ops_in book.old.entries) (ops_in book.new.entries)
+        × Says output.old output.new (text_after (table_of (ops_in book.old.entries)) (asked_for outcome))) }
+{
+    let read = read_trace(alloc, text.as_slice());
+    drop(text);
+    match read {
+        Ok(submission) => {
+            let op = Op::Submit(SubRef::of(alloc, submission)?);
+            step(alloc, book, &op, output)?;
+            Ok(())
+        }
+        Err(fault) => {
+            told(fault)?;
+            refuse(alloc, fault, output)?;
+            Ok(())
+        }
+    }
+}
+
+// Answers what was taken of a text.
+fn answer_taken<O: Sink, A: Allocator + Copy>(
+    alloc: A,
+    book: &mut Book<A>,
+    taken: Taken<A>,
+    output: &mut Output<'_, O, A>,
+) -> Result<(), SessionFault>
+    requires { output.old.failed_writes < 2 ^ 63 }
+    ensures { OnOk result ((commands : List Command) × IsAnsweredAs taken commands
+        × Asks commands (ops_in book.old.entries) (ops_in book.new.entries)
+        × Says output.old output.new (text_after (table_of (ops_in book.old.entries)) commands)) }
+{
+    match taken {
+        Taken::Whole(text) => {
+            submit(alloc, book, text, output)?;
+            Ok(())
+        }
+        Taken::TooLong => {
+            refuse(alloc, ReadFault::TooLong, output)?;
+            Ok(())
+        }
+        Taken::Unfinished => {
+            output.say(b"unfinished\n")?;
+            Ok(())
+        }
+    }
+}
+
+/// Answers a text that follows a line `trace`.
+pub fn answer_trace<I: Source, O: Sink, A: Allocator + Copy>(
+    alloc: A,
+    book: &mut Book<A>,
+    input: &mut Input<'_, I, A>,
+    output: &mut Output<'_, O, A>,
+) -> Result<LineEnd, SessionFault>
+    requires { CanCall (moment input.old output.old) }
+    ensures { IfOk result (λ ending. TakesTrace (moment input.old output.old) (moment input.new output.new)
+        (ops_in book.old.entries) (ops_in book.new.entries) ending) }
+{
+    let (taken, ending) = take_text(alloc, input, output)?;
+    answer_taken(alloc, book, taken, output)?;
+    Ok(ending)
+}

@@ -1,0 +1,50 @@
+//! The iterator of the lines of a text. It is apart from `lines`, since names in one module may not differ only in case.
+
+use crate::text_lines::first_line;
+use std::marker::Model;
+
+/// Goes over the lines of a text. Contracts see the bytes that are left.
+#[derive(Drop)]
+pub struct Lines<'a> {
+    rest: &'a [u8],
+}
+
+impl<'a> Model for Lines<'a> {
+    ghost use Rattle.std.specs.Prelude.{List, ℕ};
+
+    ghost Value = { List ℕ };
+
+    ghost view = { λ l. l.rest.now };
+}
+
+impl<'a> Lines<'a> {
+    ghost use Rattle.std.specs.Prelude.{◌≡◌};
+
+    /// At the front of the text.
+    pub(crate) fn of(text: &'a [u8]) -> Lines<'a>
+        ensures { result ≡ text.now }
+    {
+        Lines { rest: text }
+    }
+}
+
+impl<'a> Iterator for Lines<'a> {
+    ghost use Rattle.std.specs.Iterator.{YieldsFirstBy, item_count};
+    ghost use Rattle.covline.specs.Lines.{lines_of};
+
+    type Item = &'a [u8];
+
+    ghost next_gives = { YieldsFirstBy (λ line. line.now) lines_of };
+
+    ghost remaining = { item_count lines_of };
+
+    fn next(&mut self) -> Option<&'a [u8]> {
+        let text = self.rest;
+        if text.is_empty() {
+            return None;
+        }
+        let (line, rest) = first_line(text);
+        self.rest = rest;
+        Some(line)
+    }
+}

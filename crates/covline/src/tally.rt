@@ -1,0 +1,31 @@
+//! How many points there are.
+
+ghost use Rattle.std.specs.Prelude.{◌≡◌, ◌+◌, ◌<◌, ◌≤◌, ◌^◌, if◌then◌else◌};
+
+/// How many points of a kind (functions, branches or lines) there are, and how many of them have an execution count
+/// above 0.
+#[derive(Clone, Copy, Debug, PartialEq, Eq)]
+pub struct Tally {
+    /// How many there are.
+    pub found: u64,
+    /// Those of them with an execution count above 0.
+    pub hit: u64,
+    ghost fewer: { hit ≤ found },
+}
+
+impl Tally {
+    /// That of no points.
+    pub const NONE: Tally = Tally { found: 0, hit: 0 };
+
+    /// With one point more.
+    pub fn and(self, is_hit: bool) -> Tally
+        requires { self.found + 1 < 2 ^ 64 }
+        ensures found { result.found ≡ self.found + 1 }
+        ensures hit { result.hit ≡ self.hit + (if is_hit then 1 else 0) }
+    {
+        Tally {
+            found: self.found + 1,
+            hit: self.hit + u64::from(is_hit),
+        }
+    }
+}

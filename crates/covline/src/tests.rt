@@ -1,5 +1,0 @@
-mod cutting;
-mod owning;
-mod printing;
-mod read_line;
-mod submitting;

@@ -1,3 +1,0 @@
-mod patterns;
-mod printing;
-mod summing;

@@ -1,0 +1,8 @@
+use Rattle.covstore.proofs.Clashes.{agree_submitted, agree_empty}
+use Rattle.covstore.proofs.laws.accepted_rows_agree.Goals as goal
+
+pub returns-clause-empty : goal.returns-clause-empty
+returns-clause-empty c = agree_empty
+
+pub returns-clause-accepted : goal.returns-clause-accepted
+returns-clause-accepted c = agree_submitted

@@ -1,2 +1,0 @@
-mod storing;
-mod totals;
