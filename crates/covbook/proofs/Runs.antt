@@ -1,5 +1,5 @@
 -- A run with one operation more, and a history with one entry more.
-use Rattle.std.proofs.Common.{◌≡◌, ℕ, ◌+◌, ◌<◌, ◌≤◌, List, [], ◌∷◌, ◌++◌, length, Option, Some, None, refl, sym, ap, ◌∙◌, subst, arith}
+use Rattle.std.proofs.Common.{◌≡◌, ℕ, ◌+◌, ◌<◌, ◌≤◌, List, [], ◌∷◌, ◌++◌, length, None, refl, sym, ap, ◌∙◌, subst, arith}
 use Rattle.std.proofs.lemmas.List.{map_push, length_push}
 use Rattle.covline.specs.Row.{SubmissionData, rows_of, items_in}
 use Rattle.covstore.specs.Content.{content_at}
@@ -35,7 +35,7 @@ table-next entries job op = ap table_of (map_push (λ (x : EntryData). x.op) ent
 -- ---- stores
 
 -- a table that a store stands for is that of each store of the same content
-pub stands_still : (before after : StoreData) (table : Table) → SameContent before after → StandsFor before table → StandsFor after table
+stands_still : (before after : StoreData) (table : Table) → SameContent before after → StandsFor before table → StandsFor after table
 stands_still before after table same stands =
     let content : after.sections ≡ content_at table = same.sections ∙ stands.content in
     let members : after.members ≡ length table = same.members ∙ stands.members in

@@ -2,6 +2,7 @@ pub mod GoodTexts
 pub mod Cut
 pub mod SectLaws
 pub mod PrintedLaws
+pub mod ItemStarts
 pub mod LineLaws
 pub mod ReadKeys
 pub mod ReadNumbers

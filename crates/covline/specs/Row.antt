@@ -34,6 +34,12 @@ item_data (items.Line line count checksum) = LineItem line count checksum
 item_data (items.Func name line count) = FuncItem name line count
 item_data (items.Branch line block branch taken) = BranchItem line block branch taken
 
+-- a function's item with another start line; an item of another kind is as it was
+abbrev pub with_start : ℕ → ItemData → ItemData
+with_start line (FuncItem name start count) = FuncItem name line count
+with_start line (LineItem number count checksum) = LineItem number count checksum
+with_start line (BranchItem number block branch taken) = BranchItem number block branch taken
+
 -- the rows of a section and of a submission: the items in order, each with its section's test and file
 abbrev pub rows_of_sect : SectData → List Row
 rows_of_sect s = map (λ i. record { test = s.test; file = s.file; item = i }) s.items

@@ -172,8 +172,8 @@ impl<A: Allocator + Copy> Items<A> {
 }
 
 impl<A: Allocator> Items<A> {
-    ghost use Rattle.std.specs.Prelude.{◌≡◌, ◌++◌, [], ◌∷◌, OnOk, OnErr, length, map};
-    ghost use Rattle.covline.specs.Row.{item_data};
+    ghost use Rattle.std.specs.Prelude.{◌≡◌, ◌<◌, ◌++◌, List, [], ◌∷◌, OnOk, OnErr, length, map};
+    ghost use Rattle.covline.specs.Row.{ItemData, item_data, with_start};
     ghost use Rattle.covline.specs.Lawful.{AllFit64};
 
     /// The empty list.
@@ -194,6 +194,16 @@ impl<A: Allocator> Items<A> {
         Ok(())
     }
 
+    /// Gives the function's item at this place another start line. An item of another kind stays as it is.
+    pub fn set_start(&mut self, at: usize, line: u64)
+        requires { at < length self.old }
+        ensures { (before after : List ItemData) (item : ItemData) → self.old ≡ before ++ item ∷ after → at ≡ length before → self.new ≡ before ++ with_start line item ∷ after }
+    {
+        if let Item::Func { line: start, .. } = &mut self.items[at] {
+            *start = line;
+        }
+    }
+
     /// How many items there are.
     pub fn len(&self) -> usize
         ensures { result ≡ length self.now }
@@ -206,6 +216,13 @@ impl<A: Allocator> Items<A> {
         ensures { self.new ≡ self.old }
     {
         self.items.shrink_to_fit();
+    }
+
+    /// The items in order, each to be moved elsewhere.
+    pub fn into_vec(self) -> Vec<Item<A>, A>
+        ensures { map item_data result.items ≡ self }
+    {
+        self.items
     }
 
     /// The items in order.

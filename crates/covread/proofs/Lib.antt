@@ -10,7 +10,7 @@ pub mod TraceLawful
 pub mod TraceLoop
 pub mod TraceDistinct
 pub mod TracePoints
-pub mod TraceStarts
-pub mod TraceHits
+pub mod TraceFunctions
+pub mod TraceSection
 pub mod TraceTally
 pub mod TraceSettle

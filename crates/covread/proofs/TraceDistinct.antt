@@ -1,9 +1,11 @@
 -- How many different members a list has.
-use Rattle.std.proofs.Common.{◌≡◌, ℕ, ◌+◌, Bool, true, false, cond, ◌||◌, List, [], ◌∷◌, ◌++◌, length, map, refl, ap, ◌∙◌, arith}
+use Rattle.std.proofs.Common.{◌≡◌, ℕ, ◌+◌, Bool, true, false, cond, ◌||◌, List, [], ◌∷◌, ◌++◌, length, map, refl, sym, ap, ◌∙◌, arith}
 use Rattle.std.specs.Cmp.{IsEquivalence}
-use Rattle.std.specs.List.{list_any}
+use Rattle.std.specs.List.{list_any, AllByRecursion, IsDistinct}
 use Rattle.std.specs.Set.{distinct_count, unique_keys}
 use Rattle.std.proofs.lemmas.List.Folds.{list_any-append}
+use Rattle.std.proofs.lemmas.Map.Keys.{IsDistinct-cons}
+use Rattle.std.proofs.lemmas.Map.Made.{length-from_keys}
 use Rattle.std.proofs.lemmas.Map.Steps.{list_any_congr}
 use Rattle.covread.specs.Reads.{distinct}
 
@@ -58,3 +60,39 @@ distinct_on f E F h [] = refl
 distinct_on f E F h (x ∷ xs) =
     ap (λ (b : Bool). cond b (distinct E (map f xs)) (distinct E (map f xs) + 1)) (list_any_on f (E (f x)) (F x) (h x) xs)
     ∙ ap (λ (n : ℕ). cond (list_any (F x) xs) n (n + 1)) (distinct_on f E F h xs)
+
+-- ---- the same members
+
+kept_any : {K : Type 0} {E : K → K → Bool} (laws : IsEquivalence E) (q : K) (xs : List K) → list_any (E q) (unique_keys E xs) ≡ list_any (E q) xs
+kept_any laws q [] = refl
+kept_any {K} {E} laws q (x ∷ xs) = by (list_any (E x) xs) refl (E q x) refl (kept_any laws q xs)
+  where
+    by : (b : Bool) → list_any (E x) xs ≡ b → (e : Bool) → E q x ≡ e → list_any (E q) (unique_keys E xs) ≡ list_any (E q) xs → list_any (E q) (cond b (unique_keys E xs) (x ∷ unique_keys E xs)) ≡ (E q x || list_any (E q) xs)
+    by true h true k rest = rest ∙ list_any_congr laws q x xs k ∙ h ∙ sym (ap (λ (c : Bool). c || list_any (E q) xs) k)
+    by true h false k rest = rest ∙ sym (ap (λ (c : Bool). c || list_any (E q) xs) k)
+    by false h e k rest = ap (λ (c : Bool). E q x || c) rest
+
+apart_all : {K : Type 0} (E : K → K → Bool) (x : K) (ks : List K) → list_any (E x) ks ≡ false → AllByRecursion (λ y. E x y ≡ false) ks
+apart_all E x [] h = tt
+apart_all {K} E x (k ∷ ks) h = by (E x k) refl h (λ rest. apart_all E x ks rest)
+  where
+    by : (b : Bool) → E x k ≡ b → (b || list_any (E x) ks) ≡ false → (list_any (E x) ks ≡ false → AllByRecursion (λ y. E x y ≡ false) ks) → AllByRecursion (λ y. E x y ≡ false) (k ∷ ks)
+    by true e h rest = absurd cc
+    by false e h rest = (e, rest h)
+
+distinct_nil : {K : Type 0} (E : K → K → Bool) → IsDistinct E []
+unfolding IsDistinct
+distinct_nil E = tt
+
+unique_apart : {K : Type 0} {E : K → K → Bool} (laws : IsEquivalence E) (xs : List K) → IsDistinct E (unique_keys E xs)
+unique_apart {K} {E} laws [] = distinct_nil E
+unique_apart {K} {E} laws (x ∷ xs) = by (list_any (E x) xs) refl (unique_apart laws xs)
+  where
+    by : (b : Bool) → list_any (E x) xs ≡ b → IsDistinct E (unique_keys E xs) → IsDistinct E (cond b (unique_keys E xs) (x ∷ unique_keys E xs))
+    by true h rest = rest
+    by false h rest = IsDistinct-cons E x (unique_keys E xs) (apart_all E x (unique_keys E xs) (kept_any laws x xs ∙ h)) rest
+
+-- as many differ where the members are the same
+pub distinct_members : {K : Type 0} {E : K → K → Bool} (laws : IsEquivalence E) (xs ys : List K) → ((q : K) → list_any (E q) xs ≡ list_any (E q) ys) → distinct E xs ≡ distinct E ys
+distinct_members {K} {E} laws xs ys same =
+    distinct_is_count E xs ∙ length-from_keys laws (unique_keys E xs) ys (unique_apart laws xs) (λ q. kept_any laws q xs ∙ same q) ∙ sym (distinct_is_count E ys)

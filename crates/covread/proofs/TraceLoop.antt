@@ -3,14 +3,16 @@ use Rattle.std.proofs.Common.{◌≡◌, ℕ, ◌+◌, ◌<◌, ◌≤◌, ◌^�
 use Rattle.std.specs.Prelude.{option_map, is_some}
 use Rattle.std.proofs.lemmas.List.{append-nil, length-append}
 use Rattle.covline.specs.Lines.{lines_of}
+use Rattle.covline.specs.Row.{SectData}
 use Rattle.covline.specs.Lawful.{IsLawful}
 use Rattle.covline.specs.Spells.{LineData, Spells}
 use Rattle.covline.proofs.LineLaws.{few_lines, good_lines}
 use Rattle.covread.specs.declared.fault.ReadFault.{ReadFault}
 use Rattle.covread.specs.declared.fault.ReadFault.TheVariants as faults
+use Rattle.covread.specs.declared.trace.reader.OpenSection.{OpenSection}
 use Rattle.covread.specs.Reads.{Part}
 use Rattle.covread.specs.Outcome.{most_bytes, IsFirstFault, Answers}
-use Rattle.covread.specs.TraceSteps.{SectionData, HeldData, submission_held, IsLawfulAt, empty, kept_in, step, TakesLine, ends, EndsLawfully}
+use Rattle.covread.specs.TraceSteps.{SectionData, HeldData, submission_held, IsLawfulAt, empty, kept_in, section_data, held_data, IsOpen, step, StopsAt, ends, EndsLawfully}
 use Rattle.covread.proofs.TraceGrammar.{Place, Between, Within}
 use Rattle.covread.proofs.TraceStands.{Stands, stands_reads, stop_by_fault, stop_open}
 use Rattle.covread.proofs.TraceLaw.{line_law}
@@ -48,7 +50,7 @@ pub reading_number : (text rest line left : List ℕ) (held : HeldData) (at : �
 reading_number text rest line left held at short r f =
     omega (arith, short, few_lines text, r.number, ap length (place_is text rest line left held at r f), length-append r.before (line ∷ lines_of left))
 
-pub reading_room : (text rest : List ℕ) (held : HeldData) (at : ℕ) → length text ≤ most_bytes → Reading text rest held at → held.odd + length (kept_in held.section) < 2 ^ 64
+pub reading_room : (text rest : List ℕ) (held : HeldData) (at : ℕ) → length text ≤ most_bytes → Reading text rest held at → held.odd + length (kept_in held.section) + 1 < 2 ^ 64
 reading_room text rest held at short r =
     omega (arith, short, few_lines text, held_room r.before held r.holds, ap length r.whole, length-append r.before (lines_of rest))
 
@@ -56,26 +58,26 @@ number_is : (n at : ℕ) (lines : List (List ℕ)) → n ≡ at + 1 → at ≡ l
 number_is n at lines e f = omega (arith, e, f)
 
 -- a fault of the next line is the first fault of the text
-pub reading_stop : (text rest line left : List ℕ) (before after : HeldData) (at : ℕ) (fault : ReadFault) → length text ≤ most_bytes → Reading text rest before at
-    → lines_of rest ≡ line ∷ lines_of left → TakesLine {T = Unit {0}} (Err fault) before after line (at + 1) → Answers text (Err fault)
-reading_stop text rest line left before after at (faults.Line n f) short r e takes = inr (inr (
+pub reading_stop : (text rest line left : List ℕ) (before : HeldData) (at : ℕ) (fault : ReadFault) → length text ≤ most_bytes → Reading text rest before at
+    → lines_of rest ≡ line ∷ lines_of left → StopsAt fault before line (at + 1) → Answers text (Err fault)
+reading_stop text rest line left before at (faults.Line n f) short r e takes = inr (inr (
   short,
   subst (λ (k : ℕ). IsFirstFault (lines_of text) (faults.Line k f)) (number_is n at r.before takes.0 r.number)
       (stop_by_fault line_law r.holds.place line r.before r.holds.parts (lines_of left) (lines_of text) r.holds.stands (place_is text rest line left before at r e) f takes.1),
 ))
-reading_stop text rest line left before after at (faults.Outside n) short r e takes = inr (inr (
+reading_stop text rest line left before at (faults.Outside n) short r e takes = inr (inr (
   short,
   subst (λ (k : ℕ). IsFirstFault (lines_of text) (faults.Outside k)) (number_is n at r.before takes.0 r.number)
       (holds_outside r.before line (lines_of left) (lines_of text) before takes.1 r.holds (place_is text rest line left before at r e) takes.2 takes.3),
 ))
-reading_stop text rest line left before after at (faults.Inside n) short r e takes = inr (inr (
+reading_stop text rest line left before at (faults.Inside n) short r e takes = inr (inr (
   short,
   subst (λ (k : ℕ). IsFirstFault (lines_of text) (faults.Inside k)) (number_is n at r.before takes.0 r.number)
       (holds_inside r.before line (lines_of left) (lines_of text) before takes.1 r.holds (place_is text rest line left before at r e) takes.2 takes.3),
 ))
-reading_stop text rest line left before after at faults.Memory short r e takes = inl (short, refl)
-reading_stop text rest line left before after at faults.OpenEnd short r e takes = absurd takes
-reading_stop text rest line left before after at faults.TooLong short r e takes = absurd takes
+reading_stop text rest line left before at faults.Memory short r e takes = inl (short, refl)
+reading_stop text rest line left before at faults.OpenEnd short r e takes = absurd takes
+reading_stop text rest line left before at faults.TooLong short r e takes = absurd takes
 
 -- ---- behind the last line
 
@@ -97,6 +99,19 @@ reading_end text rest held at short r none =
 pub reading_begins : (text rest : List ℕ) (held : HeldData) → held ≡ empty → rest ≡ text → Reading text rest held 0
 reading_begins text rest held e f =
     subst (λ (h : HeldData). Reading text rest h 0) (sym e) (subst (λ (x : List ℕ). Reading text x empty 0) (sym f) (reading_at_first text))
+
+-- what is held at the end doesn't hang on the records of an open section
+abbrev EndsAt : {A : Type 0} → List ℕ → List ℕ → List SectData → ℕ → Option (OpenSection A) → List LineData → Type 0
+EndsAt text test sects odd section inside = Ended text (record { test = test; section = option_map (section_data inside) section; sects = sects; odd = odd })
+
+pub ends_without : {A : Type 0} (text test : List ℕ) (sects : List SectData) (odd : ℕ) (section : Option (OpenSection A)) (inside : List LineData) → EndsAt text test sects odd section inside → EndsAt text test sects odd section []
+ends_without text test sects odd None inside h = h
+ends_without text test sects odd (Some s) inside h = h
+
+-- the records so far are those that are kept
+pub open_length : {A : Type 0} (section : Option (OpenSection A)) (inside : List LineData) → IsOpen section inside → length inside ≡ length (kept_in (option_map (section_data inside) section))
+open_length None inside h = ap length h
+open_length (Some s) inside h = refl
 
 -- with no open section what is held makes a submission
 pub closed_lawful : {X : Type 0} (view : X → SectionData) (section : Option X) (held : HeldData) → is_some section ≡ false → IsLawfulAt (option_map view section) held → IsLawful (submission_held held)

@@ -1,5 +1,5 @@
 -- The own totals by the keys that the code counts, and the stated ones that differ.
-use Rattle.std.proofs.Common.{◌≡◌, ℕ, Bool, true, false, cond, ◌&&◌, ◌||◌, not, List, [], ◌∷◌, ◌++◌, map, refl, sym, ap, ◌∙◌, arith}
+use Rattle.std.proofs.Common.{◌≡◌, ℕ, Bool, true, false, cond, ◌&&◌, ◌||◌, not, List, [], ◌∷◌, ◌++◌, ◌+◌, map, refl, sym, ap, ◌∙◌, arith}
 use Rattle.std.specs.Prelude.{count_by, nat_eq, filter}
 use Rattle.std.specs.List.{flat_map, list_any}
 use Rattle.std.specs.Ordering.{nat_cmp, eq_by_cmp, is_eq, ordering_then}
@@ -8,18 +8,18 @@ use Rattle.std.specs.declared.cmp.Ordering.TheVariants.{Less, Equal, Greater}
 use Rattle.std.proofs.lemmas.Bool.Decides.{nat_tests}
 use Rattle.std.proofs.lemmas.List.{map-id, map-append}
 use Rattle.std.proofs.lemmas.List.Sums.{sum_by-cons}
+use Rattle.covline.specs.declared.point.BranchPoint as code
 use Rattle.covline.specs.declared.trace_line.TotalKind.{TotalKind}
 use Rattle.covline.specs.declared.trace_line.TotalKind.TheVariants.{FuncFound, FuncHit, BranchFound, BranchHit, LineFound, LineHit}
 use Rattle.covline.specs.Points.{BranchPoint, branch_point, branch_points, line_point, is_hit}
 use Rattle.covline.specs.Row.{ItemData, LineItem, FuncItem, BranchItem}
-use Rattle.covline.specs.Spells.{LineData, Test, Path, FuncStart, FuncCount, Branch, Line, Total, End, Skip}
-use Rattle.covread.specs.declared.trace.points.BranchKey.{BranchKey}
+use Rattle.covline.specs.Spells.{LineData, Total}
 use Rattle.covread.specs.declared.trace.tally.Own.{Own}
 use Rattle.covread.specs.declared.trace.tally.Sort.{Sort}
 use Rattle.covread.specs.declared.trace.tally.Sort.TheVariants.{Functions, Branches, Lines}
 use Rattle.covread.specs.Reads.{distinct, branch_eq, own_total, items_of}
 use Rattle.covread.specs.TracePoints.{branch_key}
-use Rattle.covread.specs.TraceTally.{has, states, own_value, differs, is_other, branch_cmp, AreOwn}
+use Rattle.covread.specs.TraceTally.{has, states, is_total, stated_record, own_value, differs, is_other, branch_cmp, AreOwn}
 use Rattle.covread.proofs.TraceDistinct.{distinct_on}
 
 -- ---- lines
@@ -32,7 +32,7 @@ lines_differ lines = sym (ap (distinct (eq_by_cmp nat_cmp)) (map-id lines)) ∙ 
 
 -- ---- branches
 
-abbrev point_at : BranchKey → BranchPoint
+abbrev point_at : code.BranchPoint → BranchPoint
 point_at k = record { line = k.line; block = k.block; branch = k.branch }
 
 point_of : (i : ItemData) → map point_at (branch_key i) ≡ branch_point i
@@ -55,7 +55,7 @@ and_three : (a b c : Bool) → (a && (b && c)) ≡ ((a && b) && c)
 and_three true b c = refl
 and_three false b c = refl
 
-branch_same : (a b : BranchKey) → branch_eq (point_at a) (point_at b) ≡ eq_by_cmp branch_cmp a b
+branch_same : (a b : code.BranchPoint) → branch_eq (point_at a) (point_at b) ≡ eq_by_cmp branch_cmp a b
 branch_same a b =
     let inner = both_eq (nat_cmp a.block b.block) (nat_cmp a.branch b.branch) ∙ ap (λ (x : Bool). x && is_eq (nat_cmp a.branch b.branch)) (nat_same a.block b.block) ∙ ap (λ (x : Bool). nat_eq a.block b.block && x) (nat_same a.branch b.branch) in
     let outer = both_eq (nat_cmp a.line b.line) (ordering_then (nat_cmp a.block b.block) (nat_cmp a.branch b.branch)) in
@@ -69,8 +69,8 @@ branches_differ items = sym (distinct_on point_at branch_eq (eq_by_cmp branch_cm
 
 -- an own total of a sort that the section states
 own_is : (own : Own) (inside : List LineData) → AreOwn own inside → (kind : TotalKind) → ((sort : Sort) → has sort kind ≡ true → list_any (states sort) inside ≡ true) → own_value own kind ≡ own_total kind (items_of inside)
-own_is own inside h FuncFound stated = (h.functions (stated Functions refl)).found
-own_is own inside h FuncHit stated = (h.functions (stated Functions refl)).hit
+own_is own inside h FuncFound stated = h.functions.found
+own_is own inside h FuncHit stated = h.functions.hit
 own_is own inside h BranchFound stated = (h.branches (stated Branches refl)).found ∙ branches_differ (items_of inside)
 own_is own inside h BranchHit stated = (h.branches (stated Branches refl)).hit ∙ branches_differ (filter is_hit (items_of inside))
 own_is own inside h LineFound stated = (h.lines (stated Lines refl)).found ∙ lines_differ (flat_map line_point (items_of inside))
@@ -78,14 +78,7 @@ own_is own inside h LineHit stated = (h.lines (stated Lines refl)).hit ∙ lines
 
 differs_is : (own : Own) (inside : List LineData) → AreOwn own inside → (r : LineData) → ((sort : Sort) → states sort r ≡ true → list_any (states sort) inside ≡ true) → differs own r ≡ is_other inside r
 differs_is own inside h (Total kind value) stated = ap (λ (n : ℕ). not (nat_eq value n)) (own_is own inside h kind stated)
-differs_is own inside h (FuncStart line name) stated = refl
-differs_is own inside h (FuncCount count name) stated = refl
-differs_is own inside h (Branch line block branch taken) stated = refl
-differs_is own inside h (Line line count checksum) stated = refl
-differs_is own inside h (Test name) stated = refl
-differs_is own inside h (Path path) stated = refl
-differs_is own inside h End stated = refl
-differs_is own inside h Skip stated = refl
+differs_is own inside h says stated = refl
 
 or_last : (a b : Bool) → b ≡ true → (a || b) ≡ true
 or_last true b h = refl
@@ -101,5 +94,51 @@ all_differ own inside h (r ∷ rs) stated =
     let one : cond {A = ℕ} (differs own r) 1 0 ≡ cond (is_other inside r) 1 0 = ap (λ (x : Bool). cond {A = ℕ} x 1 0) first in
     omega (arith, a, b, one, others)
 
-pub odd_is : (own : Own) (inside : List LineData) → AreOwn own inside → count_by (differs own) inside ≡ count_by (is_other inside) inside
+odd_is : (own : Own) (inside : List LineData) → AreOwn own inside → count_by (differs own) inside ≡ count_by (is_other inside) inside
 odd_is own inside h = all_differ own inside h inside (λ sort e. e)
+
+-- ---- the totals alone
+
+any_first : (p : LineData → Bool) (r : LineData) (rs : List LineData) → (is_total r ≡ false → p r ≡ false) → list_any p (cond (is_total r) (r ∷ filter is_total rs) (filter is_total rs)) ≡ (p r || list_any p (filter is_total rs))
+any_first p r rs h = by (is_total r) h
+  where
+    by : (b : Bool) → (b ≡ false → p r ≡ false) → list_any p (cond b (r ∷ filter is_total rs) (filter is_total rs)) ≡ (p r || list_any p (filter is_total rs))
+    by true h = refl
+    by false h = sym (ap (λ (c : Bool). c || list_any p (filter is_total rs)) (h refl))
+
+any_total : (p : LineData → Bool) → ((r : LineData) → is_total r ≡ false → p r ≡ false) → (rs : List LineData) → list_any p (filter is_total rs) ≡ list_any p rs
+any_total p h [] = refl
+any_total p h (r ∷ rs) = any_first p r rs (h r) ∙ ap (λ (b : Bool). p r || b) (any_total p h rs)
+
+abbrev one_if : Bool → ℕ
+one_if b = cond b 1 0
+
+count_first : (p : LineData → Bool) (r : LineData) (rs : List LineData) → (is_total r ≡ false → p r ≡ false) → count_by p (cond (is_total r) (r ∷ filter is_total rs) (filter is_total rs)) ≡ one_if (p r) + count_by p (filter is_total rs)
+count_first p r rs h = by (is_total r) h
+  where
+    by : (b : Bool) → (b ≡ false → p r ≡ false) → count_by p (cond b (r ∷ filter is_total rs) (filter is_total rs)) ≡ one_if (p r) + count_by p (filter is_total rs)
+    by true h = sum_by-cons (λ (x : LineData). cond (p x) 1 0) r (filter is_total rs)
+    by false h = let e = ap one_if (h refl) in omega (arith, e)
+
+count_total : (p : LineData → Bool) → ((r : LineData) → is_total r ≡ false → p r ≡ false) → (rs : List LineData) → count_by p (filter is_total rs) ≡ count_by p rs
+count_total p h [] = refl
+count_total p h (r ∷ rs) =
+    let a = count_first p r rs (h r) in
+    let b = sum_by-cons (λ (x : LineData). cond (p x) 1 0) r rs in
+    omega (arith, a, b, count_total p h rs)
+
+differs_total : (own : Own) (r : LineData) → is_total r ≡ false → differs own r ≡ false
+differs_total own (Total kind value) e = absurd cc
+differs_total own says e = refl
+
+states_total : (sort : Sort) (r : LineData) → is_total r ≡ false → states sort r ≡ false
+states_total sort (Total kind value) e = absurd cc
+states_total sort says e = refl
+
+-- whether the section states a total of the sort
+pub stated_is : (sort : Sort) (totals inside : List LineData) → totals ≡ filter is_total inside → list_any (states sort) totals ≡ list_any (states sort) inside
+stated_is sort totals inside e = ap (list_any (states sort)) e ∙ any_total (states sort) (states_total sort) inside
+
+-- how many of the totals are odd
+pub odd_totals_are : (own : Own) (totals inside : List LineData) (odd : ℕ) → totals ≡ filter is_total inside → AreOwn own inside → odd ≡ count_by (differs own) totals → odd ≡ count_by (is_other inside) inside
+odd_totals_are own totals inside odd e h o = o ∙ ap (count_by (differs own)) e ∙ count_total (differs own) (differs_total own) inside ∙ odd_is own inside h

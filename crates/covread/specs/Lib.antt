@@ -4,6 +4,7 @@ pub mod Said
 pub mod TraceSteps
 pub mod Fault
 pub mod TracePoints
-pub mod TraceStarts
+pub mod TraceFunctions
 pub mod TraceTally
+pub mod TraceSection
 pub mod TraceSettle

@@ -1,5 +1,5 @@
--- What the reader keeps of a section's lines, seen as plain data.
-use Rattle.std.specs.Prelude.{List, map, option_map}
+-- What a line of a section says, seen as plain data.
+use Rattle.std.specs.Prelude.{option_map}
 use Rattle.covline.specs.Spells.{LineData, FuncStart, FuncCount, Branch, Line, Total}
 use Rattle.covread.specs.declared.trace.said.Said.{Said}
 use Rattle.covread.specs.declared.trace.said.Said.TheVariants as said
@@ -10,7 +10,3 @@ said_data (said.FuncCount count name) = FuncCount count name.now
 said_data (said.Branch line block branch taken) = Branch line block branch taken
 said_data (said.Line line count checksum) = Line line count (option_map (λ c. c.now) checksum)
 said_data (said.Total kind value) = Total kind value
-
--- the records of the lines that are kept
-abbrev pub records_kept : List Said → List LineData
-records_kept lines = map said_data lines

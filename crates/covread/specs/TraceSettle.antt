@@ -1,25 +1,62 @@
--- What one line gives to its section as the code has it.
-use Rattle.std.specs.Prelude.{◌≡◌, Bool, true, false, is_none, List, [], ◌∷◌}
-use Rattle.covline.specs.Row.{item_data}
-use Rattle.covline.specs.Spells.{LineData, Test, Path, FuncStart, FuncCount, Branch, Line, Total, End, Skip}
-use Rattle.covread.specs.declared.trace.settle.Given.{Given}
-use Rattle.covread.specs.declared.trace.settle.Given.TheVariants as given
-use Rattle.covread.specs.Reads.{items_said, start_in}
+-- What becomes of the counts of functions when a section ends.
+use Rattle.std.specs.Prelude.{◌≡◌, ℕ, zero, suc, ◌+◌, ◌<◌, ◌==◌, Bool, true, false, is_none, List, [], ◌∷◌, Option, None, Some, if◌then◌else◌, length}
+use Rattle.std.specs.List.{flat_map, AllByRecursion}
+use Rattle.std.specs.Str.{bytes_eq}
+use Rattle.covline.specs.Row.{ItemData, with_start}
+use Rattle.covline.specs.Spells.{LineData, FuncCount}
+use Rattle.covread.specs.Reads.{distinct, start_in}
+use Rattle.covread.specs.TraceFunctions.{named}
+use Rattle.covread.specs.TraceSection.{Mark}
 
 -- the record counts a function without a start line
 abbrev pub is_unstarted : List LineData → LineData → Bool
 is_unstarted inside (FuncCount count name) = is_none (start_in name inside)
-is_unstarted inside (FuncStart line name) = false
-is_unstarted inside (Branch line block branch taken) = false
-is_unstarted inside (Line line count checksum) = false
-is_unstarted inside (Total kind value) = false
-is_unstarted inside (Test name) = false
-is_unstarted inside (Path path) = false
-is_unstarted inside End = false
-is_unstarted inside Skip = false
+is_unstarted inside says = false
 
--- the record gives this to the section
-abbrev pub Gives : {A : Type 0} → List LineData → LineData → Given A → Type 0
-Gives inside r (given.Item item) = (items_said inside r ≡ item_data item ∷ []) × (is_unstarted inside r ≡ false)
-Gives inside r given.Unstarted = (items_said inside r ≡ []) × (is_unstarted inside r ≡ true)
-Gives inside r given.Total = (items_said inside r ≡ []) × (is_unstarted inside r ≡ false)
+-- the functions that the counts hit
+abbrev pub names_in : (List ℕ → Option ℕ) → List Mark → List (List ℕ)
+names_in starts marks = flat_map (λ m. named m.name m.is_hit (starts m.name)) marks
+
+-- the place, where the function has no start line
+abbrev pub alone : ℕ → Option ℕ → List ℕ
+alone at None = at ∷ []
+alone at (Some line) = []
+
+abbrev pub unstarted_in : (List ℕ → Option ℕ) → List Mark → List ℕ
+unstarted_in starts marks = flat_map (λ m. alone m.at (starts m.name)) marks
+
+-- the items with this start line at that place
+abbrev pub start_set : ℕ → ℕ → List ItemData → List ItemData
+start_set at line [] = []
+start_set zero line (item ∷ items) = with_start line item ∷ items
+start_set (suc at) line (item ∷ items) = item ∷ start_set at line items
+
+abbrev pub start_put : ℕ → Option ℕ → List ItemData → List ItemData
+start_put at None items = items
+start_put at (Some line) items = start_set at line items
+
+-- the items with the start lines that the counts get
+abbrev pub filled : (List ℕ → Option ℕ) → List Mark → List ItemData → List ItemData
+filled starts [] items = items
+filled starts (m ∷ ms) items = filled starts ms (start_put m.at (starts m.name) items)
+
+-- the places of the counts are places of items
+abbrev pub HavePlaces : ℕ → List Mark → Type 0
+HavePlaces n marks = AllByRecursion (λ m. m.at < n) marks
+
+-- what the counts say, and what becomes of the items
+pub record IsSettled (starts : List ℕ → Option ℕ) (marks : List Mark) (n : ℕ) (places : List ℕ) (before after : List ItemData) : Type 0 where
+  pub hit : n ≡ distinct bytes_eq (names_in starts marks)
+  pub unstarted : places ≡ unstarted_in starts marks
+  pub items : after ≡ filled starts marks before
+
+-- this is the first of the places
+abbrev pub starts_with : ℕ → List ℕ → Bool
+starts_with at [] = false
+starts_with at (place ∷ places) = place == at
+
+-- the members without those at these places, which ascend; the first member has the place `at`
+abbrev pub left : {X : Type 0} → ℕ → List ℕ → List X → List X
+left at places [] = []
+left at [] (x ∷ xs) = x ∷ xs
+left at (place ∷ places) (x ∷ xs) = if place == at then left (at + 1) places xs else x ∷ left (at + 1) (place ∷ places) xs

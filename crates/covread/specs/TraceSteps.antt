@@ -1,6 +1,6 @@
 -- What the reader of a tracefile holds between two lines, and what a line makes of it. The contracts of its private
 -- steps speak of it; what a text is read as is said in Reads and Outcome.
-use Rattle.std.specs.Prelude.{◌≡◌, ℕ, ◌+◌, List, [], ◌∷◌, ◌++◌, Option, Some, None, Result, Ok, Err, count_by, option_map}
+use Rattle.std.specs.Prelude.{◌≡◌, ℕ, ◌+◌, ◌<◌, ◌^◌, List, [], ◌∷◌, ◌++◌, length, Option, Some, None, Result, Ok, Err, count_by, option_map}
 use Rattle.covline.specs.Row.{SectData, SubmissionData}
 use Rattle.covline.specs.Spells.{LineData, Test, Path, End, Skip, Spells, HasFault}
 use Rattle.covline.specs.Lawful.{IsLawful}
@@ -12,7 +12,7 @@ use Rattle.covread.specs.declared.fault.ReadFault.{ReadFault}
 use Rattle.covread.specs.declared.fault.ReadFault.TheVariants as faults
 use Rattle.covread.specs.Outcome.{Answers}
 use Rattle.covread.specs.Reads.{items_of, is_odd}
-use Rattle.covread.specs.Said.{records_kept}
+use Rattle.covread.specs.TraceSection.{IsGathered}
 
 -- an open section: its path, and what its lines said so far, the skipped ones left out
 pub record SectionData : Type 0 where
@@ -25,11 +25,21 @@ pub record HeldData : Type 0 where
   pub sects : List SectData
   pub odd : ℕ
 
-abbrev pub section_data : {A : Type 0} → OpenSection A → SectionData
-section_data s = record { file = s.file; lines = records_kept s.lines.items }
+-- what a reader holds, where its open section has these records so far
+abbrev pub section_data : {A : Type 0} → List LineData → OpenSection A → SectionData
+section_data inside s = record { file = s.file; lines = inside }
 
-abbrev pub held_data : {A : Type 0} → Reader A → HeldData
-held_data r = record { test = r.test.now; section = option_map section_data r.section; sects = r.sects; odd = r.odd }
+abbrev pub held_data : {A : Type 0} → Reader A → List LineData → HeldData
+held_data r inside = record { test = r.test.now; section = option_map (section_data inside) r.section; sects = r.sects; odd = r.odd }
+
+abbrev pub IsOpen : {A : Type 0} → Option (OpenSection A) → List LineData → Type 0
+IsOpen None inside = inside ≡ []
+IsOpen (Some s) inside = IsGathered s.gathered inside
+
+-- the reader has room for one line more
+pub record HasRoom {A : Type 0} (r : Reader A) (inside : List LineData) : Type 0 where
+  pub is_open : IsOpen r.section inside
+  pub few : r.odd + length inside + 1 < 2 ^ 64
 
 -- before the first line
 abbrev pub empty : HeldData
@@ -70,8 +80,8 @@ abbrev pub step : HeldData → LineData → Result HeldData Misplaced
 step held says = step_at held.section held says
 
 -- a step of the code makes what the step on plain data makes, unless memory ran out
-abbrev pub Steps : {T : Type 0} → Result T Misplaced → HeldData → HeldData → LineData → Type 0
-Steps (Ok done) before after says = step before says ≡ Ok after
+abbrev pub Steps : {A T : Type 0} → Result T Misplaced → HeldData → Reader A → LineData → Type 0
+Steps (Ok done) before after says = (inside : List LineData) × (step before says ≡ Ok (held_data after inside)) × IsOpen after.section inside
 Steps (Err misplaced.Outside) before after says = step before says ≡ Err misplaced.Outside
 Steps (Err misplaced.Inside) before after says = step before says ≡ Err misplaced.Inside
 Steps (Err misplaced.Memory) before after says = Unit {0}
@@ -81,15 +91,19 @@ abbrev pub kept_in : Option SectionData → List LineData
 kept_in None = []
 kept_in (Some s) = s.lines
 
--- what a reader takes of a line, or its fault; lines are counted from 1
-abbrev pub TakesLine : {T : Type 0} → Result T ReadFault → HeldData → HeldData → List ℕ → ℕ → Type 0
-TakesLine (Ok done) before after line at = (says : LineData) × Spells line says × (step before says ≡ Ok after)
-TakesLine (Err (faults.Line n fault)) before after line at = (n ≡ at) × HasFault line fault
-TakesLine (Err (faults.Outside n)) before after line at = (n ≡ at) × (says : LineData) × Spells line says × (step before says ≡ Err misplaced.Outside)
-TakesLine (Err (faults.Inside n)) before after line at = (n ≡ at) × (says : LineData) × Spells line says × (step before says ≡ Err misplaced.Inside)
-TakesLine (Err faults.Memory) before after line at = Unit {0}
-TakesLine (Err faults.OpenEnd) before after line at = ⊥
-TakesLine (Err faults.TooLong) before after line at = ⊥
+-- why a reader doesn't take a line; lines are counted from 1
+abbrev pub StopsAt : ReadFault → HeldData → List ℕ → ℕ → Type 0
+StopsAt (faults.Line n fault) before line at = (n ≡ at) × HasFault line fault
+StopsAt (faults.Outside n) before line at = (n ≡ at) × (says : LineData) × Spells line says × (step before says ≡ Err misplaced.Outside)
+StopsAt (faults.Inside n) before line at = (n ≡ at) × (says : LineData) × Spells line says × (step before says ≡ Err misplaced.Inside)
+StopsAt faults.Memory before line at = Unit {0}
+StopsAt faults.OpenEnd before line at = ⊥
+StopsAt faults.TooLong before line at = ⊥
+
+-- what a reader takes of a line, or why it doesn't
+abbrev pub TakesLine : {A T : Type 0} → Result T ReadFault → HeldData → Reader A → List ℕ → ℕ → Type 0
+TakesLine (Ok done) before after line at = (says : LineData) × Spells line says × (inside : List LineData) × (step before says ≡ Ok (held_data after inside)) × IsOpen after.section inside
+TakesLine (Err fault) before after line at = StopsAt fault before line at
 
 -- what is held behind the last line makes a submission, unless a section is open
 abbrev pub submission_held : HeldData → SubmissionData
@@ -109,7 +123,7 @@ IsLawfulAt (Some s) held = Unit {0}
 abbrev pub EndsLawfully : HeldData → Type 0
 EndsLawfully held = IsLawfulAt held.section held
 
--- what all lines of a text lead to
+-- what all lines of a text lead to. What is held behind the last line doesn't hang on the records of an open section
 abbrev pub ReadsTo : {A : Type 0} → List ℕ → Result (Reader A) ReadFault → Type 0
-ReadsTo text (Ok reader) = Answers text (ends (held_data reader)) × EndsLawfully (held_data reader)
+ReadsTo text (Ok reader) = Answers text (ends (held_data reader [])) × EndsLawfully (held_data reader [])
 ReadsTo text (Err fault) = Answers text (Err fault)

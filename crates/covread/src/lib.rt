@@ -1,8 +1,20 @@
-//! Readers of coverage data: a text, and the submission that it is.
+//! Readers of coverage data: what a text says, as a submission, or its first fault.
+//!
+//! A text is a tracefile (geninfo(1) of LCOV 1.x, section FILES). It is read forward once. Its items are copied, so the
+//! text may be let go when the answer is there.
+//!
+//! A sketch: how many items a tracefile has, and why another isn't read.
+//!
+//! ```text
+//! match read_trace(alloc, text) {
+//!     Ok(submission) => println!(rt; "{} items, {} odd lines", submission.items(), submission.odd())?,
+//!     Err(fault) => println!(rt; "refused: {fault}")?,
+//! }
+//! ```
 #![tactic(auto)]
 
-pub mod fault;
-pub mod trace;
+mod fault;
+mod trace;
 
 pub use fault::ReadFault;
-pub use trace::{MOST_BYTES, each_text_has_one_outcome, read_trace};
+pub use trace::{MOST_BYTES, each_text_has_one_outcome, laws, read_trace};

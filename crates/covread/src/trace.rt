@@ -1,14 +1,14 @@
 //! Reads a tracefile (geninfo(1) of LCOV 1.x, section FILES).
 
-mod hits;
+mod functions;
 pub mod laws;
 mod misplaced;
 mod points;
-pub mod read;
+mod read;
 mod reader;
 mod said;
+mod section;
 mod settle;
-mod starts;
 mod tally;
 
 pub use laws::each_text_has_one_outcome;

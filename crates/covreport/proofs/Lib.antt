@@ -6,3 +6,4 @@ pub mod Sets
 pub mod ByStart
 pub mod Sorting
 pub mod Texts
+pub mod Rates

@@ -1,10 +1,11 @@
 //! Laws of the definitions that this crate's contracts cite. The functions do nothing: the contract is the law.
 
-ghost use Rattle.std.specs.Prelude.{◌≡◌, ◌↔◌, ◌≢◌, ◌==◌, ℕ, true, false, ◌&&◌, List, [], ◌∷◌, ◌++◌, not, All};
+ghost use Rattle.std.specs.Prelude.{◌≡◌, ◌↔◌, ◌≢◌, ◌==◌, ℕ, true, false, ◌&&◌, List, [], ◌∷◌, ◌++◌, ◌+◌, ◌*◌, ◌<◌, ◌≤◌, not, All};
 ghost use Rattle.std.specs.List.Sorted.{IsPermutation, IsSorted};
 ghost use Rattle.covstore.specs.Content.{FunctionValueData};
 ghost use Rattle.covreport.specs.Pattern.{matches, in_body};
 ghost use Rattle.covreport.specs.Report.{by_start, function_cmp};
+ghost use Rattle.covreport.specs.Summary.{tenths_of};
 
 /// A pattern means what its first part means, and then the rest: nothing is left only of the empty path; `?` takes any
 /// byte, `\` the next byte as itself, and at the end itself; a byte that is none of `*`, `?`, `[` and `\` takes itself.
@@ -44,4 +45,12 @@ pub fn an_unclosed_set_is_plain()
 /// is there, and no other.
 pub fn functions_are_printed_by_start()
     ensures { (functions : List FunctionValueData) → IsSorted function_cmp (by_start functions) × IsPermutation functions (by_start functions) }
+{}
+
+/// A told rate is less than one tenth of a percent off; 100.0 percent is told where every point is hit and nowhere else,
+/// and 0.0 percent where none is and nowhere else.
+pub fn rates_are_told_truly()
+    ensures near { (hit found : ℕ) → 0 < found → hit ≤ found → (found * tenths_of hit found < 1000 * hit + found) × (1000 * hit < found * tenths_of hit found + found) }
+    ensures all { (hit found : ℕ) → 0 < found → hit ≤ found → (tenths_of hit found ≡ 1000) ↔ (hit ≡ found) }
+    ensures none { (hit found : ℕ) → 0 < found → hit ≤ found → (tenths_of hit found ≡ 0) ↔ (hit ≡ 0) }
 {}

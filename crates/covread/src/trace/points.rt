@@ -1,35 +1,13 @@
 //! How many different lines and branches items speak of.
 
-ghost use Rattle.std.specs.Prelude.{◌≡◌, ◌+◌, ◌<◌, ◌^◌, ◌++◌, List, [], ◌∷◌, IfOk, IfSome, IsTrue, MatchOption, OnOk, map};
-ghost use Rattle.std.specs.Bool.{OnTrue};
+ghost use Rattle.std.specs.Prelude.{◌≡◌, ◌<◌, ◌^◌, ◌++◌, List, [], ◌∷◌, true, Some, IfOk, option_map, MatchOption, map, length};
 ghost use Rattle.covline.specs.Row.{ItemData, item_data};
-ghost use Rattle.covline.specs.Points.{line_point, is_hit};
-ghost use Rattle.covread.specs.TracePoints.{AreTotals, Collects, CollectsBoth, IsAbove, IsAscent, branch_key};
+ghost use Rattle.covline.specs.Points.{line_point};
+ghost use Rattle.covread.specs.declared.trace.points.Hit.{Hit as HitOf};
+ghost use Rattle.covread.specs.TracePoints.{AreTotals, Counts, IsAscent, IsTally, branch_key, goes_on, hits_said};
 
-use covline::{Item, Memory};
+use covline::{BranchPoint, Item, Memory, Tally};
 use std::alloc::Allocator;
-use std::collections::BTreeSet;
-
-/// A section's own totals of functions, of branches or of lines.
-#[derive(Clone, Copy, Debug, PartialEq, Eq)]
-pub struct Totals {
-    /// How many different ones there are.
-    pub found: u64,
-    /// Those of them that have an execution count above 0 somewhere in the section.
-    pub hit: u64,
-}
-
-impl Totals {
-    /// Those of nothing.
-    pub const NONE: Totals = Totals { found: 0, hit: 0 };
-}
-
-/// The totals of points that ascend, and the last of them.
-#[derive(Clone, Copy, Debug)]
-struct Ascent<P> {
-    last: Option<P>,
-    own: Totals,
-}
 
 /// What tells lines from one another, or branches.
 pub trait Point: Ord + Copy + Drop {
@@ -40,145 +18,174 @@ pub trait Point: Ord + Copy + Drop {
         ensures { MatchOption result (points (item_data item.now) ≡ []) (λ p. points (item_data item.now) ≡ p ∷ []) };
 }
 
-/// A branch: its line, its block and its number in the block.
-#[derive(Clone, Copy, Debug, PartialEq, Eq, PartialOrd, Ord, Drop)]
-pub struct BranchKey {
-    pub line: u64,
-    pub block: u64,
-    pub branch: u64,
-}
-
 impl Point for u64 {
     ghost points = { line_point };
 
     fn of<A: Allocator>(item: &Item<A>) -> Option<u64> {
-        match *item {
-            Item::Line { line, .. } => Some(line),
-            Item::Func { .. } | Item::Branch { .. } => None,
-        }
+        item.line_point()
     }
 }
 
-impl Point for BranchKey {
+impl Point for BranchPoint {
     ghost points = { branch_key };
 
-    fn of<A: Allocator>(item: &Item<A>) -> Option<BranchKey> {
-        match *item {
-            Item::Branch {
-                line,
-                block,
-                branch,
-                ..
-            } => Some(BranchKey {
-                line,
-                block,
-                branch,
-            }),
-            Item::Func { .. } | Item::Line { .. } => None,
+    fn of<A: Allocator>(item: &Item<A>) -> Option<BranchPoint> {
+        item.branch_point()
+    }
+}
+
+/// A point that an item speaks of, and whether the item's count is above 0.
+#[derive(Clone, Copy, Debug, PartialEq, Eq, PartialOrd, Ord, Drop)]
+pub struct Hit<P> {
+    pub point: P,
+    pub is_hit: bool,
+}
+
+/// Points none of which is below the one before it. The last one may come again, so it isn't counted yet.
+#[derive(Clone, Copy, Debug, Drop)]
+pub struct Ascent<P> {
+    /// Those below the last one.
+    pub below: Tally,
+    pub last: Option<Hit<P>>,
+}
+
+/// The points of items, counted as they come.
+#[derive(Clone, Copy, Debug, Drop)]
+pub enum Points<P> {
+    /// They ascend, as in most tracefiles.
+    Ascending(Ascent<P>),
+    /// One of them is below the one before it. They are counted when all of them are known.
+    Scattered,
+}
+
+impl<P: Point> Ascent<P> {
+    /// No points.
+    pub fn new() -> Ascent<P>
+        ensures { IsAscent P.cmp result [] }
+    {
+        Ascent {
+            below: Tally::NONE,
+            last: None,
+        }
+    }
+
+    /// Whether the point may come next.
+    fn goes_on_to(self, point: P) -> bool
+        ensures { result ≡ goes_on P.cmp self.last point }
+    {
+        match &self.last {
+            Some(last) => last.point.cmp(&point).is_le(),
+            None => true,
+        }
+    }
+
+    /// With one point more.
+    fn and(self, next: Hit<P>) -> Ascent<P>
+        requires ascends { goes_on P.cmp self.last next.point ≡ true }
+        requires fits { (seen : List (HitOf P)) × IsAscent P.cmp self seen × length seen < 2 ^ 64 }
+        ensures ascent { (seen : List (HitOf P)) → IsAscent P.cmp self seen → IsAscent P.cmp result (seen ++ next ∷ []) }
+        ensures last { option_map (λ h. h.point) result.last ≡ Some next.point }
+    {
+        let Ascent { below, last } = self;
+        let Some(last) = last else {
+            return Ascent {
+                below,
+                last: Some(next),
+            };
+        };
+        if last.point.cmp(&next.point).is_lt() {
+            return Ascent {
+                below: below.and(last.is_hit),
+                last: Some(next),
+            };
+        }
+        let again = Hit {
+            point: next.point,
+            is_hit: last.is_hit || next.is_hit,
+        };
+        Ascent {
+            below,
+            last: Some(again),
+        }
+    }
+
+    /// How many different points there were.
+    fn tally(self) -> Tally
+        requires { (seen : List (HitOf P)) × IsAscent P.cmp self seen × length seen < 2 ^ 64 }
+        ensures { (seen : List (HitOf P)) → IsAscent P.cmp self seen → IsTally P.cmp result seen }
+    {
+        match &self.last {
+            Some(last) => self.below.and(last.is_hit),
+            None => self.below,
         }
     }
 }
 
-/// The totals of items. Most tracefiles have their lines and branches ascending, and then nothing is allocated.
+impl<P: Point> Points<P> {
+    /// Takes what the next item speaks of.
+    pub fn take<A: Allocator>(&mut self, item: &Item<A>)
+        requires { (seen : List (HitOf P)) × Counts P.cmp self.old seen × length seen < 2 ^ 64 }
+        ensures { (items : List ItemData) → Counts P.cmp self.old (hits_said P.points items) → Counts P.cmp self.new (hits_said P.points (items ++ item_data item.now ∷ [])) }
+    {
+        let Some(point) = P::of(item) else {
+            return;
+        };
+        let is_hit = item.is_hit();
+        *self = match *self {
+            Points::Ascending(ascent) if ascent.goes_on_to(point) => Points::Ascending(ascent.and(
+                Hit { point, is_hit },
+            )),
+            Points::Ascending(_) | Points::Scattered => Points::Scattered,
+        };
+    }
+}
+
+/// The totals of the items, whose points these are. Where the points ascend, nothing is allocated; else they are
+/// sorted, in time n log n.
 pub fn totals_of<P: Point, A: Allocator + Copy>(
     alloc: A,
+    points: Points<P>,
     items: &[Item<A>],
-) -> Result<Totals, Memory>
+) -> Result<Tally, Memory>
+    requires counts { Counts P.cmp points (hits_said P.points (map item_data items.now)) }
+    requires fits { length (hits_said P.points (map item_data items.now)) < 2 ^ 64 }
     ensures { IfOk result (λ own. AreTotals P.cmp P.points own (map item_data items.now)) }
 {
-    match ascending_totals::<P, A>(items) {
-        Some(own) => Ok(own),
-        None => collected_totals::<P, A>(alloc, items),
+    match points {
+        Points::Ascending(ascent) => Ok(ascent.tally()),
+        Points::Scattered => Ok(sorted_totals(hits_of::<P, A>(alloc, items)?)),
     }
 }
 
-/// The totals of items whose points ascend, so that each is there once; nothing for others.
-fn ascending_totals<P: Point, A: Allocator>(items: &[Item<A>]) -> Option<Totals>
-    ensures { IfSome result (λ own. AreTotals P.cmp P.points own (map item_data items.now)) }
-{
-    let mut ascent: Ascent<P> = Ascent {
-        last: None,
-        own: Totals::NONE,
-    };
-    for item in items {
-        if !ascends(&mut ascent, item) {
-            return None;
-        }
-    }
-    Some(ascent.own)
-}
-
-/// Takes an item unless its point isn't above the last one. Answers whether it was taken.
-fn ascends<P: Point, A: Allocator>(ascent: &mut Ascent<P>, item: &Item<A>) -> bool
-    requires found_fits { ascent.old.own.found + 1 < 2 ^ 64 }
-    requires hit_fits { ascent.old.own.hit + 1 < 2 ^ 64 }
-    ensures { OnTrue result ((items : List ItemData) → IsAscent P.cmp P.points ascent.old items → IsAscent P.cmp P.points ascent.new (items ++ item_data item.now ∷ [])) }
-{
-    let Some(point) = P::of(item) else {
-        return true;
-    };
-    if !is_above(point, ascent.last) {
-        return false;
-    }
-    ascent.last = Some(point);
-    ascent.own.found += 1;
-    if is_hit(item) {
-        ascent.own.hit += 1;
-    }
-    true
-}
-
-/// Whether the point is above the last one, or the first.
-fn is_above<P: Point>(point: P, last: Option<P>) -> bool
-    ensures { OnTrue result (IsAbove P.cmp last point) }
-{
-    match last {
-        Some(last) => last.cmp(&point).is_lt(),
-        None => true,
-    }
-}
-
-/// The totals of any items.
-fn collected_totals<P: Point, A: Allocator + Copy>(
+/// The points of items, as often as they speak of them.
+fn hits_of<P: Point, A: Allocator + Copy>(
     alloc: A,
     items: &[Item<A>],
-) -> Result<Totals, Memory>
-    ensures { IfOk result (λ own. AreTotals P.cmp P.points own (map item_data items.now)) }
+) -> Result<Vec<Hit<P>, A>, Memory>
+    ensures { IfOk result (λ hits. hits.items ≡ hits_said P.points (map item_data items.now)) }
 {
-    let mut found: BTreeSet<P, A> = BTreeSet::new(alloc);
-    let mut hit: BTreeSet<P, A> = BTreeSet::new(alloc);
+    let mut hits = Vec::new(alloc);
     for item in items {
-        collect(&mut found, &mut hit, item)?;
-    }
-    Ok(Totals {
-        found: found.len() as u64,
-        hit: hit.len() as u64,
-    })
-}
-
-/// Puts the item's point into the set of those found, and of those hit.
-fn collect<P: Point, A: Allocator + Copy>(
-    found: &mut BTreeSet<P, A>,
-    hit: &mut BTreeSet<P, A>,
-    item: &Item<A>,
-) -> Result<(), Memory>
-    ensures { OnOk result ((items : List ItemData) → CollectsBoth P.cmp P.points found.old hit.old items → CollectsBoth P.cmp P.points found.new hit.new (items ++ item_data item.now ∷ [])) }
-{
-    if let Some(point) = P::of(item) {
-        found.insert(point)?;
-        if is_hit(item) {
-            hit.insert(point)?;
+        match P::of(item) {
+            Some(point) => hits.push(Hit {
+                point,
+                is_hit: item.is_hit(),
+            })?,
+            None => {}
         }
     }
-    Ok(())
+    Ok(hits)
 }
 
-/// Whether the item's count is above 0. A branch that was never reached has none.
-pub fn is_hit<A: Allocator>(item: &Item<A>) -> bool
-    ensures { result ≡ is_hit (item_data item.now) }
+/// How many different points there are.
+fn sorted_totals<P: Point, A: Allocator>(mut hits: Vec<Hit<P>, A>) -> Tally
+    requires { length hits.items < 2 ^ 64 }
+    ensures { IsTally P.cmp result hits.items }
 {
-    match *item {
-        Item::Line { count, .. } | Item::Func { count, .. } => count > 0,
-        Item::Branch { taken, .. } => taken.is_some_and(|times| times > 0),
+    hits.sort_unstable();
+    let mut ascent = Ascent::new();
+    for hit in hits.as_slice() {
+        ascent = ascent.and(*hit);
     }
+    ascent.tally()
 }

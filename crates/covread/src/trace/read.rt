@@ -1,10 +1,11 @@
 //! The reader: forward over the text once.
 
-ghost use Rattle.std.specs.Prelude.{◌≡◌, ◌+◌, ◌<◌, ◌≤◌, ◌^◌, length, Result};
+ghost use Rattle.std.specs.Prelude.{◌≤◌, length, List, Result};
 ghost use Rattle.covline.specs.Row.{SubmissionData};
 ghost use Rattle.covread.specs.declared.fault.ReadFault.{ReadFault as Fault};
 ghost use Rattle.covread.specs.Outcome.{most_bytes, IsOutcome, Answers, IsOrMemory};
-ghost use Rattle.covread.specs.TraceSteps.{held_data, kept_in, ReadsTo, TakesLine};
+ghost use Rattle.covline.specs.Spells.{LineData};
+ghost use Rattle.covread.specs.TraceSteps.{held_data, HasRoom, IsOpen, ReadsTo, TakesLine};
 
 use crate::fault::ReadFault;
 use crate::trace::misplaced::Misplaced;
@@ -49,8 +50,8 @@ fn take_line<'a, A: Allocator + Copy>(
     at: u64,
     line: &'a [u8],
 ) -> Result<(), ReadFault>
-    requires { reader.old.odd + length (kept_in (held_data reader.old).section) < 2 ^ 64 }
-    ensures { TakesLine result (held_data reader.old) (held_data reader.new) line.now at }
+    requires { (inside : List LineData) × HasRoom reader.old inside }
+    ensures { (inside : List LineData) → IsOpen reader.old.section inside → TakesLine result (held_data reader.old inside) reader.new line.now at }
 {
     let says = match read_line(line) {
         Ok(says) => says,

@@ -1,13 +1,14 @@
 //! What the reader of a tracefile holds between two lines.
 
-ghost use Rattle.std.specs.Prelude.{◌≡◌, ◌+◌, ◌<◌, ◌^◌, length};
-ghost use Rattle.covline.specs.Spells.{line_data, HasSmallNumbers, Test, Path, End};
+ghost use Rattle.std.specs.Prelude.{◌≡◌, List, []};
+ghost use Rattle.covline.specs.Spells.{LineData, line_data, HasSmallNumbers, Test, Path, End};
 ghost use Rattle.covread.specs.Said.{said_data};
-ghost use Rattle.covread.specs.TraceSteps.{held_data, empty, kept_in, Steps, ends, EndsLawfully};
+ghost use Rattle.covread.specs.TraceSteps.{held_data, empty, IsOpen, HasRoom, Steps, ends, EndsLawfully};
 
 use crate::fault::ReadFault;
 use crate::trace::misplaced::Misplaced;
 use crate::trace::said::Said;
+use crate::trace::section::Gathered;
 use crate::trace::settle::{Settled, settle};
 use covline::{Bytes, Sect, Sects, Submission, TraceLine};
 use std::alloc::Allocator;
@@ -17,9 +18,8 @@ use std::alloc::Allocator;
 pub struct OpenSection<'a, A: Allocator> {
     /// Its path.
     pub file: Bytes<A>,
-    /// What its lines said so far. A function's count needs the least start line of the function, and a total counts
-    /// all lines of the section, so they wait for its end.
-    pub lines: Vec<Said<'a>, A>,
+    /// What its lines gave so far.
+    pub gathered: Gathered<'a, A>,
 }
 
 /// What a reader holds between two lines.
@@ -38,7 +38,8 @@ pub struct Reader<'a, A: Allocator> {
 impl<'a, A: Allocator + Copy> Reader<'a, A> {
     /// Before the first line. The test's name is empty.
     pub fn new(alloc: A) -> Reader<'a, A>
-        ensures { held_data result ≡ empty }
+        ensures held { held_data result [] ≡ empty }
+        ensures closed { IsOpen result.section [] }
     {
         Reader {
             test: &[],
@@ -51,38 +52,47 @@ impl<'a, A: Allocator + Copy> Reader<'a, A> {
     /// Takes what one line says.
     pub fn take(&mut self, alloc: A, line: TraceLine<'a>) -> Result<(), Misplaced>
         requires small { HasSmallNumbers (line_data line) }
-        requires room { self.old.odd + length (kept_in (held_data self.old).section) < 2 ^ 64 }
-        ensures { Steps result (held_data self.old) (held_data self.new) (line_data line.entry) }
+        requires room { (inside : List LineData) × HasRoom self.old inside }
+        ensures { (inside : List LineData) → IsOpen self.old.section inside → Steps result (held_data self.old inside) self.new (line_data line.entry) }
     {
         match line {
             TraceLine::Test(name) => self.name_test(name),
             TraceLine::Path(path) => self.begin(alloc, path),
-            TraceLine::FuncStart { line, name } => self.keep(Said::FuncStart { line, name }),
-            TraceLine::FuncCount { count, name } => self.keep(Said::FuncCount {
-                count: count as u64,
-                name,
-            }),
+            TraceLine::FuncStart { line, name } => self.keep(alloc, Said::FuncStart { line, name }),
+            TraceLine::FuncCount { count, name } => self.keep(
+                alloc,
+                Said::FuncCount {
+                    count: count as u64,
+                    name,
+                },
+            ),
             TraceLine::Branch {
                 line,
                 block,
                 branch,
                 taken,
-            } => self.keep(Said::Branch {
-                line,
-                block,
-                branch,
-                taken: taken.map(|taken| taken as u64),
-            }),
+            } => self.keep(
+                alloc,
+                Said::Branch {
+                    line,
+                    block,
+                    branch,
+                    taken: taken.map(|taken| taken as u64),
+                },
+            ),
             TraceLine::Line {
                 line,
                 count,
                 checksum,
-            } => self.keep(Said::Line {
-                line,
-                count: count as u64,
-                checksum,
-            }),
-            TraceLine::Total { kind, value } => self.keep(Said::Total { kind, value }),
+            } => self.keep(
+                alloc,
+                Said::Line {
+                    line,
+                    count: count as u64,
+                    checksum,
+                },
+            ),
+            TraceLine::Total { kind, value } => self.keep(alloc, Said::Total { kind, value }),
             TraceLine::End => self.end(alloc),
             TraceLine::Skip => Ok(()),
         }
@@ -90,7 +100,7 @@ impl<'a, A: Allocator + Copy> Reader<'a, A> {
 
     /// The test name of the sections that follow.
     fn name_test(&mut self, name: &'a [u8]) -> Result<(), Misplaced>
-        ensures { Steps result (held_data self.old) (held_data self.new) (Test name.now) }
+        ensures { (inside : List LineData) → IsOpen self.old.section inside → Steps result (held_data self.old inside) self.new (Test name.now) }
     {
         if self.section.is_some() {
             return Err(Misplaced::Inside);
@@ -101,24 +111,25 @@ impl<'a, A: Allocator + Copy> Reader<'a, A> {
 
     /// A section begins.
     fn begin(&mut self, alloc: A, path: &[u8]) -> Result<(), Misplaced>
-        ensures { Steps result (held_data self.old) (held_data self.new) (Path path.now) }
+        ensures { (inside : List LineData) → IsOpen self.old.section inside → Steps result (held_data self.old inside) self.new (Path path.now) }
     {
         if self.section.is_some() {
             return Err(Misplaced::Inside);
         }
         self.section = Some(OpenSection {
             file: Bytes::of(alloc, path)?,
-            lines: Vec::new(alloc),
+            gathered: Gathered::new(alloc),
         });
         Ok(())
     }
 
-    /// A line of the open section, which is kept.
-    fn keep(&mut self, said: Said<'a>) -> Result<(), Misplaced>
-        ensures { Steps result (held_data self.old) (held_data self.new) (said_data said.entry) }
+    /// A line of the open section.
+    fn keep(&mut self, alloc: A, said: Said<'a>) -> Result<(), Misplaced>
+        requires { (inside : List LineData) × HasRoom self.old inside }
+        ensures { (inside : List LineData) → IsOpen self.old.section inside → Steps result (held_data self.old inside) self.new (said_data said.entry) }
     {
         if let Some(section) = &mut self.section {
-            section.lines.push(said)?;
+            section.gathered.take(alloc, said)?;
             return Ok(());
         }
         Err(Misplaced::Outside)
@@ -126,15 +137,14 @@ impl<'a, A: Allocator + Copy> Reader<'a, A> {
 
     /// The open section ends: it is settled, and kept with the test's name.
     fn end(&mut self, alloc: A) -> Result<(), Misplaced>
-        requires { self.old.odd + length (kept_in (held_data self.old).section) < 2 ^ 64 }
-        ensures { Steps result (held_data self.old) (held_data self.new) End }
+        requires { (inside : List LineData) × HasRoom self.old inside }
+        ensures { (inside : List LineData) → IsOpen self.old.section inside → Steps result (held_data self.old inside) self.new End }
     {
         let Some(section) = self.section.take() else {
             return Err(Misplaced::Outside);
         };
-        let OpenSection { file, lines } = section;
-        let Settled { items, odd } = settle(alloc, lines.as_slice())?;
-        drop(lines);
+        let OpenSection { file, gathered } = section;
+        let Settled { items, odd } = settle(alloc, gathered)?;
         self.odd += odd;
         let test = Bytes::of(alloc, self.test)?;
         self.sects.push(Sect { test, file, items })?;
@@ -143,8 +153,8 @@ impl<'a, A: Allocator + Copy> Reader<'a, A> {
 
     /// What was read, behind the last line. The room that the lists don't use is given back.
     pub fn finish(self) -> Result<Submission<A>, ReadFault>
-        requires { EndsLawfully (held_data self) }
-        ensures { result ≡ ends (held_data self.entry) }
+        requires { EndsLawfully (held_data self []) }
+        ensures { result ≡ ends (held_data self.entry []) }
     {
         let Reader {
             section,
@@ -156,9 +166,6 @@ impl<'a, A: Allocator + Copy> Reader<'a, A> {
             return Err(ReadFault::OpenEnd);
         }
         sects.shrink();
-        match Submission::of(sects, odd) {
-            Ok(submission) => Ok(submission),
-            Err(_) => unreachable!(),
-        }
+        Ok(Submission::of_lawful(sects, odd))
     }
 }

@@ -1,4 +1,4 @@
-//! What a line of an open section says, while its section waits for its end.
+//! What a line of an open section says.
 
 use covline::TotalKind;
 

@@ -1,17 +1,16 @@
 //! What a section gives when it ends: its items, and how many of its lines don't fit the others.
 
-ghost use Rattle.std.specs.Prelude.{◌≡◌, count_by, option_map, IfOk, List};
-ghost use Rattle.covline.specs.Row.{FuncItem, LineItem, item_data};
+ghost use Rattle.std.specs.Prelude.{◌≡◌, ℕ, ◌+◌, ◌<◌, ◌^◌, List, Option, [], ◌∷◌, false, IfOk, MatchOption, count_by, length, map};
 ghost use Rattle.covline.specs.Spells.{LineData};
 ghost use Rattle.covread.specs.Reads.{items_of, is_odd};
-ghost use Rattle.covread.specs.Said.{said_data, records_kept};
-ghost use Rattle.covread.specs.TraceStarts.{AreStarts};
-ghost use Rattle.covread.specs.TraceSettle.{Gives, is_unstarted};
+ghost use Rattle.covread.specs.TraceFunctions.{AreFunctions};
+ghost use Rattle.covread.specs.TraceSection.{IsGathered, mark};
+ghost use Rattle.covread.specs.TraceSettle.{HavePlaces, IsSettled, left, names_in, starts_with};
 
-use crate::trace::said::Said;
-use crate::trace::starts::{Starts, starts_of};
-use crate::trace::tally::odd_totals;
-use covline::{Bytes, Item, Items, Memory};
+use crate::trace::functions::{Functions, take_count};
+use crate::trace::section::{Gathered, Waiting};
+use crate::trace::tally::{FunctionTotals, Has, odd_totals};
+use covline::{Items, Memory};
 use std::alloc::Allocator;
 
 /// What a section gives.
@@ -24,116 +23,141 @@ pub struct Settled<A: Allocator> {
     pub odd: u64,
 }
 
-/// What one line gives to its section.
+/// What the counts of functions say.
 #[derive(Drop)]
-enum Given<A: Allocator> {
-    /// An item.
-    Item(Item<A>),
-    /// No item: a count of a function without a start line.
-    Unstarted,
-    /// No item: a total.
-    Total,
+pub struct Counts<A: Allocator> {
+    /// How many functions are counted above 0.
+    pub hit: u64,
+    /// The places of the counts whose function has no start line. They ascend.
+    pub unstarted: Vec<usize, A>,
 }
 
-/// Settles a section of these lines: each function's count gets the least start line of the function, and the totals
-/// are compared. Takes time n log n for n lines.
-pub fn settle<A: Allocator + Copy>(alloc: A, lines: &[Said<'_>]) -> Result<Settled<A>, Memory>
-    ensures items { IfOk result (λ s. s.items ≡ items_of (records_kept lines.now)) }
-    ensures odd { IfOk result (λ s. s.odd ≡ count_by (is_odd (records_kept lines.now)) (records_kept lines.now)) }
-{
-    let starts = starts_of(alloc, lines)?;
-    let settled = settle_items(alloc, lines, &starts)?;
-    let others = odd_totals(alloc, lines, settled.items.get(), starts)?;
-    Ok(Settled {
-        items: settled.items,
-        odd: settled.odd + others,
-    })
-}
-
-/// The items of the section. Odd are its counts of functions without a start line.
-fn settle_items<'a, A: Allocator + Copy>(
+/// Settles a section of which this was gathered: each function's count gets the least start line of the function, and
+/// the totals are compared. Takes time n log n for n lines.
+pub fn settle<'a, A: Allocator + Copy>(
     alloc: A,
-    lines: &[Said<'a>],
-    starts: &Starts<'a, A>,
+    gathered: Gathered<'a, A>,
 ) -> Result<Settled<A>, Memory>
-    requires { AreStarts starts.now (records_kept lines.now) }
-    ensures items { IfOk result (λ s. s.items ≡ items_of (records_kept lines.now)) }
-    ensures odd { IfOk result (λ s. s.odd ≡ count_by (is_unstarted (records_kept lines.now)) (records_kept lines.now)) }
+    requires { (inside : List LineData) × IsGathered gathered inside × length inside + 1 < 2 ^ 64 }
+    ensures items { IfOk result (λ s. (inside : List LineData) → IsGathered gathered.entry inside → s.items ≡ items_of inside) }
+    ensures odd { IfOk result (λ s. (inside : List LineData) → IsGathered gathered.entry inside → s.odd ≡ count_by (is_odd inside) inside) }
 {
-    let mut items = Items::new(alloc);
-    let mut odd: u64 = 0;
-    for line in lines {
-        match given_by(alloc, line, starts)? {
-            Given::Item(item) => items.push(item)?,
-            Given::Unstarted => odd += 1,
-            Given::Total => {}
-        }
-    }
+    let Gathered {
+        mut items,
+        mut functions,
+        waiting,
+        lines,
+        branches,
+        totals,
+    } = gathered;
+    let Counts { hit, unstarted } = settle_counts(
+        alloc,
+        waiting.as_slice(),
+        &mut functions,
+        &mut items,
+    )?;
+    let mut items = without(alloc, items, unstarted.as_slice())?;
+    let found = functions.len() as u64;
+    let has = Has {
+        functions: FunctionTotals { found, hit },
+        branches,
+        lines,
+    };
+    let others = odd_totals(alloc, totals.as_slice(), has, items.get())?;
+    let odd = unstarted.len() as u64 + others;
     items.shrink();
     Ok(Settled { items, odd })
 }
 
-/// What a line gives in a section with these start lines.
-fn given_by<'a, A: Allocator + Copy>(
+/// Gives each count of a function the least start line of the function.
+fn settle_counts<'a, A: Allocator + Copy>(
     alloc: A,
-    line: &Said<'a>,
-    starts: &Starts<'a, A>,
-) -> Result<Given<A>, Memory>
-    ensures { IfOk result (λ given. (inside : List LineData) → AreStarts starts.now inside → Gives inside (said_data line.now) given) }
+    waiting: &[Waiting<'a>],
+    functions: &mut Functions<'a, A>,
+    items: &mut Items<A>,
+) -> Result<Counts<A>, Memory>
+    requires { HavePlaces (length items.old) (map mark waiting.now) }
+    ensures counts { IfOk result (λ c. (starts : List ℕ → Option ℕ) → AreFunctions functions.old starts [] → IsSettled starts (map mark waiting.now) c.hit c.unstarted.items items.old items.new) }
+    ensures functions { IfOk result (λ c. (starts : List ℕ → Option ℕ) → AreFunctions functions.old starts [] → AreFunctions functions.new starts (names_in starts (map mark waiting.now))) }
 {
-    match *line {
-        Said::FuncStart { line, name } => Ok(Given::Item(func_item(alloc, name, line, 0)?)),
-        Said::FuncCount { count, name } => match starts.get(name) {
-            Some(start) => Ok(Given::Item(func_item(alloc, name, *start, count)?)),
-            None => Ok(Given::Unstarted),
-        },
-        Said::Branch {
-            line,
-            block,
-            branch,
-            taken,
-        } => Ok(Given::Item(Item::Branch {
-            line,
-            block,
-            branch,
-            taken,
-        })),
-        Said::Line {
-            line,
-            count,
-            checksum,
-        } => Ok(Given::Item(line_item(alloc, line, count, checksum)?)),
-        Said::Total { .. } => Ok(Given::Total),
+    let mut counts = Counts {
+        hit: 0,
+        unstarted: Vec::new(alloc),
+    };
+    for count in waiting {
+        counts.take(functions, items, count)?;
+    }
+    Ok(counts)
+}
+
+impl<A: Allocator + Copy> Counts<A> {
+    ghost use Rattle.std.specs.Prelude.{◌≡◌, ◌+◌, ◌<◌, ◌≤◌, ◌^◌, ◌++◌, ◌∷◌, [], ℕ, List, Option, OnOk, length};
+    ghost use Rattle.covline.specs.Row.{ItemData};
+    ghost use Rattle.covread.specs.TraceFunctions.{AreFunctions};
+    ghost use Rattle.covread.specs.TraceSection.{Mark, mark};
+    ghost use Rattle.covread.specs.TraceSettle.{IsSettled, names_in};
+
+    /// Takes the next count of a function.
+    fn take<'a>(
+        &mut self,
+        functions: &mut Functions<'a, A>,
+        items: &mut Items<A>,
+        count: &Waiting<'a>,
+    ) -> Result<(), Memory>
+        requires place { count.now.at < length items.old }
+        requires fits { self.old.hit + 1 < 2 ^ 64 }
+        ensures settled { OnOk result ((starts : List ℕ → Option ℕ) (marks : List Mark) (before : List ItemData) → AreFunctions functions.old starts (names_in starts marks)
+            → IsSettled starts marks self.old.hit self.old.unstarted.items before items.old → IsSettled starts (marks ++ mark count.now ∷ []) self.new.hit self.new.unstarted.items before items.new) }
+        ensures functions { OnOk result ((starts : List ℕ → Option ℕ) (marks : List Mark) → AreFunctions functions.old starts (names_in starts marks) → AreFunctions functions.new starts (names_in starts (marks ++ mark count.now ∷ []))) }
+        ensures length { OnOk result (length items.new ≡ length items.old) }
+        ensures few { OnOk result (self.new.hit ≤ self.old.hit + 1) }
+    {
+        let found = match take_count(functions, count.name, count.is_hit) {
+            Some(found) => found,
+            None => {
+                self.unstarted.push(count.at)?;
+                return Ok(());
+            }
+        };
+        items.set_start(count.at, found.start);
+        let more = u64::from(found.is_first_hit);
+        self.hit += more;
+        Ok(())
     }
 }
 
-/// The item of a function. It owns its name.
-fn func_item<A: Allocator>(alloc: A, name: &[u8], line: u64, count: u64) -> Result<Item<A>, Memory>
-    ensures { IfOk result (λ item. item_data item ≡ FuncItem name.now line count) }
+/// The items without those at these places, which ascend. Takes memory only where there are such places.
+fn without<A: Allocator + Copy>(
+    alloc: A,
+    items: Items<A>,
+    places: &[usize],
+) -> Result<Items<A>, Memory>
+    ensures { IfOk result (λ i. i ≡ left 0 places.now items) }
 {
-    Ok(Item::Func {
-        name: Bytes::of(alloc, name)?,
-        line,
-        count,
-    })
+    if places.is_empty() {
+        return Ok(items);
+    }
+    // Read for its bound, which the places below have too.
+    let _count = items.len();
+    let mut left = Items::new(alloc);
+    let mut places = places;
+    let mut at: usize = 0;
+    for item in items.into_vec() {
+        match behind(places, at) {
+            Some(rest) => places = rest,
+            None => left.push(item)?,
+        }
+        at += 1;
+    }
+    Ok(left)
 }
 
-/// The item of a line. It owns its checksum.
-fn line_item<A: Allocator>(
-    alloc: A,
-    line: u64,
-    count: u64,
-    checksum: Option<&[u8]>,
-) -> Result<Item<A>, Memory>
-    ensures { IfOk result (λ item. item_data item ≡ LineItem line count (option_map (λ c. c.now) checksum.entry)) }
+/// The places behind this one, where it is the first of them.
+fn behind(places: &[usize], at: usize) -> Option<&[usize]>
+    ensures { MatchOption result (starts_with at places.entry.now ≡ false) (λ rest. places.entry.now ≡ at ∷ rest.now) }
 {
-    let checksum = match checksum {
-        Some(text) => Some(Bytes::of(alloc, text)?),
-        None => None,
-    };
-    Ok(Item::Line {
-        line,
-        count,
-        checksum,
-    })
+    match places {
+        [first, rest @ ..] if *first == at => Some(rest),
+        _ => None,
+    }
 }

@@ -1,21 +1,22 @@
 //! A section's own totals, and how many of the stated ones differ from them.
 
-ghost use Rattle.std.specs.Prelude.{◌≡◌, true, IfOk, count_by, map};
+ghost use Rattle.std.specs.Prelude.{◌≡◌, ◌<◌, ◌^◌, List, true, IfOk, count_by, length, map};
 ghost use Rattle.std.specs.List.{list_any};
 ghost use Rattle.covline.specs.Row.{item_data};
-ghost use Rattle.covread.specs.Reads.{items_of};
-ghost use Rattle.covread.specs.Said.{said_data, records_kept};
-ghost use Rattle.covread.specs.TraceStarts.{AreStarts, AreFunctionTotals};
-ghost use Rattle.covread.specs.declared.trace.tally.Sort.TheVariants.{Functions};
-ghost use Rattle.covread.specs.TracePoints.{AreTotals};
-ghost use Rattle.covread.specs.TraceTally.{AreOwn, differs, has, is_other, own_value, states};
+ghost use Rattle.covline.specs.Spells.{LineData};
+ghost use Rattle.covread.specs.TracePoints.{AreTotals, Counts, hits_said};
+ghost use Rattle.covread.specs.TraceTally.{AreFew, HasTotals, differs, has, is_other, own_value, stated_record, states};
 
-use crate::trace::hits::function_totals;
-use crate::trace::points::{BranchKey, Point, Totals, totals_of};
-use crate::trace::said::Said;
-use crate::trace::starts::Starts;
-use covline::{Item, Memory, TotalKind};
+use crate::trace::points::{Point, Points, totals_of};
+use covline::{BranchPoint, Item, Memory, Tally, TotalKind};
 use std::alloc::Allocator;
+
+/// A total that a line states.
+#[derive(Clone, Copy, Debug, PartialEq, Eq, Drop)]
+pub struct Stated {
+    pub kind: TotalKind,
+    pub value: u64,
+}
 
 /// What a total counts.
 #[derive(Clone, Copy, Debug, PartialEq, Eq)]
@@ -25,84 +26,76 @@ enum Sort {
     Lines,
 }
 
+/// How many functions a section has.
+#[derive(Clone, Copy, Debug, PartialEq, Eq, Drop)]
+pub struct FunctionTotals {
+    /// Those with a start line.
+    pub found: u64,
+    /// Those of them that some line counts above 0.
+    pub hit: u64,
+}
+
+/// What a section has: its functions, and the points of its branches and lines.
+#[derive(Clone, Copy, Drop)]
+pub struct Has {
+    pub functions: FunctionTotals,
+    pub branches: Points<BranchPoint>,
+    pub lines: Points<u64>,
+}
+
 /// A section's own totals. Those of a sort that no line of the section states aren't counted.
-#[derive(Clone, Copy, Debug, PartialEq, Eq)]
+#[derive(Clone, Copy, Debug)]
 struct Own {
-    functions: Totals,
-    branches: Totals,
-    lines: Totals,
+    functions: FunctionTotals,
+    branches: Tally,
+    lines: Tally,
 }
 
-/// How many of the totals that a section's lines state differ from the section's own.
-pub fn odd_totals<'a, A: Allocator + Copy>(
+/// How many of the totals that a section's lines state differ from the section's own, which follow from what it has.
+pub fn odd_totals<A: Allocator + Copy>(
     alloc: A,
-    lines: &[Said<'a>],
+    totals: &[Stated],
+    has: Has,
     items: &[Item<A>],
-    starts: Starts<'a, A>,
 ) -> Result<u64, Memory>
-    requires items { map item_data items.now ≡ items_of (records_kept lines.now) }
-    requires starts { AreStarts starts (records_kept lines.now) }
-    ensures { IfOk result (λ odd. odd ≡ count_by (is_other (records_kept lines.now)) (records_kept lines.now)) }
+    requires totals { (inside : List LineData) × HasTotals totals.now has (map item_data items.now) inside }
+    requires few { AreFew (map item_data items.now) }
+    ensures { IfOk result (λ odd. (inside : List LineData) → HasTotals totals.now has (map item_data items.now) inside → odd ≡ count_by (is_other inside) inside) }
 {
-    let own = own_totals(alloc, lines, items, starts)?;
-    Ok(count_odd(lines, &own))
-}
-
-/// The section's own totals.
-fn own_totals<'a, A: Allocator + Copy>(
-    alloc: A,
-    lines: &[Said<'a>],
-    items: &[Item<A>],
-    starts: Starts<'a, A>,
-) -> Result<Own, Memory>
-    requires items { map item_data items.now ≡ items_of (records_kept lines.now) }
-    requires starts { AreStarts starts (records_kept lines.now) }
-    ensures { IfOk result (λ own. AreOwn own (records_kept lines.now)) }
-{
-    Ok(Own {
-        functions: stated_functions(lines, starts),
-        branches: stated_totals::<BranchKey, A>(alloc, lines, Sort::Branches, items)?,
-        lines: stated_totals::<u64, A>(alloc, lines, Sort::Lines, items)?,
-    })
-}
-
-/// The totals of functions, where a line states one.
-fn stated_functions<'a, A: Allocator>(lines: &[Said<'a>], starts: Starts<'a, A>) -> Totals
-    requires { AreStarts starts (records_kept lines.now) }
-    ensures { list_any (states Functions) (records_kept lines.now) ≡ true → AreFunctionTotals result (records_kept lines.now) }
-{
-    if any_states(lines, Sort::Functions) {
-        function_totals(lines, starts)
-    } else {
-        Totals::NONE
-    }
+    let own = Own {
+        functions: has.functions,
+        branches: stated_totals(alloc, totals, Sort::Branches, has.branches, items)?,
+        lines: stated_totals(alloc, totals, Sort::Lines, has.lines, items)?,
+    };
+    Ok(count_odd(totals, &own))
 }
 
 /// The totals of points, where a line states a total of their sort.
 fn stated_totals<P: Point, A: Allocator + Copy>(
     alloc: A,
-    lines: &[Said<'_>],
+    totals: &[Stated],
     sort: Sort,
+    points: Points<P>,
     items: &[Item<A>],
-) -> Result<Totals, Memory>
-    ensures { IfOk result (λ own. list_any (states sort) (records_kept lines.now) ≡ true → AreTotals P.cmp P.points own (map item_data items.now)) }
+) -> Result<Tally, Memory>
+    requires counts { Counts P.cmp points (hits_said P.points (map item_data items.now)) }
+    requires fits { length (hits_said P.points (map item_data items.now)) < 2 ^ 64 }
+    ensures { IfOk result (λ own. list_any (states sort) (map stated_record totals.now) ≡ true → AreTotals P.cmp P.points own (map item_data items.now)) }
 {
-    if any_states(lines, sort) {
-        totals_of::<P, A>(alloc, items)
+    if any_states(totals, sort) {
+        totals_of::<P, A>(alloc, points, items)
     } else {
-        Ok(Totals::NONE)
+        Ok(Tally::NONE)
     }
 }
 
-/// Whether a line states a total of this sort.
-fn any_states(lines: &[Said<'_>], sort: Sort) -> bool
-    ensures { result ≡ list_any (states sort) (records_kept lines.now) }
+/// Whether one of the totals is of this sort.
+fn any_states(totals: &[Stated], sort: Sort) -> bool
+    ensures { result ≡ list_any (states sort) (map stated_record totals.now) }
 {
-    for line in lines {
-        if let Said::Total { kind, .. } = *line {
-            if sort.has(kind) {
-                return true;
-            }
+    for stated in totals {
+        if sort.has(stated.kind) {
+            return true;
         }
     }
     false
@@ -137,26 +130,15 @@ impl Own {
     }
 }
 
-/// How many of the lines state another total than these.
-fn count_odd(lines: &[Said<'_>], own: &Own) -> u64
-    ensures { result ≡ count_by (differs own.now) (records_kept lines.now) }
+/// How many of the totals differ from these.
+fn count_odd(totals: &[Stated], own: &Own) -> u64
+    ensures { result ≡ count_by (differs own.now) (map stated_record totals.now) }
 {
     let mut odd: u64 = 0;
-    for line in lines {
-        if is_other(line, own) {
+    for stated in totals {
+        if stated.value != own.total(stated.kind) {
             odd += 1;
         }
     }
     odd
-}
-
-/// Whether the line states another total than these.
-fn is_other(line: &Said<'_>, own: &Own) -> bool
-    ensures { result ≡ differs own.now (said_data line.now) }
-{
-    match *line {
-        Said::Total { kind, value } => value != own.total(kind),
-        Said::FuncStart { .. } | Said::FuncCount { .. } | Said::Branch { .. } | Said::Line { .. } =>
-            false,
-    }
 }

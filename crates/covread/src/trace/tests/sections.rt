@@ -1,8 +1,9 @@
 //! What sections of given lines give. The lines are given as the reader keeps them.
 
 use crate::trace::said::Said;
-use crate::trace::settle::settle;
-use covline::{Item, TotalKind};
+use crate::trace::section::Gathered;
+use crate::trace::settle::{Settled, settle};
+use covline::{Item, Memory, TotalKind};
 use std::alloc::Global;
 use std::process::Abort;
 use std::test::*;
@@ -32,6 +33,15 @@ fn seen(item: &Item) -> Row<'_> {
     }
 }
 
+/// Settles a section of these lines.
+fn settled(alloc: Global, lines: &[Said<'_>]) -> Result<Settled<Global>, Memory> {
+    let mut gathered = Gathered::new(alloc);
+    for line in lines {
+        gathered.take(alloc, *line)?;
+    }
+    settle(alloc, gathered)
+}
+
 /// Settles a section, and compares its items and how many of its lines are odd. The name says what the case shows.
 fn check(
     rt: &(impl Abort + AllocGlobal),
@@ -40,7 +50,7 @@ fn check(
     wanted: &[Row<'_>],
     odd: u64,
 ) {
-    match settle(rt.alloc(), lines) {
+    match settled(rt.alloc(), lines) {
         Err(fault) => assert!(rt; false, "{name}: {fault}"),
         Ok(settled) => {
             assert_eq!(rt; settled.odd, odd, "{name}");
@@ -54,7 +64,7 @@ fn check(
 
 /// The same without the items.
 fn check_odd(rt: &(impl Abort + AllocGlobal), name: &str, lines: &[Said<'_>], odd: u64) {
-    match settle(rt.alloc(), lines) {
+    match settled(rt.alloc(), lines) {
         Err(fault) => assert!(rt; false, "{name}: {fault}"),
         Ok(settled) => assert_eq!(rt; settled.odd, odd, "{name}"),
     }
@@ -354,7 +364,7 @@ fn long_section(rt: HostRuntime) -> Result<(), Fail> {
     ] {
         lines.push(total(kind, own))?;
     }
-    match settle(rt.alloc(), &lines) {
+    match settled(rt.alloc(), &lines) {
         Err(fault) => assert!(rt; false, "{fault}"),
         Ok(settled) => {
             assert_eq!(rt; settled.items.len() as u64, 4 * MANY);

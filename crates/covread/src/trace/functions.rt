@@ -1,0 +1,84 @@
+//! The functions of a section.
+
+ghost use Rattle.std.specs.Prelude.{◌≡◌, ℕ, ◌++◌, ◌∷◌, [], List, Option, OnOk, option_map};
+ghost use Rattle.std.specs.Option.{option_copied};
+ghost use Rattle.covline.specs.Spells.{LineData, FuncStart};
+ghost use Rattle.covread.specs.Reads.{start_in};
+ghost use Rattle.covread.specs.TraceFunctions.{AreFunctions, comes_first, found_by, named};
+
+use covline::Memory;
+use std::alloc::Allocator;
+use std::collections::BTreeMap;
+
+/// A function that has a start line.
+#[derive(Clone, Copy, Debug, PartialEq, Eq, Drop)]
+pub struct Function {
+    /// The least of its start lines.
+    pub start: u64,
+    /// Whether some line counts it above 0, as far as the counts were passed over.
+    pub is_hit: bool,
+}
+
+/// The functions that have a start line, by their names.
+pub type Functions<'a, A> = BTreeMap<&'a [u8], Function, A>;
+
+/// What a count of a function finds.
+#[derive(Clone, Copy, Debug, PartialEq, Eq, Drop)]
+pub struct Found {
+    /// The function's start line.
+    pub start: u64,
+    /// Whether the count is the first above 0 that the function has.
+    pub is_first_hit: bool,
+}
+
+/// Takes a start line of the function of this name, of which the least is kept.
+pub fn take_start<'a, A: Allocator + Copy>(
+    functions: &mut Functions<'a, A>,
+    name: &'a [u8],
+    line: u64,
+) -> Result<(), Memory>
+    ensures { OnOk result ((before : List LineData) → AreFunctions functions.old (λ other. start_in other before) [] → AreFunctions functions.new (λ other. start_in other (before ++ FuncStart line name.now ∷ [])) []) }
+{
+    if comes_first(line, functions.get(name)) {
+        let function = Function {
+            start: line,
+            is_hit: false,
+        };
+        functions.insert(name, function)?;
+    }
+    Ok(())
+}
+
+/// Whether the line is before the function's start line, or its first.
+fn comes_first(line: u64, function: Option<&Function>) -> bool
+    ensures { result ≡ comes_first line (option_copied function.entry) }
+{
+    match function {
+        Some(function) => line < function.start,
+        None => true,
+    }
+}
+
+/// Takes a count of the function of this name; nothing where it has no start line.
+pub fn take_count<'a, A: Allocator>(
+    functions: &mut Functions<'a, A>,
+    name: &'a [u8],
+    is_hit: bool,
+) -> Option<Found>
+    ensures found { (starts : List ℕ → Option ℕ) (names : List (List ℕ)) → AreFunctions functions.old starts names → result ≡ option_map (found_by names name.now is_hit) (starts name.now) }
+    ensures marks { (starts : List ℕ → Option ℕ) (names : List (List ℕ)) → AreFunctions functions.old starts names → AreFunctions functions.new starts (names ++ named name.now is_hit (starts name.now)) }
+{
+    match functions.get_mut(name) {
+        Some(function) => {
+            let is_first_hit = is_hit && !function.is_hit;
+            if is_hit {
+                function.is_hit = true;
+            }
+            Some(Found {
+                start: function.start,
+                is_first_hit,
+            })
+        }
+        None => None,
+    }
+}

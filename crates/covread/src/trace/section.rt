@@ -1,0 +1,189 @@
+//! What the lines of an open section give, one after another.
+
+ghost use Rattle.std.specs.Prelude.{◌≡◌, ◌+◌, ◌<◌, ◌^◌, ◌++◌, ◌∷◌, [], List, IfOk, OnOk, length, option_map};
+ghost use Rattle.covline.specs.Row.{FuncItem, LineItem, item_data};
+ghost use Rattle.covline.specs.Spells.{LineData};
+
+use crate::trace::functions::{Functions, take_start};
+use crate::trace::points::{Ascent, Points};
+use crate::trace::said::Said;
+use crate::trace::tally::Stated;
+use covline::{BranchPoint, Bytes, Item, Items, Memory};
+use std::alloc::Allocator;
+use std::collections::BTreeMap;
+
+/// A count of a function, which waits for the least start line of the function.
+#[derive(Clone, Copy, Drop)]
+pub struct Waiting<'a> {
+    /// The place of its item.
+    pub at: usize,
+    /// The function's name.
+    pub name: &'a [u8],
+    /// Whether the count is above 0.
+    pub is_hit: bool,
+}
+
+/// What the lines of an open section gave so far. Counts of functions and totals hang on lines behind them, so they wait
+/// for the section's end.
+#[derive(Drop)]
+pub struct Gathered<'a, A: Allocator> {
+    /// The items, in the order of their lines. Those of functions' counts have the start line 0.
+    pub items: Items<A>,
+    /// The functions with a start line.
+    pub functions: Functions<'a, A>,
+    /// The counts of functions.
+    pub waiting: Vec<Waiting<'a>, A>,
+    /// The lines.
+    pub lines: Points<u64>,
+    /// The branches.
+    pub branches: Points<BranchPoint>,
+    /// The totals.
+    pub totals: Vec<Stated, A>,
+}
+
+impl<'a, A: Allocator + Copy> Gathered<'a, A> {
+    ghost use Rattle.std.specs.Prelude.{◌≡◌, ◌+◌, ◌<◌, ◌^◌, ◌++◌, ◌∷◌, [], List, OnOk, length, option_map};
+    ghost use Rattle.covline.specs.Row.{BranchItem, item_data};
+    ghost use Rattle.covline.specs.Spells.{LineData, FuncStart, FuncCount, Branch, Line};
+    ghost use Rattle.covread.specs.Said.{said_data};
+    ghost use Rattle.covread.specs.TraceSection.{IsGathered};
+    ghost use Rattle.covread.specs.TraceTally.{stated_record};
+
+    /// Before the section's first line. Takes no memory.
+    pub fn new(alloc: A) -> Gathered<'a, A>
+        ensures { IsGathered result [] }
+    {
+        Gathered {
+            items: Items::new(alloc),
+            functions: BTreeMap::new(alloc),
+            waiting: Vec::new(alloc),
+            lines: Points::Ascending(Ascent::new()),
+            branches: Points::Ascending(Ascent::new()),
+            totals: Vec::new(alloc),
+        }
+    }
+
+    /// Takes what a line says.
+    pub fn take(&mut self, alloc: A, said: Said<'a>) -> Result<(), Memory>
+        requires { (inside : List LineData) × IsGathered self.old inside × length inside + 1 < 2 ^ 64 }
+        ensures { OnOk result ((inside : List LineData) → IsGathered self.old inside → IsGathered self.new (inside ++ said_data said.entry ∷ [])) }
+    {
+        match said {
+            Said::FuncStart { line, name } => self.take_start(alloc, line, name),
+            Said::FuncCount { count, name } => self.take_count(alloc, count, name),
+            Said::Branch {
+                line,
+                block,
+                branch,
+                taken,
+            } => self.take_branch(
+                BranchPoint {
+                    line,
+                    block,
+                    branch,
+                },
+                taken,
+            ),
+            Said::Line {
+                line,
+                count,
+                checksum,
+            } => self.take_line(alloc, line, count, checksum),
+            Said::Total { kind, value } => self.take_total(Stated { kind, value }),
+        }
+    }
+
+    /// A start line of a function.
+    fn take_start(&mut self, alloc: A, line: u64, name: &'a [u8]) -> Result<(), Memory>
+        ensures { OnOk result ((inside : List LineData) → IsGathered self.old inside → IsGathered self.new (inside ++ FuncStart line name.now ∷ [])) }
+    {
+        take_start(&mut self.functions, name, line)?;
+        self.items.push(func_item(alloc, name, line, 0)?)?;
+        Ok(())
+    }
+
+    /// A count of a function.
+    fn take_count(&mut self, alloc: A, count: u64, name: &'a [u8]) -> Result<(), Memory>
+        ensures { OnOk result ((inside : List LineData) → IsGathered self.old inside → IsGathered self.new (inside ++ FuncCount count name.now ∷ [])) }
+    {
+        self.waiting.push(Waiting {
+            at: self.items.len(),
+            name,
+            is_hit: count > 0,
+        })?;
+        self.items.push(func_item(alloc, name, 0, count)?)?;
+        Ok(())
+    }
+
+    /// How often a branch was taken.
+    fn take_branch(&mut self, branch: BranchPoint, taken: Option<u64>) -> Result<(), Memory>
+        requires { (inside : List LineData) × IsGathered self.old inside × length inside + 1 < 2 ^ 64 }
+        ensures { OnOk result ((inside : List LineData) → IsGathered self.old inside → IsGathered self.new (inside ++ Branch branch.line branch.block branch.branch taken ∷ [])) }
+    {
+        let item = Item::Branch {
+            line: branch.line,
+            block: branch.block,
+            branch: branch.branch,
+            taken,
+        };
+        self.branches.take(&item);
+        self.items.push(item)?;
+        Ok(())
+    }
+
+    /// The execution count of a line.
+    fn take_line(
+        &mut self,
+        alloc: A,
+        line: u64,
+        count: u64,
+        checksum: Option<&[u8]>,
+    ) -> Result<(), Memory>
+        requires { (inside : List LineData) × IsGathered self.old inside × length inside + 1 < 2 ^ 64 }
+        ensures { OnOk result ((inside : List LineData) → IsGathered self.old inside → IsGathered self.new (inside ++ Line line count (option_map (λ c. c.now) checksum.entry) ∷ [])) }
+    {
+        let item = line_item(alloc, line, count, checksum)?;
+        self.lines.take(&item);
+        self.items.push(item)?;
+        Ok(())
+    }
+
+    /// A total.
+    fn take_total(&mut self, stated: Stated) -> Result<(), Memory>
+        ensures { OnOk result ((inside : List LineData) → IsGathered self.old inside → IsGathered self.new (inside ++ stated_record stated ∷ [])) }
+    {
+        self.totals.push(stated)?;
+        Ok(())
+    }
+}
+
+/// The item of a function. It owns its name.
+fn func_item<A: Allocator>(alloc: A, name: &[u8], line: u64, count: u64) -> Result<Item<A>, Memory>
+    ensures { IfOk result (λ item. item_data item ≡ FuncItem name.now line count) }
+{
+    Ok(Item::Func {
+        name: Bytes::of(alloc, name)?,
+        line,
+        count,
+    })
+}
+
+/// The item of a line. It owns its checksum.
+fn line_item<A: Allocator>(
+    alloc: A,
+    line: u64,
+    count: u64,
+    checksum: Option<&[u8]>,
+) -> Result<Item<A>, Memory>
+    ensures { IfOk result (λ item. item_data item ≡ LineItem line count (option_map (λ c. c.now) checksum.entry)) }
+{
+    let checksum = match checksum {
+        Some(text) => Some(Bytes::of(alloc, text)?),
+        None => None,
+    };
+    Ok(Item::Line {
+        line,
+        count,
+        checksum,
+    })
+}
