@@ -1,5 +1,5 @@
 -- Each input has exactly one session text: its commands are found piece by piece.
-use Rattle.std.proofs.Common.{◌≡◌, ◌≢◌, ◌⊎◌, ℕ, zero, suc, ◌+◌, ◌<◌, ◌≤◌, Bool, true, false, eqb, leb, List, [], ◌∷◌, ◌++◌, length, Result, refl, sym, ◌∙◌, ap, subst, arith, codes, inl, inr, length-append}
+use Rattle.std.proofs.Common.{◌≡◌, ◌≢◌, ◌⊎◌, ℕ, zero, suc, ◌+◌, ◌<◌, ◌≤◌, Bool, true, false, eqb, leb, List, [], ◌∷◌, ◌++◌, length, Result, refl, sym, ◌∙◌, ap, subst, arith, codes, inl, inr}
 use Rattle.std.specs.List.{concat}
 use Rattle.std.proofs.lemmas.Bool.{eqb-true, eqb-false, leb-true, leb-false}
 use Rattle.covline.specs.Row.{SubmissionData}
@@ -8,12 +8,11 @@ use Rattle.covread.specs.declared.fault.ReadFault.{ReadFault}
 use Rattle.covread.specs.Outcome.{IsOutcome}
 use Rattle.covbook.specs.Op.{OpData, SubmitOp, ReportOp, ExtractOp, RemoveOp, SummaryOp}
 use Rattle.covreport.specs.Choice.{most_pattern_bytes}
-use Rattle.covcollect.specs.Command.{Command, Blank, Ask, RefusePattern, Unknown, Unfinished, AsksFor, IsTooLong, IsUnknown, IsBody, space}
+use Rattle.covcollect.specs.Command.{Command, Blank, Ask, RefusePattern, Unknown, Unfinished, AsksFor, IsTooLong, IsBody, space}
 use Rattle.covcollect.specs.Session.{IsSession, session_text}
 use Rattle.covcollect.specs.Text.{asked_for}
 use Rattle.covcollect.specs.Run.{IsRun}
 use Rattle.covcollect.specs.declared.session.text.LineEnd.TheVariants.{Feed, Input}
-use Rattle.covcollect.proofs.SessionWords.{IsSingle}
 use Rattle.covcollect.proofs.SessionRun.{run_none, run_one_input, run_more, open_determined}
 use Rattle.covcollect.proofs.SessionSteps.{whole_run, blank_run, ask_run, long_run, unknown_run}
 

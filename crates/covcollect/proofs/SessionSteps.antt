@@ -4,7 +4,7 @@ use Rattle.std.specs.List.{concat}
 use Rattle.std.proofs.lemmas.Bool.{leb-true, leb-false, le-leb}
 use Rattle.std.proofs.lemmas.List.Concat.{flat_map-append}
 use Rattle.std.specs.Option.{IfSome}
-use Rattle.std.specs.Io.KnownBytes.{Consumes, Appends, Keeps, IsAtEnd, prepend_known, append_known}
+use Rattle.std.specs.Io.KnownBytes.{Consumes, Appends, IsAtEnd, prepend_known, append_known}
 use Rattle.covline.specs.Row.{SubmissionData}
 use Rattle.covline.specs.Lines.{line_feed, before_feed, strip, line_of, pieces_of}
 use Rattle.covbook.specs.Op.{OpData, ReportOp, ExtractOp, RemoveOp, SummaryOp}
@@ -24,7 +24,7 @@ use Rattle.covcollect.specs.declared.session.command.word.Word.TheVariants as wo
 use Rattle.covread.specs.Outcome.{IsOutcome, most_bytes}
 use Rattle.covcollect.specs.Command.{Command, Blank, Ask, RefusePattern, Submit, Refuse, Unknown, Unfinished, AsksFor, IsTooLong, IsUnknown, IsBody, AreCommands, ops_of, ops_asked, IsWord, IsWordWith, pick_name, pick_op, asked_by, chosen_by, IsListOf}
 use Rattle.covcollect.specs.Session.{IsSession, IsWholeSession, text_after, Asks}
-use Rattle.covcollect.specs.Streams.{InputData, OutputData, Moment, Takes, Says, Moves, TakesLine, TakesPieces, EndsAs, turns, unread, said_so_far, line_bytes, line_pieces}
+use Rattle.covcollect.specs.Streams.{InputData, OutputData, Moment, Takes, Says, Moves, TakesLine, TakesPieces, EndsAs, turns, unread, line_bytes, line_pieces}
 use Rattle.covcollect.specs.Text.{IsTaken, asked_for, IsAnsweredAs}
 use Rattle.covcollect.specs.Run.{IsRun, TakesTrace, TakesCommand, IsSoFar, IsDone}
 use Rattle.covcollect.proofs.SessionMoves.{Says-trans, Moves-trans, Moves-none}

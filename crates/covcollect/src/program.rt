@@ -1,6 +1,6 @@
 //! The program over streams: a session, the exit status that tells how it ended, and the words of its fault.
 
-ghost use Rattle.std.specs.Prelude.{◌≡◌, ◌++◌, ◌^◌, ◌<◌, Result, OnOk};
+ghost use Rattle.std.specs.Prelude.{◌≡◌, ◌^◌, ◌<◌, Result, OnOk};
 ghost use Rattle.std.specs.Io.KnownBytes.{Appends};
 ghost use Rattle.covcollect.specs.Program.{fault_status, words_of_fault, end_status, end_words};
 ghost use Rattle.covcollect.specs.Session.{said, IsWholeSession};

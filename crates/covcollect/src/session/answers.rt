@@ -3,7 +3,7 @@
 ghost use Rattle.std.specs.Prelude.{◌≡◌, ◌≢◌, ◌^◌, ◌<◌, codes, decimal, IfOk, IfErr, OnOk, ◌++◌};
 ghost use Rattle.covbook.specs.Op.{AcceptedAnswer, ClashAnswer};
 ghost use Rattle.covbook.specs.View.{answer_data};
-ghost use Rattle.covcollect.specs.Session.{said, answer_text, line_fault_name, fault_text, refused_text};
+ghost use Rattle.covcollect.specs.Session.{answer_text, line_fault_name, fault_text, refused_text};
 ghost use Rattle.covcollect.specs.Streams.{Says};
 ghost use Rattle.covcollect.specs.declared.session.fault.SessionFault.TheVariants as session_faults;
 

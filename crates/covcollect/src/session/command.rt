@@ -1,7 +1,6 @@
 //! The commands of one line: what such a line asks for, and the answer to it.
 
 ghost use Rattle.std.specs.Prelude.{◌≡◌, ◌↔◌, ◌^◌, ◌<◌, [], ◌∷◌, ◌++◌, length, Err, IfOk, IfErr, OnOk, option_map};
-ghost use Rattle.covbook.specs.Op.{OpData};
 ghost use Rattle.covbook.specs.Step.{answer_of, most_entries, next_entry, table_of, ops_in};
 ghost use Rattle.covbook.specs.View.{op_data};
 ghost use Rattle.covcollect.specs.Command.{asked_by, pick_op, IsListOf};

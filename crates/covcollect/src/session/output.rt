@@ -1,8 +1,8 @@
 //! The output of a session: what it says is collected, and written in large pieces.
 
 ghost use Rattle.std.specs.Prelude.{◌≡◌, ◌≢◌, ◌^◌, ◌+◌, ◌<◌, ◌≤◌, [], length, IfErr, OnOk, OnErr};
-ghost use Rattle.std.specs.Io.KnownBytes.{Appends, Keeps};
-ghost use Rattle.covcollect.specs.Streams.{said_so_far, Says};
+ghost use Rattle.std.specs.Io.KnownBytes.{Appends};
+ghost use Rattle.covcollect.specs.Streams.{Says};
 ghost use Rattle.covcollect.specs.declared.session.fault.SessionFault.TheVariants as session_faults;
 
 use crate::session::fault::SessionFault;

@@ -1,4 +1,4 @@
-use Rattle.std.proofs.Common.{◌≡◌, ℕ, List, [], ◌∷◌, Option, Some, option_map, OnOk, rules, subst, sym}
+use Rattle.std.proofs.Common.{ℕ, List, [], ◌∷◌, Option, option_map, OnOk, rules, subst, sym}
 use Rattle.covbook.specs.Op.{OpData}
 use Rattle.covbook.specs.Step.{table_of, ops_in}
 use Rattle.covcollect.specs.Command.{Command, Ask, IsListOf, asked_by, pick_op}
