@@ -5,18 +5,18 @@ use Rattle.std.proofs.lemmas.List.{append-nil, length-append}
 use Rattle.covline.specs.Lines.{lines_of}
 use Rattle.covline.specs.Row.{SectData}
 use Rattle.covline.specs.Lawful.{IsLawful}
-use Rattle.covline.specs.Spells.{LineData, Spells}
+use Rattle.covline.specs.Spells.{LineData, Path, Spells}
 use Rattle.covline.proofs.LineLaws.{few_lines, good_lines}
 use Rattle.covread.specs.declared.fault.ReadFault.{ReadFault}
 use Rattle.covread.specs.declared.fault.ReadFault.TheVariants as faults
 use Rattle.covread.specs.declared.trace.reader.OpenSection.{OpenSection}
 use Rattle.covread.specs.Reads.{Part}
-use Rattle.covread.specs.Outcome.{most_bytes, IsFirstFault, Answers}
-use Rattle.covread.specs.TraceSteps.{SectionData, HeldData, submission_held, IsLawfulAt, empty, kept_in, section_data, held_data, IsOpen, step, StopsAt, ends, EndsLawfully}
+use Rattle.covread.specs.Outcome.{most_bytes, IsFirstFault, Answers, HasBegun, GrowsLate}
+use Rattle.covread.specs.TraceSteps.{SectionData, HeldData, submission_held, IsLawfulAt, empty, kept_in, section_data, held_data, IsOpen, step, StopsAt, GrowsAt, ends, ends_at, EndsLawfully}
 use Rattle.covread.proofs.TraceGrammar.{Place, Between, Within}
-use Rattle.covread.proofs.TraceStands.{Stands, stands_reads, stop_by_fault, stop_open}
+use Rattle.covread.proofs.TraceStands.{Stands, stands_path, stands_goes_on, path_line, stands_reads, stop_by_fault, stop_open}
 use Rattle.covread.proofs.TraceLaw.{line_law}
-use Rattle.covread.proofs.TraceRun.{Holds, held_of, holds_at_first, holds_more, holds_outside, holds_inside}
+use Rattle.covread.proofs.TraceRun.{Holds, held_of, section_of, holds_at_first, holds_more, holds_outside, holds_inside}
 use Rattle.covread.proofs.TraceLawful.{held_room, lawful_parts}
 
 -- the lines of the text are those that were taken, and those that are left
@@ -78,6 +78,35 @@ reading_stop text rest line left before at (faults.Inside n) short r e takes = i
 reading_stop text rest line left before at faults.Memory short r e takes = inl (short, refl)
 reading_stop text rest line left before at faults.OpenEnd short r e takes = absurd takes
 reading_stop text rest line left before at faults.TooLong short r e takes = absurd takes
+
+-- ---- where memory ran out
+
+begun_at : (all lines : List (List ℕ)) (parts : List Part) (place : Place) (line : List ℕ) (after : List (List ℕ)) (says : LineData) → Stands lines parts place → all ≡ lines ++ line ∷ after → Spells line says
+    → GrowsAt (section_of place) says → HasBegun all
+begun_at all lines parts Between line after (Path path) s e spells grows =
+    (lines, line, after, path, e, spells, stands_goes_on (lines ++ line ∷ []) parts (Within path []) (stands_path lines parts line path s spells))
+begun_at all lines parts Between line after says s e spells grows = absurd grows
+begun_at all lines parts (Within path inside) line after says s e spells grows =
+    let k = path_line lines parts path inside s in
+    let whole : all ≡ k.0 ++ k.1 ∷ (k.2 ++ line ∷ after) = e ∙ ap (λ (x : List (List ℕ)). x ++ line ∷ after) k.3 ∙ append_assoc k.0 (k.1 ∷ k.2) (line ∷ after) in
+    (k.0, k.1, k.2 ++ line ∷ after, path, whole, k.5, stands_goes_on (k.0 ++ k.1 ∷ []) parts (Within path []) (stands_path k.0 parts k.1 path k.4 k.5))
+
+-- memory ran out behind a path
+pub reading_grows : (text rest line left : List ℕ) (before : HeldData) (at : ℕ) (fault : ReadFault) → Reading text rest before at → lines_of rest ≡ line ∷ lines_of left
+    → StopsAt fault before line (at + 1) → GrowsLate text (Err fault)
+reading_grows text rest line left before at faults.Memory r e takes = λ same.
+    begun_at (lines_of text) r.before r.holds.parts r.holds.place line (lines_of left) takes.0 r.holds.stands (place_is text rest line left before at r e) takes.1
+    (subst (λ (x : HeldData). GrowsAt x.section takes.0) r.holds.is takes.2)
+reading_grows text rest line left before at (faults.Line n f) r e takes = λ same. absurd cc
+reading_grows text rest line left before at (faults.Outside n) r e takes = λ same. absurd cc
+reading_grows text rest line left before at (faults.Inside n) r e takes = λ same. absurd cc
+reading_grows text rest line left before at faults.OpenEnd r e takes = λ same. absurd cc
+reading_grows text rest line left before at faults.TooLong r e takes = λ same. absurd cc
+
+-- the end needs no memory
+pub ends_late : (text : List ℕ) (section : Option SectionData) (held : HeldData) → GrowsLate text (ends_at section held)
+ends_late text None held = λ same. absurd cc
+ends_late text (Some s) held = λ same. absurd cc
 
 -- ---- behind the last line
 

@@ -1,7 +1,7 @@
 use Rattle.std.proofs.Common.{[], sym, ap, ◌∙◌, arith}
 use Rattle.std.proofs.lemmas.Result.{err_from_is_err_and}
 use Rattle.covread.specs.TraceSteps.{held_data}
-use Rattle.covread.proofs.TraceLoop.{reading_begins, reading_more, reading_number, reading_room, reading_stop, reading_end, ends_without, open_length}
+use Rattle.covread.proofs.TraceLoop.{reading_begins, reading_more, reading_number, reading_room, reading_stop, reading_grows, reading_end, ends_without, open_length}
 use Rattle.covread.proofs.trace.read.read_lines.Goals as goal
 
 pub loop-line-init : goal.loop-line-init
@@ -35,8 +35,11 @@ pub returns-in_err-take_line : goal.returns-in_err-take_line
 returns-in_err-take_line g c =
     let h = c.loop-line.invariant in
     let p = err_from_is_err_and c.from_residual.result c.from_residual.ensures.1 in
-    rw (p.1, p.2) (reading_stop c.args.text.now c.loop-line.line-iterator c.in-Some.line.now c.next.new.self (held_data c.loop-line.reader h.0) c.loop-line.at c.in_err-take_line.field-0.0 c.requires h.2 c.in-Some.ensures.steps
-    (c.in_err-take_line.ensures h.0 h.1))
+    let takes = c.in_err-take_line.ensures h.0 h.1 in
+    rw (p.1, p.2) (
+      reading_stop c.args.text.now c.loop-line.line-iterator c.in-Some.line.now c.next.new.self (held_data c.loop-line.reader h.0) c.loop-line.at c.in_err-take_line.field-0.0 c.requires h.2 c.in-Some.ensures.steps takes,
+      reading_grows c.args.text.now c.loop-line.line-iterator c.in-Some.line.now c.next.new.self (held_data c.loop-line.reader h.0) c.loop-line.at c.in_err-take_line.field-0.0 h.2 c.in-Some.ensures.steps takes,
+    )
 
 pub returns : goal.returns
 returns g c =
