@@ -10,7 +10,7 @@ ghost use Rattle.covread.specs.TraceSteps.{held_data, HasRoom, IsOpen, ReadsTo, 
 use crate::fault::ReadFault;
 use crate::trace::misplaced::Misplaced;
 use crate::trace::reader::Reader;
-use covline::{Submission, lines, read_line};
+use covline::{Submission, each_line_has_one_meaning, lines, lines_are_the_text, read_line};
 use std::alloc::Allocator;
 
 /// How many bytes a text has at the most: 64 MiB.
@@ -25,6 +25,8 @@ pub fn read_trace<A: Allocator + Copy>(alloc: A, text: &[u8]) -> Result<Submissi
     // Nothing is kept before the first path, so memory runs out only behind one.
     ensures memory { GrowsLate text.now result }
 {
+    // The proof cites this law.
+    each_line_has_one_meaning();
     if text.len() > MOST_BYTES {
         return Err(ReadFault::TooLong);
     }
@@ -36,6 +38,9 @@ fn read_lines<'a, A: Allocator + Copy>(alloc: A, text: &'a [u8]) -> Result<Reade
     requires { length text.now ≤ most_bytes }
     ensures { ReadsTo text.now result }
 {
+    // The proof cites these laws.
+    each_line_has_one_meaning();
+    lines_are_the_text();
     let mut reader = Reader::new(alloc);
     let mut at: u64 = 0;
     for line in lines(text) {
