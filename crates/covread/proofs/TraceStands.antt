@@ -128,12 +128,18 @@ by_record (l ∷ lines) (x ∷ a) b c h =
 pub path_line : (lines : List (List ℕ)) (parts : List Part) (path : List ℕ) (inside : List LineData) → Stands lines parts (Within path inside)
     → (ls : List (List ℕ)) × (l : List ℕ) × (ms : List (List ℕ)) × (lines ≡ ls ++ l ∷ ms) × Stands ls parts Between × Spells l (Path path)
 path_line lines parts path inside s =
-    let k = by_record lines (flat_map records_of parts) (Path path) inside s.spelled in
-    (k.0, k.1, k.2, k.3, record {
-      lawful = s.lawful;
-      inside = tt;
-      spelled = subst (λ (x : List LineData). AllSpell k.0 x) (sym (append-nil (flat_map records_of parts))) k.4;
-    }, k.5)
+    let k = by_record lines (flat_map records_of parts) (Path path) inside s.spelled in (
+      k.0,
+      k.1,
+      k.2,
+      k.3,
+      record {
+        lawful = s.lawful;
+        inside = tt;
+        spelled = subst (λ (x : List LineData). AllSpell k.0 x) (sym (append-nil (flat_map records_of parts))) k.4;
+      },
+      k.5,
+    )
 
 -- ---- what that says of the text
 
