@@ -1,6 +1,6 @@
 -- The functions of a section, one record after another, and how many it has.
-use Rattle.std.proofs.Common.{◌≡◌, ℕ, Bool, true, false, cond, ◌||◌, ◌<◌, ◌≤◌, List, [], ◌∷◌, ◌++◌, map, Option, None, Some, refl, sym, ap, ◌∙◌, arith, min}
-use Rattle.std.specs.Prelude.{is_some, fold, option_map}
+use Rattle.std.proofs.Common.{◌≡◌, ℕ, nat_lt, Bool, true, false, cond, ◌||◌, List, [], ◌∷◌, ◌++◌, map, Option, None, Some, refl, sym, ap, ◌∙◌, arith, min}
+use Rattle.std.specs.Prelude.{is_some, option_map}
 use Rattle.std.specs.BTreeMap.{BTreeMap, btree_map_len, IsOrdered, UpdatesBy, is_at}
 use Rattle.std.specs.Cmp.Lexicographic.{slice_cmp}
 use Rattle.std.specs.List.{flat_map, list_any}
@@ -24,7 +24,7 @@ use Rattle.covline.specs.Points.{func_points, func_point, least}
 use Rattle.covline.specs.Spells.{LineData, Test, Path, FuncStart, FuncCount, Branch, Line, Total, End, Skip}
 use Rattle.covread.specs.declared.trace.functions.Function.{Function}
 use Rattle.covread.specs.Reads.{distinct, start_said, start_in, counted, items_said, items_of}
-use Rattle.covread.specs.TraceFunctions.{function_at, comes_first, known, named, AreFunctions}
+use Rattle.covread.specs.TraceFunctions.{function_at, known, named, AreFunctions}
 use Rattle.covread.proofs.TraceDistinct.{distinct_is_count, distinct_on, list_any_on, list_any_push}
 
 -- ---- one more start line
@@ -81,36 +81,45 @@ start_taken old new records line name f start unhit puts h = record { at = λ q.
         puts q ∙ ap (λ (b : Bool). cond b (Some f) (function_at old q)) e ∙ h.at q
         ∙ sym (ap (option_map (known [] q)) (start_same q records (FuncStart line name) (ap (λ (b : Bool). cond b (line ∷ []) []) e)))
 
--- the start line comes first
-pub start_first : (old new : BTreeMap (Bor (List ℕ)) Function) (records : List LineData) (line : ℕ) (name : List ℕ) → comes_first line (function_at old name) ≡ true
-    → UpdatesBy (λ x y. slice_cmp nat_cmp x.now y.now) (λ k. slice_cmp nat_cmp name k.now) old new (Some (record { start = line; is_hit = false }))
+-- the function as its first start line makes it
+abbrev first_at : ℕ → Function
+first_at line = record { start = line; is_hit = false }
+
+-- the map has this at one name
+abbrev Inserts : BTreeMap (Bor (List ℕ)) Function → BTreeMap (Bor (List ℕ)) Function → List ℕ → Function → Type 0
+Inserts old new name f = UpdatesBy (λ x y. slice_cmp nat_cmp x.now y.now) (λ k. slice_cmp nat_cmp name k.now) old new (Some f)
+
+-- the function had no start line
+pub start_alone : (old new : BTreeMap (Bor (List ℕ)) Function) (records : List LineData) (line : ℕ) (name : List ℕ) → None ≡ function_at old name → Inserts old new name (first_at line)
     → AreFunctions old (λ other. start_in other records) [] → AreFunctions new (λ other. start_in other (records ++ FuncStart line name ∷ [])) []
-start_first old new records line name first updates h =
-    start_taken old new records line name (record { start = line; is_hit = false }) (by (function_at old name) first) refl (λ q. btree_map_updates_str name old new (Some (record { start = line; is_hit = false })) updates q) h
+start_alone old new records line name none inserts h =
+    start_taken old new records line name (first_at line) (ap (λ (o : Option Function). sooner line (option_map (λ (g : Function). g.start) o)) none) refl (λ q. btree_map_updates_str name old new (Some (first_at line)) inserts q) h
+
+-- the function had no start line before this one
+pub start_first : (old new : BTreeMap (Bor (List ℕ)) Function) (records : List LineData) (line : ℕ) (name : List ℕ) (g : Function) → Some g ≡ function_at old name → nat_lt g.start line ≡ false → Inserts old new name (first_at line)
+    → AreFunctions old (λ other. start_in other records) [] → AreFunctions new (λ other. start_in other (records ++ FuncStart line name ∷ [])) []
+start_first old new records line name g was late inserts h =
+    let least : line ≡ min g.start line = grind (arith, nat_tests) in
+    start_taken old new records line name (first_at line) (least ∙ ap (λ (o : Option Function). sooner line (option_map (λ (f : Function). f.start) o)) was) refl
+    (λ q. btree_map_updates_str name old new (Some (first_at line)) inserts q) h
+
+-- the function had one, and gets it back
+pub start_again : (old mid new : BTreeMap (Bor (List ℕ)) Function) (records : List LineData) (line : ℕ) (name : List ℕ) (g : Function) → Some g ≡ function_at old name → nat_lt g.start line ≡ true → Inserts old mid name (first_at line)
+    → Inserts mid new name g → AreFunctions old (λ other. start_in other records) [] → AreFunctions new (λ other. start_in other (records ++ FuncStart line name ∷ [])) []
+start_again old mid new records line name g was early first back h =
+    start_taken old new records line name g (least ∙ ap (λ (o : Option Function). sooner line (option_map (λ (f : Function). f.start) o)) was) (unhit (start_in name records) (sym (h.at name) ∙ sym was))
+    (λ q. btree_map_updates_str name mid new (Some g) back q ∙ ap (cond (bytes_eq name q) (Some g)) (btree_map_updates_str name old mid (Some (first_at line)) first q) ∙ twice (bytes_eq name q) (function_at old q)) h
   where
-    by : (o : Option Function) → comes_first line o ≡ true → line ≡ sooner line (option_map (λ (g : Function). g.start) o)
-    by None e = refl
-    by (Some g) e = grind (arith, nat_tests)
+    least : g.start ≡ min g.start line
+    least = grind (arith, nat_tests)
 
--- the start line doesn't come first
-pub start_later : (functions : BTreeMap (Bor (List ℕ)) Function) (records : List LineData) (line : ℕ) (name : List ℕ) → comes_first line (function_at functions name) ≡ false
-    → AreFunctions functions (λ other. start_in other records) [] → AreFunctions functions (λ other. start_in other (records ++ FuncStart line name ∷ [])) []
-start_later functions records line name later h = by (function_at functions name) refl later
-  where
-    unhit : (o : Option ℕ) (g : Function) → option_map (known [] name) o ≡ Some g → g.is_hit ≡ false
-    unhit None g e = absurd (cc)
-    unhit (Some start) g e = let k : known [] name start ≡ g = cc in ap (λ (f : Function). f.is_hit) (sym k)
+    unhit : (o : Option ℕ) → option_map (known [] name) o ≡ Some g → g.is_hit ≡ false
+    unhit None e = absurd (cc)
+    unhit (Some start) e = let k : known [] name start ≡ g = cc in ap (λ (f : Function). f.is_hit) (sym k)
 
-    stays : (g : Function) → function_at functions name ≡ Some g → (q : List ℕ) (b : Bool) → bytes_eq name q ≡ b → function_at functions q ≡ cond b (Some g) (function_at functions q)
-    stays g e q true same = sym (ap (function_at functions) ((bytes_eq-Decides name q).0 same)) ∙ e
-    stays g e q false differ = refl
-
-    by : (o : Option Function) → function_at functions name ≡ o → comes_first line o ≡ false → AreFunctions functions (λ other. start_in other (records ++ FuncStart line name ∷ [])) []
-    by None e late = absurd (cc)
-    by (Some g) e late =
-        let least : g.start ≡ min g.start line = grind (arith, nat_tests) in
-        start_taken functions functions records line name g (least ∙ sym (ap (λ (o : Option Function). sooner line (option_map (λ (f : Function). f.start) o)) e)) (unhit (start_in name records) g (sym (h.at name) ∙ e))
-        (λ q. stays g e q (bytes_eq name q) refl) h
+    twice : (b : Bool) (o : Option Function) → cond b (Some g) (cond b (Some (first_at line)) o) ≡ cond b (Some g) o
+    twice true o = refl
+    twice false o = refl
 
 -- the functions where a record gives no start line
 pub starts_same : (functions : BTreeMap (Bor (List ℕ)) Function) (records : List LineData) (r : LineData) → ((name : List ℕ) → start_said name r ≡ []) → AreFunctions functions (λ name. start_in name records) []

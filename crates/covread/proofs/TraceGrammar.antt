@@ -3,6 +3,7 @@ use Rattle.std.proofs.Common.{◌≡◌, ℕ, List, [], ◌∷◌, ◌++◌, ref
 use Rattle.std.specs.Prelude.{◌⊎◌}
 use Rattle.std.specs.List.{flat_map, AllByRecursion}
 use Rattle.std.proofs.lemmas.List.{append-nil}
+use Rattle.covline.specs.LineLaws.{FewLines, GoodLines, GoodRest}
 use Rattle.covline.specs.Spells.{LineData, Test, Path, End, Skip, Spells, HasFault}
 use Rattle.covline.specs.declared.trace_line.LineFault.{LineFault}
 use Rattle.covread.specs.Reads.{Part, Outside, Section, IsInside, IsLawfulPart, records_of}
@@ -13,6 +14,13 @@ pub record LineLaw : Type 0 where
   pub fault : (line : List ℕ) (f g : LineFault) → HasFault line f → HasFault line g → f ≡ g
   pub never_both : (line : List ℕ) (says : LineData) (f : LineFault) → Spells line says → HasFault line f → ⊥
   pub one_of : (line : List ℕ) → ((says : LineData) × Spells line says) ⊎ ((f : LineFault) × HasFault line f)
+
+-- what is known of the lines of texts
+pub record TextLaw : Type 0 where
+  pub line_law : LineLaw
+  pub few_lines : FewLines
+  pub good_lines : GoodLines
+  pub good_rest : GoodRest
 
 -- where a reader stands: between sections, or in one that began with this path
 pub data Place : Type 0 where

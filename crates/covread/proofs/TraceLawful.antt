@@ -11,7 +11,7 @@ use Rattle.covline.specs.Points.{least}
 use Rattle.covline.specs.Row.{ItemData, LineItem, BranchItem, SectData, items_in}
 use Rattle.covline.specs.Lawful.{IsGoodTest, IsGoodName, IsLawfulItem, IsLawfulSect, Fits64, AllFit64, IsLawful}
 use Rattle.covline.specs.Spells.{LineData, Test, Path, FuncStart, FuncCount, Branch, Line, End, comma, HasForm, HasSmallNumbers}
-use Rattle.covline.proofs.LineLaws.{good_rest}
+use Rattle.covline.specs.LineLaws.{GoodRest}
 use Rattle.covread.specs.Reads.{AllSpell, Part, Outside, Section, records_of, start_said, start_in, counted, items_said, items_of, is_odd, odd_in, test_after, sects_from}
 use Rattle.covread.specs.Outcome.{most_bytes}
 use Rattle.covread.specs.TraceSteps.{HeldData, kept_in}
@@ -37,24 +37,24 @@ record IsGood (says : LineData) : Type 0 where
   texts : HasGoodTexts says
 
 -- a text behind a key, a number and a comma
-good_behind : (key number rest line : List ℕ) → line ≡ key ++ number ++ comma ∷ rest → IsGoodTest line → IsGoodTest rest
-good_behind key number rest line e good =
+good_behind : GoodRest → (key number rest line : List ℕ) → line ≡ key ++ number ++ comma ∷ rest → IsGoodTest line → IsGoodTest rest
+good_behind good_rest key number rest line e good =
     good_rest (comma ∷ []) rest (good_rest (key ++ number) (comma ∷ rest) (subst (λ (x : List ℕ). IsGoodTest x) e good))
 
-texts_good : (line : List ℕ) (says : LineData) → IsGoodTest line → HasForm line says → HasGoodTexts says
-texts_good line (Test name) good form = good_rest (codes "TN:") name (subst (λ (x : List ℕ). IsGoodTest x) form good)
-texts_good line (Path path) good form = record { fits = good_rest (codes "SF:") path (subst (λ (x : List ℕ). IsGoodTest x) form.0 good); some = form.1 }
-texts_good line (FuncStart number name) good form = record { fits = good_behind (codes "FN:") form.0 name line form.1 good; some = form.3 }
-texts_good line (FuncCount count name) good form = record { fits = good_behind (codes "FNDA:") form.0 name line form.1 good; some = form.3 }
-texts_good line (Line number count (Some checksum)) good form = form.5
-texts_good line says good form = tt
+texts_good : GoodRest → (line : List ℕ) (says : LineData) → IsGoodTest line → HasForm line says → HasGoodTexts says
+texts_good good_rest line (Test name) good form = good_rest (codes "TN:") name (subst (λ (x : List ℕ). IsGoodTest x) form good)
+texts_good good_rest line (Path path) good form = record { fits = good_rest (codes "SF:") path (subst (λ (x : List ℕ). IsGoodTest x) form.0 good); some = form.1 }
+texts_good good_rest line (FuncStart number name) good form = record { fits = good_behind good_rest (codes "FN:") form.0 name line form.1 good; some = form.3 }
+texts_good good_rest line (FuncCount count name) good form = record { fits = good_behind good_rest (codes "FNDA:") form.0 name line form.1 good; some = form.3 }
+texts_good good_rest line (Line number count (Some checksum)) good form = form.5
+texts_good good_rest line says good form = tt
 
-all_good : (lines : List (List ℕ)) (says : List LineData) → AllByRecursion IsGoodTest lines → AllSpell lines says → AllByRecursion IsGood says
-all_good [] [] good spelled = tt
-all_good [] (s ∷ says) good spelled = absurd spelled
-all_good (line ∷ lines) [] good spelled = absurd spelled
-all_good (line ∷ lines) (s ∷ says) good spelled =
-    (record { small = spelled.0.small; texts = texts_good line s good.0 spelled.0.form }, all_good lines says good.1 spelled.1)
+all_good : GoodRest → (lines : List (List ℕ)) (says : List LineData) → AllByRecursion IsGoodTest lines → AllSpell lines says → AllByRecursion IsGood says
+all_good good_rest [] [] good spelled = tt
+all_good good_rest [] (s ∷ says) good spelled = absurd spelled
+all_good good_rest (line ∷ lines) [] good spelled = absurd spelled
+all_good good_rest (line ∷ lines) (s ∷ says) good spelled =
+    (record { small = spelled.0.small; texts = texts_good good_rest line s good.0 spelled.0.form }, all_good good_rest lines says good.1 spelled.1)
 
 -- ---- the items of a section
 
@@ -187,11 +187,11 @@ held_room lines held h =
 
 -- ---- the submission
 
-pub lawful_parts : (lines : List (List ℕ)) (parts : List Part) → Stands lines parts Between → All IsGoodTest lines → length lines ≤ most_bytes
+pub lawful_parts : GoodRest → (lines : List (List ℕ)) (parts : List Part) → Stands lines parts Between → All IsGoodTest lines → length lines ≤ most_bytes
     → IsLawful (record { sects = sects_from [] parts; odd = sum_by odd_in parts })
-lawful_parts lines parts s good short =
+lawful_parts good_rest lines parts s good short =
     let spelled : AllSpell lines (records parts) = subst (λ (x : List LineData). AllSpell lines x) (append-nil (records parts)) s.spelled in
-    let says = all_good lines (records parts) (recursion_from_All IsGoodTest lines good) spelled in
+    let says = all_good good_rest lines (records parts) (recursion_from_All IsGoodTest lines good) spelled in
     let sects = good_sects [] parts empty_good says in
     let len = AllSpell-length lines (records parts) spelled in
     record {

@@ -5,18 +5,16 @@ use Rattle.std.proofs.lemmas.List.{append-nil, length-append}
 use Rattle.covline.specs.Lines.{lines_of}
 use Rattle.covline.specs.Row.{SectData}
 use Rattle.covline.specs.Lawful.{IsLawful}
-use Rattle.covline.specs.Spells.{LineData, Spells}
-use Rattle.covline.proofs.LineLaws.{few_lines, good_lines}
+use Rattle.covline.specs.Spells.{LineData, Path, Spells}
 use Rattle.covread.specs.declared.fault.ReadFault.{ReadFault}
 use Rattle.covread.specs.declared.fault.ReadFault.TheVariants as faults
 use Rattle.covread.specs.declared.trace.reader.OpenSection.{OpenSection}
 use Rattle.covread.specs.Reads.{Part}
-use Rattle.covread.specs.Outcome.{most_bytes, IsFirstFault, Answers}
-use Rattle.covread.specs.TraceSteps.{SectionData, HeldData, submission_held, IsLawfulAt, empty, kept_in, section_data, held_data, IsOpen, step, StopsAt, ends, EndsLawfully}
-use Rattle.covread.proofs.TraceGrammar.{Place, Between, Within}
-use Rattle.covread.proofs.TraceStands.{Stands, stands_reads, stop_by_fault, stop_open}
-use Rattle.covread.proofs.TraceLaw.{line_law}
-use Rattle.covread.proofs.TraceRun.{Holds, held_of, holds_at_first, holds_more, holds_outside, holds_inside}
+use Rattle.covread.specs.Outcome.{most_bytes, IsFirstFault, Answers, HasBegun, GrowsLate}
+use Rattle.covread.specs.TraceSteps.{SectionData, HeldData, submission_held, IsLawfulAt, empty, kept_in, section_data, IsOpen, step, StopsAt, GrowsAt, ends, ends_at, EndsLawfully}
+use Rattle.covread.proofs.TraceGrammar.{TextLaw, Place, Between, Within}
+use Rattle.covread.proofs.TraceStands.{Stands, stands_path, stands_goes_on, path_line, stands_reads, stop_by_fault, stop_open}
+use Rattle.covread.proofs.TraceRun.{Holds, held_of, section_of, holds_at_first, holds_more, holds_outside, holds_inside}
 use Rattle.covread.proofs.TraceLawful.{held_room, lawful_parts}
 
 -- the lines of the text are those that were taken, and those that are left
@@ -46,55 +44,84 @@ reading_more text rest line left before after at r f says spells e = record {
 }
 
 -- the number of a line fits 64 bits, and so does what may become odd
-pub reading_number : (text rest line left : List ℕ) (held : HeldData) (at : ℕ) → length text ≤ most_bytes → Reading text rest held at → lines_of rest ≡ line ∷ lines_of left → at + 1 < 2 ^ 64
-reading_number text rest line left held at short r f =
-    omega (arith, short, few_lines text, r.number, ap length (place_is text rest line left held at r f), length-append r.before (line ∷ lines_of left))
+pub reading_number : TextLaw → (text rest line left : List ℕ) (held : HeldData) (at : ℕ) → length text ≤ most_bytes → Reading text rest held at → lines_of rest ≡ line ∷ lines_of left → at + 1 < 2 ^ 64
+reading_number law text rest line left held at short r f =
+    omega (arith, short, law.few_lines text, r.number, ap length (place_is text rest line left held at r f), length-append r.before (line ∷ lines_of left))
 
-pub reading_room : (text rest : List ℕ) (held : HeldData) (at : ℕ) → length text ≤ most_bytes → Reading text rest held at → held.odd + length (kept_in held.section) + 1 < 2 ^ 64
-reading_room text rest held at short r =
-    omega (arith, short, few_lines text, held_room r.before held r.holds, ap length r.whole, length-append r.before (lines_of rest))
+pub reading_room : TextLaw → (text rest : List ℕ) (held : HeldData) (at : ℕ) → length text ≤ most_bytes → Reading text rest held at → held.odd + length (kept_in held.section) + 1 < 2 ^ 64
+reading_room law text rest held at short r =
+    omega (arith, short, law.few_lines text, held_room r.before held r.holds, ap length r.whole, length-append r.before (lines_of rest))
 
 number_is : (n at : ℕ) (lines : List (List ℕ)) → n ≡ at + 1 → at ≡ length lines → length lines + 1 ≡ n
 number_is n at lines e f = omega (arith, e, f)
 
 -- a fault of the next line is the first fault of the text
-pub reading_stop : (text rest line left : List ℕ) (before : HeldData) (at : ℕ) (fault : ReadFault) → length text ≤ most_bytes → Reading text rest before at
+pub reading_stop : TextLaw → (text rest line left : List ℕ) (before : HeldData) (at : ℕ) (fault : ReadFault) → length text ≤ most_bytes → Reading text rest before at
     → lines_of rest ≡ line ∷ lines_of left → StopsAt fault before line (at + 1) → Answers text (Err fault)
-reading_stop text rest line left before at (faults.Line n f) short r e takes = inr (inr (
+reading_stop law text rest line left before at (faults.Line n f) short r e takes = inr (inr (
   short,
   subst (λ (k : ℕ). IsFirstFault (lines_of text) (faults.Line k f)) (number_is n at r.before takes.0 r.number)
-      (stop_by_fault line_law r.holds.place line r.before r.holds.parts (lines_of left) (lines_of text) r.holds.stands (place_is text rest line left before at r e) f takes.1),
+      (stop_by_fault law.line_law r.holds.place line r.before r.holds.parts (lines_of left) (lines_of text) r.holds.stands (place_is text rest line left before at r e) f takes.1),
 ))
-reading_stop text rest line left before at (faults.Outside n) short r e takes = inr (inr (
+reading_stop law text rest line left before at (faults.Outside n) short r e takes = inr (inr (
   short,
   subst (λ (k : ℕ). IsFirstFault (lines_of text) (faults.Outside k)) (number_is n at r.before takes.0 r.number)
-      (holds_outside r.before line (lines_of left) (lines_of text) before takes.1 r.holds (place_is text rest line left before at r e) takes.2 takes.3),
+      (holds_outside law.line_law r.before line (lines_of left) (lines_of text) before takes.1 r.holds (place_is text rest line left before at r e) takes.2 takes.3),
 ))
-reading_stop text rest line left before at (faults.Inside n) short r e takes = inr (inr (
+reading_stop law text rest line left before at (faults.Inside n) short r e takes = inr (inr (
   short,
   subst (λ (k : ℕ). IsFirstFault (lines_of text) (faults.Inside k)) (number_is n at r.before takes.0 r.number)
-      (holds_inside r.before line (lines_of left) (lines_of text) before takes.1 r.holds (place_is text rest line left before at r e) takes.2 takes.3),
+      (holds_inside law.line_law r.before line (lines_of left) (lines_of text) before takes.1 r.holds (place_is text rest line left before at r e) takes.2 takes.3),
 ))
-reading_stop text rest line left before at faults.Memory short r e takes = inl (short, refl)
-reading_stop text rest line left before at faults.OpenEnd short r e takes = absurd takes
-reading_stop text rest line left before at faults.TooLong short r e takes = absurd takes
+reading_stop law text rest line left before at faults.Memory short r e takes = inl (short, refl)
+reading_stop law text rest line left before at faults.OpenEnd short r e takes = absurd takes
+reading_stop law text rest line left before at faults.TooLong short r e takes = absurd takes
+
+-- ---- where memory ran out
+
+begun_at : (all lines : List (List ℕ)) (parts : List Part) (place : Place) (line : List ℕ) (after : List (List ℕ)) (says : LineData) → Stands lines parts place → all ≡ lines ++ line ∷ after → Spells line says
+    → GrowsAt (section_of place) says → HasBegun all
+begun_at all lines parts Between line after (Path path) s e spells grows =
+    (lines, line, after, path, e, spells, stands_goes_on (lines ++ line ∷ []) parts (Within path []) (stands_path lines parts line path s spells))
+begun_at all lines parts Between line after says s e spells grows = absurd grows
+begun_at all lines parts (Within path inside) line after says s e spells grows =
+    let k = path_line lines parts path inside s in
+    let whole : all ≡ k.0 ++ k.1 ∷ (k.2 ++ line ∷ after) = e ∙ ap (λ (x : List (List ℕ)). x ++ line ∷ after) k.3 ∙ append_assoc k.0 (k.1 ∷ k.2) (line ∷ after) in
+    (k.0, k.1, k.2 ++ line ∷ after, path, whole, k.5, stands_goes_on (k.0 ++ k.1 ∷ []) parts (Within path []) (stands_path k.0 parts k.1 path k.4 k.5))
+
+-- memory ran out behind a path
+pub reading_grows : (text rest line left : List ℕ) (before : HeldData) (at : ℕ) (fault : ReadFault) → Reading text rest before at → lines_of rest ≡ line ∷ lines_of left
+    → StopsAt fault before line (at + 1) → GrowsLate text (Err fault)
+reading_grows text rest line left before at faults.Memory r e takes = λ same.
+    begun_at (lines_of text) r.before r.holds.parts r.holds.place line (lines_of left) takes.0 r.holds.stands (place_is text rest line left before at r e) takes.1
+    (subst (λ (x : HeldData). GrowsAt x.section takes.0) r.holds.is takes.2)
+reading_grows text rest line left before at (faults.Line n f) r e takes = λ same. absurd cc
+reading_grows text rest line left before at (faults.Outside n) r e takes = λ same. absurd cc
+reading_grows text rest line left before at (faults.Inside n) r e takes = λ same. absurd cc
+reading_grows text rest line left before at faults.OpenEnd r e takes = λ same. absurd cc
+reading_grows text rest line left before at faults.TooLong r e takes = λ same. absurd cc
+
+-- the end needs no memory
+pub ends_late : (text : List ℕ) (section : Option SectionData) (held : HeldData) → GrowsLate text (ends_at section held)
+ends_late text None held = λ same. absurd cc
+ends_late text (Some s) held = λ same. absurd cc
 
 -- ---- behind the last line
 
 abbrev Ended : List ℕ → HeldData → Type 0
 Ended text held = Answers text (ends held) × EndsLawfully held
 
-ended : (text : List ℕ) (parts : List Part) (place : Place) → length text ≤ most_bytes → Stands (lines_of text) parts place → Ended text (held_of parts place)
-ended text parts Between short s =
-    (inr (short, stands_reads (lines_of text) parts s), lawful_parts (lines_of text) parts s (good_lines text) (omega (arith, short, few_lines text)))
-ended text parts (Within path inside) short s = (inr (inr (short, stop_open line_law (lines_of text) parts path inside s)), tt)
+ended : TextLaw → (text : List ℕ) (parts : List Part) (place : Place) → length text ≤ most_bytes → Stands (lines_of text) parts place → Ended text (held_of parts place)
+ended law text parts Between short s =
+    (inr (short, stands_reads (lines_of text) parts s), lawful_parts law.good_rest (lines_of text) parts s (law.good_lines text) (omega (arith, short, law.few_lines text)))
+ended law text parts (Within path inside) short s = (inr (inr (short, stop_open law.line_law (lines_of text) parts path inside s)), tt)
 
-pub reading_end : (text rest : List ℕ) (held : HeldData) (at : ℕ) → length text ≤ most_bytes → Reading text rest held at → lines_of rest ≡ []
+pub reading_end : TextLaw → (text rest : List ℕ) (held : HeldData) (at : ℕ) → length text ≤ most_bytes → Reading text rest held at → lines_of rest ≡ []
     → Answers text (ends held) × EndsLawfully held
-reading_end text rest held at short r none =
+reading_end law text rest held at short r none =
     let all : r.before ≡ lines_of text = sym (r.whole ∙ ap (λ (x : List (List ℕ)). r.before ++ x) none ∙ append-nil r.before) in
     let s : Stands (lines_of text) r.holds.parts r.holds.place = subst (λ (x : List (List ℕ)). Stands x r.holds.parts r.holds.place) all r.holds.stands in
-    subst (λ (x : HeldData). Ended text x) (sym r.holds.is) (ended text r.holds.parts r.holds.place short s)
+    subst (λ (x : HeldData). Ended text x) (sym r.holds.is) (ended law text r.holds.parts r.holds.place short s)
 
 pub reading_begins : (text rest : List ℕ) (held : HeldData) → held ≡ empty → rest ≡ text → Reading text rest held 0
 reading_begins text rest held e f =

@@ -13,10 +13,9 @@ use Rattle.covread.specs.Reads.{Part, Outside, Section, items_of, is_odd, odd_in
 use Rattle.covread.specs.Outcome.{IsFirstFault}
 use Rattle.covread.specs.TraceSteps.{SectionData, HeldData, empty, closed, step}
 use Rattle.covread.proofs.TraceEnd.{same_held}
-use Rattle.covread.proofs.TraceGrammar.{Place, Between, Within}
+use Rattle.covread.proofs.TraceGrammar.{LineLaw, Place, Between, Within}
 use Rattle.covread.proofs.TraceStands.{Stands, stands_at_first, stands_outside, stands_path, stands_inside, stands_end, stop_outside, stop_inside}
 use Rattle.covread.proofs.TraceKept.{without_skips, without_skips-append, items_kept, odd_kept}
-use Rattle.covread.proofs.TraceLaw.{line_law}
 
 -- the name in the last test line of the parts, at first the one given
 abbrev pub test_behind : List ℕ → List Part → List ℕ
@@ -130,32 +129,32 @@ holds_more lines line before after says h spells e =
 
 -- ---- a line that can't stand there
 
-outside_stop : (lines : List (List ℕ)) (line : List ℕ) (rest all : List (List ℕ)) (parts : List Part) (place : Place) (says : LineData)
+outside_stop : LineLaw → (lines : List (List ℕ)) (line : List ℕ) (rest all : List (List ℕ)) (parts : List Part) (place : Place) (says : LineData)
     → Stands lines parts place → all ≡ lines ++ line ∷ rest → Spells line says → step (held_of parts place) says ≡ Err misplaced.Outside → IsFirstFault all (faults.Outside (length lines + 1))
-outside_stop lines line rest all parts Between (Test name) s e spells f = absurd cc
-outside_stop lines line rest all parts Between (Path path) s e spells f = absurd cc
-outside_stop lines line rest all parts Between Skip s e spells f = absurd cc
-outside_stop lines line rest all parts Between says s e spells f = stop_outside line_law lines parts line rest all says s e spells tt
-outside_stop lines line rest all parts (Within path inside) End s e spells f = absurd (no_error _ _ f)
-outside_stop lines line rest all parts (Within path inside) says s e spells f = absurd cc
+outside_stop line_law lines line rest all parts Between (Test name) s e spells f = absurd cc
+outside_stop line_law lines line rest all parts Between (Path path) s e spells f = absurd cc
+outside_stop line_law lines line rest all parts Between Skip s e spells f = absurd cc
+outside_stop line_law lines line rest all parts Between says s e spells f = stop_outside line_law lines parts line rest all says s e spells tt
+outside_stop line_law lines line rest all parts (Within path inside) End s e spells f = absurd (no_error _ _ f)
+outside_stop line_law lines line rest all parts (Within path inside) says s e spells f = absurd cc
 
-inside_stop : (lines : List (List ℕ)) (line : List ℕ) (rest all : List (List ℕ)) (parts : List Part) (place : Place) (says : LineData)
+inside_stop : LineLaw → (lines : List (List ℕ)) (line : List ℕ) (rest all : List (List ℕ)) (parts : List Part) (place : Place) (says : LineData)
     → Stands lines parts place → all ≡ lines ++ line ∷ rest → Spells line says → step (held_of parts place) says ≡ Err misplaced.Inside → IsFirstFault all (faults.Inside (length lines + 1))
-inside_stop lines line rest all parts (Within path inside) (Test name) s e spells f = stop_inside line_law lines parts path inside line rest all (Test name) s e spells tt
-inside_stop lines line rest all parts (Within path inside) (Path other) s e spells f = stop_inside line_law lines parts path inside line rest all (Path other) s e spells tt
-inside_stop lines line rest all parts (Within path inside) End s e spells f = absurd (no_error _ _ f)
-inside_stop lines line rest all parts (Within path inside) says s e spells f = absurd cc
-inside_stop lines line rest all parts Between (Test name) s e spells f = absurd (no_error _ _ f)
-inside_stop lines line rest all parts Between (Path path) s e spells f = absurd (no_error _ _ f)
-inside_stop lines line rest all parts Between Skip s e spells f = absurd (no_error _ _ f)
-inside_stop lines line rest all parts Between says s e spells f = absurd (two_errors f)
+inside_stop line_law lines line rest all parts (Within path inside) (Test name) s e spells f = stop_inside line_law lines parts path inside line rest all (Test name) s e spells tt
+inside_stop line_law lines line rest all parts (Within path inside) (Path other) s e spells f = stop_inside line_law lines parts path inside line rest all (Path other) s e spells tt
+inside_stop line_law lines line rest all parts (Within path inside) End s e spells f = absurd (no_error _ _ f)
+inside_stop line_law lines line rest all parts (Within path inside) says s e spells f = absurd cc
+inside_stop line_law lines line rest all parts Between (Test name) s e spells f = absurd (no_error _ _ f)
+inside_stop line_law lines line rest all parts Between (Path path) s e spells f = absurd (no_error _ _ f)
+inside_stop line_law lines line rest all parts Between Skip s e spells f = absurd (no_error _ _ f)
+inside_stop line_law lines line rest all parts Between says s e spells f = absurd (two_errors f)
 
-pub holds_outside : (lines : List (List ℕ)) (line : List ℕ) (rest all : List (List ℕ)) (before : HeldData) (says : LineData) → Holds lines before → all ≡ lines ++ line ∷ rest
+pub holds_outside : LineLaw → (lines : List (List ℕ)) (line : List ℕ) (rest all : List (List ℕ)) (before : HeldData) (says : LineData) → Holds lines before → all ≡ lines ++ line ∷ rest
     → Spells line says → step before says ≡ Err misplaced.Outside → IsFirstFault all (faults.Outside (length lines + 1))
-holds_outside lines line rest all before says h e spells f =
-    outside_stop lines line rest all h.parts h.place says h.stands e spells (subst (λ (x : HeldData). step x says ≡ Err misplaced.Outside) h.is f)
+holds_outside line_law lines line rest all before says h e spells f =
+    outside_stop line_law lines line rest all h.parts h.place says h.stands e spells (subst (λ (x : HeldData). step x says ≡ Err misplaced.Outside) h.is f)
 
-pub holds_inside : (lines : List (List ℕ)) (line : List ℕ) (rest all : List (List ℕ)) (before : HeldData) (says : LineData) → Holds lines before → all ≡ lines ++ line ∷ rest
+pub holds_inside : LineLaw → (lines : List (List ℕ)) (line : List ℕ) (rest all : List (List ℕ)) (before : HeldData) (says : LineData) → Holds lines before → all ≡ lines ++ line ∷ rest
     → Spells line says → step before says ≡ Err misplaced.Inside → IsFirstFault all (faults.Inside (length lines + 1))
-holds_inside lines line rest all before says h e spells f =
-    inside_stop lines line rest all h.parts h.place says h.stands e spells (subst (λ (x : HeldData). step x says ≡ Err misplaced.Inside) h.is f)
+holds_inside line_law lines line rest all before says h e spells f =
+    inside_stop line_law lines line rest all h.parts h.place says h.stands e spells (subst (λ (x : HeldData). step x says ≡ Err misplaced.Inside) h.is f)

@@ -1,19 +1,19 @@
 -- What an open section gives with one line more, and what becomes of it at its end.
 use Rattle.std.proofs.Common.{◌≡◌, ℕ, zero, suc, ◌+◌, ◌<◌, ◌≤◌, ◌^◌, nat_lt, Bool, true, false, cond, ◌==◌, ◌&&◌, not, List, [], ◌∷◌, ◌++◌, length, get_or, map, Option, None, Some, refl, sym, ap, subst, ◌∙◌, append_assoc, arith}
-use Rattle.std.specs.Prelude.{filter, count_by, is_none, option_map, if◌then◌else◌}
-use Rattle.std.specs.List.{flat_map, list_any, AllByRecursion}
+use Rattle.std.specs.Prelude.{filter, count_by, is_none, option_map}
+use Rattle.std.specs.List.{flat_map, list_any}
 use Rattle.std.specs.Ordering.{nat_cmp}
 use Rattle.std.specs.Str.{bytes_eq}
 use Rattle.std.proofs.lemmas.Bool.Decides.{nat_tests}
 use Rattle.std.proofs.lemmas.Cmp.{nat_list_eq_equiv}
-use Rattle.std.proofs.lemmas.List.{append-nil, length-append, map_push}
+use Rattle.std.proofs.lemmas.List.{append-nil, length-append}
 use Rattle.std.proofs.lemmas.List.Concat.{flat_map-append}
 use Rattle.std.proofs.lemmas.List.Elements.{filter-append}
 use Rattle.std.proofs.lemmas.List.Sums.{sum_by-cons}
 use Rattle.covline.specs.declared.point.BranchPoint.{BranchPoint}
 use Rattle.covline.specs.Points.{func_points, func_point, is_hit, line_point}
 use Rattle.covline.specs.Row.{ItemData, LineItem, FuncItem, BranchItem, with_start}
-use Rattle.covline.specs.Spells.{LineData, FuncStart, FuncCount, Branch, Line, Total}
+use Rattle.covline.specs.Spells.{LineData, FuncStart, FuncCount, Branch, Line}
 use Rattle.covread.specs.declared.trace.points.Hit.{Hit}
 use Rattle.covread.specs.Reads.{distinct, start_in, counted, items_said, items_of}
 use Rattle.covread.specs.declared.trace.functions.Found.{Found}

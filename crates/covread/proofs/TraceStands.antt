@@ -114,6 +114,33 @@ stands_end lines parts line path inside s spells = record {
       subst (λ (x : List LineData). AllSpell (lines ++ line ∷ []) x) (sym e) (AllSpell-append lines (line ∷ []) (flat_map records_of parts ++ Path path ∷ inside) (End ∷ []) s.spelled (spells, tt));
 }
 
+-- the line that says a record
+by_record : (lines : List (List ℕ)) (a : List LineData) (b : LineData) (c : List LineData) → AllSpell lines (a ++ b ∷ c)
+    → (ls : List (List ℕ)) × (l : List ℕ) × (ms : List (List ℕ)) × (lines ≡ ls ++ l ∷ ms) × AllSpell ls a × Spells l b
+by_record [] [] b c h = absurd h
+by_record [] (x ∷ a) b c h = absurd h
+by_record (l ∷ lines) [] b c h = ([], l, lines, refl, tt, h.0)
+by_record (l ∷ lines) (x ∷ a) b c h =
+    let k = by_record lines a b c h.1 in
+    (l ∷ k.0, k.1, k.2, ap (λ (x : List (List ℕ)). l ∷ x) k.3, (h.0, k.4), k.5)
+
+-- the line that the open section began with
+pub path_line : (lines : List (List ℕ)) (parts : List Part) (path : List ℕ) (inside : List LineData) → Stands lines parts (Within path inside)
+    → (ls : List (List ℕ)) × (l : List ℕ) × (ms : List (List ℕ)) × (lines ≡ ls ++ l ∷ ms) × Stands ls parts Between × Spells l (Path path)
+path_line lines parts path inside s =
+    let k = by_record lines (flat_map records_of parts) (Path path) inside s.spelled in (
+      k.0,
+      k.1,
+      k.2,
+      k.3,
+      record {
+        lawful = s.lawful;
+        inside = tt;
+        spelled = subst (λ (x : List LineData). AllSpell k.0 x) (sym (append-nil (flat_map records_of parts))) k.4;
+      },
+      k.5,
+    )
+
 -- ---- what that says of the text
 
 -- with no open section the lines are a lawful text

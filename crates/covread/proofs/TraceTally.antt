@@ -16,10 +16,10 @@ use Rattle.covline.specs.Row.{ItemData, LineItem, FuncItem, BranchItem}
 use Rattle.covline.specs.Spells.{LineData, Total}
 use Rattle.covread.specs.declared.trace.tally.Own.{Own}
 use Rattle.covread.specs.declared.trace.tally.Sort.{Sort}
-use Rattle.covread.specs.declared.trace.tally.Sort.TheVariants.{Functions, Branches, Lines}
+use Rattle.covread.specs.declared.trace.tally.Sort.TheVariants.{Branches, Lines}
 use Rattle.covread.specs.Reads.{distinct, branch_eq, own_total, items_of}
 use Rattle.covread.specs.TracePoints.{branch_key}
-use Rattle.covread.specs.TraceTally.{has, states, is_total, stated_record, own_value, differs, is_other, branch_cmp, AreOwn}
+use Rattle.covread.specs.TraceTally.{has, states, is_total, own_value, differs, is_other, branch_cmp, AreOwn}
 use Rattle.covread.proofs.TraceDistinct.{distinct_on}
 
 -- ---- lines

@@ -61,3 +61,13 @@ Answers text answer = ((length text ≤ most_bytes) × (answer ≡ Err faults.Me
 -- the answer is the outcome, or memory ran out
 abbrev pub IsOrMemory : Result SubmissionData ReadFault → Result SubmissionData ReadFault → Type 0
 IsOrMemory answer outcome = (answer ≡ Err faults.Memory) ⊎ (outcome ≡ answer)
+
+-- a section began: some first lines, which begin a lawful text, end in a path
+abbrev pub HasBegun : List (List ℕ) → Type 0
+HasBegun lines =
+    (before : List (List ℕ)) × (line : List ℕ) × (after : List (List ℕ)) × (path : List ℕ)
+    × (lines ≡ before ++ line ∷ after) × Spells line (Path path) × MayGoOn (before ++ line ∷ [])
+
+-- memory ran out only where a section began: before the first path nothing is kept
+abbrev pub GrowsLate : List ℕ → Result SubmissionData ReadFault → Type 0
+GrowsLate text answer = answer ≡ Err faults.Memory → HasBegun (lines_of text)

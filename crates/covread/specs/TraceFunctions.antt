@@ -1,8 +1,8 @@
 -- The functions of a section as the code has them.
-use Rattle.std.specs.Prelude.{◌≡◌, ℕ, nat_lt, Bool, true, false, ◌&&◌, not, List, [], ◌∷◌, Option, None, Some, filter, option_map}
+use Rattle.std.specs.Prelude.{◌≡◌, ℕ, Bool, true, false, ◌&&◌, not, List, [], ◌∷◌, Option, None, Some, option_map}
 use Rattle.std.specs.BTreeMap.{BTreeMap, get_by}
 use Rattle.std.specs.Cmp.Lexicographic.{slice_cmp}
-use Rattle.std.specs.List.{flat_map, list_any}
+use Rattle.std.specs.List.{list_any}
 use Rattle.std.specs.Ordering.{nat_cmp}
 use Rattle.std.specs.Str.{bytes_eq}
 use denote.Ref.{Bor}
@@ -16,11 +16,6 @@ use Rattle.covread.specs.Reads.{own_total, items_of}
 -- what the map has for a function
 abbrev pub function_at : BTreeMap (Bor (List ℕ)) Function → List ℕ → Option Function
 function_at functions name = get_by (λ k. slice_cmp nat_cmp name k.now) functions
-
--- the line is before the function's start line, or its first
-abbrev pub comes_first : ℕ → Option Function → Bool
-comes_first line None = true
-comes_first line (Some function) = nat_lt line function.start
 
 -- a function with this start line, where those of these names are hit
 abbrev pub known : List (List ℕ) → List ℕ → ℕ → Function

@@ -1,13 +1,12 @@
 -- What the lines of an open section give, one after another.
-use Rattle.std.specs.Prelude.{◌≡◌, ℕ, ◌+◌, nat_lt, Bool, true, false, List, [], ◌∷◌, length, map, Option, None, Some, filter}
+use Rattle.std.specs.Prelude.{◌≡◌, ℕ, ◌+◌, nat_lt, Bool, List, [], ◌∷◌, length, map, filter}
 use Rattle.std.specs.List.{flat_map}
 use Rattle.std.specs.Ordering.{nat_cmp}
 use Rattle.covline.specs.Points.{line_point}
 use Rattle.covline.specs.Row.{ItemData, LineItem, FuncItem, BranchItem}
-use Rattle.covline.specs.Spells.{LineData, FuncStart, FuncCount, Branch, Line, Total}
+use Rattle.covline.specs.Spells.{LineData, FuncStart, FuncCount, Branch, Line}
 use Rattle.covread.specs.declared.trace.section.Gathered.{Gathered}
 use Rattle.covread.specs.declared.trace.section.Waiting.{Waiting}
-use Rattle.covread.specs.declared.trace.tally.Stated.{Stated}
 use Rattle.covread.specs.Reads.{start_in}
 use Rattle.covread.specs.TraceFunctions.{AreFunctions}
 use Rattle.covread.specs.TracePoints.{Counts, branch_key, hits_said}

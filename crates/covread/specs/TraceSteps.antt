@@ -10,7 +10,7 @@ use Rattle.covread.specs.declared.trace.misplaced.Misplaced.{Misplaced}
 use Rattle.covread.specs.declared.trace.misplaced.Misplaced.TheVariants as misplaced
 use Rattle.covread.specs.declared.fault.ReadFault.{ReadFault}
 use Rattle.covread.specs.declared.fault.ReadFault.TheVariants as faults
-use Rattle.covread.specs.Outcome.{Answers}
+use Rattle.covread.specs.Outcome.{Answers, GrowsLate}
 use Rattle.covread.specs.Reads.{items_of, is_odd}
 use Rattle.covread.specs.TraceSection.{IsGathered}
 
@@ -79,12 +79,18 @@ step_at (Some s) held says = step_within s held says
 abbrev pub step : HeldData → LineData → Result HeldData Misplaced
 step held says = step_at held.section held says
 
+-- what takes memory: a path that begins a section, and the lines of an open one
+abbrev pub GrowsAt : Option SectionData → LineData → Type 0
+GrowsAt None (Path path) = Unit {0}
+GrowsAt None says = ⊥
+GrowsAt (Some s) says = Unit {0}
+
 -- a step of the code makes what the step on plain data makes, unless memory ran out
 abbrev pub Steps : {A T : Type 0} → Result T Misplaced → HeldData → Reader A → LineData → Type 0
 Steps (Ok done) before after says = (inside : List LineData) × (step before says ≡ Ok (held_data after inside)) × IsOpen after.section inside
 Steps (Err misplaced.Outside) before after says = step before says ≡ Err misplaced.Outside
 Steps (Err misplaced.Inside) before after says = step before says ≡ Err misplaced.Inside
-Steps (Err misplaced.Memory) before after says = Unit {0}
+Steps (Err misplaced.Memory) before after says = GrowsAt before.section says
 
 -- the lines that are kept of an open section
 abbrev pub kept_in : Option SectionData → List LineData
@@ -96,7 +102,7 @@ abbrev pub StopsAt : ReadFault → HeldData → List ℕ → ℕ → Type 0
 StopsAt (faults.Line n fault) before line at = (n ≡ at) × HasFault line fault
 StopsAt (faults.Outside n) before line at = (n ≡ at) × (says : LineData) × Spells line says × (step before says ≡ Err misplaced.Outside)
 StopsAt (faults.Inside n) before line at = (n ≡ at) × (says : LineData) × Spells line says × (step before says ≡ Err misplaced.Inside)
-StopsAt faults.Memory before line at = Unit {0}
+StopsAt faults.Memory before line at = (says : LineData) × Spells line says × GrowsAt before.section says
 StopsAt faults.OpenEnd before line at = ⊥
 StopsAt faults.TooLong before line at = ⊥
 
@@ -126,4 +132,4 @@ EndsLawfully held = IsLawfulAt held.section held
 -- what all lines of a text lead to. What is held behind the last line doesn't hang on the records of an open section
 abbrev pub ReadsTo : {A : Type 0} → List ℕ → Result (Reader A) ReadFault → Type 0
 ReadsTo text (Ok reader) = Answers text (ends (held_data reader [])) × EndsLawfully (held_data reader [])
-ReadsTo text (Err fault) = Answers text (Err fault)
+ReadsTo text (Err fault) = Answers text (Err fault) × GrowsLate text (Err fault)

@@ -1,10 +1,9 @@
 //! The functions of a section.
 
-ghost use Rattle.std.specs.Prelude.{◌≡◌, ℕ, ◌++◌, ◌∷◌, [], List, Option, OnOk, option_map};
-ghost use Rattle.std.specs.Option.{option_copied};
+ghost use Rattle.std.specs.Prelude.{◌≡◌, ℕ, nat_lt, ◌++◌, ◌∷◌, [], List, Option, OnOk, option_map};
 ghost use Rattle.covline.specs.Spells.{LineData, FuncStart};
 ghost use Rattle.covread.specs.Reads.{start_in};
-ghost use Rattle.covread.specs.TraceFunctions.{AreFunctions, comes_first, found_by, named};
+ghost use Rattle.covread.specs.TraceFunctions.{AreFunctions, found_by, named};
 
 use covline::Memory;
 use std::alloc::Allocator;
@@ -39,24 +38,25 @@ pub fn take_start<'a, A: Allocator + Copy>(
 ) -> Result<(), Memory>
     ensures { OnOk result ((before : List LineData) → AreFunctions functions.old (λ other. start_in other before) [] → AreFunctions functions.new (λ other. start_in other (before ++ FuncStart line name.now ∷ [])) []) }
 {
-    if comes_first(line, functions.get(name)) {
-        let function = Function {
-            start: line,
-            is_hit: false,
-        };
-        functions.insert(name, function)?;
+    let first = Function {
+        start: line,
+        is_hit: false,
+    };
+    match functions.insert(name, first)? {
+        Some(before) if starts_before(&before, line) => {
+            functions.insert(name, before)?;
+        }
+        Some(_) => {}
+        None => {}
     }
     Ok(())
 }
 
-/// Whether the line is before the function's start line, or its first.
-fn comes_first(line: u64, function: Option<&Function>) -> bool
-    ensures { result ≡ comes_first line (option_copied function.entry) }
+/// Whether the function starts before the line.
+fn starts_before(function: &Function, line: u64) -> bool
+    ensures { result ≡ nat_lt function.now.start line }
 {
-    match function {
-        Some(function) => line < function.start,
-        None => true,
-    }
+    function.start < line
 }
 
 /// Takes a count of the function of this name; nothing where it has no start line.

@@ -3,14 +3,14 @@
 ghost use Rattle.std.specs.Prelude.{◌≤◌, length, List, Result};
 ghost use Rattle.covline.specs.Row.{SubmissionData};
 ghost use Rattle.covread.specs.declared.fault.ReadFault.{ReadFault as Fault};
-ghost use Rattle.covread.specs.Outcome.{most_bytes, IsOutcome, Answers, IsOrMemory};
+ghost use Rattle.covread.specs.Outcome.{most_bytes, IsOutcome, Answers, GrowsLate, IsOrMemory};
 ghost use Rattle.covline.specs.Spells.{LineData};
 ghost use Rattle.covread.specs.TraceSteps.{held_data, HasRoom, IsOpen, ReadsTo, TakesLine};
 
 use crate::fault::ReadFault;
 use crate::trace::misplaced::Misplaced;
 use crate::trace::reader::Reader;
-use covline::{Submission, lines, read_line};
+use covline::{Submission, each_line_has_one_meaning, lines, lines_are_the_text, read_line};
 use std::alloc::Allocator;
 
 /// How many bytes a text has at the most: 64 MiB.
@@ -22,7 +22,11 @@ pub fn read_trace<A: Allocator + Copy>(alloc: A, text: &[u8]) -> Result<Submissi
     ensures answers { Answers text.now result }
     // Nothing else is what the text is read as.
     ensures only { (outcome : Result SubmissionData Fault) → IsOutcome text.now outcome → IsOrMemory result outcome }
+    // Nothing is kept before the first path, so memory runs out only behind one.
+    ensures memory { GrowsLate text.now result }
 {
+    // The proof cites this law.
+    each_line_has_one_meaning();
     if text.len() > MOST_BYTES {
         return Err(ReadFault::TooLong);
     }
@@ -34,6 +38,9 @@ fn read_lines<'a, A: Allocator + Copy>(alloc: A, text: &'a [u8]) -> Result<Reade
     requires { length text.now ≤ most_bytes }
     ensures { ReadsTo text.now result }
 {
+    // The proof cites these laws.
+    each_line_has_one_meaning();
+    lines_are_the_text();
     let mut reader = Reader::new(alloc);
     let mut at: u64 = 0;
     for line in lines(text) {

@@ -1,4 +1,4 @@
-use Rattle.std.proofs.Common.{rules, ◌≡◌, ◌||◌, Bool, true, false, Some, refl, ap, sym, subst, ◌∙◌, arith}
+use Rattle.std.proofs.Common.{rules, ◌≡◌, ◌||◌, Bool, Some, ap, sym, ◌∙◌}
 use Rattle.std.proofs.lemmas.Map.Text.{btree_map_updates_str}
 use Rattle.covread.specs.declared.trace.functions.Function.{Function}
 use Rattle.covread.proofs.TraceFunctions.{count_taken, or_true, or_false}

@@ -1,6 +1,6 @@
 use Rattle.std.proofs.Common.{◌≡◌, ◌+◌, ◌++◌, ◌∷◌, [], List, map, take, ap, sym, ◌∙◌}
 use Rattle.std.proofs.lemmas.List.{take_more, map_push}
-use Rattle.covline.specs.Row.{ItemData, item_data}
+use Rattle.covline.specs.Row.{item_data}
 use Rattle.covread.specs.declared.trace.points.Hit.{Hit}
 use Rattle.covread.specs.TracePoints.{hits_said}
 use Rattle.covread.proofs.TracePoints.{hits_said_same, hits_said_one}

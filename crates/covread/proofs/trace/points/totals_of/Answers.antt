@@ -1,5 +1,5 @@
-use Rattle.std.proofs.Common.{List, map, sym, subst}
-use Rattle.covline.specs.Row.{ItemData, item_data}
+use Rattle.std.proofs.Common.{List, map, subst}
+use Rattle.covline.specs.Row.{item_data}
 use Rattle.covread.specs.declared.trace.points.Hit.{Hit}
 use Rattle.covread.specs.declared.trace.points.Points.{Points}
 use Rattle.covread.specs.TracePoints.{Counts, IsTally, hits_said}

@@ -1,8 +1,8 @@
-use Rattle.std.proofs.Common.{◌≡◌, ◌+◌, ◌++◌, ◌∷◌, [], List, length, map, refl, sym, ap, ◌∙◌, append_assoc, arith}
+use Rattle.std.proofs.Common.{◌≡◌, ◌+◌, ◌++◌, ◌∷◌, [], List, length, map, sym, ap, ◌∙◌, append_assoc, arith}
 use Rattle.std.proofs.lemmas.List.{append-nil, length-map, nil_from_length}
 use Rattle.covline.specs.Row.{ItemData, item_data}
 use Rattle.covread.specs.TraceSettle.{left}
-use Rattle.covread.proofs.TraceSection.{left_first, left_other, left_none, items_stay, empty_stays}
+use Rattle.covread.proofs.TraceSection.{left_first, left_other, left_none, empty_stays}
 use Rattle.covread.proofs.trace.settle.without.Goals as goal
 use Rattle.covread.proofs.trace.settle.without.Goals.{in-Some-behind, in-None-behind+in_ok-push-in-None-behind}
 

@@ -1,4 +1,4 @@
-use Rattle.std.proofs.Common.{refl, ap, sym, ◌∙◌}
+use Rattle.std.proofs.Common.{refl, sym, ◌∙◌}
 use Rattle.std.proofs.lemmas.List.Folds.{list_any_at}
 use Rattle.covread.specs.declared.trace.tally.Stated.{Stated}
 use Rattle.covread.specs.TraceTally.{states, stated_record}

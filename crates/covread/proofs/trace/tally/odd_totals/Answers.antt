@@ -1,5 +1,4 @@
-use Rattle.std.proofs.Common.{◌≡◌, List, true, map, subst, sym, ◌∙◌}
-use Rattle.std.specs.List.{list_any}
+use Rattle.std.proofs.Common.{List, map, subst, ◌∙◌}
 use Rattle.std.specs.Ordering.{nat_cmp}
 use Rattle.covline.specs.Points.{line_point}
 use Rattle.covline.specs.Row.{ItemData}

@@ -1,4 +1,4 @@
-use Rattle.std.proofs.Common.{◌≡◌, ◌||◌, Bool, List, Option, true, false, refl, ap, sym, subst, ◌∙◌}
+use Rattle.std.proofs.Common.{◌≡◌, ◌||◌, Bool, Option, true, ap, sym, subst, ◌∙◌}
 use Rattle.std.specs.Ordering.{is_le, is_lt}
 use Rattle.covread.specs.declared.trace.points.Hit.{Hit}
 use Rattle.covread.specs.TracePoints.{AscendsTo, goes_on}

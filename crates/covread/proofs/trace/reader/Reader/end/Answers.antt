@@ -1,4 +1,4 @@
-use Rattle.std.proofs.Common.{◌≡◌, List, Option, [], refl, sym, ap, subst, ◌∙◌, arith}
+use Rattle.std.proofs.Common.{Option, [], refl, sym, ap, subst, ◌∙◌, arith}
 use Rattle.std.specs.Prelude.{option_map}
 use Rattle.std.proofs.lemmas.List.Sums.{count_by-le-length}
 use Rattle.covread.specs.declared.trace.reader.OpenSection.{OpenSection}

@@ -1,17 +1,14 @@
-use Rattle.std.proofs.Common.{ℕ, ◌≡◌, ◌++◌, ◌∷◌, [], List, length, map, refl, sym, ap, subst, ◌∙◌, arith}
-use Rattle.std.specs.Prelude.{nat_lt, option_map}
+use Rattle.std.proofs.Common.{ℕ, ◌++◌, ◌∷◌, [], List, map, refl, sym, ap, subst, ◌∙◌}
 use Rattle.std.specs.Ordering.{nat_cmp}
 use Rattle.std.proofs.lemmas.List.{map_push}
 use Rattle.covline.specs.Points.{line_point}
-use Rattle.covline.specs.Row.{ItemData, FuncItem, LineItem, BranchItem, item_data}
-use Rattle.covline.specs.Spells.{LineData, FuncStart, FuncCount, Branch, Line, Total}
+use Rattle.covline.specs.Spells.{LineData}
 use Rattle.covread.specs.declared.trace.points.Hit.{Hit}
 use Rattle.covline.specs.declared.point.BranchPoint.{BranchPoint}
-use Rattle.covread.specs.TracePoints.{Counts, branch_key, hits_said}
-use Rattle.covread.specs.TraceSection.{Mark, mark, stored}
-use Rattle.covread.specs.TraceTally.{branch_cmp, is_total, stated_record}
+use Rattle.covread.specs.TracePoints.{Counts, branch_key}
+use Rattle.covread.specs.TraceTally.{branch_cmp, stated_record}
 use Rattle.covread.proofs.TraceFunctions.{starts_same}
-use Rattle.covread.proofs.TraceSection.{items_more, items_same, hits_same, marks_more, marks_same, totals_same, totals_push, stored_push, few_stored, few_hits, line_once, branch_once}
+use Rattle.covread.proofs.TraceSection.{items_same, hits_same, marks_same, totals_push}
 use Rattle.covread.proofs.trace.section.Gathered.take_total.Goals as goal
 
 pub returns : goal.returns

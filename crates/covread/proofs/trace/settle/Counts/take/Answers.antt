@@ -1,7 +1,7 @@
-use Rattle.std.proofs.Common.{◌≡◌, ℕ, ◌+◌, ◌≤◌, Bool, true, false, cond, List, length, Option, Some, None, ap, sym, subst, ◌∙◌, refl, arith}
+use Rattle.std.proofs.Common.{◌≡◌, ℕ, ◌≤◌, Bool, true, false, cond, length, Option, Some, None, ap, sym, ◌∙◌, refl, arith}
 use Rattle.std.specs.Prelude.{option_map}
 use mir.Val.{bool_byte}
-use Rattle.covread.specs.TraceFunctions.{AreFunctions, found_by}
+use Rattle.covread.specs.TraceFunctions.{AreFunctions}
 use Rattle.covread.specs.TraceSection.{mark}
 use Rattle.covread.specs.TraceSettle.{names_in}
 use Rattle.covread.proofs.TraceSection.{settled_some, settled_none, set_is, length_set, names_more}
