@@ -14,3 +14,12 @@ pub mod TraceFunctions
 pub mod TraceSection
 pub mod TraceTally
 pub mod TraceSettle
+pub mod GcovPlaces
+pub mod GcovRuns
+pub mod GcovParts
+pub mod GcovNumbers
+pub mod GcovShapes
+pub mod GcovText
+pub mod GcovEarly
+pub mod GcovLawful
+pub mod GcovLoop

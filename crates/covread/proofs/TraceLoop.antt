@@ -74,8 +74,7 @@ reading_stop law text rest line left before at (faults.Inside n) short r e takes
       (holds_inside law.line_law r.before line (lines_of left) (lines_of text) before takes.1 r.holds (place_is text rest line left before at r e) takes.2 takes.3),
 ))
 reading_stop law text rest line left before at faults.Memory short r e takes = inl (short, refl)
-reading_stop law text rest line left before at faults.OpenEnd short r e takes = absurd takes
-reading_stop law text rest line left before at faults.TooLong short r e takes = absurd takes
+reading_stop law text rest line left before at other short r e takes = absurd takes
 
 -- ---- where memory ran out
 
@@ -98,8 +97,7 @@ reading_grows text rest line left before at faults.Memory r e takes = λ same.
 reading_grows text rest line left before at (faults.Line n f) r e takes = λ same. absurd cc
 reading_grows text rest line left before at (faults.Outside n) r e takes = λ same. absurd cc
 reading_grows text rest line left before at (faults.Inside n) r e takes = λ same. absurd cc
-reading_grows text rest line left before at faults.OpenEnd r e takes = λ same. absurd cc
-reading_grows text rest line left before at faults.TooLong r e takes = λ same. absurd cc
+reading_grows text rest line left before at other r e takes = absurd takes
 
 -- the end needs no memory
 pub ends_late : (text : List ℕ) (section : Option SectionData) (held : HeldData) → GrowsLate text (ends_at section held)

@@ -83,6 +83,7 @@ one_fault law lines (faults.Line at f) (faults.Inside bt) a b =
     let s = same_place lines at bt a.0 b.0 a.1 b.2 in
     absurd (law.never_both a.0 b.1 f (subst (λ (w : List ℕ). Spells w b.1) (sym s.1) b.3) a.2)
 one_fault law lines (faults.Line at f) faults.OpenEnd a b = absurd (not_faulty lines at a.0 a.1 b.0)
+one_fault law lines (faults.Line at f) other a b = absurd b
 one_fault law lines (faults.Outside at) (faults.Line bt g) a b =
     let s = same_place lines at bt a.0 b.0 a.2 b.1 in
     absurd (law.never_both a.0 a.1 g a.3 (subst (λ (w : List ℕ). HasFault w g) (sym s.1) b.2))
@@ -94,6 +95,7 @@ one_fault law lines (faults.Outside at) (faults.Inside bt) a b =
     let e = law.meaning a.0 a.1 b.1 a.3 (subst (λ (w : List ℕ). Spells w b.1) (sym s.1) b.3) in
     absurd (needs_one a.1 a.4 (subst (λ (w : LineData). NeedsOutside w) (sym e) b.4))
 one_fault law lines (faults.Outside at) faults.OpenEnd a b = absurd (not_faulty lines at a.0 a.2 b.0)
+one_fault law lines (faults.Outside at) other a b = absurd b
 one_fault law lines (faults.Inside at) (faults.Line bt g) a b =
     let s = same_place lines at bt a.0 b.0 a.2 b.1 in
     absurd (law.never_both a.0 a.1 g a.3 (subst (λ (w : List ℕ). HasFault w g) (sym s.1) b.2))
@@ -105,14 +107,13 @@ one_fault law lines (faults.Inside at) (faults.Inside bt) a b =
     let s = same_place lines at bt a.0 b.0 a.2 b.2 in
     ap (λ (n : ℕ). faults.Inside n) s.0
 one_fault law lines (faults.Inside at) faults.OpenEnd a b = absurd (not_faulty lines at a.0 a.2 b.0)
+one_fault law lines (faults.Inside at) other a b = absurd b
 one_fault law lines faults.OpenEnd (faults.Line bt g) a b = absurd (not_faulty lines bt b.0 b.1 a.0)
 one_fault law lines faults.OpenEnd (faults.Outside bt) a b = absurd (not_faulty lines bt b.0 b.2 a.0)
 one_fault law lines faults.OpenEnd (faults.Inside bt) a b = absurd (not_faulty lines bt b.0 b.2 a.0)
 one_fault law lines faults.OpenEnd faults.OpenEnd a b = refl
-one_fault law lines faults.TooLong b x y = absurd x
-one_fault law lines faults.Memory b x y = absurd x
-one_fault law lines a faults.TooLong x y = absurd y
-one_fault law lines a faults.Memory x y = absurd y
+one_fault law lines faults.OpenEnd other a b = absurd b
+one_fault law lines other fault a b = absurd a
 
 -- a lawful text has no fault
 pub lawful_no_fault : (lines : List (List ℕ)) (fault : ReadFault) → IsLawfulText lines → IsFirstFault lines fault → ⊥
@@ -120,8 +121,7 @@ lawful_no_fault lines (faults.Line at f) text a = not_faulty lines at a.0 a.1 (m
 lawful_no_fault lines (faults.Outside at) text a = not_faulty lines at a.0 a.2 (may_go_on lines text)
 lawful_no_fault lines (faults.Inside at) text a = not_faulty lines at a.0 a.2 (may_go_on lines text)
 lawful_no_fault lines faults.OpenEnd text a = a.1 text
-lawful_no_fault lines faults.TooLong text a = a
-lawful_no_fault lines faults.Memory text a = a
+lawful_no_fault lines other text a = a
 
 -- the outcome of a text by its length, apart from which fault it is
 data Told (text : List ℕ) : Result SubmissionData ReadFault → Type 0 where

@@ -8,3 +8,9 @@ pub mod TraceFunctions
 pub mod TraceTally
 pub mod TraceSection
 pub mod TraceSettle
+pub mod Gcov
+pub mod GcovReading
+pub mod GcovView
+pub mod GcovItems
+pub mod GcovOutcome
+pub mod GcovSteps

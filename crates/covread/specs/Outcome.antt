@@ -45,8 +45,7 @@ IsFirstFault lines (faults.Line at fault) = (line : List ℕ) × IsFirstFaulty l
 IsFirstFault lines (faults.Outside at) = (line : List ℕ) × (says : LineData) × IsFirstFaulty lines at line × Spells line says × NeedsSection says
 IsFirstFault lines (faults.Inside at) = (line : List ℕ) × (says : LineData) × IsFirstFaulty lines at line × Spells line says × NeedsOutside says
 IsFirstFault lines faults.OpenEnd = MayGoOn lines × ¬ IsLawfulText lines
-IsFirstFault lines faults.TooLong = ⊥
-IsFirstFault lines faults.Memory = ⊥
+IsFirstFault lines other = ⊥
 
 -- what the text is read as; its length is tested first
 abbrev pub IsOutcome : List ℕ → Result SubmissionData ReadFault → Type 0

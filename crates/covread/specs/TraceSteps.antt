@@ -103,8 +103,7 @@ StopsAt (faults.Line n fault) before line at = (n ≡ at) × HasFault line fault
 StopsAt (faults.Outside n) before line at = (n ≡ at) × (says : LineData) × Spells line says × (step before says ≡ Err misplaced.Outside)
 StopsAt (faults.Inside n) before line at = (n ≡ at) × (says : LineData) × Spells line says × (step before says ≡ Err misplaced.Inside)
 StopsAt faults.Memory before line at = (says : LineData) × Spells line says × GrowsAt before.section says
-StopsAt faults.OpenEnd before line at = ⊥
-StopsAt faults.TooLong before line at = ⊥
+StopsAt other before line at = ⊥
 
 -- what a reader takes of a line, or why it doesn't
 abbrev pub TakesLine : {A T : Type 0} → Result T ReadFault → HeldData → Reader A → List ℕ → ℕ → Type 0

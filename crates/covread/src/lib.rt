@@ -1,7 +1,8 @@
 //! Readers of coverage data: what a text says, as a submission, or its first fault.
 //!
-//! A text is a tracefile (geninfo(1) of LCOV 1.x, section FILES). It is read forward once. Its items are copied, so the
-//! text may be let go when the answer is there.
+//! A text is a tracefile (geninfo(1) of LCOV 1.x, section FILES) or gcov's annotated source (gcov(1), and the GCC
+//! manual's chapter on gcov). It is read forward once. Its items are copied, so the text may be let go when the answer is
+//! there.
 //!
 //! A sketch: how many items a tracefile has, and why another isn't read.
 //!
@@ -14,7 +15,9 @@
 #![tactic(auto)]
 
 mod fault;
+pub mod gcov;
 mod trace;
 
 pub use fault::ReadFault;
+pub use gcov::{each_gcov_text_has_one_outcome, read_gcov};
 pub use trace::{MOST_BYTES, each_text_has_one_outcome, laws, read_trace};

@@ -1,0 +1,126 @@
+-- The loop over the lines of a text, and what the reader's lists hold.
+use Rattle.std.proofs.Common.{◌≡◌, ℕ, ◌+◌, ◌<◌, ◌≤◌, ◌⊎◌, inl, inr, true, false, eqb, get_or, take, List, [], ◌∷◌, ◌++◌, length, map, Option, Result, Ok, Err, refl, sym, ap, subst, ◌∙◌, append_assoc, arith}
+use Rattle.std.specs.Prelude.{is_ok}
+use Rattle.std.proofs.lemmas.List.{take_more, map_push}
+use Rattle.std.proofs.lemmas.Bool.{cases_Bool, false≢true}
+use Rattle.covline.specs.Lines.{lines_of}
+use Rattle.covline.specs.Lawful.{IsGoodTest, IsLawful}
+use Rattle.covline.specs.Row.{ItemData, FuncItem, SectData, SubmissionData}
+use Rattle.covline.proofs.LineLaws.{few_lines}
+use Rattle.covread.specs.declared.fault.ReadFault.{ReadFault}
+use Rattle.covread.specs.declared.fault.ReadFault.TheVariants as faults
+use Rattle.covread.specs.declared.gcov.reader.Function.{Function}
+use Rattle.covread.specs.GcovItems.{func_item}
+use Rattle.covread.specs.GcovOutcome.{most_bytes, IsOutcome, Answers}
+use Rattle.covread.specs.GcovSteps.{line_grows, dry, SectionData, HeldData, func_data, empty, Stepped, line_step, run_on, run, submission_held, ends, EndsTo}
+use Rattle.covread.proofs.GcovText.{read, whole_run, then_ends, whole_outcome}
+use Rattle.covread.proofs.GcovEarly.{dry_next, dry_stop}
+use Rattle.covread.proofs.GcovLawful.{lawful_run}
+
+-- ---- one line after the other
+
+-- what is left of the text leads on to where the whole text leads
+pub record Reading (test text rest : List ℕ) (held : HeldData) (at : ℕ) : Type 0 where
+  pub same : run test at held (lines_of rest) ≡ whole_run test text
+  pub number : at + length (lines_of rest) ≡ length (lines_of text)
+  pub dried : dry test 0 empty (lines_of text) ≡ true → dry test at held (lines_of rest) ≡ true
+
+pub reading_begins : (test text rest : List ℕ) (held : HeldData) → held ≡ empty → rest ≡ text → Reading test text rest held 0
+reading_begins test text rest held e f = record {
+  same = ap (λ (h : HeldData). run test 0 h (lines_of rest)) e ∙ ap (λ (t : List ℕ). run test 0 empty (lines_of t)) f;
+  number = omega (arith, ap (λ (t : List ℕ). length (lines_of t)) f);
+  dried = λ d. ap (λ (h : HeldData). dry test 0 h (lines_of rest)) e ∙ ap (λ (t : List ℕ). dry test 0 empty (lines_of t)) f ∙ d;
+}
+
+-- the lines that are left begin with this one
+dried_here : (test text rest line left : List ℕ) (held : HeldData) (at : ℕ) → Reading test text rest held at → lines_of rest ≡ line ∷ lines_of left → dry test 0 empty (lines_of text) ≡ true
+    → dry test at held (line ∷ lines_of left) ≡ true
+dried_here test text rest line left held at r e d = ap (dry test at held) (sym e) ∙ r.dried d
+
+stepped_on : (test text rest line left : List ℕ) (held : HeldData) (at : ℕ) (stepped : Stepped) → Reading test text rest held at → lines_of rest ≡ line ∷ lines_of left → line_step test (at + 1) held (read line) ≡ stepped
+    → run_on stepped (λ next. run test (at + 1) next (lines_of left)) ≡ whole_run test text
+stepped_on test text rest line left held at stepped r e f =
+    ap (λ (s : Stepped). run_on s (λ next. run test (at + 1) next (lines_of left))) (sym f) ∙ ap (run test at held) (sym e) ∙ r.same
+
+reading_more : (test text rest line left : List ℕ) (held next : HeldData) (at : ℕ) → Reading test text rest held at → lines_of rest ≡ line ∷ lines_of left → line_step test (at + 1) held (read line) ≡ Ok next
+    → Reading test text left next (at + 1)
+reading_more test text rest line left held next at r e f = record {
+  same = stepped_on test text rest line left held at (Ok next) r e f;
+  number = omega (arith, r.number, ap length e);
+  dried = λ d. dry_next (line_step test (at + 1) held (read line)) (line_grows held (read line)) (λ h. dry test (at + 1) h (lines_of left)) next f (dried_here test text rest line left held at r e d);
+}
+
+pub reading_room : (test text rest line left : List ℕ) (held : HeldData) (at : ℕ) → length text ≤ most_bytes → Reading test text rest held at → lines_of rest ≡ line ∷ lines_of left → at + 1 ≤ most_bytes
+reading_room test text rest line left held at short r e = omega (arith, r.number, ap length e, few_lines text, short)
+
+-- the step was refused: memory ran out where lists grow, or the line is faulty
+abbrev pub StopsBy : List ℕ → HeldData → List ℕ → ℕ → ReadFault → Type 0
+StopsBy test held line at fault =
+    ((fault ≡ faults.Memory) × (is_ok (line_step test (at + 1) held (read line)) ≡ true) × (line_grows held (read line) ≡ true)) ⊎ (line_step test (at + 1) held (read line) ≡ Err fault)
+
+reading_stop : (test text rest line left : List ℕ) (held : HeldData) (at : ℕ) (fault : ReadFault) → Reading test text rest held at → lines_of rest ≡ line ∷ lines_of left
+    → StopsBy test held line at fault → ((fault ≡ faults.Memory) × (dry test 0 empty (lines_of text) ≡ false)) ⊎ (whole_run test text ≡ Err fault)
+reading_stop test text rest line left held at fault r e (inl none) =
+    let stop = dry_stop (line_step test (at + 1) held (read line)) (line_grows held (read line)) (λ h. dry test (at + 1) h (lines_of left)) none.1 none.2 in
+    inl (
+      none.0,
+      elim (cases_Bool (dry test 0 empty (lines_of text))) [
+        | inl d ↦ absurd (false≢true (sym stop ∙ dried_here test text rest line left held at r e d))
+        | inr wet ↦ wet
+      ],
+    )
+reading_stop test text rest line left held at fault r e (inr f) = inr (sym (stepped_on test text rest line left held at (Err fault) r e f))
+
+pub reading_end : (test text rest : List ℕ) (held : HeldData) (at : ℕ) → Reading test text rest held at → lines_of rest ≡ [] → whole_run test text ≡ Ok held
+reading_end test text rest held at r e = sym r.same ∙ ap (run test at held) e
+
+-- the reader keeps the test's name
+pub own_more : (test own text rest line left : List ℕ) (held next : HeldData) (at : ℕ) → own ≡ test → Reading test text rest held at → lines_of rest ≡ line ∷ lines_of left → line_step own (at + 1) held (read line) ≡ Ok next
+    → Reading test text left next (at + 1)
+own_more test own text rest line left held next at same r e f =
+    reading_more test text rest line left held next at r e (subst (λ (t : List ℕ). line_step t (at + 1) held (read line) ≡ Ok next) same f)
+
+pub own_stop : (test own text rest line left : List ℕ) (held : HeldData) (at : ℕ) (fault : ReadFault) → own ≡ test → Reading test text rest held at → lines_of rest ≡ line ∷ lines_of left
+    → StopsBy own held line at fault → ((fault ≡ faults.Memory) × (dry test 0 empty (lines_of text) ≡ false)) ⊎ (whole_run test text ≡ Err fault)
+own_stop test own text rest line left held at fault same r e f =
+    reading_stop test text rest line left held at fault r e (subst (λ (t : List ℕ). StopsBy t held line at fault) same f)
+
+-- ---- the answer
+
+pub answer_fault : (test text : List ℕ) (fault : ReadFault) → length text ≤ most_bytes → IsGoodTest test → ((fault ≡ faults.Memory) × (dry test 0 empty (lines_of text) ≡ false)) ⊎ (whole_run test text ≡ Err fault) → Answers test text (Err fault)
+answer_fault test text fault short good (inl none) = inl (short, good, ap (λ (f : ReadFault). Err f) none.0)
+answer_fault test text fault short good (inr e) = inr (subst (λ (r : Result SubmissionData ReadFault). IsOutcome test text r) (ap (then_ends test) e) (whole_outcome test text short good))
+
+pub answer_end : (test text : List ℕ) (held : HeldData) (answer : Result SubmissionData ReadFault) → length text ≤ most_bytes → IsGoodTest test → whole_run test text ≡ Ok held → EndsTo answer (ends test held) → Answers test text answer
+answer_end test text held answer short good e (inl none) = inl (short, good, none)
+answer_end test text held answer short good e (inr is) =
+    inr (subst (λ (r : Result SubmissionData ReadFault). IsOutcome test text r) (ap (then_ends test) e ∙ sym is) (whole_outcome test text short good))
+
+pub lawful_end : (test own text : List ℕ) (held : HeldData) → own ≡ test → length text ≤ most_bytes → IsGoodTest test → whole_run test text ≡ Ok held → IsLawful (submission_held own held)
+lawful_end test own text held same short good e = subst (λ (t : List ℕ). IsLawful (submission_held t held)) (sym same) (lawful_run test text held short good e)
+
+pub answer_own : (test own text : List ℕ) (held : HeldData) (answer : Result SubmissionData ReadFault) → own ≡ test → length text ≤ most_bytes → IsGoodTest test → whole_run test text ≡ Ok held → EndsTo answer (ends own held) → Answers test text answer
+answer_own test own text held answer same short good e ended = answer_end test text held answer short good e (subst (λ (t : List ℕ). EndsTo answer (ends t held)) same ended)
+
+-- ---- the functions that wait
+
+pushed_one : (line : ℕ) (items : List ItemData) (funcs : List Function) (i : ℕ) (d : Function) → i < length funcs
+    → items ++ map (func_item line) (map func_data (take (i + 1) funcs)) ≡ (items ++ map (func_item line) (map func_data (take i funcs))) ++ func_item line (func_data (get_or funcs i d)) ∷ []
+pushed_one line items funcs i d lt =
+    ap (λ (fs : List Function). items ++ map (func_item line) (map func_data fs)) (take_more funcs i d lt)
+    ∙ ap (λ (fs : List (List ℕ × ℕ)). items ++ map (func_item line) fs) (map_push func_data (take i funcs) (get_or funcs i d))
+    ∙ ap (λ (is : List ItemData). items ++ is) (map_push (func_item line) (map func_data (take i funcs)) (func_data (get_or funcs i d)))
+    ∙ sym (append_assoc items (map (func_item line) (map func_data (take i funcs))) (func_item line (func_data (get_or funcs i d)) ∷ []))
+
+pub pushed_more : (line : ℕ) (first before after : List ItemData) (funcs : List Function) (i : ℕ) (d : Function) (name : List ℕ) → i < length funcs → before ≡ first ++ map (func_item line) (map func_data (take i funcs))
+    → name ≡ (get_or funcs i d).name.now → after ≡ before ++ FuncItem name line (get_or funcs i d).count ∷ [] → after ≡ first ++ map (func_item line) (map func_data (take (i + 1) funcs))
+pushed_more line first before after funcs i d name lt e f h =
+    h ∙ ap (λ (n : List ℕ). before ++ FuncItem n line (get_or funcs i d).count ∷ []) f
+    ∙ ap (λ (is : List ItemData). is ++ func_item line (func_data (get_or funcs i d)) ∷ []) e
+    ∙ sym (pushed_one line first funcs i d lt)
+
+-- a function is lost at the end
+pub lost_end : (test : List ℕ) (funcs : List Function) (section : Option SectionData) (sects : List SectData) → false ≡ eqb (length funcs) 0
+    → Err faults.LostFunction ≡ ends test (record { waiting = map func_data funcs; section = section; sects = sects })
+lost_end test [] section sects e = absurd cc
+lost_end test (f ∷ fs) section sects e = refl

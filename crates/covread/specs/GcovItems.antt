@@ -1,0 +1,144 @@
+-- What the lines of gcov's annotated source give, each at its place: `above` are the lines above it.
+use Rattle.std.specs.Prelude.{ℕ, Bool, true, false, ◌||◌, ◌&&◌, is_some, List, [], ◌∷◌, ◌++◌, Option, Some, None, map, if◌then◌else◌}
+use Rattle.std.specs.Option.{option_or}
+use Rattle.std.specs.List.{flat_map, list_any}
+use Rattle.covline.specs.Row.{ItemData, LineItem, FuncItem, BranchItem, SectData}
+use Rattle.covread.specs.declared.fault.ReadFault.{ReadFault}
+use Rattle.covread.specs.declared.fault.ReadFault.TheVariants as faults
+use Rattle.covread.specs.Gcov.{GcovLine, Path, SourceLine, FuncCount, BranchCount, BlockNumber, Nothing}
+
+-- a line with the path of a source file
+abbrev pub is_path : GcovLine → Bool
+is_path (Path path) = true
+is_path (SourceLine line count) = false
+is_path (FuncCount name count) = false
+is_path (BranchCount branch taken) = false
+is_path (BlockNumber block) = false
+is_path Nothing = false
+
+-- the number of a source line
+abbrev pub source_number : GcovLine → Option ℕ
+source_number (SourceLine line count) = Some line
+source_number (Path path) = None
+source_number (FuncCount name count) = None
+source_number (BranchCount branch taken) = None
+source_number (BlockNumber block) = None
+source_number Nothing = None
+
+abbrev pub is_source : GcovLine → Bool
+is_source says = is_some (source_number says)
+
+abbrev pub block_number : GcovLine → Option ℕ
+block_number (BlockNumber block) = Some block
+block_number (Path path) = None
+block_number (SourceLine line count) = None
+block_number (FuncCount name count) = None
+block_number (BranchCount branch taken) = None
+block_number Nothing = None
+
+-- the name and the count of a function line
+abbrev pub func_said : GcovLine → List (List ℕ × ℕ)
+func_said (FuncCount name count) = (name, count) ∷ []
+func_said (Path path) = []
+func_said (SourceLine line count) = []
+func_said (BranchCount branch taken) = []
+func_said (BlockNumber block) = []
+func_said Nothing = []
+
+-- the lines behind the last one that is so; all of them where none is
+abbrev pub behind_last : (GcovLine → Bool) → List GcovLine → List GcovLine
+behind_last so [] = []
+behind_last so (says ∷ more) = if list_any so more then behind_last so more else (if so says then more else says ∷ more)
+
+-- what the last of the lines that gives something gives
+abbrev pub last_given : (GcovLine → Option ℕ) → List GcovLine → Option ℕ
+last_given gives [] = None
+last_given gives (says ∷ more) = option_or (last_given gives more) (gives says)
+
+-- the function lines behind the last source line and the last path: they wait for a source line
+abbrev pub waiting : List GcovLine → List (List ℕ × ℕ)
+waiting above = flat_map func_said (behind_last (λ says. is_source says || is_path says) above)
+
+-- the number of the nearest source line above, and of the nearest block line between that and here, else 0
+abbrev pub line_above : List GcovLine → Option ℕ
+line_above above = last_given source_number above
+
+abbrev pub or_zero : Option ℕ → ℕ
+or_zero None = 0
+or_zero (Some n) = n
+
+abbrev pub block_above : List GcovLine → ℕ
+block_above above = or_zero (last_given block_number (behind_last is_source above))
+
+-- the functions that begin at a source line, and the line's own count
+abbrev pub func_item : ℕ → List ℕ × ℕ → ItemData
+func_item line func = FuncItem func.0 line func.1
+
+abbrev pub line_item : ℕ → Option ℕ → List ItemData
+line_item line None = []
+line_item line (Some count) = LineItem line count None ∷ []
+
+abbrev pub branch_item : Option ℕ → ℕ → ℕ → Option ℕ → List ItemData
+branch_item None block branch taken = []
+branch_item (Some line) block branch taken = BranchItem line block branch taken ∷ []
+
+-- the items that a line gives
+abbrev pub items_given : List GcovLine → GcovLine → List ItemData
+items_given above (SourceLine line count) = map (func_item line) (waiting above) ++ line_item line count
+items_given above (BranchCount branch taken) = branch_item (line_above above) (block_above above) branch taken
+items_given above (Path path) = []
+items_given above (FuncCount name count) = []
+items_given above (BlockNumber block) = []
+items_given above Nothing = []
+
+-- the items that lines give up to the next path
+abbrev pub items_until : List GcovLine → List GcovLine → List ItemData
+items_until above [] = []
+items_until above (says ∷ more) = if is_path says then [] else items_given above says ++ items_until (above ++ says ∷ []) more
+
+-- the section that begins at a line, of which this test tells: each path begins one
+abbrev pub section_at : List ℕ → List ItemData → GcovLine → List SectData
+section_at test items (Path path) = record { test = test; file = path; items = items } ∷ []
+section_at test items (SourceLine line count) = []
+section_at test items (FuncCount name count) = []
+section_at test items (BranchCount branch taken) = []
+section_at test items (BlockNumber block) = []
+section_at test items Nothing = []
+
+-- the sections of the lines, in their order
+abbrev pub sects_from : List ℕ → List GcovLine → List GcovLine → List SectData
+sects_from test above [] = []
+sects_from test above (says ∷ more) =
+    section_at test (items_until (above ++ says ∷ []) more) says ++ sects_from test (above ++ says ∷ []) more
+
+-- ---- what is wrong with a line's place
+
+-- no path stands above; no source line stands between the last path and here
+abbrev pub has_path : List GcovLine → Bool
+has_path above = list_any is_path above
+
+abbrev pub has_line : List GcovLine → Bool
+has_line above = has_path above && list_any is_source (behind_last is_path above)
+
+abbrev pub is_empty : {X : Type 0} → List X → Bool
+is_empty [] = true
+is_empty (x ∷ xs) = false
+
+-- the fault of the line's place, with its number: functions that wait are lost at a path
+abbrev pub place_fault : ℕ → List GcovLine → GcovLine → Option ReadFault
+place_fault at above (Path []) = Some (faults.NoSource at)
+place_fault at above (Path (b ∷ bs)) = if is_empty (waiting above) then None else Some faults.LostFunction
+place_fault at above (SourceLine line count) = if has_path above then None else Some (faults.NoSource at)
+place_fault at above (BranchCount branch taken) = if has_line above then None else Some (faults.Misplaced at)
+place_fault at above (FuncCount name count) = None
+place_fault at above (BlockNumber block) = None
+place_fault at above Nothing = None
+
+-- a line of which something is kept: a path begins a section, and a function waits
+abbrev pub is_kept : GcovLine → Bool
+is_kept (Path path) = true
+is_kept (FuncCount name count) = true
+is_kept (SourceLine line count) = false
+is_kept (BranchCount branch taken) = false
+is_kept (BlockNumber block) = false
+is_kept Nothing = false

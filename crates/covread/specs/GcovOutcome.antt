@@ -1,0 +1,84 @@
+-- What a text of gcov's is read as: one section for each source file, or its first fault.
+use Rattle.std.specs.Prelude.{◌⊎◌, ◌≡◌, ℕ, ◌+◌, ◌<◌, ◌≤◌, true, false, List, [], ◌∷◌, ◌++◌, length, Some, None, Result, Ok, Err}
+use Rattle.std.specs.List.{list_any}
+use Rattle.covline.specs.Row.{SubmissionData}
+use Rattle.covline.specs.Lines.{lines_of}
+use Rattle.covline.specs.Lawful.{IsGoodTest}
+use Rattle.covline.specs.declared.trace_line.LineFault.TheVariants as line_faults
+use Rattle.covread.specs.declared.fault.ReadFault.{ReadFault}
+use Rattle.covread.specs.declared.fault.ReadFault.TheVariants as faults
+use Rattle.covread.specs.declared.gcov.line.OwnFault.{OwnFault}
+use Rattle.covread.specs.declared.gcov.line.OwnFault.TheVariants as own
+use Rattle.covread.specs.Gcov.{GcovLine, LineSays}
+use Rattle.covread.specs.GcovItems.{is_kept, place_fault, waiting, sects_from, is_empty}
+
+-- how many bytes a text has at the most: 64 MiB
+abbrev pub most_bytes : ℕ
+most_bytes = 67108864
+
+-- the lines below the ones above say this one by one, and none of them is at a wrong place
+abbrev pub AllSay : List GcovLine → List (List ℕ) → List GcovLine → Type 0
+AllSay above [] [] = Unit {0}
+AllSay above [] (says ∷ more) = ⊥
+AllSay above (line ∷ lines) [] = ⊥
+AllSay above (line ∷ lines) (says ∷ more) =
+    LineSays line (Ok says) × (place_fault (length above + 1) above says ≡ None) × AllSay (above ++ says ∷ []) lines more
+
+-- a line's own fault, with the line's number
+abbrev pub own_fault : ℕ → OwnFault → ReadFault
+own_fault at own.Instances = faults.Instances at
+own_fault at own.Percent = faults.Percent at
+own_fault at own.BadMark = faults.BadMark at
+own_fault at own.NumberTooLarge = faults.Line at line_faults.NumberTooLarge
+
+-- the fault of a line: its own, or else that of its place
+abbrev pub IsFaultAt : ℕ → List GcovLine → List ℕ → ReadFault → Type 0
+IsFaultAt at above line fault =
+    ((why : OwnFault) × LineSays line (Err why) × (fault ≡ own_fault at why))
+    ⊎ ((says : GcovLine) × LineSays line (Ok says) × (place_fault at above says ≡ Some fault))
+
+-- the first faulty line has this fault
+pub record IsFirstFault (lines : List (List ℕ)) (fault : ReadFault) : Type 0 where
+  pub before : List (List ℕ)
+  pub line : List ℕ
+  pub after : List (List ℕ)
+  pub place : lines ≡ before ++ line ∷ after
+  pub above : List GcovLine
+  pub said : AllSay [] before above
+  pub faulty : IsFaultAt (length before + 1) above line fault
+
+-- the first fault comes before anything was kept
+pub record FaultsEarly (lines : List (List ℕ)) (fault : ReadFault) : Type 0 where
+  pub first : IsFirstFault lines fault
+  pub none_kept : list_any is_kept first.above ≡ false
+
+-- no line is faulty, but functions wait at the end
+pub record LosesFunction (lines : List (List ℕ)) : Type 0 where
+  pub all : List GcovLine
+  pub said : AllSay [] lines all
+  pub left : is_empty (waiting all) ≡ false
+
+-- no line is faulty, no function waits at the end, and this is what the lines say of the test
+pub record Reads (test : List ℕ) (lines : List (List ℕ)) (submission : SubmissionData) : Type 0 where
+  pub all : List GcovLine
+  pub said : AllSay [] lines all
+  pub none_left : is_empty (waiting all) ≡ true
+  pub is : submission ≡ record { sects = sects_from test [] all; odd = 0 }
+
+-- what the text is read as; its length is tested first, then the test's name
+abbrev pub IsOutcome : List ℕ → List ℕ → Result SubmissionData ReadFault → Type 0
+IsOutcome test text (Ok submission) = (length text ≤ most_bytes) × IsGoodTest test × Reads test (lines_of text) submission
+IsOutcome test text (Err fault) =
+    ((most_bytes < length text) × (fault ≡ faults.TooLong))
+    ⊎ (((length text ≤ most_bytes) × ¬ IsGoodTest test × (fault ≡ faults.BadTest))
+    ⊎ (((length text ≤ most_bytes) × IsGoodTest test × IsFirstFault (lines_of text) fault)
+    ⊎ ((length text ≤ most_bytes) × IsGoodTest test × LosesFunction (lines_of text) × (fault ≡ faults.LostFunction))))
+
+-- the answer of a reader is what the text is read as, or memory ran out, which comes only after the tests of length
+-- and name
+abbrev pub Answers : List ℕ → List ℕ → Result SubmissionData ReadFault → Type 0
+Answers test text answer = ((length text ≤ most_bytes) × IsGoodTest test × (answer ≡ Err faults.Memory)) ⊎ IsOutcome test text answer
+
+-- the answer is the outcome, or memory ran out
+abbrev pub IsOrMemory : Result SubmissionData ReadFault → Result SubmissionData ReadFault → Type 0
+IsOrMemory answer outcome = (answer ≡ Err faults.Memory) ⊎ (outcome ≡ answer)

@@ -1,0 +1,142 @@
+-- What the reader of gcov's text holds between two lines, and what a line makes of it. The contracts of its private
+-- steps speak of it; what a text is read as is said in GcovItems and GcovOutcome.
+use Rattle.std.specs.Prelude.{Bool, true, false, ◌||◌, is_some, is_ok, ◌⊎◌, ◌≡◌, ℕ, ◌+◌, List, [], ◌∷◌, ◌++◌, Option, Some, None, Result, Ok, Err, map, option_map, if◌then◌else◌}
+use Rattle.covline.specs.Row.{ItemData, BranchItem, SectData, SubmissionData}
+use Rattle.covline.specs.Lines.{lines_of}
+use Rattle.covread.specs.declared.fault.ReadFault.{ReadFault}
+use Rattle.covread.specs.declared.fault.ReadFault.TheVariants as faults
+use Rattle.covread.specs.declared.gcov.reader.Function.{Function}
+use Rattle.covread.specs.declared.gcov.reader.Place.{Place}
+use Rattle.covread.specs.declared.gcov.reader.OpenSection.{OpenSection}
+use Rattle.covread.specs.declared.gcov.reader.Reader.{Reader}
+use Rattle.covread.specs.Gcov.{GcovLine, Path, SourceLine, FuncCount, BranchCount, BlockNumber, Nothing, Says, says_of}
+use Rattle.covread.specs.GcovReading.{shape_of}
+use Rattle.covread.specs.GcovItems.{is_kept, func_item, line_item, is_empty}
+use Rattle.covread.specs.GcovOutcome.{own_fault}
+
+-- the section of the last path: its items so far, and its last source line with the block that branches belong to
+pub record SectionData : Type 0 where
+  pub file : List ℕ
+  pub items : List ItemData
+  pub place : Option Place
+
+pub record HeldData : Type 0 where
+  pub waiting : List (List ℕ × ℕ)
+  pub section : Option SectionData
+  pub sects : List SectData
+
+abbrev pub func_data : Function → List ℕ × ℕ
+func_data f = (f.name.now, f.count)
+
+abbrev pub section_data : {A : Type 0} → OpenSection A → SectionData
+section_data s = record { file = s.file; items = s.items; place = s.place }
+
+abbrev pub held_data : {A : Type 0} → Reader A → HeldData
+held_data r = record { waiting = map func_data r.waiting.items; section = option_map section_data r.section; sects = r.sects }
+
+-- before the first line
+abbrev pub empty : HeldData
+empty = record { waiting = []; section = None; sects = [] }
+
+-- the section that ends, where one is open
+abbrev pub closed : List ℕ → Option SectionData → List SectData
+closed test None = []
+closed test (Some s) = record { test = test; file = s.file; items = s.items } ∷ []
+
+-- with more items in the open section, and another place
+abbrev pub section_with : SectionData → List ItemData → Option Place → HeldData → List (List ℕ × ℕ) → HeldData
+section_with s more place held waiting = record { waiting = waiting; section = Some (record { file = s.file; items = s.items ++ more; place = place }); sects = held.sects }
+
+abbrev pub Stepped : Type 0
+Stepped = Result HeldData ReadFault
+
+abbrev pub begun : List ℕ → List ℕ → HeldData → HeldData
+begun test path held = record { waiting = held.waiting; section = Some (record { file = path; items = []; place = None }); sects = held.sects ++ closed test held.section }
+
+abbrev pub step_path : List ℕ → ℕ → HeldData → List ℕ → Stepped
+step_path test at held [] = Err (faults.NoSource at)
+step_path test at held (b ∷ bs) = if is_empty held.waiting then Ok (begun test (b ∷ bs) held) else Err faults.LostFunction
+
+abbrev pub step_source : ℕ → Option SectionData → HeldData → ℕ → Option ℕ → Stepped
+step_source at None held line count = Err (faults.NoSource at)
+step_source at (Some s) held line count =
+    Ok (section_with s (map (func_item line) held.waiting ++ line_item line count) (Some (record { line = line; block = 0 })) held [])
+
+abbrev pub step_func : HeldData → List ℕ → ℕ → HeldData
+step_func held name count = record { waiting = held.waiting ++ (name, count) ∷ []; section = held.section; sects = held.sects }
+
+abbrev pub step_branch_in : ℕ → SectionData → Option Place → HeldData → ℕ → Option ℕ → Stepped
+step_branch_in at s None held branch taken = Err (faults.Misplaced at)
+step_branch_in at s (Some p) held branch taken = Ok (section_with s (BranchItem p.line p.block branch taken ∷ []) s.place held held.waiting)
+
+abbrev pub step_branch : ℕ → Option SectionData → HeldData → ℕ → Option ℕ → Stepped
+step_branch at None held branch taken = Err (faults.Misplaced at)
+step_branch at (Some s) held branch taken = step_branch_in at s s.place held branch taken
+
+abbrev pub in_block : ℕ → Place → Place
+in_block block p = record { line = p.line; block = block }
+
+abbrev pub section_in_block : ℕ → SectionData → SectionData
+section_in_block block s = record { file = s.file; items = s.items; place = option_map (in_block block) s.place }
+
+abbrev pub step_block : HeldData → ℕ → HeldData
+step_block held block = record { waiting = held.waiting; section = option_map (section_in_block block) held.section; sects = held.sects }
+
+-- what a line makes of what is held
+abbrev pub step : List ℕ → ℕ → HeldData → GcovLine → Stepped
+step test at held (Path path) = step_path test at held path
+step test at held (SourceLine line count) = step_source at held.section held line count
+step test at held (FuncCount name count) = Ok (step_func held name count)
+step test at held (BranchCount branch taken) = step_branch at held.section held branch taken
+step test at held (BlockNumber block) = Ok (step_block held block)
+step test at held Nothing = Ok held
+
+abbrev pub line_step : List ℕ → ℕ → HeldData → Says → Stepped
+line_step test at held (Err why) = Err (own_fault at why)
+line_step test at held (Ok says) = step test at held says
+
+-- a line makes the reader's lists grow: it is kept, or a section is open
+abbrev pub grows : HeldData → GcovLine → Bool
+grows held says = is_kept says || is_some held.section
+
+abbrev pub line_grows : HeldData → Says → Bool
+line_grows held (Err why) = false
+line_grows held (Ok says) = grows held says
+
+-- what the code's step gives is that, unless memory ran out, which comes only where a step goes on and lists grow
+abbrev pub StepsTo : {T : Type 0} → Result T ReadFault → HeldData → Bool → Stepped → Type 0
+StepsTo (Ok done) after growing stepped = stepped ≡ Ok after
+StepsTo (Err fault) after growing stepped = ((fault ≡ faults.Memory) × (is_ok stepped ≡ true) × (growing ≡ true)) ⊎ (stepped ≡ Err fault)
+
+-- all lines, one after the other; they are counted from 1
+abbrev pub run_on : Stepped → (HeldData → Stepped) → Stepped
+run_on (Err fault) next = Err fault
+run_on (Ok held) next = next held
+
+abbrev pub run : List ℕ → ℕ → HeldData → List (List ℕ) → Stepped
+run test at held [] = Ok held
+run test at held (line ∷ lines) = run_on (line_step test (at + 1) held (says_of (shape_of line))) (λ next. run test (at + 1) next lines)
+
+-- a faulty line comes before the lists grow
+abbrev pub dry_on : Stepped → Bool → (HeldData → Bool) → Bool
+dry_on (Err fault) growing next = true
+dry_on (Ok held) growing next = if growing then false else next held
+
+abbrev pub dry : List ℕ → ℕ → HeldData → List (List ℕ) → Bool
+dry test at held [] = false
+dry test at held (line ∷ lines) =
+    dry_on (line_step test (at + 1) held (says_of (shape_of line))) (line_grows held (says_of (shape_of line))) (λ next. dry test (at + 1) next lines)
+
+abbrev pub ReadsTo : {A : Type 0} → List ℕ → List ℕ → Result (Reader A) ReadFault → Type 0
+ReadsTo test text (Ok reader) = (run test 0 empty (lines_of text) ≡ Ok (held_data reader)) × (reader.test.now ≡ test)
+ReadsTo test text (Err fault) = ((fault ≡ faults.Memory) × (dry test 0 empty (lines_of text) ≡ false)) ⊎ (run test 0 empty (lines_of text) ≡ Err fault)
+
+-- behind the last line
+abbrev pub submission_held : List ℕ → HeldData → SubmissionData
+submission_held test held = record { sects = held.sects ++ closed test held.section; odd = 0 }
+
+abbrev pub ends : List ℕ → HeldData → Result SubmissionData ReadFault
+ends test held = if is_empty held.waiting then Ok (submission_held test held) else Err faults.LostFunction
+
+abbrev pub EndsTo : Result SubmissionData ReadFault → Result SubmissionData ReadFault → Type 0
+EndsTo answer ended = (answer ≡ Err faults.Memory) ⊎ (answer ≡ ended)

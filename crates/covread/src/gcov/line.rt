@@ -1,0 +1,130 @@
+//! What one line says.
+
+ghost use Rattle.std.specs.Prelude.{◌≡◌};
+ghost use Rattle.covread.specs.Gcov.{Numbered, fit, branch_says, source_says, says_of};
+ghost use Rattle.covread.specs.GcovReading.{shape_of};
+ghost use Rattle.covread.specs.GcovView.{Gives, shape_data};
+
+use crate::gcov::shape::{Shape, shape_of};
+use crate::gcov::text::{are_digits, behind, number, without_last};
+
+/// What is wrong with a line by itself.
+#[derive(Clone, Copy, Debug, PartialEq, Eq)]
+pub enum OwnFault {
+    /// Counts of template instances follow.
+    Instances,
+    /// A branch has a percentage in place of a count.
+    Percent,
+    /// A mark, or a branch's count, of no known form.
+    BadMark,
+    /// A number of 2^64 or more.
+    NumberTooLarge,
+}
+
+/// What a line says; its texts are parts of it.
+#[derive(Clone, Copy, Debug)]
+pub enum GcovLine<'a> {
+    /// The path of a source file.
+    Path(&'a [u8]),
+    /// A line of the source file, with its count where it has code.
+    Source { line: u64, count: Option<u64> },
+    /// A function's count; the function begins at the next source line.
+    Function { name: &'a [u8], count: u64 },
+    /// How often a branch of the source line above was taken; none where its block was never executed.
+    Branch { branch: u64, taken: Option<u64> },
+    /// The number of the block that the branches below belong to.
+    Block { block: u64 },
+    /// Nothing that is read.
+    Skip,
+}
+
+/// What the line says.
+pub(crate) fn read_line(line: &[u8]) -> Result<GcovLine<'_>, OwnFault>
+    ensures { Gives result (says_of (shape_of line.now)) }
+{
+    read_shape(shape_of(line))
+}
+
+/// What a line of this shape says.
+fn read_shape(shape: Shape<'_>) -> Result<GcovLine<'_>, OwnFault>
+    ensures { Gives result (says_of (shape_data shape.entry)) }
+{
+    match shape {
+        Shape::Instances => Err(OwnFault::Instances),
+        Shape::Function { name, count } => Ok(GcovLine::Function {
+            name,
+            count: fit(count)?,
+        }),
+        Shape::Never { branch } => Ok(GcovLine::Branch {
+            branch: fit(branch)?,
+            taken: None,
+        }),
+        Shape::Taken { branch, word } => read_branch(branch, word),
+        Shape::Block { line, block } => {
+            fit(line)?;
+            Ok(GcovLine::Block { block: fit(block)? })
+        }
+        Shape::Numbered { mark, line, text } => read_numbered(mark, line, text),
+        Shape::Other => Ok(GcovLine::Skip),
+    }
+}
+
+/// The number that digits say.
+fn fit(digits: &[u8]) -> Result<u64, OwnFault>
+    ensures { result ≡ fit digits.now }
+{
+    number(digits).ok_or(OwnFault::NumberTooLarge)
+}
+
+/// How often a branch was taken. A word of another form is told before a number that is too large.
+fn read_branch<'a>(branch: &[u8], word: &[u8]) -> Result<GcovLine<'a>, OwnFault>
+    ensures { Gives result (branch_says branch.now word.now) }
+{
+    if are_digits(word) {
+        let branch = fit(branch)?;
+        let taken = Some(fit(word)?);
+        return Ok(GcovLine::Branch { branch, taken });
+    }
+    if are_digits(without_last(word, b'%')) {
+        Err(OwnFault::Percent)
+    } else {
+        Err(OwnFault::BadMark)
+    }
+}
+
+/// A line with a mark and a number: that with the number 0 tells of the whole text.
+fn read_numbered<'a>(mark: &[u8], line: &[u8], text: &'a [u8]) -> Result<GcovLine<'a>, OwnFault>
+    ensures { Gives result (says_of (Numbered mark.now line.now text.now)) }
+{
+    if number(line) != Some(0) {
+        return read_source(mark, line);
+    }
+    match behind(text, b"Source:") {
+        Some(path) => Ok(GcovLine::Path(path)),
+        None => Ok(GcovLine::Skip),
+    }
+}
+
+/// A line of the source file. A mark of no known form is told before a number that is too large.
+fn read_source<'a>(mark: &[u8], line: &[u8]) -> Result<GcovLine<'a>, OwnFault>
+    ensures { Gives result (source_says mark.now line.now) }
+{
+    if mark == b"-".as_slice() {
+        let line = fit(line)?;
+        return Ok(GcovLine::Source { line, count: None });
+    }
+    if mark == b"#####".as_slice() || mark == b"=====".as_slice() {
+        let line = fit(line)?;
+        return Ok(GcovLine::Source {
+            line,
+            count: Some(0),
+        });
+    }
+    let times = without_last(mark, b'*');
+    if !are_digits(times) {
+        return Err(OwnFault::BadMark);
+    }
+    let line = fit(line)?;
+    let count = Some(fit(times)?);
+    Ok(GcovLine::Source { line, count })
+}

@@ -1,0 +1,82 @@
+//! The reader: forward over the text once.
+
+ghost use Rattle.std.specs.Prelude.{◌≡◌, ◌+◌, ◌<◌, ◌≤◌, ◌^◌, length, Result};
+ghost use Rattle.covline.specs.Row.{SubmissionData};
+ghost use Rattle.covline.specs.Lines.{lines_of};
+ghost use Rattle.covline.specs.Lawful.{IsGoodTest};
+ghost use Rattle.covread.specs.declared.fault.ReadFault.{ReadFault as Fault};
+ghost use Rattle.covread.specs.GcovOutcome.{most_bytes, IsOutcome, Answers, IsOrMemory, FaultsEarly};
+ghost use Rattle.covread.specs.Gcov.{says_of};
+ghost use Rattle.covread.specs.GcovReading.{shape_of};
+ghost use Rattle.covread.specs.GcovSteps.{held_data, line_step, line_grows, StepsTo, ReadsTo};
+
+use crate::fault::ReadFault;
+use crate::gcov::line::{OwnFault, read_line};
+use crate::gcov::reader::Reader;
+use covline::{LineFault, Submission, good_test, lines};
+use std::alloc::Allocator;
+
+/// How many bytes a text has at the most: 64 MiB.
+pub const MOST_BYTES: usize = 67_108_864;
+
+/// Reads gcov's annotated source, as the counts of this test: answers what its lines say, or the text's first fault.
+pub fn read_gcov<A: Allocator + Copy>(
+    alloc: A,
+    test: &[u8],
+    text: &[u8],
+) -> Result<Submission<A>, ReadFault>
+    // What is answered is what the text is read as, or memory ran out.
+    ensures answers { Answers test.now text.now result }
+    // Nothing else is what the text is read as.
+    ensures only { (outcome : Result SubmissionData Fault) → IsOutcome test.now text.now outcome → IsOrMemory result outcome }
+    // Where the first fault comes before anything was kept, it is answered: memory can't have run out.
+    ensures early { (fault : Fault) → length text.now ≤ most_bytes → IsGoodTest test.now → FaultsEarly (lines_of text.now) fault → result ≡ Err fault }
+{
+    if text.len() > MOST_BYTES {
+        return Err(ReadFault::TooLong);
+    }
+    if !good_test(test) {
+        return Err(ReadFault::BadTest);
+    }
+    read_lines(alloc, test, text)?.finish(alloc)
+}
+
+/// Takes all lines of the text.
+fn read_lines<'a, A: Allocator + Copy>(
+    alloc: A,
+    test: &'a [u8],
+    text: &'a [u8],
+) -> Result<Reader<'a, A>, ReadFault>
+    requires { length text.now ≤ most_bytes }
+    ensures { ReadsTo test.now text.now result }
+{
+    let mut reader = Reader::new(alloc, test);
+    let mut at: u64 = 0;
+    for line in lines(text) {
+        at += 1;
+        take_line(&mut reader, alloc, at, line)?;
+    }
+    Ok(reader)
+}
+
+/// Takes the line with this number.
+fn take_line<'a, A: Allocator + Copy>(
+    reader: &mut Reader<'a, A>,
+    alloc: A,
+    at: u64,
+    line: &'a [u8],
+) -> Result<(), ReadFault>
+    ensures steps { StepsTo result (held_data reader.new) (line_grows (held_data reader.old) (says_of (shape_of line.now))) (line_step reader.old.test.now at (held_data reader.old) (says_of (shape_of line.now))) }
+    ensures test { reader.new.test.now ≡ reader.old.test.now }
+{
+    match read_line(line) {
+        Ok(says) => reader.take(alloc, at, says),
+        Err(OwnFault::Instances) => Err(ReadFault::Instances { at }),
+        Err(OwnFault::Percent) => Err(ReadFault::Percent { at }),
+        Err(OwnFault::BadMark) => Err(ReadFault::BadMark { at }),
+        Err(OwnFault::NumberTooLarge) => Err(ReadFault::Line {
+            at,
+            fault: LineFault::NumberTooLarge,
+        }),
+    }
+}

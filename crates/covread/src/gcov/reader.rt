@@ -1,0 +1,236 @@
+//! What the reader of gcov's text holds between two lines.
+
+ghost use Rattle.std.specs.Prelude.{true, is_some, ◌≡◌, [], ◌++◌, map, MatchResult, OnOk, OnErr};
+ghost use Rattle.covline.specs.Row.{SectData};
+ghost use Rattle.covline.specs.Lawful.{IsLawful};
+ghost use Rattle.covread.specs.declared.fault.ReadFault.TheVariants.{Memory as NoMemory};
+ghost use Rattle.covread.specs.GcovView.{line_data};
+ghost use Rattle.covread.specs.GcovItems.{func_item, line_item};
+ghost use Rattle.covread.specs.GcovSteps.{func_data, held_data, section_data, empty, closed, step, step_path, step_source, step_branch, step_func, step_block, grows, StepsTo, submission_held, ends, EndsTo};
+
+use crate::fault::ReadFault;
+use crate::gcov::line::GcovLine;
+use covline::{Bytes, Item, Items, Sect, Sects, Submission};
+use std::alloc::Allocator;
+
+/// A function whose source line didn't come yet.
+#[derive(Clone, Copy)]
+pub struct Function<'a> {
+    /// Its name.
+    pub name: &'a [u8],
+    /// Its execution count.
+    pub count: u64,
+}
+
+/// Where a branch belongs to.
+#[derive(Clone, Copy)]
+pub struct Place {
+    /// The last source line.
+    pub line: u64,
+    /// The last block of that line, 0 where none was told.
+    pub block: u64,
+}
+
+/// The section of the last path.
+#[derive(Drop)]
+pub struct OpenSection<A: Allocator> {
+    /// Its path.
+    pub file: Bytes<A>,
+    /// Its items so far.
+    pub items: Items<A>,
+    /// Its last source line.
+    pub place: Option<Place>,
+}
+
+/// What a reader holds between two lines.
+#[derive(Drop)]
+pub struct Reader<'a, A: Allocator> {
+    /// The name of the test.
+    pub test: &'a [u8],
+    /// The functions that wait for the next source line.
+    pub waiting: Vec<Function<'a>, A>,
+    /// The section that is open.
+    pub section: Option<OpenSection<A>>,
+    /// The sections before it.
+    pub sects: Sects<A>,
+}
+
+impl<'a, A: Allocator + Copy> Reader<'a, A> {
+    /// Before the first line.
+    pub fn new(alloc: A, test: &'a [u8]) -> Reader<'a, A>
+        ensures held { held_data result ≡ empty }
+        ensures test { result.test.now ≡ test.now }
+    {
+        Reader {
+            test,
+            waiting: Vec::new(alloc),
+            section: None,
+            sects: Sects::new(alloc),
+        }
+    }
+
+    /// Takes what the line with this number says.
+    pub fn take(&mut self, alloc: A, at: u64, line: GcovLine<'a>) -> Result<(), ReadFault>
+        ensures steps { StepsTo result (held_data self.new) (grows (held_data self.old) (line_data line.entry)) (step self.old.test.now at (held_data self.old) (line_data line.entry)) }
+        ensures test { self.new.test.now ≡ self.old.test.now }
+    {
+        match line {
+            GcovLine::Path(path) => self.begin(alloc, at, path),
+            GcovLine::Source { line, count } => self.source(alloc, at, line, count),
+            GcovLine::Function { name, count } => self.wait(Function { name, count }),
+            GcovLine::Branch { branch, taken } => self.branch(at, branch, taken),
+            GcovLine::Block { block } => {
+                self.enter(block);
+                Ok(())
+            }
+            GcovLine::Skip => Ok(()),
+        }
+    }
+
+    /// A source file begins. Functions that wait don't find their line any more.
+    fn begin(&mut self, alloc: A, at: u64, path: &[u8]) -> Result<(), ReadFault>
+        ensures steps { StepsTo result (held_data self.new) true (step_path self.old.test.now at (held_data self.old) path.now) }
+        ensures test { self.new.test.now ≡ self.old.test.now }
+    {
+        if path.is_empty() {
+            return Err(ReadFault::NoSource { at });
+        }
+        if !self.waiting.is_empty() {
+            return Err(ReadFault::LostFunction);
+        }
+        self.close(alloc)?;
+        self.section = Some(OpenSection {
+            file: Bytes::of(alloc, path)?,
+            items: Items::new(alloc),
+            place: None,
+        });
+        Ok(())
+    }
+
+    /// The open section ends.
+    fn close(&mut self, alloc: A) -> Result<(), ReadFault>
+        ensures ok { OnOk result (held_data self.new ≡ record { waiting = map func_data self.old.waiting.items; section = None; sects = self.old.sects ++ closed self.old.test.now (held_data self.old).section }) }
+        ensures err { OnErr result (result ≡ Err NoMemory) }
+        ensures test { self.new.test.now ≡ self.old.test.now }
+    {
+        if let Some(section) = self.section.take() {
+            let OpenSection {
+                file,
+                mut items,
+                ..
+            } = section;
+            items.shrink();
+            let test = Bytes::of(alloc, self.test)?;
+            self.sects.push(Sect { test, file, items })?;
+        }
+        Ok(())
+    }
+
+    /// A source line: the functions that wait begin at it.
+    fn source(&mut self, alloc: A, at: u64, line: u64, count: Option<u64>) -> Result<(), ReadFault>
+        ensures steps { StepsTo result (held_data self.new) (is_some (held_data self.old).section) (step_source at (held_data self.old).section (held_data self.old) line count) }
+        ensures test { self.new.test.now ≡ self.old.test.now }
+    {
+        if let Some(section) = &mut self.section {
+            push_functions(alloc, &mut section.items, &self.waiting, line)?;
+            push_line(&mut section.items, line, count)?;
+            section.place = Some(Place { line, block: 0 });
+            self.waiting.clear();
+            return Ok(());
+        }
+        Err(ReadFault::NoSource { at })
+    }
+
+    /// A function, which waits for the next source line.
+    fn wait(&mut self, function: Function<'a>) -> Result<(), ReadFault>
+        ensures steps { StepsTo result (held_data self.new) true (Ok (step_func (held_data self.old) function.entry.name.now function.entry.count)) }
+        ensures test { self.new.test.now ≡ self.old.test.now }
+    {
+        self.waiting.push(function)?;
+        Ok(())
+    }
+
+    /// A branch of the last source line.
+    fn branch(&mut self, at: u64, branch: u64, taken: Option<u64>) -> Result<(), ReadFault>
+        ensures steps { StepsTo result (held_data self.new) (is_some (held_data self.old).section) (step_branch at (held_data self.old).section (held_data self.old) branch taken) }
+        ensures test { self.new.test.now ≡ self.old.test.now }
+    {
+        if let Some(section) = &mut self.section {
+            if let Some(Place { line, block }) = section.place {
+                section.items.push(Item::Branch {
+                    line,
+                    block,
+                    branch,
+                    taken,
+                })?;
+                return Ok(());
+            }
+        }
+        Err(ReadFault::Misplaced { at })
+    }
+
+    /// The branches below belong to this block of the last source line, where there is one.
+    fn enter(&mut self, block: u64)
+        ensures held { held_data self.new ≡ step_block (held_data self.old) block }
+        ensures test { self.new.test.now ≡ self.old.test.now }
+    {
+        if let Some(section) = &mut self.section {
+            if let Some(place) = &mut section.place {
+                place.block = block;
+            }
+        }
+    }
+
+    /// What was read, behind the last line.
+    pub fn finish(mut self, alloc: A) -> Result<Submission<A>, ReadFault>
+        requires { IsLawful (submission_held self.test.now (held_data self)) }
+        ensures { EndsTo result (ends self.entry.test.now (held_data self.entry)) }
+    {
+        if !self.waiting.is_empty() {
+            return Err(ReadFault::LostFunction);
+        }
+        self.close(alloc)?;
+        let Reader { mut sects, .. } = self;
+        sects.shrink();
+        Ok(Submission::of_lawful(sects, 0))
+    }
+}
+
+/// Appends the functions that begin at this line.
+fn push_functions<A: Allocator + Copy>(
+    alloc: A,
+    items: &mut Items<A>,
+    functions: &[Function<'_>],
+    line: u64,
+) -> Result<(), ReadFault>
+    ensures ok { OnOk result (items.new ≡ items.old ++ map (func_item line) (map func_data functions.now)) }
+    ensures err { OnErr result (result ≡ Err NoMemory) }
+{
+    for function in functions {
+        items.push(Item::Func {
+            name: Bytes::of(alloc, function.name)?,
+            line,
+            count: function.count,
+        })?;
+    }
+    Ok(())
+}
+
+/// Appends the count of a line, where it has code.
+fn push_line<A: Allocator>(
+    items: &mut Items<A>,
+    line: u64,
+    count: Option<u64>,
+) -> Result<(), ReadFault>
+    ensures ok { OnOk result (items.new ≡ items.old ++ line_item line count) }
+    ensures err { OnErr result (result ≡ Err NoMemory) }
+{
+    if let Some(count) = count {
+        items.push(Item::Line {
+            line,
+            count,
+            checksum: None,
+        })?;
+    }
+    Ok(())
+}

@@ -1,0 +1,174 @@
+//! The shape of a line: the first of seven that fits. Nothing is copied.
+
+ghost use Rattle.std.specs.Prelude.{◌≡◌, option_map};
+ghost use Rattle.covread.specs.GcovReading.{function_shape, function_of, branch_front, branch_rest, branch_shape, never_of, taken_of, block_of, numbered_rest, behind_mark, numbered_shape, other_shape, any_shape, shape_of};
+ghost use Rattle.covread.specs.GcovView.{shape_data};
+
+use crate::gcov::text::{
+    Class, behind, behind_all, behind_last_called, behind_spaces, ends_word, is_name, split_some,
+};
+
+/// What a line looks like, with the texts of its parts.
+#[derive(Clone, Copy, Debug)]
+pub(crate) enum Shape<'a> {
+    /// `-----`: counts of template instances follow.
+    Instances,
+    /// `function NAME called COUNT ..`.
+    Function {
+        name: &'a [u8],
+        count: &'a [u8],
+    },
+    /// `branch NUMBER never executed`.
+    Never {
+        branch: &'a [u8],
+    },
+    /// `branch NUMBER taken WORD ..`.
+    Taken {
+        branch: &'a [u8],
+        word: &'a [u8],
+    },
+    /// `MARK: LINE-block NUMBER`.
+    Block {
+        line: &'a [u8],
+        block: &'a [u8],
+    },
+    /// `MARK: LINE:TEXT`.
+    Numbered {
+        mark: &'a [u8],
+        line: &'a [u8],
+        text: &'a [u8],
+    },
+    /// Any other line.
+    Other,
+}
+
+/// The shape of the line.
+pub(crate) fn shape_of(line: &[u8]) -> Shape<'_>
+    ensures { shape_data result ≡ shape_of line.now }
+{
+    match any_shape(line) {
+        Some(shape) => shape,
+        None => Shape::Other,
+    }
+}
+
+/// The shape of a line that says something.
+fn any_shape(line: &[u8]) -> Option<Shape<'_>>
+    ensures { option_map shape_data result ≡ any_shape line.now }
+{
+    if let Some(_) = behind(line, b"-----") {
+        return Some(Shape::Instances);
+    }
+    if let Some(text) = behind(line, b"function ") {
+        return function_shape(text);
+    }
+    other_shape(line)
+}
+
+/// The shape of a line that tells of no function and of no template instances. A mark may begin as the lines of branches
+/// do.
+fn other_shape(line: &[u8]) -> Option<Shape<'_>>
+    ensures { option_map shape_data result ≡ other_shape line.now }
+{
+    if let Some(text) = behind(line, b"branch") {
+        if let Some(shape) = branch_shape(text) {
+            return Some(shape);
+        }
+    }
+    numbered_shape(line)
+}
+
+/// The name and the count of a function, behind `function `.
+fn function_shape(text: &[u8]) -> Option<Shape<'_>>
+    ensures { option_map shape_data result ≡ function_shape text.now }
+{
+    let behind = behind_last_called(text)?;
+    let (count, rest) = split_some(behind, Class::Digit)?;
+    let name = &text[..text.len().saturating_sub(behind.len() + b" called ".len())];
+    if is_name(name) && ends_word(rest) {
+        Some(Shape::Function { name, count })
+    } else {
+        None
+    }
+}
+
+/// A branch's number and what follows it, behind `branch`.
+fn branch_shape(text: &[u8]) -> Option<Shape<'_>>
+    ensures { option_map shape_data result ≡ branch_shape text.now }
+{
+    let (branch, text) = branch_front(text)?;
+    branch_rest(branch, text)
+}
+
+/// A branch's number, and what follows the spaces behind it.
+fn branch_front(text: &[u8]) -> Option<(&[u8], &[u8])>
+    ensures { option_map (λ parts. (parts.0.now, parts.1.now)) result ≡ branch_front text.now }
+{
+    let text = behind_spaces(text)?;
+    let (branch, text) = split_some(text, Class::Digit)?;
+    let rest = behind_spaces(text)?;
+    Some((branch, rest))
+}
+
+/// What follows a branch's number.
+fn branch_rest<'a>(branch: &'a [u8], text: &'a [u8]) -> Option<Shape<'a>>
+    ensures { option_map shape_data result ≡ branch_rest branch.now text.now }
+{
+    if let Some(rest) = behind(text, b"never executed") {
+        return ends_word(rest).then_some(Shape::Never { branch });
+    }
+    if let Some(text) = behind(text, b"taken") {
+        return taken(branch, text);
+    }
+    None
+}
+
+/// The word behind `taken`.
+fn taken<'a>(branch: &'a [u8], text: &'a [u8]) -> Option<Shape<'a>>
+    ensures { option_map shape_data result ≡ taken_of branch.now text.now }
+{
+    let text = behind_spaces(text)?;
+    let (word, _) = split_some(text, Class::Word)?;
+    Some(Shape::Taken { branch, word })
+}
+
+/// A line that begins with a mark, a colon and a number.
+fn numbered_shape(text: &[u8]) -> Option<Shape<'_>>
+    ensures { option_map shape_data result ≡ numbered_shape text.now }
+{
+    let text = behind_all(text, Class::Space);
+    let (mark, text) = split_some(text, Class::Mark)?;
+    behind_mark(mark, text)
+}
+
+/// What follows a mark.
+fn behind_mark<'a>(mark: &'a [u8], text: &'a [u8]) -> Option<Shape<'a>>
+    ensures { option_map shape_data result ≡ behind_mark mark.now text.now }
+{
+    let text = behind(text, b":")?;
+    let text = behind_all(text, Class::Space);
+    let (line, text) = split_some(text, Class::Digit)?;
+    numbered_rest(mark, line, text)
+}
+
+/// What follows a line's number.
+fn numbered_rest<'a>(mark: &'a [u8], line: &'a [u8], text: &'a [u8]) -> Option<Shape<'a>>
+    ensures { option_map shape_data result ≡ numbered_rest mark.now line.now text.now }
+{
+    if let Some(text) = behind(text, b"-block") {
+        return block(line, text);
+    }
+    if let Some(text) = behind(text, b":") {
+        return Some(Shape::Numbered { mark, line, text });
+    }
+    None
+}
+
+/// The number behind `-block`.
+fn block<'a>(line: &'a [u8], text: &'a [u8]) -> Option<Shape<'a>>
+    ensures { option_map shape_data result ≡ block_of line.now text.now }
+{
+    let text = behind_spaces(text)?;
+    let (block, _) = split_some(text, Class::Digit)?;
+    Some(Shape::Block { line, block })
+}

@@ -1,0 +1,152 @@
+//! The parts of a line: runs of bytes of one kind, keys and numbers.
+
+ghost use Rattle.std.specs.Prelude.{◌≡◌, ◌+◌, ◌-◌, ◌*◌, option_map};
+ghost use Rattle.std.specs.List.{list_all};
+ghost use Rattle.covline.specs.Reading.{is_digit, behind_key};
+ghost use Rattle.covread.specs.Gcov.{are_digits, without_last};
+ghost use Rattle.covread.specs.GcovReading.{in_class, front_of, rest_of, some_front, behind_spaces, fitting, number_of, ends_word, is_name, last_called};
+
+/// A kind of bytes.
+#[derive(Clone, Copy, Debug, PartialEq, Eq)]
+pub(crate) enum Class {
+    /// `0` to `9`.
+    Digit,
+    /// The space alone.
+    Space,
+    /// What a mark is made of: all but space and colon.
+    Mark,
+    /// What a word is made of: all but space.
+    Word,
+}
+
+impl Class {
+    /// Whether the byte is of this kind.
+    fn has(self, byte: u8) -> bool
+        ensures { result ≡ in_class self byte }
+    {
+        match self {
+            Class::Digit => byte.is_ascii_digit(),
+            Class::Space => byte == b' ',
+            Class::Mark => byte != b' ' && byte != b':',
+            Class::Word => byte != b' ',
+        }
+    }
+}
+
+/// What follows the bytes of this kind at the front.
+pub(crate) fn behind_all(text: &[u8], class: Class) -> &[u8]
+    ensures { result.now ≡ rest_of (in_class class) text.now }
+{
+    let mut rest = text;
+    while let [byte, after @ ..] = rest {
+        if !class.has(*byte) {
+            break;
+        }
+        rest = after;
+    }
+    rest
+}
+
+/// The bytes of this kind at the front, of which there is at least one, and what follows them.
+pub(crate) fn split_some(text: &[u8], class: Class) -> Option<(&[u8], &[u8])>
+    ensures { option_map (λ parts. (parts.0.now, parts.1.now)) result ≡ some_front (in_class class) text.now }
+{
+    let rest = behind_all(text, class);
+    if rest.len() == text.len() {
+        return None;
+    }
+    Some((&text[..text.len() - rest.len()], rest))
+}
+
+/// What follows one or more spaces.
+pub(crate) fn behind_spaces(text: &[u8]) -> Option<&[u8]>
+    ensures { option_map (λ rest. rest.now) result ≡ behind_spaces text.now }
+{
+    let (_, rest) = split_some(text, Class::Space)?;
+    Some(rest)
+}
+
+/// What follows the key, where the text begins with it.
+pub(crate) fn behind<'a>(text: &'a [u8], key: &[u8]) -> Option<&'a [u8]>
+    ensures { option_map (λ rest. rest.now) result ≡ behind_key key.now text.now }
+{
+    text.strip_prefix(key)
+}
+
+/// Whether the text is one or more digits.
+pub(crate) fn are_digits(text: &[u8]) -> bool
+    ensures { result ≡ are_digits text.now }
+{
+    !text.is_empty() && all_digits(text)
+}
+
+/// Whether all bytes are digits.
+fn all_digits(text: &[u8]) -> bool
+    ensures { result ≡ list_all is_digit text.now }
+{
+    text.iter().all(|byte| byte.is_ascii_digit())
+}
+
+/// The number that digits say, where it is below 2^64.
+pub(crate) fn number(digits: &[u8]) -> Option<u64>
+    ensures { result ≡ number_of digits.now }
+{
+    let mut number: u64 = 0;
+    for digit in digits {
+        number = push_digit(number, *digit)?;
+    }
+    Some(number)
+}
+
+/// The number with one more digit behind it, where it is below 2^64.
+fn push_digit(number: u64, digit: u8) -> Option<u64>
+    ensures { result ≡ fitting (number * 10 + (digit - 48)) }
+{
+    let tens = number.checked_mul(10);
+    tens.and_then(|tens| tens.checked_add(u64::from(digit.saturating_sub(b'0'))))
+}
+
+/// The text without this byte at its end, where it has it there.
+pub(crate) fn without_last(text: &[u8], byte: u8) -> &[u8]
+    ensures { result.now ≡ without_last byte text.now }
+{
+    let Some((last, front)) = text.split_last() else {
+        return text;
+    };
+    if *last == byte { front } else { text }
+}
+
+/// Whether a word ends before this text: it is empty, or begins with a space.
+pub(crate) fn ends_word(text: &[u8]) -> bool
+    ensures { result ≡ ends_word text.now }
+{
+    match text {
+        [] => true,
+        [byte, ..] => *byte == b' ',
+    }
+}
+
+/// Whether the name of a function is one that a tracefile can hold: it isn't empty and has no carriage return at its end.
+pub(crate) fn is_name(name: &[u8]) -> bool
+    ensures { result ≡ is_name name.now }
+{
+    match name.split_last() {
+        Some((last, _)) => *last != b'\r',
+        None => false,
+    }
+}
+
+/// What follows the ` called ` that begins last.
+pub(crate) fn behind_last_called(text: &[u8]) -> Option<&[u8]>
+    ensures { option_map (λ rest. rest.now) result ≡ last_called text.now }
+{
+    let mut found = None;
+    let mut rest = text;
+    while let [_, after @ ..] = rest {
+        if let Some(count) = behind(rest, b" called ") {
+            found = Some(count);
+        }
+        rest = after;
+    }
+    found
+}
