@@ -34,6 +34,13 @@ fault_text (faults.Line at fault) = line_fault_name fault ++ codes " at " ++ dec
 fault_text (faults.Outside at) = codes "Outside at " ++ decimal at
 fault_text (faults.Inside at) = codes "Inside at " ++ decimal at
 fault_text faults.OpenEnd = codes "OpenEnd"
+fault_text (faults.BadMark at) = codes "BadMark at " ++ decimal at
+fault_text (faults.NoSource at) = codes "NoSource at " ++ decimal at
+fault_text (faults.Percent at) = codes "Percent at " ++ decimal at
+fault_text (faults.Instances at) = codes "Instances at " ++ decimal at
+fault_text (faults.Misplaced at) = codes "Misplaced at " ++ decimal at
+fault_text faults.LostFunction = codes "LostFunction"
+fault_text faults.BadTest = codes "BadTest"
 fault_text faults.Memory = codes "Memory"
 
 abbrev pub refused_pattern_text : List ℕ

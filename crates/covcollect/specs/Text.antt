@@ -64,12 +64,8 @@ asked_for (Err fault) = Refuse fault ∷ []
 
 -- a fault that is told of a text: memory that ran out isn't one
 abbrev pub IsTold : ReadFault → Type 0
-IsTold faults.TooLong = Unit {0}
-IsTold (faults.Line at fault) = Unit {0}
-IsTold (faults.Outside at) = Unit {0}
-IsTold (faults.Inside at) = Unit {0}
-IsTold faults.OpenEnd = Unit {0}
 IsTold faults.Memory = ⊥
+IsTold fault = Unit {0}
 
 -- what was taken of a text is these commands
 abbrev pub IsAnsweredAs : {A : Type 0} → Taken A → List Command → Type 0

@@ -105,6 +105,13 @@ fn fault_words<A: Allocator>(alloc: A, fault: ReadFault) -> Result<Vec<u8, A>, S
         ReadFault::Outside { at } => text_at(alloc, b"Outside", at),
         ReadFault::Inside { at } => text_at(alloc, b"Inside", at),
         ReadFault::OpenEnd => text_alone(alloc, b"OpenEnd"),
+        ReadFault::BadMark { at } => text_at(alloc, b"BadMark", at),
+        ReadFault::NoSource { at } => text_at(alloc, b"NoSource", at),
+        ReadFault::Percent { at } => text_at(alloc, b"Percent", at),
+        ReadFault::Instances { at } => text_at(alloc, b"Instances", at),
+        ReadFault::Misplaced { at } => text_at(alloc, b"Misplaced", at),
+        ReadFault::LostFunction => text_alone(alloc, b"LostFunction"),
+        ReadFault::BadTest => text_alone(alloc, b"BadTest"),
         ReadFault::Memory => text_alone(alloc, b"Memory"),
     }
 }

@@ -58,7 +58,14 @@ fn told(fault: ReadFault) -> Result<(), SessionFault>
         | ReadFault::Line { .. }
         | ReadFault::Outside { .. }
         | ReadFault::Inside { .. }
-        | ReadFault::OpenEnd => Ok(()),
+        | ReadFault::OpenEnd
+        | ReadFault::BadMark { .. }
+        | ReadFault::NoSource { .. }
+        | ReadFault::Percent { .. }
+        | ReadFault::Instances { .. }
+        | ReadFault::Misplaced { .. }
+        | ReadFault::LostFunction
+        | ReadFault::BadTest => Ok(()),
         ReadFault::Memory => Err(SessionFault::Memory),
     }
 }
