@@ -2,8 +2,8 @@
 
 use super::calls::{append, bytes_of, put_line, read, submission_of, text_of};
 use covline::{
-    BadSubmission, Bytes, Item, Items, LineFault, Memory, Sect, Sects, Submission, TotalKind,
-    TraceLine, good_test, lines, read_line,
+    BadSubmission, BranchPoint, Bytes, Item, Items, LineFault, Memory, Sect, Sects, Submission,
+    Tally, TotalKind, TraceLine, good_test, lines, read_line, without_returns,
 };
 use covread::ReadFault;
 use std::alloc::Global;
@@ -150,6 +150,18 @@ fn lines_of_texts(rt: HostRuntime) -> Result<(), Fail> {
 }
 
 #[test]
+fn ends_of_lines(rt: HostRuntime) {
+    assert_eq!(rt; without_returns(b"\ra\rb\r\r"), b"\ra\rb".as_slice());
+    assert_eq!(rt; without_returns(b"\r"), b"".as_slice());
+}
+
+#[test]
+fn tallies(rt: HostRuntime) {
+    let tally = Tally::NONE.and(true).and(false);
+    assert_eq!(rt; (tally.found, tally.hit), (2, 1));
+}
+
+#[test]
 fn names_of_tests(rt: HostRuntime) {
     for name in b"|unit|a\rb|a,b".split(|byte| *byte == b'|') {
         assert!(rt; good_test(name), "{name:?}");
@@ -181,6 +193,32 @@ fn items_of(alloc: Global, function: &[u8], checksum: &[u8]) -> Result<Items, Me
         taken: None,
     })?;
     Ok(items)
+}
+
+/// The line and the branch that an item speaks of, and whether it is hit.
+fn points(item: &Item) -> (Option<u64>, Option<BranchPoint>, bool) {
+    (item.line_point(), item.branch_point(), item.is_hit())
+}
+
+#[test]
+fn points_of_items(rt: HostRuntime) -> Result<(), Fail> {
+    let items = items_of(rt.alloc(), b"f", b"k")?;
+    let at = BranchPoint {
+        line: 5,
+        block: 6,
+        branch: 7,
+    };
+    match items.get() {
+        [line, function, branch] => {
+            assert_eq!(rt; points(line), (Some(1), None, true));
+            assert_eq!(rt; points(function), (None, None, true));
+            assert_eq!(rt; points(branch), (None, Some(at), false));
+            assert!(rt; line.function_name().is_none());
+            assert_eq!(rt; function.function_name(), Some(b"f".as_slice()));
+        }
+        _ => assert!(rt; false, "three items"),
+    }
+    Ok(())
 }
 
 /// Appends a section.

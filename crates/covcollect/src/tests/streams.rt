@@ -2,6 +2,7 @@
 
 ghost use Rattle.std.specs.Prelude.{None};
 
+use crate::program::run_session;
 use crate::session::{SessionFault, session};
 use crate::stream::{Failed, FromRead, FromWrite, Sink, Source};
 use std::alloc::Global;
@@ -402,22 +403,50 @@ impl Sink for Counting {
     }
 }
 
-/// How a session of so many summaries of nothing ends, and how many bytes it writes.
-fn summaries(alloc: Global, commands: u64) -> (Result<(), SessionFault>, u64) {
+/// The exit status of a session of so many summaries of nothing, how many bytes it writes, and how many on its fault.
+fn summaries(alloc: Global, commands: u64) -> (u8, u64, u64) {
     let mut source = Repeated { commands, reads: 0 };
     let mut sink = Counting { bytes: 0 };
-    let ended = session(alloc, &mut source, &mut sink);
-    (ended, sink.bytes)
+    let mut faults = Counting { bytes: 0 };
+    let status = run_session(alloc, &mut source, &mut sink, &mut faults);
+    (status, sink.bytes, faults.bytes)
 }
 
-/// A session fills its book with 1,048,576 entries. Each summary of nothing has 112 bytes with the dot behind it.
+/// A session fills its book with 1,048,576 entries. Each summary of nothing has 112 bytes with the dot behind it; `book full`
+/// is a line of 10 bytes.
 #[test]
 fn a_full_book(rt: HostRuntime) {
     let most = 1_048_576;
     let bytes = 117_440_512;
-    assert_eq!(rt; summaries(rt.alloc(), most), (Ok(()), bytes));
-    assert_eq!(rt;
-        summaries(rt.alloc(), most + 1),
-        (Err(SessionFault::Full), bytes)
-    );
+    assert_eq!(rt; summaries(rt.alloc(), most), (0, bytes, 0));
+    assert_eq!(rt; summaries(rt.alloc(), most + 1), (3, bytes, 10));
+}
+
+/// The exit status of the program after so many good reads and writes, and whether it says these words of its fault.
+fn end_of(alloc: Global, good_reads: usize, good_writes: usize, words: &[u8]) -> (u8, bool) {
+    let mut source = Slow {
+        input: INPUT,
+        good_reads,
+        reads: 0,
+        failed: 0,
+    };
+    let mut sink = Narrow {
+        output: Vec::new(alloc),
+        good_writes,
+        failed: 0,
+    };
+    let mut said: Vec<u8> = Vec::new(alloc);
+    let status = {
+        let mut faults = FromWrite::new(&mut said);
+        run_session(alloc, &mut source, &mut sink, &mut faults)
+    };
+    (status, said.as_slice() == words)
+}
+
+#[test]
+fn exit_status_and_words(rt: HostRuntime) {
+    let alloc = rt.alloc();
+    assert_eq!(rt; end_of(alloc, 1_000, 1_000, b""), (0, true));
+    assert_eq!(rt; end_of(alloc, 40, 1_000, b"read fault\n"), (1, true));
+    assert_eq!(rt; end_of(alloc, 1_000, 30, b"write fault\n"), (1, true));
 }
