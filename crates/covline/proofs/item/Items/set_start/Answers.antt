@@ -17,13 +17,13 @@ returns g c = λ before after item is at.
     let was : item_data c.index_mut.result.now ≡ item = ap item_data c.index_mut.ensures.value ∙ stood all c.args.at before after item c.index_mut.result.now e at low in
     elim c.match-index_mut.branch [
       | in-Func w ↦
-        let new : Item g.row.A.Denot = items.Func w.in-Func.name c.args.line w.in-Func.count in
-        let here : item_data new ≡ with_start c.args.line item = ap (λ (i : Item g.row.A.Denot). with_start c.args.line (item_data i)) (sym w.in-Func.is) ∙ ap (with_start c.args.line) was in
-        rw w.self-inside-is (started all c.args.at new before after item e at ∙ ap (λ (x : ItemData). before ++ x ∷ after) here)
+          let new : Item g.row.A.Denot = items.Func w.in-Func.name c.args.line w.in-Func.count in
+          let here : item_data new ≡ with_start c.args.line item = ap (λ (i : Item g.row.A.Denot). with_start c.args.line (item_data i)) (sym w.in-Func.is) ∙ ap (with_start c.args.line) was in
+          rw w.self-inside-is (started all c.args.at new before after item e at ∙ ap (λ (x : ItemData). before ++ x ∷ after) here)
       | in_default w ↦
-        let new = c.index_mut.result.now in
-        let here : item_data new ≡ with_start c.args.line item = sym (others_stay new c.args.line w.in_default.not-Func) ∙ ap (with_start c.args.line) was in
-        rw w.self-inside-is (started all c.args.at new before after item e at ∙ ap (λ (x : ItemData). before ++ x ∷ after) here)
+          let new = c.index_mut.result.now in
+          let here : item_data new ≡ with_start c.args.line item = sym (others_stay new c.args.line w.in_default.not-Func) ∙ ap (with_start c.args.line) was in
+          rw w.self-inside-is (started all c.args.at new before after item e at ∙ ap (λ (x : ItemData). before ++ x ∷ after) here)
     ]
 
 pub invariant_of-self : goal.invariant_of-self
@@ -34,11 +34,11 @@ invariant_of-self g c =
     let fits : Fits64 (item_data {A = g.row.A.Denot} c.index_mut.result.now) = subst (λ (i : Item g.row.A.Denot). Fits64 (item_data {A = g.row.A.Denot} i)) (sym c.index_mut.ensures.value) (fits_at all c.args.at c.index_mut.result.now c.self.invariant low) in
     elim c.match-index_mut.branch [
       | in-Func w ↦
-        let new : Item g.row.A.Denot = items.Func w.in-Func.name c.args.line w.in-Func.count in
-        let was : Fits64 (item_data {A = g.row.A.Denot} (items.Func w.in-Func.name w.in-Func.start w.in-Func.count)) = subst (λ (i : Item g.row.A.Denot). Fits64 (item_data {A = g.row.A.Denot} i)) w.in-Func.is fits in
-        rw w.self-inside-is (subst (λ (xs : List ItemData). AllFit64 xs) (sym (map-set (item_data {A = g.row.A.Denot}) all c.args.at new)) (all_fit_set (map (item_data {A = g.row.A.Denot}) all) c.args.at (item_data {A = g.row.A.Denot} new) c.self.invariant (c.ranges.line.fits, was.1)))
+          let new : Item g.row.A.Denot = items.Func w.in-Func.name c.args.line w.in-Func.count in
+          let was : Fits64 (item_data {A = g.row.A.Denot} (items.Func w.in-Func.name w.in-Func.start w.in-Func.count)) = subst (λ (i : Item g.row.A.Denot). Fits64 (item_data {A = g.row.A.Denot} i)) w.in-Func.is fits in
+          rw w.self-inside-is (subst (λ (xs : List ItemData). AllFit64 xs) (sym (map-set (item_data {A = g.row.A.Denot}) all c.args.at new)) (all_fit_set (map (item_data {A = g.row.A.Denot}) all) c.args.at (item_data {A = g.row.A.Denot} new) c.self.invariant (c.ranges.line.fits, was.1)))
       | in_default w ↦
-        let new : Item g.row.A.Denot = c.index_mut.result.now in
-        let fits' : Fits64 (item_data {A = g.row.A.Denot} new) = fits in
-        rw w.self-inside-is (subst (λ (xs : List ItemData). AllFit64 xs) (sym (map-set (item_data {A = g.row.A.Denot}) all c.args.at new)) (all_fit_set (map (item_data {A = g.row.A.Denot}) all) c.args.at (item_data {A = g.row.A.Denot} new) c.self.invariant fits'))
+          let new : Item g.row.A.Denot = c.index_mut.result.now in
+          let fits' : Fits64 (item_data {A = g.row.A.Denot} new) = fits in
+          rw w.self-inside-is (subst (λ (xs : List ItemData). AllFit64 xs) (sym (map-set (item_data {A = g.row.A.Denot}) all c.args.at new)) (all_fit_set (map (item_data {A = g.row.A.Denot}) all) c.args.at (item_data {A = g.row.A.Denot} new) c.self.invariant fits'))
     ]
