@@ -15,6 +15,7 @@ mod calls;
 mod choosing;
 mod clashes;
 mod commands;
+mod gcov;
 mod limits;
 mod lines;
 mod merging;
