@@ -204,7 +204,7 @@ report
     )
 }
 
-/// Of each line, what stands before the first space is a pattern, and what stands behind it a path. A session that
+/// Of each line, what stands before the space is a pattern, and what stands behind it a path. A session that
 /// extracts by the pattern prints a section of the path if `is_taken`, and else nothing.
 fn check_patterns(
     rt: &(impl Abort + AllocGlobal),
@@ -212,7 +212,7 @@ fn check_patterns(
     is_taken: bool,
 ) -> Result<(), Fail> {
     for line in lines.split(|byte| *byte == b'\n') {
-        let mut parts = line.splitn(2, |byte| *byte == b' ');
+        let mut parts = line.split(|byte| *byte == b' ');
         let pattern = parts.next().unwrap_or(b"");
         let path = parts.next().unwrap_or(b"");
         let mut input = Vec::from_slice(rt.alloc(), b"trace\nSF:")?;
