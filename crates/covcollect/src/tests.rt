@@ -1,6 +1,6 @@
 //! Tests of the whole program: sessions, bytes in and bytes out, and what no session reaches, by the public calls of the
-//! crates below. What is wanted was worked out by hand from the formats (geninfo(1), section FILES), never taken from an
-//! output; that of texts which gcov wrote by a second reader, written from the description of the shapes alone.
+//! crates below. What is wanted was worked out by hand from the formats (geninfo(1), section FILES; gcov(1)), never taken
+//! from an output.
 //!
 //! Examples are text, so that they cost the proof of these tests nothing. `check_all` says how they are written.
 

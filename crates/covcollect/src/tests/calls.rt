@@ -3,7 +3,7 @@
 
 use covbook::{Book, BookFault, Entry, Op, Receipt};
 use covline::{BadSubmission, Bytes, Item, Memory, Sect, Sects, Submission, TraceLine};
-use covread::{ReadFault, read_trace};
+use covread::{ReadFault, read_gcov, read_trace};
 use covreport::{PatternFault, Patterns, matches};
 use std::alloc::Global;
 use std::test::*;
@@ -26,6 +26,10 @@ pub(super) fn submission_of(sects: Sects, odd: u64) -> Result<Submission, (Sects
 
 pub(super) fn read(alloc: Global, text: &[u8]) -> Result<Submission, ReadFault> {
     read_trace(alloc, text)
+}
+
+pub(super) fn annotated(alloc: Global, test: &[u8], text: &[u8]) -> Result<Submission, ReadFault> {
+    read_gcov(alloc, test, text)
 }
 
 pub(super) fn is_match(pattern: &[u8], path: &[u8]) -> bool {

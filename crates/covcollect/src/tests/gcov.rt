@@ -1,267 +1,577 @@
-//! The reader of gcov's text: what its lines give, and why others are refused.
+//! Sessions in which gcov's annotated source is handed in, and calls of its reader that no session makes.
 
-use covline::{Item, LineFault};
-use covread::{ReadFault, read_gcov};
+use super::calls::annotated;
+use super::{check, check_all, check_around, push_line};
 use std::alloc::Global;
-use std::process::Abort;
 use std::test::*;
 
+mod branches;
+mod functions;
+mod items;
+mod numbered;
+mod places;
 mod real;
 
-/// One source file with each shape.
-const WHOLE: &[u8] =
-    b"        -:    0:Source:tmp.c\n        -:    0:Runs:1\n        -:    1:#include <stdio.h>\nfunction main called 1 returned 100% blocks executed 80%\n        1:    2:int main(void)\n       3*:    3:  if (x)\n        3:    3-block  2\nbranch  0 taken 2 (fallthrough)\nbranch  1 taken 1\ncall    2 returned 3\n    #####:    4:  f();\nbranch  0 never executed\n    =====:    5:  g();\n";
-
-/// Behind a path and a source line.
-const BEHIND: &[u8] = b"-:0:Source:a.c\n1:1:x\n";
-
-/// How many items there are, or the fault.
-type Wanted = Result<u64, ReadFault>;
-
-fn read(alloc: Global, test: &[u8], text: &[u8]) -> Wanted {
-    let submission = read_gcov(alloc, test, text)?;
-    Ok(submission.items())
+/// How many sections and items a text gives, or its fault.
+fn counted(alloc: Global, test: &[u8], text: &[u8]) -> Result<String, Fail> {
+    Ok(match annotated(alloc, test, text) {
+        Ok(submission) => {
+            let sects = submission.sects().len();
+            let items = submission.items();
+            format!(in alloc; "{sects} sections, {items} items")?
+        }
+        Err(fault) => format!(in alloc; "{fault}")?,
+    })
 }
 
-/// Each text gives so many items, or has this fault.
-fn check(rt: &(impl Abort + AllocGlobal), texts: &[(&str, &[u8], Wanted)]) {
-    for (name, text, wanted) in texts {
-        assert_eq!(rt; read(rt.alloc(), b"t", text), *wanted, "{name}");
-    }
+#[test]
+fn whole_texts(rt: HostRuntime) -> Result<(), Fail> {
+    check_around(
+        &rt,
+        b"gcov t\n",
+        b"\
+> accepted 1 items 0 odd 0
+> .
+= nothing
+        -:    0:Source:tmp.c
+        -:    0:Runs:1
+        -:    1:#include <stdio.h>
+function main called 1 returned 100% blocks executed 80%
+        1:    2:int main(void)
+       3*:    3:  if (x)
+        3:    3-block  2
+branch  0 taken 2 (fallthrough)
+branch  1 taken 1
+call    2 returned 3
+    #####:    4:  f();
+branch  0 never executed
+    =====:    5:  g();
+> accepted 1 items 8 odd 0
+> TN:t
+> SF:tmp.c
+> FN:2,main
+> FNDA:1,main
+> FNF:1
+> FNH:1
+> BRDA:3,2,0,2
+> BRDA:3,2,1,1
+> BRDA:4,0,0,-
+> BRF:3
+> BRH:2
+> DA:2,1
+> DA:3,3
+> DA:4,0
+> DA:5,0
+> LF:4
+> LH:2
+> end_of_record
+> .
+= each kind of line
+-:0:Source:a.c
+function N::f(int, char) called 2 returned 100% blocks executed 100%
+2:4:x
+> accepted 1 items 2 odd 0
+> TN:t
+> SF:a.c
+> FN:4,N::f(int, char)
+> FNDA:2,N::f(int, char)
+> FNF:1
+> FNH:1
+> DA:4,2
+> LF:1
+> LH:1
+> end_of_record
+> .
+= a name with parentheses
+-:0:Source:a.c
+1:1:x
+-:0:Source:b.c
+2:1:y
+> accepted 1 items 2 odd 0
+> TN:t
+> SF:a.c
+> DA:1,1
+> LF:1
+> LH:1
+> end_of_record
+> TN:t
+> SF:b.c
+> DA:1,2
+> LF:1
+> LH:1
+> end_of_record
+> .
+= two source files
+-:0:Source:a.c
+1:1:x
+branch  0 taken 90%
+> refused Percent at 3
+> .
+= a percentage
+-:0:Source:a.c
+1:1:x
+------------------
+> refused Instances at 3
+> .
+= template instances
+-:0:Source:a.c
+1.5k:1:x
+> refused BadMark at 2
+> .
+= a rounded count
+-:0:Source:a.c
+branch  0 taken 1
+> refused Misplaced at 2
+> .
+= a branch before the first source line
+1:1:x
+> refused NoSource at 1
+> .
+= a source line without a path
+-:0:Source:a.c
+function f called 1 returned 100% blocks executed 100%
+> refused LostFunction
+> .
+= a function without its source line
+",
+        b".\nreport\n",
+    )
 }
 
-/// The same of texts that begin with a path and a source line.
-fn check_behind(rt: &(impl Abort + AllocGlobal), lines: &[(&str, Wanted)]) -> Result<(), Fail> {
-    for (line, wanted) in lines {
-        let mut text: Vec<u8> = Vec::from_slice(rt.alloc(), BEHIND)?;
-        text.extend_from_slice(line.as_bytes())?;
-        assert_eq!(rt; read(rt.alloc(), b"t", &text), *wanted, "{line}");
+#[test]
+fn names_of_tests(rt: HostRuntime) -> Result<(), Fail> {
+    check_all(
+        &rt,
+        b"\
+gcov
+-:0:Source:a.c
+1:1:x
+.
+gcov\r\r
+-:0:Source:a.c
+10:1:x
+.
+gcov\x20
+-:0:Source:a.c
+100:1:x
+.
+gcov\x20\r
+-:0:Source:a.c
+1000:1:x
+.
+report
+> accepted 1 items 1 odd 0
+> accepted 2 items 1 odd 0
+> accepted 3 items 1 odd 0
+> accepted 4 items 1 odd 0
+> TN:
+> SF:a.c
+> DA:1,1111
+> LF:1
+> LH:1
+> end_of_record
+> .
+= the empty name
+gcov t
+-:0:Source:a.c
+1:1:x
+.
+gcov t\r\r
+-:0:Source:a.c
+10:1:x
+.
+report
+> accepted 1 items 1 odd 0
+> accepted 2 items 1 odd 0
+> TN:t
+> SF:a.c
+> DA:1,11
+> LF:1
+> LH:1
+> end_of_record
+> .
+= carriage returns behind a name
+gcov  t
+-:0:Source:a.c
+1:1:x
+.
+report
+> accepted 1 items 1 odd 0
+> TN: t
+> SF:a.c
+> DA:1,1
+> LF:1
+> LH:1
+> end_of_record
+> .
+= a second space belongs to the name
+gcov t\x20
+-:0:Source:a.c
+1:1:x
+.
+report
+> accepted 1 items 1 odd 0
+> TN:t\x20
+> SF:a.c
+> DA:1,1
+> LF:1
+> LH:1
+> end_of_record
+> .
+= a space at the end of a name
+gcov a \r\t,\x00\xff
+-:0:Source:a.c
+1:1:x
+.
+report
+> accepted 1 items 1 odd 0
+> TN:a \r\t,\x00\xff
+> SF:a.c
+> DA:1,1
+> LF:1
+> LH:1
+> end_of_record
+> .
+= any bytes in a name
+",
+    )
+}
+
+#[test]
+fn no_command(rt: HostRuntime) -> Result<(), Fail> {
+    check_all(
+        &rt,
+        b"\
+gcov\tt
+report
+> unknown
+> .
+= a tab behind the word
+gcovx
+report
+> unknown
+> .
+= a letter behind the word
+ gcov
+report
+> unknown
+> .
+= a space before the word
+gcov\r t
+report
+> unknown
+> .
+= a carriage return before the space
+Gcov t
+report
+> unknown
+> .
+= a capital letter
+        1:    1:x
+> unknown
+= a line of gcov's outside of a text
+",
+    )
+}
+
+#[test]
+fn ends_of_texts(rt: HostRuntime) -> Result<(), Fail> {
+    check(&rt, b"no line feed", b"gcov t", b"unfinished\n");
+    check(
+        &rt,
+        b"no line feed behind the dot",
+        b"gcov\n.",
+        b"accepted 1 items 0 odd 0\n",
+    );
+    check_all(
+        &rt,
+        b"\
+gcov t
+> unfinished
+= no line of the text
+gcov t
+-:0:Source:a.c
+1:1:x
+> unfinished
+= a text without its end
+gcov t
+1.5k:1:x
+> unfinished
+= a faulty text without its end
+gcov t
+-:0:Source:a.c
+1:1:x
+ .
+..
+.:2:x
+.
+> refused BadMark at 5
+= lines that end no text
+gcov t\r
+        -:    0:Source:a.c\r\r
+        1:    1:x\r
+branch  0 taken 2\r
+branch  1 never executed\r
+function f called 3\r
+        -:    2:y\r
+.\r\r
+report\r
+> accepted 1 items 4 odd 0
+> TN:t
+> SF:a.c
+> FN:2,f
+> FNDA:3,f
+> FNF:1
+> FNH:1
+> BRDA:1,0,0,2
+> BRDA:1,0,1,-
+> BRF:2
+> BRH:1
+> DA:1,1
+> LF:1
+> LH:1
+> end_of_record
+> .
+= carriage returns
+gcov t
+gcov u
+report
+.
+report
+> accepted 1 items 0 odd 0
+> .
+= commands in a text
+",
+    )
+}
+
+#[test]
+fn merged_texts(rt: HostRuntime) -> Result<(), Fail> {
+    check_all(
+        &rt,
+        b"\
+trace
+TN:t
+SF:a.c
+FN:9,f
+FNDA:1,f
+BRDA:3,0,0,-
+BRDA:3,0,1,4
+DA:3,2,k
+DA:4,0
+end_of_record
+.
+gcov t
+-:0:Source:a.c
+function f called 2 returned 100% blocks executed 80%
+2:2:int f(int x) {
+5*:3:  if (x)
+branch  0 taken 3 (fallthrough)
+branch  1 never executed
+#####:4:    g();
+.
+report
+> accepted 1 items 6 odd 0
+> accepted 2 items 6 odd 0
+> TN:t
+> SF:a.c
+> FN:2,f
+> FNDA:3,f
+> FNF:1
+> FNH:1
+> BRDA:3,0,0,3
+> BRDA:3,0,1,4
+> BRF:2
+> BRH:2
+> DA:2,2
+> DA:3,7,k
+> DA:4,0
+> LF:3
+> LH:2
+> end_of_record
+> .
+= a tracefile and a gcov text of one test
+gcov t
+-:0:Source:a.c
+3:1:x
+#####:2:y
+.
+trace
+TN:u
+SF:a.c
+DA:1,2
+DA:2,1
+end_of_record
+.
+report
+summary
+> accepted 1 items 2 odd 0
+> accepted 2 items 2 odd 0
+> TN:t
+> SF:a.c
+> DA:1,3
+> DA:2,0
+> LF:2
+> LH:1
+> end_of_record
+> TN:u
+> SF:a.c
+> DA:1,2
+> DA:2,1
+> LF:2
+> LH:2
+> end_of_record
+> .
+> Summary coverage rate:
+>   lines......: 100.0% (2 of 2 lines)
+>   functions..: no data found
+>   branches...: no data found
+> .
+= a gcov text and a tracefile of two tests
+gcov t
+-:0:Source:a.c
+1:1:x
+-:0:Source:b.c
+7:7:x
+-:0:Source:a.c
+2:1:x
+branch  0 taken 1
+.
+extract a*
+remove a*
+> accepted 1 items 4 odd 0
+> TN:t
+> SF:a.c
+> BRDA:1,0,0,1
+> BRF:1
+> BRH:1
+> DA:1,3
+> LF:1
+> LH:1
+> end_of_record
+> .
+> TN:t
+> SF:b.c
+> DA:7,7
+> LF:1
+> LH:1
+> end_of_record
+> .
+= one path twice in a text
+",
+    )
+}
+
+/// Neither what is held nor the next text's number changes.
+#[test]
+fn refused_texts_leave_nothing(rt: HostRuntime) -> Result<(), Fail> {
+    check_all(
+        &rt,
+        b"\
+gcov t
+-:0:Source:a.c
+1:1:x
+.
+gcov t
+-:0:Source:a.c
+5:1:x
+branch  0 taken 50%
+.
+gcov u
+-:0:Source:b.c
+5:1:x
+function f called 1 returned 100% blocks executed 100%
+.
+report
+gcov t
+-:0:Source:a.c
+1:1:x
+.
+report
+> accepted 1 items 1 odd 0
+> refused Percent at 3
+> refused LostFunction
+> TN:t
+> SF:a.c
+> DA:1,1
+> LF:1
+> LH:1
+> end_of_record
+> .
+> accepted 2 items 1 odd 0
+> TN:t
+> SF:a.c
+> DA:1,2
+> LF:1
+> LH:1
+> end_of_record
+> .
+= two refused texts between two others
+",
+    )
+}
+
+/// What the lines down to here give, behind each line of one text.
+#[test]
+fn first_lines(rt: HostRuntime) -> Result<(), Fail> {
+    let lines =
+        b"> 0 sections, 0 items
+        -:    0:Source:tmp.c
+> 1 sections, 0 items
+        -:    0:Runs:1
+> 1 sections, 0 items
+        -:    1:#include <stdio.h>
+> 1 sections, 0 items
+function main called 1 returned 100% blocks executed 80%
+> LostFunction
+        1:    2:int main(void)
+> 1 sections, 2 items
+       3*:    3:  if (x)
+> 1 sections, 3 items
+        3:    3-block  2
+> 1 sections, 3 items
+branch  0 taken 2 (fallthrough)
+> 1 sections, 4 items
+branch  1 taken 1
+> 1 sections, 5 items
+call    2 returned 3
+> 1 sections, 5 items
+    #####:    4:  f();
+> 1 sections, 6 items
+branch  0 never executed
+> 1 sections, 7 items
+    =====:    5:  g();
+> 1 sections, 8 items";
+    let mut text: Vec<u8> = Vec::new(rt.alloc());
+    for line in lines.split(|byte| *byte == b'\n') {
+        match line.strip_prefix(b"> ") {
+            None => push_line(&mut text, line)?,
+            Some(wanted) => {
+                let counted = counted(rt.alloc(), b"t", text.as_slice())?;
+                assert_eq!(rt; counted.as_bytes(), wanted);
+            }
+        }
     }
     Ok(())
 }
 
-fn too_large(at: u64) -> Wanted {
-    Err(ReadFault::Line {
-        at,
-        fault: LineFault::NumberTooLarge,
-    })
-}
-
-/// An item as numbers: its kind, its line, and the rest; a branch without a count has the last number 0, others have
-/// one more than the count there.
-fn numbers(item: &Item) -> [u64; 5] {
-    match item {
-        Item::Line { line, count, .. } => [0, *line, *count, 0, 0],
-        Item::Func { name, line, count } => [1, *line, *count, name.get().len() as u64, 0],
-        Item::Branch {
-            line,
-            block,
-            branch,
-            taken,
-        } => [
-            2,
-            *line,
-            *block,
-            *branch,
-            taken.map_or(0, |n| n.saturating_add(1)),
-        ],
+/// No session gives such a name to the reader.
+#[test]
+fn unlawful_names(rt: HostRuntime) -> Result<(), Fail> {
+    for name in b"a\nb|\n|a\r|\r".split(|byte| *byte == b'|') {
+        let counted = counted(rt.alloc(), name, b"")?;
+        assert_eq!(rt; counted.as_bytes(), b"BadTest".as_slice(), "{name:?}");
     }
+    Ok(())
 }
 
-#[test]
-fn whole_text(rt: HostRuntime) {
-    let wanted: [[u64; 5]; 8] = [
-        [1, 2, 1, 4, 0],
-        [0, 2, 1, 0, 0],
-        [0, 3, 3, 0, 0],
-        [2, 3, 2, 0, 3],
-        [2, 3, 2, 1, 2],
-        [0, 4, 0, 0, 0],
-        [2, 4, 0, 0, 0],
-        [0, 5, 0, 0, 0],
-    ];
-    match read_gcov(rt.alloc(), b"t", WHOLE) {
-        Err(fault) => assert!(rt; false, "{fault}"),
-        Ok(submission) => {
-            assert_eq!(rt; submission.sects().len(), 1);
-            assert_eq!(rt; submission.items(), 8);
-            assert_eq!(rt; submission.odd(), 0);
-            for sect in submission.sects() {
-                assert_eq!(rt; sect.test.get(), b"t".as_slice());
-                assert_eq!(rt; sect.file.get(), b"tmp.c".as_slice());
-                for (item, wanted) in sect.items.get().iter().zip(wanted) {
-                    assert_eq!(rt; numbers(item), wanted);
-                }
-            }
-        }
-    }
-}
-
-#[test]
-fn texts(rt: HostRuntime) {
-    let texts: [(&str, &[u8], Wanted); 14] = [
-        (
-            "a percentage",
-            b"-:0:Source:a.c\n1:1:x\nbranch  0 taken 90%",
-            Err(ReadFault::Percent { at: 3 }),
-        ),
-        (
-            "instances",
-            b"-:0:Source:a.c\n1:1:x\n------------------",
-            Err(ReadFault::Instances { at: 3 }),
-        ),
-        (
-            "a rounded count",
-            b"-:0:Source:a.c\n1.5k:1:x",
-            Err(ReadFault::BadMark { at: 2 }),
-        ),
-        (
-            "a branch first",
-            b"-:0:Source:a.c\nbranch  0 taken 1",
-            Err(ReadFault::Misplaced { at: 2 }),
-        ),
-        (
-            "a branch alone",
-            b"branch 0 taken 1",
-            Err(ReadFault::Misplaced { at: 1 }),
-        ),
-        ("a line alone", b"1:1:x", Err(ReadFault::NoSource { at: 1 })),
-        (
-            "a function at the end",
-            b"-:0:Source:a.c\nfunction f called 1 returned 100% blocks executed 100%",
-            Err(ReadFault::LostFunction),
-        ),
-        ("nothing", b"", Ok(0)),
-        (
-            "a name with parentheses",
-            b"-:0:Source:a.c\nfunction N::f(int, char) called 2 returned 100% blocks executed 100%\n2:4:x",
-            Ok(2),
-        ),
-        (
-            "two source files",
-            b"-:0:Source:a.c\n1:1:x\n-:0:Source:b.c\n2:1:y",
-            Ok(2),
-        ),
-        (
-            "a function before a path",
-            b"-:0:Source:a.c\nfunction f called 1\n-:0:Source:b\n",
-            Err(ReadFault::LostFunction),
-        ),
-        (
-            "an empty path first",
-            b"-:0:Source:a.c\nfunction f called 1\n-:0:Source:\n",
-            Err(ReadFault::NoSource { at: 3 }),
-        ),
-        (
-            "a function and a line alone",
-            b"function f called 1\n1:1:x\n",
-            Err(ReadFault::NoSource { at: 2 }),
-        ),
-        (
-            "a path with the number 00",
-            b"x:00:Source:a.c\n1*:1:x\n",
-            Ok(1),
-        ),
-    ];
-    check(&rt, &texts);
-}
-
-#[test]
-fn functions(rt: HostRuntime) -> Result<(), Fail> {
-    let lines: [(&str, Wanted); 9] = [
-        ("function f called 1", Err(ReadFault::LostFunction)),
-        ("function f called 1\n-:2:x", Ok(2)),
-        ("function called 1", Ok(1)),
-        ("function  called 1", Ok(1)),
-        ("function f called 1.5k", Ok(1)),
-        ("function f called 1 called x", Ok(1)),
-        ("function f called x called 1\n2:2:x", Ok(3)),
-        ("function f\r called 1", Ok(1)),
-        ("function f called 18446744073709551616", too_large(3)),
-    ];
-    check_behind(&rt, &lines)
-}
-
-#[test]
-fn branches(rt: HostRuntime) -> Result<(), Fail> {
-    let lines: [(&str, Wanted); 12] = [
-        ("branch 0 taken 0", Ok(2)),
-        ("branch 0 taken ", Ok(1)),
-        ("branch 0 taken %", Err(ReadFault::BadMark { at: 3 })),
-        ("branch 0 taken 9%%", Err(ReadFault::BadMark { at: 3 })),
-        ("branch 0 taken 9.5%", Err(ReadFault::BadMark { at: 3 })),
-        (
-            "branch 18446744073709551616 taken x%",
-            Err(ReadFault::BadMark { at: 3 }),
-        ),
-        (
-            "branch 18446744073709551616 taken 9%",
-            Err(ReadFault::Percent { at: 3 }),
-        ),
-        ("branch 18446744073709551616 taken 9", too_large(3)),
-        ("branch 18446744073709551616 never executed", too_large(3)),
-        ("branch 0 never executed (fallthrough)", Ok(2)),
-        ("branch 0 never executedly", Ok(1)),
-        ("branch:2:x", Err(ReadFault::BadMark { at: 3 })),
-    ];
-    check_behind(&rt, &lines)
-}
-
-#[test]
-fn marks(rt: HostRuntime) -> Result<(), Fail> {
-    let lines: [(&str, Wanted); 12] = [
-        ("-*:2:x", Err(ReadFault::BadMark { at: 3 })),
-        ("#####*:2:x", Err(ReadFault::BadMark { at: 3 })),
-        ("%%%%%:2:x", Err(ReadFault::BadMark { at: 3 })),
-        (
-            "1**:99999999999999999999:x",
-            Err(ReadFault::BadMark { at: 3 }),
-        ),
-        ("1:99999999999999999999:x", too_large(3)),
-        ("99999999999999999999*:2:x", too_large(3)),
-        ("  -:  2:", Ok(1)),
-        ("1 :2:x", Ok(1)),
-        ("x:2-block 99999999999999999999", too_large(3)),
-        ("x:2-block  1x", Ok(1)),
-        ("unconditional  0 taken 3", Ok(1)),
-        (" -----", Ok(1)),
-    ];
-    check_behind(&rt, &lines)
-}
-
-#[test]
-fn first_lines(rt: HostRuntime) {
-    let texts: [(usize, Wanted); 14] = [
-        (0, Ok(0)),
-        (29, Ok(0)),
-        (52, Ok(0)),
-        (87, Ok(0)),
-        (144, Err(ReadFault::LostFunction)),
-        (175, Ok(2)),
-        (200, Ok(3)),
-        (225, Ok(3)),
-        (257, Ok(4)),
-        (275, Ok(5)),
-        (296, Ok(5)),
-        (319, Ok(6)),
-        (344, Ok(7)),
-        (367, Ok(8)),
-    ];
-    for (end, wanted) in texts {
-        assert!(rt; end <= WHOLE.len());
-        assert_eq!(rt;
-            read(rt.alloc(), b"t", &WHOLE[..end]),
-            wanted,
-            "the first {end} bytes"
-        );
-    }
-}
-
+/// A text of 67,108,864 bytes is read. That one is longer is told before an unlawful name.
 #[test]
 fn longest_text(rt: HostRuntime) -> Result<(), Fail> {
     let text = vec![in rt.alloc(); b'#'; 67_108_865]?;
-    assert_eq!(rt; read(rt.alloc(), b"a\nb", &text), Err(ReadFault::TooLong));
-    assert_eq!(rt; read(rt.alloc(), b"a\nb", b""), Err(ReadFault::BadTest));
-    assert_eq!(rt; read(rt.alloc(), b"t", &text[1..]), Ok(0));
+    let longer = counted(rt.alloc(), b"a\nb", &text)?;
+    let longest = counted(rt.alloc(), b"t", &text[1..])?;
+    assert_eq!(rt; longer.as_bytes(), b"TooLong".as_slice());
+    assert_eq!(rt; longest.as_bytes(), b"0 sections, 0 items".as_slice());
     Ok(())
 }

@@ -1,155 +1,786 @@
-//! Texts that gcov 12 wrote. The wanted items come from a reader of its own, written from the description of the shapes.
+//! Texts as gcov 12 wrote them, byte by byte, of four small programs. What is wanted was worked out by hand from each text,
+//! line by line.
 
-use super::numbers;
-use covread::{ReadFault, read_gcov};
-use std::process::Abort;
+use super::items::check_given;
 use std::test::*;
 
-/// The text gives these items.
-fn check_items(rt: &(impl Abort + AllocGlobal), text: &[u8], wanted: &[[u64; 5]]) {
-    match read_gcov(rt.alloc(), b"t", text) {
-        Err(fault) => assert!(rt; false, "{fault}"),
-        Ok(submission) => {
-            assert_eq!(rt; submission.items(), wanted.len() as u64);
-            for sect in submission.sects() {
-                for (item, wanted) in sect.items.get().iter().zip(wanted) {
-                    assert_eq!(rt; numbers(item), *wanted);
-                }
-            }
-        }
-    }
-}
-
-/// `gcov a.gcda`.
-const PLAIN: &[u8] =
-    b"        -:    0:Source:a.c\n        -:    0:Graph:a.gcno\n        -:    0:Data:a.gcda\n        -:    0:Runs:1\n        -:    1:#include <stdio.h>\n        4:    2:static int f(int x) {\n        4:    3:  if (x > 2 && x != 5)\n        1:    4:    return x * 2;\n        3:    5:  return 0;\n        -:    6:}\n    #####:    7:static int never(int x) { return x ? 1 : 2; }\n        1:    8:int main(int argc, char **argv) {\n        1:    9:  int s = 0;\n        5:   10:  for (int i = 0; i < 4; i++)\n        4:   11:    s += f(i);\n       1*:   12:  if (argc > 7) s += never(s);\n        1:   13:  printf(\"%d\\n\", s);\n        1:   14:  return 0;\n        -:   15:}\n";
-
+/// `gcov a.gcda`, of a C program with a function that is never called.
 #[test]
-fn plain(rt: HostRuntime) {
-    let wanted: [[u64; 5]; 12] = [
-        [0, 2, 4, 0, 0],
-        [0, 3, 4, 0, 0],
-        [0, 4, 1, 0, 0],
-        [0, 5, 3, 0, 0],
-        [0, 7, 0, 0, 0],
-        [0, 8, 1, 0, 0],
-        [0, 9, 1, 0, 0],
-        [0, 10, 5, 0, 0],
-        [0, 11, 4, 0, 0],
-        [0, 12, 1, 0, 0],
-        [0, 13, 1, 0, 0],
-        [0, 14, 1, 0, 0],
-    ];
-    check_items(&rt, PLAIN, &wanted);
+fn a_plain(rt: HostRuntime) -> Result<(), Fail> {
+    check_given(
+        &rt,
+        b"        -:    0:Source:a.c
+        -:    0:Graph:a.gcno
+        -:    0:Data:a.gcda
+        -:    0:Runs:1
+     1500:    1:static int keep(int x) {
+     1500:    2:  if (x > 2 && x != 5)
+     1496:    3:    return x * 2;
+        4:    4:  return 0;
+        -:    5:}
+        -:    6:
+    #####:    7:static int never(int x) { return x ? 1 : 2; }
+        -:    8:
+        1:    9:int main(int argc, char **argv) {
+        1:   10:  int sum = 0;
+     1501:   11:  for (int i = 0; i < 1500; i++)
+     1500:   12:    sum += keep(i);
+       1*:   13:  if (argc > 7) sum += never(sum);
+        1:   14:  return sum < 0;
+        -:   15:}
+> Sect t a.c
+> Line 1 1500
+> Line 2 1500
+> Line 3 1496
+> Line 4 4
+> Line 7 0
+> Line 9 1
+> Line 10 1
+> Line 11 1501
+> Line 12 1500
+> Line 13 1
+> Line 14 1",
+    )
 }
 
 /// `gcov -b -c a.gcda`.
-const WITH_BRANCHES: &[u8] =
-    b"        -:    0:Source:a.c\n        -:    0:Graph:a.gcno\n        -:    0:Data:a.gcda\n        -:    0:Runs:1\n        -:    1:#include <stdio.h>\nfunction f called 4 returned 100% blocks executed 100%\n        4:    2:static int f(int x) {\n        4:    3:  if (x > 2 && x != 5)\nbranch  0 taken 1 (fallthrough)\nbranch  1 taken 3\nbranch  2 taken 1 (fallthrough)\nbranch  3 taken 0\n        1:    4:    return x * 2;\n        3:    5:  return 0;\n        -:    6:}\nfunction never called 0 returned 0% blocks executed 0%\n    #####:    7:static int never(int x) { return x ? 1 : 2; }\nbranch  0 never executed\nbranch  1 never executed\nfunction main called 1 returned 100% blocks executed 80%\n        1:    8:int main(int argc, char **argv) {\n        1:    9:  int s = 0;\n        5:   10:  for (int i = 0; i < 4; i++)\nbranch  0 taken 4\nbranch  1 taken 1 (fallthrough)\n        4:   11:    s += f(i);\ncall    0 returned 4\n       1*:   12:  if (argc > 7) s += never(s);\nbranch  0 taken 0 (fallthrough)\nbranch  1 taken 1\ncall    2 never executed\n        1:   13:  printf(\"%d\\n\", s);\ncall    0 returned 1\n        1:   14:  return 0;\n        -:   15:}\n";
-
 #[test]
-fn with_branches(rt: HostRuntime) {
-    let wanted: [[u64; 5]; 25] = [
-        [1, 2, 4, 1, 0],
-        [0, 2, 4, 0, 0],
-        [0, 3, 4, 0, 0],
-        [2, 3, 0, 0, 2],
-        [2, 3, 0, 1, 4],
-        [2, 3, 0, 2, 2],
-        [2, 3, 0, 3, 1],
-        [0, 4, 1, 0, 0],
-        [0, 5, 3, 0, 0],
-        [1, 7, 0, 5, 0],
-        [0, 7, 0, 0, 0],
-        [2, 7, 0, 0, 0],
-        [2, 7, 0, 1, 0],
-        [1, 8, 1, 4, 0],
-        [0, 8, 1, 0, 0],
-        [0, 9, 1, 0, 0],
-        [0, 10, 5, 0, 0],
-        [2, 10, 0, 0, 5],
-        [2, 10, 0, 1, 2],
-        [0, 11, 4, 0, 0],
-        [0, 12, 1, 0, 0],
-        [2, 12, 0, 0, 1],
-        [2, 12, 0, 1, 2],
-        [0, 13, 1, 0, 0],
-        [0, 14, 1, 0, 0],
-    ];
-    check_items(&rt, WITH_BRANCHES, &wanted);
+fn a_with_branches(rt: HostRuntime) -> Result<(), Fail> {
+    check_given(
+        &rt,
+        b"        -:    0:Source:a.c
+        -:    0:Graph:a.gcno
+        -:    0:Data:a.gcda
+        -:    0:Runs:1
+function keep called 1500 returned 100% blocks executed 100%
+     1500:    1:static int keep(int x) {
+     1500:    2:  if (x > 2 && x != 5)
+branch  0 taken 1497 (fallthrough)
+branch  1 taken 3
+branch  2 taken 1496 (fallthrough)
+branch  3 taken 1
+     1496:    3:    return x * 2;
+        4:    4:  return 0;
+        -:    5:}
+        -:    6:
+function never called 0 returned 0% blocks executed 0%
+    #####:    7:static int never(int x) { return x ? 1 : 2; }
+branch  0 never executed
+branch  1 never executed
+        -:    8:
+function main called 1 returned 100% blocks executed 78%
+        1:    9:int main(int argc, char **argv) {
+        1:   10:  int sum = 0;
+     1501:   11:  for (int i = 0; i < 1500; i++)
+branch  0 taken 1500
+branch  1 taken 1 (fallthrough)
+     1500:   12:    sum += keep(i);
+call    0 returned 1500
+       1*:   13:  if (argc > 7) sum += never(sum);
+branch  0 taken 0 (fallthrough)
+branch  1 taken 1
+call    2 never executed
+        1:   14:  return sum < 0;
+        -:   15:}
+> Sect t a.c
+> Func keep 1 1500
+> Line 1 1500
+> Line 2 1500
+> Branch 2 0 0 1497
+> Branch 2 0 1 3
+> Branch 2 0 2 1496
+> Branch 2 0 3 1
+> Line 3 1496
+> Line 4 4
+> Func never 7 0
+> Line 7 0
+> Branch 7 0 0 -
+> Branch 7 0 1 -
+> Func main 9 1
+> Line 9 1
+> Line 10 1
+> Line 11 1501
+> Branch 11 0 0 1500
+> Branch 11 0 1 1
+> Line 12 1500
+> Line 13 1
+> Branch 13 0 0 0
+> Branch 13 0 1 1
+> Line 14 1",
+    )
 }
 
 /// `gcov -a -b -c a.gcda`.
-const WITH_BLOCKS: &[u8] =
-    b"        -:    0:Source:a.c\n        -:    0:Graph:a.gcno\n        -:    0:Data:a.gcda\n        -:    0:Runs:1\n        -:    1:#include <stdio.h>\nfunction f called 4 returned 100% blocks executed 100%\n        4:    2:static int f(int x) {\n        4:    3:  if (x > 2 && x != 5)\n        4:    3-block  0\nbranch  0 taken 1 (fallthrough)\nbranch  1 taken 3\n        1:    3-block  1\nbranch  2 taken 1 (fallthrough)\nbranch  3 taken 0\n        1:    4:    return x * 2;\n        1:    4-block  0\n        3:    5:  return 0;\n        3:    5-block  0\n        -:    6:}\nfunction never called 0 returned 0% blocks executed 0%\n    #####:    7:static int never(int x) { return x ? 1 : 2; }\n    %%%%%:    7-block  0\nbranch  0 never executed\nbranch  1 never executed\n    %%%%%:    7-block  1\n    %%%%%:    7-block  2\n    %%%%%:    7-block  3\nfunction main called 1 returned 100% blocks executed 80%\n        1:    8:int main(int argc, char **argv) {\n        1:    9:  int s = 0;\n        5:   10:  for (int i = 0; i < 4; i++)\n        1:   10-block  0\n        5:   10-block  1\nbranch  0 taken 4\nbranch  1 taken 1 (fallthrough)\n        4:   11:    s += f(i);\n        4:   11-block  0\ncall    0 returned 4\n       1*:   12:  if (argc > 7) s += never(s);\n        1:   12-block  0\nbranch  0 taken 0 (fallthrough)\nbranch  1 taken 1\n    %%%%%:   12-block  1\ncall    2 never executed\n        1:   13:  printf(\"%d\\n\", s);\n        1:   13-block  0\ncall    0 returned 1\n        1:   14:  return 0;\n        -:   15:}\n";
-
 #[test]
-fn with_blocks(rt: HostRuntime) {
-    let wanted: [[u64; 5]; 25] = [
-        [1, 2, 4, 1, 0],
-        [0, 2, 4, 0, 0],
-        [0, 3, 4, 0, 0],
-        [2, 3, 0, 0, 2],
-        [2, 3, 0, 1, 4],
-        [2, 3, 1, 2, 2],
-        [2, 3, 1, 3, 1],
-        [0, 4, 1, 0, 0],
-        [0, 5, 3, 0, 0],
-        [1, 7, 0, 5, 0],
-        [0, 7, 0, 0, 0],
-        [2, 7, 0, 0, 0],
-        [2, 7, 0, 1, 0],
-        [1, 8, 1, 4, 0],
-        [0, 8, 1, 0, 0],
-        [0, 9, 1, 0, 0],
-        [0, 10, 5, 0, 0],
-        [2, 10, 1, 0, 5],
-        [2, 10, 1, 1, 2],
-        [0, 11, 4, 0, 0],
-        [0, 12, 1, 0, 0],
-        [2, 12, 0, 0, 1],
-        [2, 12, 0, 1, 2],
-        [0, 13, 1, 0, 0],
-        [0, 14, 1, 0, 0],
-    ];
-    check_items(&rt, WITH_BLOCKS, &wanted);
+fn a_with_blocks(rt: HostRuntime) -> Result<(), Fail> {
+    check_given(
+        &rt,
+        b"        -:    0:Source:a.c
+        -:    0:Graph:a.gcno
+        -:    0:Data:a.gcda
+        -:    0:Runs:1
+function keep called 1500 returned 100% blocks executed 100%
+     1500:    1:static int keep(int x) {
+     1500:    2:  if (x > 2 && x != 5)
+     1500:    2-block  0
+branch  0 taken 1497 (fallthrough)
+branch  1 taken 3
+     1497:    2-block  1
+branch  2 taken 1496 (fallthrough)
+branch  3 taken 1
+     1496:    3:    return x * 2;
+     1496:    3-block  0
+        4:    4:  return 0;
+        4:    4-block  0
+        -:    5:}
+        -:    6:
+function never called 0 returned 0% blocks executed 0%
+    #####:    7:static int never(int x) { return x ? 1 : 2; }
+    %%%%%:    7-block  0
+branch  0 never executed
+branch  1 never executed
+    %%%%%:    7-block  1
+    %%%%%:    7-block  2
+    %%%%%:    7-block  3
+        -:    8:
+function main called 1 returned 100% blocks executed 78%
+        1:    9:int main(int argc, char **argv) {
+        1:   10:  int sum = 0;
+     1501:   11:  for (int i = 0; i < 1500; i++)
+        1:   11-block  0
+     1501:   11-block  1
+branch  0 taken 1500
+branch  1 taken 1 (fallthrough)
+     1500:   12:    sum += keep(i);
+     1500:   12-block  0
+call    0 returned 1500
+       1*:   13:  if (argc > 7) sum += never(sum);
+        1:   13-block  0
+branch  0 taken 0 (fallthrough)
+branch  1 taken 1
+    %%%%%:   13-block  1
+call    2 never executed
+        1:   14:  return sum < 0;
+        1:   14-block  0
+        -:   15:}
+> Sect t a.c
+> Func keep 1 1500
+> Line 1 1500
+> Line 2 1500
+> Branch 2 0 0 1497
+> Branch 2 0 1 3
+> Branch 2 1 2 1496
+> Branch 2 1 3 1
+> Line 3 1496
+> Line 4 4
+> Func never 7 0
+> Line 7 0
+> Branch 7 0 0 -
+> Branch 7 0 1 -
+> Func main 9 1
+> Line 9 1
+> Line 10 1
+> Line 11 1501
+> Branch 11 1 0 1500
+> Branch 11 1 1 1
+> Line 12 1500
+> Line 13 1
+> Branch 13 0 0 0
+> Branch 13 0 1 1
+> Line 14 1",
+    )
 }
 
-/// `gcov -b -c b.gcda`, of a C++ program.
-const OF_CPP: &[u8] =
-    b"        -:    0:Source:b.cc\n        -:    0:Graph:b.gcno\n        -:    0:Data:b.gcda\n        -:    0:Runs:1\n        -:    1:#include <vector>\n        -:    2:#include <stdexcept>\nfunction _ZN1N1fEic called 2 returned 50% blocks executed 88%\n        2:    3:namespace N { int f(int a, char b) { if (a) return b; throw std::runtime_error(\"x\"); } }\nbranch  0 taken 1 (fallthrough)\nbranch  1 taken 1\ncall    2 returned 1\ncall    3 returned 1\nbranch  4 taken 1 (fallthrough)\nbranch  5 taken 0 (throw)\ncall    6 returned 0\ncall    7 never executed\nfunction main called 1 returned 100% blocks executed 80%\n        1:    4:int main() { std::vector<int> v; v.push_back(N::f(1, 'c')); try { N::f(0, 'd'); } catch (...) { } return v.size() == 1 ? 0 : 1; }\ncall    0 returned 1\ncall    1 returned 1\nbranch  2 taken 1 (fallthrough)\nbranch  3 taken 0 (throw)\ncall    4 returned 1\nbranch  5 taken 1 (fallthrough)\nbranch  6 taken 0 (throw)\ncall    7 returned 1\nbranch  8 taken 0 (fallthrough)\nbranch  9 taken 1 (throw)\ncall   10 returned 1\ncall   11 returned 1\ncall   12 returned 1\ncall   13 returned 1\nbranch 14 taken 1 (fallthrough)\nbranch 15 taken 0 (throw)\ncall   16 never executed\n";
-
+/// `gcov b.gcda`, of a C program with a `switch`.
 #[test]
-fn of_cpp(rt: HostRuntime) {
-    let wanted: [[u64; 5]; 16] = [
-        [1, 3, 2, 10, 0],
-        [0, 3, 2, 0, 0],
-        [2, 3, 0, 0, 2],
-        [2, 3, 0, 1, 2],
-        [2, 3, 0, 4, 2],
-        [2, 3, 0, 5, 1],
-        [1, 4, 1, 4, 0],
-        [0, 4, 1, 0, 0],
-        [2, 4, 0, 2, 2],
-        [2, 4, 0, 3, 1],
-        [2, 4, 0, 5, 2],
-        [2, 4, 0, 6, 1],
-        [2, 4, 0, 8, 1],
-        [2, 4, 0, 9, 2],
-        [2, 4, 0, 14, 2],
-        [2, 4, 0, 15, 1],
-    ];
-    check_items(&rt, OF_CPP, &wanted);
+fn b_plain(rt: HostRuntime) -> Result<(), Fail> {
+    check_given(
+        &rt,
+        b"        -:    0:Source:b.c
+        -:    0:Graph:b.gcno
+        -:    0:Data:b.gcda
+        -:    0:Runs:1
+        -:    1:int kinds[3];
+        -:    2:
+       14:    3:static void count(int n) {
+       14:    4:  switch (n % 4) {
+        4:    5:  case 0: kinds[0]++; break;
+        7:    6:  case 1:
+        7:    7:  case 2: kinds[1]++; break;
+        3:    8:  default: kinds[2]++;
+        -:    9:  }
+       14:   10:}
+        -:   11:
+        1:   12:int main(void) {
+        1:   13:  int n = 0;
+       15:   14:  while (n < 10 || n % 7 != 0)
+       14:   15:    count(n++);
+        3:   16:  do n -= 5; while (n > 0);
+        1:   17:  return n == -1 ? 0 : 1;
+        -:   18:}
+> Sect t b.c
+> Line 3 14
+> Line 4 14
+> Line 5 4
+> Line 6 7
+> Line 7 7
+> Line 8 3
+> Line 10 14
+> Line 12 1
+> Line 13 1
+> Line 14 15
+> Line 15 14
+> Line 16 3
+> Line 17 1",
+    )
+}
+
+/// `gcov -b -c b.gcda`.
+#[test]
+fn b_with_branches(rt: HostRuntime) -> Result<(), Fail> {
+    check_given(
+        &rt,
+        b"        -:    0:Source:b.c
+        -:    0:Graph:b.gcno
+        -:    0:Data:b.gcda
+        -:    0:Runs:1
+        -:    1:int kinds[3];
+        -:    2:
+function count called 14 returned 100% blocks executed 100%
+       14:    3:static void count(int n) {
+       14:    4:  switch (n % 4) {
+branch  0 taken 4
+branch  1 taken 7
+branch  2 taken 3
+        4:    5:  case 0: kinds[0]++; break;
+        7:    6:  case 1:
+        7:    7:  case 2: kinds[1]++; break;
+        3:    8:  default: kinds[2]++;
+        -:    9:  }
+       14:   10:}
+        -:   11:
+function main called 1 returned 100% blocks executed 100%
+        1:   12:int main(void) {
+        1:   13:  int n = 0;
+       15:   14:  while (n < 10 || n % 7 != 0)
+branch  0 taken 10
+branch  1 taken 5 (fallthrough)
+branch  2 taken 4
+branch  3 taken 1 (fallthrough)
+       14:   15:    count(n++);
+call    0 returned 14
+        3:   16:  do n -= 5; while (n > 0);
+branch  0 taken 2
+branch  1 taken 1 (fallthrough)
+        1:   17:  return n == -1 ? 0 : 1;
+        -:   18:}
+> Sect t b.c
+> Func count 3 14
+> Line 3 14
+> Line 4 14
+> Branch 4 0 0 4
+> Branch 4 0 1 7
+> Branch 4 0 2 3
+> Line 5 4
+> Line 6 7
+> Line 7 7
+> Line 8 3
+> Line 10 14
+> Func main 12 1
+> Line 12 1
+> Line 13 1
+> Line 14 15
+> Branch 14 0 0 10
+> Branch 14 0 1 5
+> Branch 14 0 2 4
+> Branch 14 0 3 1
+> Line 15 14
+> Line 16 3
+> Branch 16 0 0 2
+> Branch 16 0 1 1
+> Line 17 1",
+    )
+}
+
+/// `gcov -a -b -c b.gcda`.
+#[test]
+fn b_with_blocks(rt: HostRuntime) -> Result<(), Fail> {
+    check_given(
+        &rt,
+        b"        -:    0:Source:b.c
+        -:    0:Graph:b.gcno
+        -:    0:Data:b.gcda
+        -:    0:Runs:1
+        -:    1:int kinds[3];
+        -:    2:
+function count called 14 returned 100% blocks executed 100%
+       14:    3:static void count(int n) {
+       14:    4:  switch (n % 4) {
+       14:    4-block  0
+branch  0 taken 4
+branch  1 taken 7
+branch  2 taken 3
+        4:    5:  case 0: kinds[0]++; break;
+        4:    5-block  0
+        7:    6:  case 1:
+        7:    7:  case 2: kinds[1]++; break;
+        7:    7-block  0
+        3:    8:  default: kinds[2]++;
+        3:    8-block  0
+        -:    9:  }
+       14:   10:}
+        -:   11:
+function main called 1 returned 100% blocks executed 100%
+        1:   12:int main(void) {
+        1:   13:  int n = 0;
+       15:   14:  while (n < 10 || n % 7 != 0)
+        1:   14-block  0
+       15:   14-block  1
+branch  0 taken 10
+branch  1 taken 5 (fallthrough)
+        5:   14-block  2
+branch  2 taken 4
+branch  3 taken 1 (fallthrough)
+       14:   15:    count(n++);
+       14:   15-block  0
+call    0 returned 14
+        3:   16:  do n -= 5; while (n > 0);
+        3:   16-block  0
+branch  0 taken 2
+branch  1 taken 1 (fallthrough)
+        1:   17:  return n == -1 ? 0 : 1;
+        1:   17-block  0
+        -:   18:}
+> Sect t b.c
+> Func count 3 14
+> Line 3 14
+> Line 4 14
+> Branch 4 0 0 4
+> Branch 4 0 1 7
+> Branch 4 0 2 3
+> Line 5 4
+> Line 6 7
+> Line 7 7
+> Line 8 3
+> Line 10 14
+> Func main 12 1
+> Line 12 1
+> Line 13 1
+> Line 14 15
+> Branch 14 1 0 10
+> Branch 14 1 1 5
+> Branch 14 2 2 4
+> Branch 14 2 3 1
+> Line 15 14
+> Line 16 3
+> Branch 16 0 0 2
+> Branch 16 0 1 1
+> Line 17 1",
+    )
+}
+
+/// `gcov -a -b -c -u b.gcda`. An unconditional branch gives no item, but takes a number of its line.
+#[test]
+fn b_with_unconditional_branches(rt: HostRuntime) -> Result<(), Fail> {
+    check_given(
+        &rt,
+        b"        -:    0:Source:b.c
+        -:    0:Graph:b.gcno
+        -:    0:Data:b.gcda
+        -:    0:Runs:1
+        -:    1:int kinds[3];
+        -:    2:
+function count called 14 returned 100% blocks executed 100%
+       14:    3:static void count(int n) {
+       14:    4:  switch (n % 4) {
+       14:    4-block  0
+branch  0 taken 4
+branch  1 taken 7
+branch  2 taken 3
+        4:    5:  case 0: kinds[0]++; break;
+        4:    5-block  0
+unconditional  0 taken 4
+        7:    6:  case 1:
+        7:    7:  case 2: kinds[1]++; break;
+        7:    7-block  0
+unconditional  0 taken 7
+        3:    8:  default: kinds[2]++;
+        3:    8-block  0
+unconditional  0 taken 3
+        -:    9:  }
+       14:   10:}
+        -:   11:
+function main called 1 returned 100% blocks executed 100%
+        1:   12:int main(void) {
+        1:   13:  int n = 0;
+       15:   14:  while (n < 10 || n % 7 != 0)
+        1:   14-block  0
+unconditional  0 taken 1
+       15:   14-block  1
+branch  1 taken 10
+branch  2 taken 5 (fallthrough)
+        5:   14-block  2
+branch  3 taken 4
+branch  4 taken 1 (fallthrough)
+       14:   15:    count(n++);
+       14:   15-block  0
+call    0 returned 14
+unconditional  1 taken 14
+        3:   16:  do n -= 5; while (n > 0);
+        3:   16-block  0
+branch  0 taken 2
+branch  1 taken 1 (fallthrough)
+        1:   17:  return n == -1 ? 0 : 1;
+        1:   17-block  0
+unconditional  0 taken 1
+        -:   18:}
+> Sect t b.c
+> Func count 3 14
+> Line 3 14
+> Line 4 14
+> Branch 4 0 0 4
+> Branch 4 0 1 7
+> Branch 4 0 2 3
+> Line 5 4
+> Line 6 7
+> Line 7 7
+> Line 8 3
+> Line 10 14
+> Func main 12 1
+> Line 12 1
+> Line 13 1
+> Line 14 15
+> Branch 14 1 1 10
+> Branch 14 1 2 5
+> Branch 14 2 3 4
+> Branch 14 2 4 1
+> Line 15 14
+> Line 16 3
+> Branch 16 0 0 2
+> Branch 16 0 1 1
+> Line 17 1",
+    )
+}
+
+/// `gcov c.gcda`, of a C++ program that throws an exception.
+#[test]
+fn c_plain(rt: HostRuntime) -> Result<(), Fail> {
+    check_given(
+        &rt,
+        b"        -:    0:Source:c.cc
+        -:    0:Graph:c.gcno
+        -:    0:Data:c.gcda
+        -:    0:Runs:1
+        -:    1:class Stack {
+        -:    2:  int items[4], used;
+        -:    3:public:
+        1:    4:  Stack() : used(0) {}
+        5:    5:  void push(int x) {
+        5:    6:    if (used == 4)
+        1:    7:      throw x;
+        4:    8:    items[used++] = x;
+        4:    9:  }
+        -:   10:};
+        -:   11:
+        1:   12:int main() {
+        1:   13:  Stack s;
+        -:   14:  try {
+        5:   15:    for (int i = 0; i < 9; i++) s.push(i);
+        1:   16:  } catch (int x) {
+        1:   17:    return x != 4;
+        1:   18:  } catch (char) {
+    =====:   19:    return 2;
+    =====:   20:  }
+    #####:   21:}
+> Sect t c.cc
+> Line 4 1
+> Line 5 5
+> Line 6 5
+> Line 7 1
+> Line 8 4
+> Line 9 4
+> Line 12 1
+> Line 13 1
+> Line 15 5
+> Line 16 1
+> Line 17 1
+> Line 18 1
+> Line 19 0
+> Line 20 0
+> Line 21 0",
+    )
+}
+
+/// `gcov -b -c c.gcda`.
+#[test]
+fn c_with_branches(rt: HostRuntime) -> Result<(), Fail> {
+    check_given(
+        &rt,
+        b"        -:    0:Source:c.cc
+        -:    0:Graph:c.gcno
+        -:    0:Data:c.gcda
+        -:    0:Runs:1
+        -:    1:class Stack {
+        -:    2:  int items[4], used;
+        -:    3:public:
+function _ZN5StackC2Ev called 1 returned 100% blocks executed 100%
+        1:    4:  Stack() : used(0) {}
+function _ZN5Stack4pushEi called 5 returned 80% blocks executed 100%
+        5:    5:  void push(int x) {
+        5:    6:    if (used == 4)
+branch  0 taken 1 (fallthrough)
+branch  1 taken 4
+        1:    7:      throw x;
+call    0 returned 1
+call    1 returned 0
+        4:    8:    items[used++] = x;
+        4:    9:  }
+        -:   10:};
+        -:   11:
+function main called 1 returned 100% blocks executed 73%
+        1:   12:int main() {
+        1:   13:  Stack s;
+call    0 returned 1
+        -:   14:  try {
+        5:   15:    for (int i = 0; i < 9; i++) s.push(i);
+call    0 returned 5
+branch  1 taken 4 (fallthrough)
+branch  2 taken 1 (throw)
+branch  3 taken 5
+branch  4 taken 0 (fallthrough)
+        1:   16:  } catch (int x) {
+branch  0 taken 0 (fallthrough)
+branch  1 taken 1
+branch  2 taken 0
+call    3 returned 1
+        1:   17:    return x != 4;
+        1:   18:  } catch (char) {
+call    0 returned 1
+call    1 never executed
+    =====:   19:    return 2;
+    =====:   20:  }
+call    0 never executed
+    #####:   21:}
+> Sect t c.cc
+> Func _ZN5StackC2Ev 4 1
+> Line 4 1
+> Func _ZN5Stack4pushEi 5 5
+> Line 5 5
+> Line 6 5
+> Branch 6 0 0 1
+> Branch 6 0 1 4
+> Line 7 1
+> Line 8 4
+> Line 9 4
+> Func main 12 1
+> Line 12 1
+> Line 13 1
+> Line 15 5
+> Branch 15 0 1 4
+> Branch 15 0 2 1
+> Branch 15 0 3 5
+> Branch 15 0 4 0
+> Line 16 1
+> Branch 16 0 0 0
+> Branch 16 0 1 1
+> Branch 16 0 2 0
+> Line 17 1
+> Line 18 1
+> Line 19 0
+> Line 20 0
+> Line 21 0",
+    )
+}
+
+/// `gcov -a -b -c c.gcda`.
+#[test]
+fn c_with_blocks(rt: HostRuntime) -> Result<(), Fail> {
+    check_given(
+        &rt,
+        b"        -:    0:Source:c.cc
+        -:    0:Graph:c.gcno
+        -:    0:Data:c.gcda
+        -:    0:Runs:1
+        -:    1:class Stack {
+        -:    2:  int items[4], used;
+        -:    3:public:
+function _ZN5StackC2Ev called 1 returned 100% blocks executed 100%
+        1:    4:  Stack() : used(0) {}
+function _ZN5Stack4pushEi called 5 returned 80% blocks executed 100%
+        5:    5:  void push(int x) {
+        5:    6:    if (used == 4)
+        5:    6-block  0
+branch  0 taken 1 (fallthrough)
+branch  1 taken 4
+        1:    7:      throw x;
+        1:    7-block  0
+call    0 returned 1
+call    1 returned 0
+        4:    8:    items[used++] = x;
+        4:    9:  }
+        -:   10:};
+        -:   11:
+function main called 1 returned 100% blocks executed 73%
+        1:   12:int main() {
+        1:   13:  Stack s;
+        1:   13-block  0
+call    0 returned 1
+        -:   14:  try {
+        5:   15:    for (int i = 0; i < 9; i++) s.push(i);
+        5:   15-block  0
+call    0 returned 5
+branch  1 taken 4 (fallthrough)
+branch  2 taken 1 (throw)
+        4:   15-block  1
+        5:   15-block  2
+branch  3 taken 5
+branch  4 taken 0 (fallthrough)
+        1:   16:  } catch (int x) {
+        1:   16-block  0
+branch  0 taken 0 (fallthrough)
+branch  1 taken 1
+branch  2 taken 0
+        1:   16-block  1
+call    3 returned 1
+        1:   17:    return x != 4;
+        1:   18:  } catch (char) {
+call    0 returned 1
+    $$$$$:   18-block  0
+call    1 never executed
+    =====:   19:    return 2;
+    =====:   20:  }
+call    0 never executed
+    #####:   21:}
+    %%%%%:   21-block  0
+> Sect t c.cc
+> Func _ZN5StackC2Ev 4 1
+> Line 4 1
+> Func _ZN5Stack4pushEi 5 5
+> Line 5 5
+> Line 6 5
+> Branch 6 0 0 1
+> Branch 6 0 1 4
+> Line 7 1
+> Line 8 4
+> Line 9 4
+> Func main 12 1
+> Line 12 1
+> Line 13 1
+> Line 15 5
+> Branch 15 0 1 4
+> Branch 15 0 2 1
+> Branch 15 2 3 5
+> Branch 15 2 4 0
+> Line 16 1
+> Branch 16 0 0 0
+> Branch 16 0 1 1
+> Branch 16 0 2 0
+> Line 17 1
+> Line 18 1
+> Line 19 0
+> Line 20 0
+> Line 21 0",
+    )
 }
 
 /// `gcov -b a.gcda`.
-const WITH_PERCENTAGES: &[u8] =
-    b"        -:    0:Source:a.c\n        -:    0:Graph:a.gcno\n        -:    0:Data:a.gcda\n        -:    0:Runs:1\n        -:    1:#include <stdio.h>\nfunction f called 4 returned 100% blocks executed 100%\n        4:    2:static int f(int x) {\n        4:    3:  if (x > 2 && x != 5)\nbranch  0 taken 25% (fallthrough)\nbranch  1 taken 75%\nbranch  2 taken 100% (fallthrough)\nbranch  3 taken 0%\n        1:    4:    return x * 2;\n        3:    5:  return 0;\n        -:    6:}\nfunction never called 0 returned 0% blocks executed 0%\n    #####:    7:static int never(int x) { return x ? 1 : 2; }\nbranch  0 never executed\nbranch  1 never executed\nfunction main called 1 returned 100% blocks executed 80%\n        1:    8:int main(int argc, char **argv) {\n        1:    9:  int s = 0;\n        5:   10:  for (int i = 0; i < 4; i++)\nbranch  0 taken 80%\nbranch  1 taken 20% (fallthrough)\n        4:   11:    s += f(i);\ncall    0 returned 100%\n       1*:   12:  if (argc > 7) s += never(s);\nbranch  0 taken 0% (fallthrough)\nbranch  1 taken 100%\ncall    2 never executed\n        1:   13:  printf(\"%d\\n\", s);\ncall    0 returned 100%\n        1:   14:  return 0;\n        -:   15:}\n";
-
 #[test]
-fn with_percentages(rt: HostRuntime) {
-    match read_gcov(rt.alloc(), b"t", WITH_PERCENTAGES) {
-        Err(fault) => assert_eq!(rt; fault, ReadFault::Percent { at: 9 }),
-        Ok(_) => assert!(rt; false, "it is read"),
-    }
+fn a_with_percentages(rt: HostRuntime) -> Result<(), Fail> {
+    check_given(
+        &rt,
+        b"        -:    0:Source:a.c
+        -:    0:Graph:a.gcno
+        -:    0:Data:a.gcda
+        -:    0:Runs:1
+function keep called 1500 returned 100% blocks executed 100%
+     1500:    1:static int keep(int x) {
+     1500:    2:  if (x > 2 && x != 5)
+branch  0 taken 100% (fallthrough)
+branch  1 taken 1%
+branch  2 taken 100% (fallthrough)
+branch  3 taken 1%
+     1496:    3:    return x * 2;
+        4:    4:  return 0;
+        -:    5:}
+        -:    6:
+function never called 0 returned 0% blocks executed 0%
+    #####:    7:static int never(int x) { return x ? 1 : 2; }
+branch  0 never executed
+branch  1 never executed
+        -:    8:
+function main called 1 returned 100% blocks executed 78%
+        1:    9:int main(int argc, char **argv) {
+        1:   10:  int sum = 0;
+     1501:   11:  for (int i = 0; i < 1500; i++)
+branch  0 taken 100%
+branch  1 taken 1% (fallthrough)
+     1500:   12:    sum += keep(i);
+call    0 returned 100%
+       1*:   13:  if (argc > 7) sum += never(sum);
+branch  0 taken 0% (fallthrough)
+branch  1 taken 100%
+call    2 never executed
+        1:   14:  return sum < 0;
+        -:   15:}
+> Percent at 8",
+    )
+}
+
+/// `gcov -H a.gcda`.
+#[test]
+fn a_with_rounded_counts(rt: HostRuntime) -> Result<(), Fail> {
+    check_given(
+        &rt,
+        b"        -:    0:Source:a.c
+        -:    0:Graph:a.gcno
+        -:    0:Data:a.gcda
+        -:    0:Runs:1
+     1.5k:    1:static int keep(int x) {
+     1.5k:    2:  if (x > 2 && x != 5)
+     1.5k:    3:    return x * 2;
+        4:    4:  return 0;
+        -:    5:}
+        -:    6:
+    #####:    7:static int never(int x) { return x ? 1 : 2; }
+        -:    8:
+        1:    9:int main(int argc, char **argv) {
+        1:   10:  int sum = 0;
+     1.5k:   11:  for (int i = 0; i < 1500; i++)
+     1.5k:   12:    sum += keep(i);
+       1*:   13:  if (argc > 7) sum += never(sum);
+        1:   14:  return sum < 0;
+        -:   15:}
+> BadMark at 5",
+    )
+}
+
+/// `gcov d.gcda`, of a C++ program with two instances of a template.
+#[test]
+fn d_with_instances(rt: HostRuntime) -> Result<(), Fail> {
+    check_given(
+        &rt,
+        b"        -:    0:Source:d.cc
+        -:    0:Graph:d.gcno
+        -:    0:Data:d.gcda
+        -:    0:Runs:1
+        2:    1:template <class T> T twice(T x) {
+        2:    2:  return x + x;
+        -:    3:}
+------------------
+_Z5twiceIlET_S0_:
+        1:    1:template <class T> T twice(T x) {
+        1:    2:  return x + x;
+        -:    3:}
+------------------
+_Z5twiceIiET_S0_:
+        1:    1:template <class T> T twice(T x) {
+        1:    2:  return x + x;
+        -:    3:}
+------------------
+        -:    4:
+        1:    5:int main() {
+       1*:    6:  return twice(2) != 4 || twice(2L) != 4;
+        -:    7:}
+> Instances at 8",
+    )
 }

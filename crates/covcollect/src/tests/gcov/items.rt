@@ -1,0 +1,153 @@
+//! What a gcov text gives, in its order: its sections and their items, a line of text for each.
+
+use crate::tests::calls::annotated;
+use crate::tests::push_line;
+use covline::{Item, Sect};
+use std::alloc::Global;
+use std::process::Abort;
+use std::test::*;
+
+/// The words of an item. A branch whose block was never executed has a dash in place of its count.
+fn words_of(alloc: Global, item: &Item) -> Result<String, Fail> {
+    Ok(match item {
+        Item::Line {
+            line,
+            count,
+            checksum: None,
+        } => format!(in alloc; "Line {line} {count}")?,
+        Item::Line {
+            checksum: Some(_), ..
+        } => String::from_str(alloc, "a line with a checksum")?,
+        Item::Func { name, line, count } => {
+            let name: String = String::from_utf8_lossy(alloc, name.get())?;
+            format!(in alloc; "Func {name} {line} {count}")?
+        }
+        Item::Branch {
+            line,
+            block,
+            branch,
+            taken: Some(times),
+        } => format!(in alloc; "Branch {line} {block} {branch} {times}")?,
+        Item::Branch {
+            line,
+            block,
+            branch,
+            taken: None,
+        } => format!(in alloc; "Branch {line} {block} {branch} -")?,
+    })
+}
+
+/// Appends a line that names the section's test and file, and one for each of its items.
+fn put_sect(alloc: Global, sect: &Sect, text: &mut Vec<u8>) -> Result<(), Fail> {
+    text.extend_from_slice(b"Sect ")?;
+    text.extend_from_slice(sect.test.get())?;
+    text.push(b' ')?;
+    push_line(text, sect.file.get())?;
+    for item in sect.items.get() {
+        let words = words_of(alloc, item)?;
+        push_line(text, words.as_bytes())?;
+    }
+    Ok(())
+}
+
+/// What the text gives as counts of the test `t`, or its fault.
+fn given(alloc: Global, text: &[u8]) -> Result<Vec<u8>, Fail> {
+    let mut given = Vec::new(alloc);
+    match annotated(alloc, b"t", text) {
+        Ok(submission) => {
+            for sect in submission.sects() {
+                put_sect(alloc, sect, &mut given)?;
+            }
+        }
+        Err(fault) => {
+            let fault: String = format!(in alloc; "{fault}")?;
+            push_line(&mut given, fault.as_bytes())?;
+        }
+    }
+    Ok(given)
+}
+
+/// Checks what a text gives: its lines come first, and behind them what is wanted, in lines that begin with `> `.
+pub(super) fn check_given(rt: &(impl Abort + AllocGlobal), example: &[u8]) -> Result<(), Fail> {
+    let mut text = Vec::new(rt.alloc());
+    let mut wanted = Vec::new(rt.alloc());
+    for line in example.split(|byte| *byte == b'\n') {
+        match line.strip_prefix(b"> ") {
+            Some(words) => push_line(&mut wanted, words)?,
+            None => push_line(&mut text, line)?,
+        }
+    }
+    let given = given(rt.alloc(), text.as_slice())?;
+    if given.as_slice() != wanted.as_slice() {
+        let given: Result<String, _> = String::from_utf8_lossy(rt.alloc(), given.as_slice());
+        panic!(rt; "it gives {given:?}");
+    }
+    Ok(())
+}
+
+#[test]
+fn each_kind_of_line(rt: HostRuntime) -> Result<(), Fail> {
+    check_given(
+        &rt,
+        b"        -:    0:Source:tmp.c
+        -:    0:Runs:1
+        -:    1:#include <stdio.h>
+function main called 1 returned 100% blocks executed 80%
+        1:    2:int main(void)
+       3*:    3:  if (x)
+        3:    3-block  2
+branch  0 taken 2 (fallthrough)
+branch  1 taken 1
+call    2 returned 3
+    #####:    4:  f();
+branch  0 never executed
+    =====:    5:  g();
+> Sect t tmp.c
+> Func main 2 1
+> Line 2 1
+> Line 3 3
+> Branch 3 2 0 2
+> Branch 3 2 1 1
+> Line 4 0
+> Branch 4 0 0 -
+> Line 5 0",
+    )
+}
+
+/// Items come in the order of their lines, and functions at the line that they begin at.
+#[test]
+fn orders(rt: HostRuntime) -> Result<(), Fail> {
+    check_given(
+        &rt,
+        b"-:0:Source:b.c
+function g called 2
+1:9:x
+branch 1 taken 0
+function f called 1
+function a b called 0
+call 0 returned 1
+1:9-block 3
+branch 0 never executed
+branch 0 taken 5
+2*:3:y
+-:4:z
+-:0:Source:a.c
+-:0:Source:b.c
+function h called 0
+-:7:x
+7:7:x
+> Sect t b.c
+> Func g 9 2
+> Line 9 1
+> Branch 9 0 1 0
+> Branch 9 3 0 -
+> Branch 9 3 0 5
+> Func f 3 1
+> Func a b 3 0
+> Line 3 2
+> Sect t a.c
+> Sect t b.c
+> Func h 7 0
+> Line 7 7",
+    )
+}
