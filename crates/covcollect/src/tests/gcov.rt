@@ -18,7 +18,7 @@ fn counted(alloc: Global, test: &[u8], text: &[u8]) -> Result<String, Fail> {
         Ok(submission) => {
             let sects = submission.sects().len();
             let items = submission.items();
-            format!(in alloc; "{sects} sections, {items} items")?
+            format!(in alloc; "sections {sects} items {items}")?
         }
         Err(fault) => format!(in alloc; "{fault}")?,
     })
@@ -514,34 +514,33 @@ report
 /// What the lines down to here give, behind each line of one text.
 #[test]
 fn first_lines(rt: HostRuntime) -> Result<(), Fail> {
-    let lines =
-        b"> 0 sections, 0 items
+    let lines = b"> sections 0 items 0
         -:    0:Source:tmp.c
-> 1 sections, 0 items
+> sections 1 items 0
         -:    0:Runs:1
-> 1 sections, 0 items
+> sections 1 items 0
         -:    1:#include <stdio.h>
-> 1 sections, 0 items
+> sections 1 items 0
 function main called 1 returned 100% blocks executed 80%
 > LostFunction
         1:    2:int main(void)
-> 1 sections, 2 items
+> sections 1 items 2
        3*:    3:  if (x)
-> 1 sections, 3 items
+> sections 1 items 3
         3:    3-block  2
-> 1 sections, 3 items
+> sections 1 items 3
 branch  0 taken 2 (fallthrough)
-> 1 sections, 4 items
+> sections 1 items 4
 branch  1 taken 1
-> 1 sections, 5 items
+> sections 1 items 5
 call    2 returned 3
-> 1 sections, 5 items
+> sections 1 items 5
     #####:    4:  f();
-> 1 sections, 6 items
+> sections 1 items 6
 branch  0 never executed
-> 1 sections, 7 items
+> sections 1 items 7
     =====:    5:  g();
-> 1 sections, 8 items";
+> sections 1 items 8";
     let mut text: Vec<u8> = Vec::new(rt.alloc());
     for line in lines.split(|byte| *byte == b'\n') {
         match line.strip_prefix(b"> ") {
@@ -572,6 +571,6 @@ fn longest_text(rt: HostRuntime) -> Result<(), Fail> {
     let longer = counted(rt.alloc(), b"a\nb", &text)?;
     let longest = counted(rt.alloc(), b"t", &text[1..])?;
     assert_eq!(rt; longer.as_bytes(), b"TooLong".as_slice());
-    assert_eq!(rt; longest.as_bytes(), b"0 sections, 0 items".as_slice());
+    assert_eq!(rt; longest.as_bytes(), b"sections 0 items 0".as_slice());
     Ok(())
 }

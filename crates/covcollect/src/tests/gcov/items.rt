@@ -16,7 +16,8 @@ fn words_of(alloc: Global, item: &Item) -> Result<String, Fail> {
             checksum: None,
         } => format!(in alloc; "Line {line} {count}")?,
         Item::Line {
-            checksum: Some(_), ..
+            checksum: Some(_),
+            ..
         } => String::from_str(alloc, "a line with a checksum")?,
         Item::Func { name, line, count } => {
             let name: String = String::from_utf8_lossy(alloc, name.get())?;
