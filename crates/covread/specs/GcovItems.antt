@@ -59,7 +59,7 @@ last_given gives (says ∷ more) = option_or (last_given gives more) (gives says
 abbrev pub waiting : List GcovLine → List (List ℕ × ℕ)
 waiting above = flat_map func_said (behind_last (λ says. is_source says || is_path says) above)
 
--- the number of the nearest source line above, and of the nearest block line between that and here, else 0
+-- the number of the nearest source line above
 abbrev pub line_above : List GcovLine → Option ℕ
 line_above above = last_given source_number above
 
@@ -67,6 +67,7 @@ abbrev pub or_zero : Option ℕ → ℕ
 or_zero None = 0
 or_zero (Some n) = n
 
+-- the number of the nearest block line between that source line and here, 0 where there is none
 abbrev pub block_above : List GcovLine → ℕ
 block_above above = or_zero (last_given block_number (behind_last is_source above))
 
@@ -113,10 +114,11 @@ sects_from test above (says ∷ more) =
 
 -- ---- what is wrong with a line's place
 
--- no path stands above; no source line stands between the last path and here
+-- a path stands above
 abbrev pub has_path : List GcovLine → Bool
 has_path above = list_any is_path above
 
+-- a path stands above, and a source line between the last path and here
 abbrev pub has_line : List GcovLine → Bool
 has_line above = has_path above && list_any is_source (behind_last is_path above)
 
@@ -124,7 +126,7 @@ abbrev pub is_empty : {X : Type 0} → List X → Bool
 is_empty [] = true
 is_empty (x ∷ xs) = false
 
--- the fault of the line's place, with its number: functions that wait are lost at a path
+-- the fault of the line's place: with the line's number, but for functions that wait and are lost at a path
 abbrev pub place_fault : ℕ → List GcovLine → GcovLine → Option ReadFault
 place_fault at above (Path []) = Some (faults.NoSource at)
 place_fault at above (Path (b ∷ bs)) = if is_empty (waiting above) then None else Some faults.LostFunction
@@ -134,11 +136,12 @@ place_fault at above (FuncCount name count) = None
 place_fault at above (BlockNumber block) = None
 place_fault at above Nothing = None
 
--- a line of which something is kept: a path begins a section, and a function waits
-abbrev pub is_kept : GcovLine → Bool
-is_kept (Path path) = true
-is_kept (FuncCount name count) = true
-is_kept (SourceLine line count) = false
-is_kept (BranchCount branch taken) = false
-is_kept (BlockNumber block) = false
-is_kept Nothing = false
+-- the lines with which keeping begins: a path begins a section, and a function waits. Nothing is kept before the first
+-- of them
+abbrev pub begins_keeping : GcovLine → Bool
+begins_keeping (Path path) = true
+begins_keeping (FuncCount name count) = true
+begins_keeping (SourceLine line count) = false
+begins_keeping (BranchCount branch taken) = false
+begins_keeping (BlockNumber block) = false
+begins_keeping Nothing = false
