@@ -92,7 +92,7 @@ fn read_branch<'a>(branch: &[u8], word: &[u8]) -> Result<GcovLine<'a>, OwnFault>
     }
 }
 
-/// A line with a mark and a number: that with the number 0 tells of the whole text.
+/// A line with a mark and a number: one with the number 0 tells of a source file as a whole.
 fn read_numbered<'a>(mark: &[u8], line: &[u8], text: &'a [u8]) -> Result<GcovLine<'a>, OwnFault>
     ensures { Gives result (says_of (Numbered mark.now line.now text.now)) }
 {
