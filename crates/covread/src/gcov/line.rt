@@ -9,7 +9,7 @@ use crate::gcov::shape::{Shape, shape_of};
 use crate::gcov::text::{are_digits, behind, number, without_last};
 
 /// What is wrong with a line by itself.
-#[derive(Clone, Copy, Debug, PartialEq, Eq)]
+#[derive(Clone, Copy)]
 pub enum OwnFault {
     /// Counts of template instances follow.
     Instances,
@@ -22,7 +22,7 @@ pub enum OwnFault {
 }
 
 /// What a line says; its texts are parts of it.
-#[derive(Clone, Copy, Debug)]
+#[derive(Clone, Copy)]
 pub enum GcovLine<'a> {
     /// The path of a source file.
     Path(&'a [u8]),

@@ -8,7 +8,7 @@ use covline::without_returns;
 use memchr::memchr;
 
 /// Which files a pattern chooses.
-#[derive(Clone, Copy, Debug, PartialEq, Eq)]
+#[derive(Clone, Copy)]
 pub enum Pick {
     /// `extract`, those that match; none without a pattern.
     Extract,
@@ -17,7 +17,7 @@ pub enum Pick {
 }
 
 /// The format of a text that follows a line.
-#[derive(Clone, Copy, Debug, PartialEq, Eq)]
+#[derive(Clone, Copy)]
 pub enum Format<'a> {
     /// A tracefile (geninfo(1) of LCOV 1.x).
     Tracefile,
@@ -26,7 +26,7 @@ pub enum Format<'a> {
 }
 
 /// What a command line asks for.
-#[derive(Clone, Copy, Debug, PartialEq, Eq)]
+#[derive(Clone, Copy)]
 pub enum Word<'a> {
     /// Nothing: the line is blank.
     Blank,
