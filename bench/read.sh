@@ -3,10 +3,11 @@
 #
 #   bench/read.sh [PROGRAM [YARDSTICK [TRACEFILE..]]]
 #
-# Tracefiles of several kinds and sizes (bench/tracefiles.py), and those named, are each read by a session of its own,
-# which is given one line more, `SF:/open`: so it reads the whole text and then refuses it, and holds and prints nothing.
-# YARDSTICK is a program that merges and prints the same tracefile, called as `YARDSTICK merge FILE`. Times are of the
-# processor, user and system, the best of three.
+# Texts of several kinds and sizes (bench/tracefiles.py), and the tracefiles named, are each read by a session of its
+# own, which is given one line more: `SF:/open`, or a function line behind annotated source. So it reads the whole text
+# and then refuses it, and holds and prints nothing. YARDSTICK is a program that merges and prints the same tracefile,
+# called as `YARDSTICK merge FILE`; it reads no annotated source. Times are of the processor, user and system, the best
+# of three.
 set -euo pipefail
 cd "$(dirname "$0")/.."
 program=${1:-build/covcollect}
@@ -35,10 +36,13 @@ def best(words, given):
     return *least, status, said
 
 first = None
+command, last, wanted = b"trace", b"SF:/open", b"refused OpenEnd"
+if kind == "gcov":
+    command, last, wanted, yardstick = b"gcov unit", b"function open called 1", b"refused LostFunction", ""
 for file in files:
     session = os.path.join(work, "session")
     with open(session, "wb") as to, open(file, "rb") as text:
-        to.write(b"trace\n" + text.read() + b"SF:/open\n.\n")
+        to.write(command + b"\n" + text.read() + last + b"\n.\n")
     seconds, peak, status, said = best([program], session)
     length = os.path.getsize(file)
     first = first or (length, seconds, peak)
@@ -48,12 +52,12 @@ for file in files:
         beside = f" {other:>9.3f} {seconds / other:>6.2f} {room / 1e6:>8.1f}"
     print(f"{kind:<10} {length / 1e6:>6.1f} {length / first[0]:>5.1f} {seconds:>8.3f} {seconds / first[1]:>5.1f}"
           f" {peak / 1e6:>8.1f} {peak / first[2]:>5.1f} {peak / length:>13.1f}{beside}", flush=True)
-    if status != 0 or said.strip() != b"refused OpenEnd":
+    if status != 0 or said.strip() != wanted:
         sys.exit(f"bench: status {status}, answer {said[:80]!r}")
 PYTHON
 }
 
-# run KIND SIZE..: tracefiles of that kind and of these sizes
+# run KIND SIZE..: texts of that kind and of these sizes
 run() {
   local kind=$1 size files=()
   shift
@@ -70,6 +74,7 @@ printf '%-10s %6s %5s %8s %5s %8s %5s %13s' kind MB times seconds times 'peak MB
 echo
 run files 4000000 16000000 60000000
 run kinds 4000000 16000000 60000000
+run gcov 4000000 16000000 60000000
 run lines 250000 1000000 4000000
 run shuffled 250000 1000000 4000000
 run functions 250000 1000000

@@ -1,7 +1,8 @@
-"""Tracefiles for bench/read.sh: `tracefiles.py KIND SIZE` writes one to standard output.
+"""Texts for bench/read.sh: `tracefiles.py KIND SIZE` writes one to standard output.
 
-KIND is `files`, `kinds` (SIZE in bytes: many sections, of lines alone or of all kinds of records), or `lines`,
-`shuffled`, `functions`, `branches` (SIZE in records: one section that has only these).
+KIND is `files`, `kinds` (a tracefile; SIZE in bytes: many sections, of lines alone or of all kinds of records), or
+`lines`, `shuffled`, `functions`, `branches` (SIZE in records: one section that has only these), or `gcov` (SIZE in
+bytes: annotated source of many files, as gcov -b -c writes it).
 """
 import random
 import sys
@@ -50,6 +51,34 @@ def files(size, section):
         yield text
 
 
+CODE = ["{", "}", "", "  return result;", "  if (request != nullptr && request->is_open())", "  for (auto& part : parts)",
+        "    total += weight(part) * scale;  // the sum of all parts", "#include <project/request.h>"]
+MARKS = ["-", "-", "1", "17", "#####", "7919*", "-", "250"]
+
+
+def annotated_source(count):
+    lines = [f"        -:    0:{told}" for told in ("Graph:module.gcno", "Data:module.gcda", "Runs:1")]
+    for number in range(1, count + 1):
+        if number % 24 == 2:
+            lines.append(f"function {function(number)} called {number % 5} returned 100% blocks executed 80%")
+        lines.append(f"{MARKS[number * 5 % 8]:>9}:{number:>5}:{CODE[number * 3 % 8]}")
+        if number % 8 == 2:
+            lines += ["branch  0 taken 3 (fallthrough)", "branch  1 taken 0", "call    2 returned 3"]
+        if number % 40 == 3:
+            lines += ["branch  0 never executed", "branch  1 never executed"]
+    return lines
+
+
+def gcov_files(size):
+    made = number = 0
+    while made < size:
+        lines = [f"        -:    0:Source:{path(number)}", *annotated_source(150 + number * 37 % 300)]
+        text = "\n".join(lines) + "\n"
+        made += len(text)
+        number += 1
+        yield text
+
+
 def one_section(lines):
     yield f"SF:{path(0)}\n"
     for start in range(0, len(lines), 100000):
@@ -67,6 +96,8 @@ def text_of(kind, size):
         return files(size, section_of_lines)
     if kind == "kinds":
         return files(size, section_of_kinds)
+    if kind == "gcov":
+        return gcov_files(size)
     if kind == "lines":
         return one_section([f"DA:{n + 1},{n % 3}" for n in range(size)] + [f"LF:{size}"])
     if kind == "shuffled":

@@ -1,22 +1,21 @@
 -- Each input has exactly one session text: its commands are found piece by piece.
-use Rattle.std.proofs.Common.{◌≡◌, ◌≢◌, ◌⊎◌, ℕ, zero, suc, ◌+◌, ◌<◌, ◌≤◌, Bool, true, false, eqb, leb, List, [], ◌∷◌, ◌++◌, length, Result, refl, sym, ◌∙◌, ap, subst, arith, codes, inl, inr}
+use Rattle.std.proofs.Common.{◌≡◌, ◌≢◌, ◌⊎◌, ℕ, zero, suc, ◌<◌, ◌≤◌, Bool, true, false, eqb, leb, List, [], ◌∷◌, ◌++◌, length, Result, refl, sym, ◌∙◌, ap, subst, arith, codes, inl, inr}
 use Rattle.std.specs.List.{concat}
 use Rattle.std.proofs.lemmas.Bool.{eqb-true, eqb-false, leb-true, leb-false}
 use Rattle.covline.specs.Row.{SubmissionData}
 use Rattle.covline.specs.Lines.{line_of, pieces_of}
 use Rattle.covread.specs.declared.fault.ReadFault.{ReadFault}
-use Rattle.covread.specs.Outcome.{IsOutcome}
 use Rattle.covbook.specs.Op.{OpData, SubmitOp, ReportOp, ExtractOp, RemoveOp, SummaryOp}
 use Rattle.covreport.specs.Choice.{most_pattern_bytes}
-use Rattle.covcollect.specs.Command.{Command, Blank, Ask, RefusePattern, Unknown, Unfinished, AsksFor, IsTooLong, IsBody, space}
+use Rattle.covcollect.specs.Command.{Command, Format, Tracefile, Annotated, Announces, IsReadAs, Blank, Ask, RefusePattern, Unknown, Unfinished, AsksFor, IsTooLong, IsBody, space}
 use Rattle.covcollect.specs.Session.{IsSession, session_text}
 use Rattle.covcollect.specs.Text.{asked_for}
 use Rattle.covcollect.specs.Run.{IsRun}
 use Rattle.covcollect.specs.declared.session.text.LineEnd.TheVariants.{Feed, Input}
-use Rattle.covcollect.proofs.SessionRun.{run_none, run_one_input, run_more, open_determined}
+use Rattle.covcollect.proofs.SessionRun.{run_none, run_one_input, run_more, IsWhole, open_determined}
 use Rattle.covcollect.proofs.SessionSteps.{whole_run, blank_run, ask_run, long_run, unknown_run}
 
--- ---- a line is one of the commands, or `trace`
+-- ---- a line is one of the commands, or a text follows it
 
 same_head : (x y : ℕ) (xs ys : List ℕ) → x ∷ xs ≡ y ∷ ys → x ≡ y
 same_head x y xs ys e = cc
@@ -56,16 +55,16 @@ behind [] (x ∷ xs) = behind_space x xs (eqb x space) refl
 behind (w ∷ ws) [] = inr (λ h. none_some w (ws ++ space ∷ h.0) h.1)
 behind (w ∷ ws) (x ∷ xs) = behind_cons w x ws xs (eqb x w) refl (behind ws xs)
 
--- a piece is a command of its own, or a line `trace`
+-- a piece is a command of its own, or a line that a text follows
 abbrev Kind : List ℕ → Type 0
-Kind piece = ((commands : List Command) × IsRun Feed (piece ∷ []) commands) ⊎ (line_of piece ≡ codes "trace")
+Kind piece = ((commands : List Command) × IsRun Feed (piece ∷ []) commands) ⊎ ((format : Format) × Announces format (line_of piece))
 
 fit_kind : (piece pattern : List ℕ) (op : OpData) (fits : Bool) → leb (length pattern) most_pattern_bytes ≡ fits
     → (length pattern ≤ most_pattern_bytes → AsksFor op (line_of piece)) → (most_pattern_bytes < length pattern → IsTooLong (line_of piece)) → Kind piece
 fit_kind piece pattern op true e asks long = inl (Ask op ∷ [], ask_run Feed piece op (asks (leb-true (length pattern) most_pattern_bytes e)))
 fit_kind piece pattern op false e asks long = inl (RefusePattern ∷ [], long_run Feed piece (long (leb-false (length pattern) most_pattern_bytes e)))
 
--- the line is no command without a pattern
+-- the line is no word that stands alone
 pub record IsNoWord (line : List ℕ) : Type 0 where
   pub some : line ≢ []
   pub trace : line ≢ codes "trace"
@@ -73,6 +72,7 @@ pub record IsNoWord (line : List ℕ) : Type 0 where
   pub summary : line ≢ codes "summary"
   pub extract : line ≢ codes "extract"
   pub remove : line ≢ codes "remove"
+  pub gcov : line ≢ codes "gcov"
 
 no_op : (line : List ℕ) → IsNoWord line → (Behind (codes "extract") line → ⊥) → (Behind (codes "remove") line → ⊥) → (op : OpData) → AsksFor op line → ⊥
 no_op line n e r (SubmitOp submission) h = h
@@ -89,17 +89,27 @@ no_long : (line : List ℕ) → (Behind (codes "extract") line → ⊥) → (Beh
 no_long line e r (pattern, long, inl is) = e (pattern, is)
 no_long line e r (pattern, long, inr is) = r (pattern, is)
 
-choice_kind : (piece : List ℕ) → IsNoWord (line_of piece) → Behind (codes "extract") (line_of piece) ⊎ (Behind (codes "extract") (line_of piece) → ⊥)
-    → Behind (codes "remove") (line_of piece) ⊎ (Behind (codes "remove") (line_of piece) → ⊥) → Kind piece
-choice_kind piece n (inl e) r =
+no_text : (line : List ℕ) → IsNoWord line → (Behind (codes "gcov") line → ⊥) → (format : Format) → Announces format line → ⊥
+no_text line n g Tracefile h = n.trace h
+no_text line n g (Annotated test) (inl h) = n.gcov h.0
+no_text line n g (Annotated test) (inr h) = g (test, h)
+
+-- the word stands before a space, or doesn't
+abbrev May : List ℕ → List ℕ → Type 0
+May word line = Behind word line ⊎ (Behind word line → ⊥)
+
+choice_kind : (piece : List ℕ) → IsNoWord (line_of piece) → May (codes "extract") (line_of piece) → May (codes "remove") (line_of piece)
+    → May (codes "gcov") (line_of piece) → Kind piece
+choice_kind piece n (inl e) r g =
     fit_kind piece e.0 (ExtractOp (e.0 ∷ [])) (leb (length e.0) most_pattern_bytes) refl (λ fits. (e.1, fits)) (λ long. (e.0, long, inl e.1))
-choice_kind piece n (inr e) (inl r) =
+choice_kind piece n (inr e) (inl r) g =
     fit_kind piece r.0 (RemoveOp (r.0 ∷ [])) (leb (length r.0) most_pattern_bytes) refl (λ fits. (r.1, fits)) (λ long. (r.0, long, inr r.1))
-choice_kind piece n (inr e) (inr r) = inl (
+choice_kind piece n (inr e) (inr r) (inl g) = inr (Annotated g.0, inr g.1)
+choice_kind piece n (inr e) (inr r) (inr g) = inl (
   Unknown ∷ [],
   unknown_run Feed piece (record {
     some = n.some;
-    no_trace = n.trace;
+    no_text = no_text (line_of piece) n g;
     no_op = no_op (line_of piece) n e r;
     short = no_long (line_of piece) e r;
   }),
@@ -108,22 +118,29 @@ choice_kind piece n (inr e) (inr r) = inl (
 abbrev Same : List ℕ → List ℕ → Type 0
 Same line word = (line ≡ word) ⊎ (line ≢ word)
 
-word_kind : (piece : List ℕ) → Same (line_of piece) [] → Same (line_of piece) (codes "trace") → Same (line_of piece) (codes "report")
+-- the words that stand alone with a text of their own behind them
+text_kind : (piece : List ℕ) → Same (line_of piece) (codes "trace") → Same (line_of piece) (codes "gcov")
+    → (line_of piece ≢ codes "trace" → line_of piece ≢ codes "gcov" → Kind piece) → Kind piece
+text_kind piece (inl h) g more = inr (Tracefile, h)
+text_kind piece (inr t) (inl h) more = inr (Annotated [], inl (h, refl))
+text_kind piece (inr t) (inr g) more = more t g
+
+word_kind : (piece : List ℕ) → line_of piece ≢ codes "trace" → line_of piece ≢ codes "gcov" → Same (line_of piece) [] → Same (line_of piece) (codes "report")
     → Same (line_of piece) (codes "summary") → Same (line_of piece) (codes "extract") → Same (line_of piece) (codes "remove") → Kind piece
-word_kind piece (inl h) t r s e m = inl (Blank ∷ [], blank_run Feed piece h)
-word_kind piece (inr n) (inl h) r s e m = inr h
-word_kind piece (inr n) (inr t) (inl h) s e m = inl (Ask ReportOp ∷ [], ask_run Feed piece ReportOp h)
-word_kind piece (inr n) (inr t) (inr r) (inl h) e m = inl (Ask SummaryOp ∷ [], ask_run Feed piece SummaryOp h)
-word_kind piece (inr n) (inr t) (inr r) (inr s) (inl h) m = inl (Ask (ExtractOp []) ∷ [], ask_run Feed piece (ExtractOp []) h)
-word_kind piece (inr n) (inr t) (inr r) (inr s) (inr e) (inl h) = inl (Ask (RemoveOp []) ∷ [], ask_run Feed piece (RemoveOp []) h)
-word_kind piece (inr n) (inr t) (inr r) (inr s) (inr e) (inr m) =
-    choice_kind piece (record { some = n; trace = t; report = r; summary = s; extract = e; remove = m })
-    (behind (codes "extract") (line_of piece)) (behind (codes "remove") (line_of piece))
+word_kind piece t g (inl h) r s e m = inl (Blank ∷ [], blank_run Feed piece h)
+word_kind piece t g (inr n) (inl h) s e m = inl (Ask ReportOp ∷ [], ask_run Feed piece ReportOp h)
+word_kind piece t g (inr n) (inr r) (inl h) e m = inl (Ask SummaryOp ∷ [], ask_run Feed piece SummaryOp h)
+word_kind piece t g (inr n) (inr r) (inr s) (inl h) m = inl (Ask (ExtractOp []) ∷ [], ask_run Feed piece (ExtractOp []) h)
+word_kind piece t g (inr n) (inr r) (inr s) (inr e) (inl h) = inl (Ask (RemoveOp []) ∷ [], ask_run Feed piece (RemoveOp []) h)
+word_kind piece t g (inr n) (inr r) (inr s) (inr e) (inr m) =
+    choice_kind piece (record { some = n; trace = t; report = r; summary = s; extract = e; remove = m; gcov = g })
+    (behind (codes "extract") (line_of piece)) (behind (codes "remove") (line_of piece)) (behind (codes "gcov") (line_of piece))
 
 kind : (piece : List ℕ) → Kind piece
 kind piece =
-    word_kind piece (same (line_of piece) []) (same (line_of piece) (codes "trace")) (same (line_of piece) (codes "report"))
-    (same (line_of piece) (codes "summary")) (same (line_of piece) (codes "extract")) (same (line_of piece) (codes "remove"))
+    text_kind piece (same (line_of piece) (codes "trace")) (same (line_of piece) (codes "gcov"))
+    (λ t g. word_kind piece t g (same (line_of piece) []) (same (line_of piece) (codes "report"))
+    (same (line_of piece) (codes "summary")) (same (line_of piece) (codes "extract")) (same (line_of piece) (codes "remove")))
 
 -- ---- a text ends with the first line `.`
 
@@ -155,20 +172,22 @@ ends (piece ∷ pieces) = ends_cons piece pieces (same (line_of piece) (codes ".
 
 -- ---- the commands of an input
 
-module _ (read : (text : List ℕ) → (outcome : Result SubmissionData ReadFault) × IsOutcome text outcome)
-    (only : (text : List ℕ) (x y : Result SubmissionData ReadFault) → IsOutcome text x → IsOutcome text y → x ≡ y) where
+module _ (read : (format : Format) (text : List ℕ) → (outcome : Result SubmissionData ReadFault) × IsReadAs format text outcome)
+    (only : (format : Format) (text : List ℕ) (x y : Result SubmissionData ReadFault) → IsReadAs format text x → IsReadAs format text y → x ≡ y) where
   abbrev Commands : List (List ℕ) → Type 0
   Commands pieces = (commands : List Command) × IsRun Input pieces commands
 
-  trace_commands : (first : List ℕ) (pieces : List (List ℕ)) → line_of first ≡ codes "trace" → Ends pieces ⊎ IsBody pieces
+  text_commands : (format : Format) (first : List ℕ) (pieces : List (List ℕ)) → Announces format (line_of first) → Ends pieces ⊎ IsBody pieces
       → ((rest : List (List ℕ)) → length rest < length pieces → Commands rest) → Commands (first ∷ pieces)
-  trace_commands first pieces trace (inr none) more =
-      (Unfinished ∷ [], run_one_input (first ∷ pieces) Unfinished (first, pieces, refl, trace, none) refl (open_determined first pieces trace none))
-  trace_commands first pieces trace (inl e) more =
+  text_commands format first pieces announces (inr none) more =
+      (Unfinished ∷ [], run_one_input (first ∷ pieces) Unfinished (format, first, pieces, refl, announces, none) refl (open_determined format first pieces announces none))
+  text_commands format first pieces announces (inl e) more =
       let text = concat e.body in
-      let o = read text in
+      let o = read format text in
       let these = first ∷ (e.body ++ e.last ∷ []) in
-      let run = whole_run Feed first e.body e.last o.0 trace e.no_last e.dot o.1 (λ other h. only text other o.0 h o.1) in
+      let whole : IsWhole format first e.body e.last o.0 =
+      record { announces = announces; no_last = e.no_last; dot = e.dot; only = λ other h. only format text other o.0 h o.1 } in
+      let run = whole_run Feed format first e.body e.last o.0 whole o.1 in
       let r = more e.rest e.fewer in
       let P : List (List ℕ) → Type 0 = λ u. IsRun Input (first ∷ u) (asked_for o.0 ++ r.0) in
       (asked_for o.0 ++ r.0, subst P (sym e.is) (run_more Input these e.rest (asked_for o.0) r.0 run r.1))
@@ -178,7 +197,7 @@ module _ (read : (text : List ℕ) → (outcome : Result SubmissionData ReadFaul
   piece_commands piece pieces (inl k) more =
       let r = more pieces (omega arith) in
       (k.0 ++ r.0, run_more Input (piece ∷ []) pieces k.0 r.0 k.1 r.1)
-  piece_commands piece pieces (inr trace) more = trace_commands piece pieces trace (ends pieces) (λ rest few. more rest (omega arith))
+  piece_commands piece pieces (inr k) more = text_commands k.0 piece pieces k.1 (ends pieces) (λ rest few. more rest (omega arith))
 
   commands_of : (n : ℕ) (pieces : List (List ℕ)) → length pieces ≤ n → Commands pieces
   commands_of n [] few = ([], run_none Input)
@@ -198,3 +217,17 @@ module _ (read : (text : List ℕ) → (outcome : Result SubmissionData ReadFaul
   one_session input x y h k =
       let all = of_input input in
       one_text input x all.0 all.1 h ∙ sym (one_text input y all.0 all.1 k)
+
+-- a text of either format is read as one thing
+pub read_some : ((text : List ℕ) → (outcome : Result SubmissionData ReadFault) × IsReadAs Tracefile text outcome)
+    → ((test text : List ℕ) → (outcome : Result SubmissionData ReadFault) × IsReadAs (Annotated test) text outcome)
+    → (format : Format) (text : List ℕ) → (outcome : Result SubmissionData ReadFault) × IsReadAs format text outcome
+read_some trace gcov Tracefile text = trace text
+read_some trace gcov (Annotated test) text = gcov test text
+
+abbrev OneRead : Format → Type 0
+OneRead format = (text : List ℕ) (x y : Result SubmissionData ReadFault) → IsReadAs format text x → IsReadAs format text y → x ≡ y
+
+pub read_one : OneRead Tracefile → ((test : List ℕ) → OneRead (Annotated test)) → (format : Format) → OneRead format
+read_one trace gcov Tracefile = trace
+read_one trace gcov (Annotated test) = gcov test

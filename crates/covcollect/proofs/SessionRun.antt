@@ -9,13 +9,13 @@ use Rattle.covbook.specs.Step.{answer_of, table_after, table_from}
 use Rattle.covread.specs.declared.fault.ReadFault.{ReadFault}
 use Rattle.covcollect.specs.declared.session.text.LineEnd.{LineEnd}
 use Rattle.covcollect.specs.declared.session.text.LineEnd.TheVariants.{Feed, Input}
-use Rattle.covread.specs.Outcome.{IsOutcome, Answers, IsOrMemory}
+use Rattle.covread.specs.Outcome.{IsOrMemory}
 use Rattle.covread.specs.declared.fault.ReadFault.TheVariants as faults
-use Rattle.covcollect.specs.Command.{Command, Blank, Ask, RefusePattern, Submit, Refuse, Unknown, Unfinished, AsksFor, IsTooLong, IsUnknown, IsBody, IsCommand, EndsInput, AreCommands, ops_of}
+use Rattle.covcollect.specs.Command.{Command, Format, Announces, IsReadAs, Blank, Ask, RefusePattern, Submit, Refuse, Unknown, Unfinished, AsksFor, IsTooLong, IsUnknown, IsBody, IsCommand, EndsInput, AreCommands, ops_of}
 use Rattle.covcollect.specs.Session.{answer_text, refused_text, refused_pattern_text, said, text_after}
-use Rattle.covcollect.specs.Text.{asked_for, IsTold}
+use Rattle.covcollect.specs.Text.{asked_for, AnswersAs, IsTold, IsToldAnswer}
 use Rattle.covcollect.specs.Run.{IsRun}
-use Rattle.covcollect.proofs.SessionWords.{IsSingle, single_unique, not_trace}
+use Rattle.covcollect.proofs.SessionWords.{IsSingle, single_unique, not_text, one_format}
 
 -- what commands are answered, and then further ones
 pub text_more : (table : Table) (commands more : List Command)
@@ -50,30 +50,32 @@ pub record Single (those : List (List ℕ)) (d : Command) : Type 0 where
   pub is : those ≡ piece ∷ []
   pub says : IsSingle (line_of piece) d
 
-pub record WholeTrace (those : List (List ℕ)) (d : Command) : Type 0 where
+pub record WholeText (those : List (List ℕ)) (d : Command) : Type 0 where
+  pub format : Format
   pub first : List ℕ
   pub body : List (List ℕ)
   pub last : List ℕ
   pub outcome : Result SubmissionData ReadFault
   pub is : those ≡ first ∷ (body ++ last ∷ [])
-  pub trace : line_of first ≡ codes "trace"
+  pub announces : Announces format (line_of first)
   pub no_last : IsBody body
   pub dot : line_of last ≡ codes "."
-  pub read : IsOutcome (concat body) outcome
+  pub read : IsReadAs format (concat body) outcome
   pub asked : asked_for outcome ≡ d ∷ []
 
-pub record OpenTrace (those : List (List ℕ)) (d : Command) : Type 0 where
+pub record OpenText (those : List (List ℕ)) (d : Command) : Type 0 where
+  pub format : Format
   pub first : List ℕ
   pub body : List (List ℕ)
   pub is : those ≡ first ∷ body
-  pub trace : line_of first ≡ codes "trace"
+  pub announces : Announces format (line_of first)
   pub no_last : IsBody body
   pub asked : d ≡ Unfinished
 
 pub data Shape (those : List (List ℕ)) (d : Command) : Type 0 where
   ASingle : Single those d → Shape those d
-  AWhole : WholeTrace those d → Shape those d
-  AnOpen : OpenTrace those d → Shape those d
+  AWhole : WholeText those d → Shape those d
+  AnOpen : OpenText those d → Shape those d
 
 pub shape : (those : List (List ℕ)) (d : Command) → IsCommand those d → Shape those d
 shape those Blank (piece, is, line) = ASingle (record { piece = piece; is = is; says = line })
@@ -82,16 +84,16 @@ shape those (Ask op) (line, (piece, is, same), asks) =
     ASingle (record { piece = piece; is = is; says = subst P (sym same) asks })
 shape those RefusePattern (line, (piece, is, same), long) = ASingle (record { piece = piece; is = is; says = subst IsTooLong (sym same) long })
 shape those Unknown (line, (piece, is, same), unknown) = ASingle (record { piece = piece; is = is; says = subst IsUnknown (sym same) unknown })
-shape those (Submit submission) (text, (first, body, last, is, trace, no_last, dot, same), read) =
-    let P : List ℕ → Type 0 = λ u. IsOutcome u (Ok submission) in
-    AWhole (record { first = first; body = body; last = last; outcome = Ok submission; is = is; trace = trace; no_last = no_last; dot = dot; read = subst P same read; asked = refl })
-shape those (Refuse fault) (text, (first, body, last, is, trace, no_last, dot, same), read) =
-    let P : List ℕ → Type 0 = λ u. IsOutcome u (Err fault) in
-    AWhole (record { first = first; body = body; last = last; outcome = Err fault; is = is; trace = trace; no_last = no_last; dot = dot; read = subst P same read; asked = refl })
-shape those Unfinished (first, body, is, trace, no_last) =
-    AnOpen (record { first = first; body = body; is = is; trace = trace; no_last = no_last; asked = refl })
+shape those (Submit submission) (format, text, (first, body, last, is, announces, no_last, dot, same), read) =
+    let P : List ℕ → Type 0 = λ u. IsReadAs format u (Ok submission) in
+    AWhole (record { format = format; first = first; body = body; last = last; outcome = Ok submission; is = is; announces = announces; no_last = no_last; dot = dot; read = subst P same read; asked = refl })
+shape those (Refuse fault) (format, text, (first, body, last, is, announces, no_last, dot, same), read) =
+    let P : List ℕ → Type 0 = λ u. IsReadAs format u (Err fault) in
+    AWhole (record { format = format; first = first; body = body; last = last; outcome = Err fault; is = is; announces = announces; no_last = no_last; dot = dot; read = subst P same read; asked = refl })
+shape those Unfinished (format, first, body, is, announces, no_last) =
+    AnOpen (record { format = format; first = first; body = body; is = is; announces = announces; no_last = no_last; asked = refl })
 
--- the first line `.` behind a line `trace` has one place
+-- the first line `.` behind a line that a text follows has one place
 pub no_dot : (body before after : List (List ℕ)) (last : List ℕ) → IsBody body → line_of last ≡ codes "." → body ≡ before ++ last ∷ after → ⊥
 no_dot [] [] after last h dot e = cc
 no_dot [] (b ∷ before) after last h dot e = cc
@@ -125,11 +127,13 @@ single_by piece rest those further c d h e (ASingle s) =
 single_by piece rest those further c d h e (AWhole s) =
     let all : piece ∷ rest ≡ s.first ∷ ((s.body ++ s.last ∷ []) ++ further) = e ∙ ap (λ (u : List (List ℕ)). u ++ further) s.is in
     let same : piece ≡ s.first = cc in
-    absurd (not_trace (line_of piece) c h (ap line_of same ∙ s.trace))
+    let P : List ℕ → Type 0 = λ u. Announces s.format (line_of u) in
+    absurd (not_text (line_of piece) c s.format h (subst P (sym same) s.announces))
 single_by piece rest those further c d h e (AnOpen s) =
     let all : piece ∷ rest ≡ s.first ∷ (s.body ++ further) = e ∙ ap (λ (u : List (List ℕ)). u ++ further) s.is in
     let same : piece ≡ s.first = cc in
-    absurd (not_trace (line_of piece) c h (ap line_of same ∙ s.trace))
+    let P : List ℕ → Type 0 = λ u. Announces s.format (line_of u) in
+    absurd (not_text (line_of piece) c s.format h (subst P (sym same) s.announces))
 
 pub single_determined : (piece : List ℕ) (rest : List (List ℕ)) (c : Command) → IsSingle (line_of piece) c → Determined (piece ∷ []) rest c
 single_determined piece rest c h = λ those further d e is ends. single_by piece rest those further c d h e (shape those d is)
@@ -146,52 +150,63 @@ open_ends Unknown further e h = absurd (let nothing : ⊥ = cc in nothing)
 open_ends (Submit submission) further e h = absurd (let nothing : ⊥ = cc in nothing)
 open_ends (Refuse fault) further e h = absurd (let nothing : ⊥ = cc in nothing)
 
-whole_by : (first : List ℕ) (body rest those further : List (List ℕ)) (last : List ℕ) (outcome : Result SubmissionData ReadFault) (c d : Command)
-    → line_of first ≡ codes "trace" → IsBody body → line_of last ≡ codes "."
-    → ((other : Result SubmissionData ReadFault) → IsOutcome (concat body) other → other ≡ outcome) → asked_for outcome ≡ c ∷ []
+-- a whole text: its format and first line, its body, its last line, what it is read as and the command that it is
+pub record IsWhole (format : Format) (first : List ℕ) (body : List (List ℕ)) (last : List ℕ) (outcome : Result SubmissionData ReadFault) : Type 0 where
+  pub announces : Announces format (line_of first)
+  pub no_last : IsBody body
+  pub dot : line_of last ≡ codes "."
+  pub only : (other : Result SubmissionData ReadFault) → IsReadAs format (concat body) other → other ≡ outcome
+
+whole_by : (format : Format) (first : List ℕ) (body rest those further : List (List ℕ)) (last : List ℕ) (outcome : Result SubmissionData ReadFault) (c d : Command)
+    → IsWhole format first body last outcome → asked_for outcome ≡ c ∷ []
     → first ∷ ((body ++ last ∷ []) ++ rest) ≡ those ++ further → EndsInput d further → Shape those d → (d ≡ c) × (further ≡ rest)
-whole_by first body rest those further last outcome c d trace no_last dot only asked e ends (ASingle s) =
+whole_by format first body rest those further last outcome c d w asked e ends (ASingle s) =
     let all : first ∷ ((body ++ last ∷ []) ++ rest) ≡ s.piece ∷ further = e ∙ ap (λ (u : List (List ℕ)). u ++ further) s.is in
     let same : first ≡ s.piece = cc in
-    absurd (not_trace (line_of s.piece) d s.says (ap line_of (sym same) ∙ trace))
-whole_by first body rest those further last outcome c d trace no_last dot only asked e ends (AWhole s) =
+    let P : List ℕ → Type 0 = λ u. Announces format (line_of u) in
+    absurd (not_text (line_of s.piece) d format s.says (subst P same w.announces))
+whole_by format first body rest those further last outcome c d w asked e ends (AWhole s) =
     let all : first ∷ ((body ++ last ∷ []) ++ rest) ≡ s.first ∷ ((s.body ++ s.last ∷ []) ++ further) = e ∙ ap (λ (u : List (List ℕ)). u ++ further) s.is in
     let tails : (body ++ last ∷ []) ++ rest ≡ (s.body ++ s.last ∷ []) ++ further = cc in
     let flat : body ++ last ∷ rest ≡ s.body ++ s.last ∷ further = sym (append_assoc body (last ∷ []) rest) ∙ tails ∙ append_assoc s.body (s.last ∷ []) further in
-    let both = dot_place body s.body rest further last s.last no_last s.no_last dot s.dot flat in
-    let P : List (List ℕ) → Type 0 = λ u. IsOutcome (concat u) s.outcome in
-    let same : s.outcome ≡ outcome = only s.outcome (subst P (sym both.0) s.read) in
+    let both = dot_place body s.body rest further last s.last w.no_last s.no_last w.dot s.dot flat in
+    let head : first ≡ s.first = cc in
+    let A : List ℕ → Type 0 = λ u. Announces s.format (line_of u) in
+    let form : s.format ≡ format = one_format (line_of first) format s.format w.announces (subst A (sym head) s.announces) in
+    let F : Format → Type 0 = λ u. IsReadAs u (concat s.body) s.outcome in
+    let P : List (List ℕ) → Type 0 = λ u. IsReadAs format (concat u) s.outcome in
+    let same : s.outcome ≡ outcome = w.only s.outcome (subst P (sym both.0) (subst F form s.read)) in
     (one_command d c (sym s.asked ∙ ap asked_for same ∙ asked), sym both.1)
-whole_by first body rest those further last outcome c d trace no_last dot only asked e ends (AnOpen s) =
+whole_by format first body rest those further last outcome c d w asked e ends (AnOpen s) =
     let all : first ∷ ((body ++ last ∷ []) ++ rest) ≡ s.first ∷ (s.body ++ further) = e ∙ ap (λ (u : List (List ℕ)). u ++ further) s.is in
     let none : further ≡ [] = open_ends d further s.asked ends in
     let tails : (body ++ last ∷ []) ++ rest ≡ s.body ++ further = cc in
     let flat : s.body ≡ body ++ last ∷ rest =
     sym (append-nil s.body) ∙ ap (λ (u : List (List ℕ)). s.body ++ u) (sym none) ∙ sym tails ∙ append_assoc body (last ∷ []) rest in
-    absurd (no_dot s.body body rest last s.no_last dot flat)
+    absurd (no_dot s.body body rest last s.no_last w.dot flat)
 
-pub whole_determined : (first : List ℕ) (body rest : List (List ℕ)) (last : List ℕ) (outcome : Result SubmissionData ReadFault) (c : Command)
-    → line_of first ≡ codes "trace" → IsBody body → line_of last ≡ codes "."
-    → ((other : Result SubmissionData ReadFault) → IsOutcome (concat body) other → other ≡ outcome) → asked_for outcome ≡ c ∷ []
+pub whole_determined : (format : Format) (first : List ℕ) (body rest : List (List ℕ)) (last : List ℕ) (outcome : Result SubmissionData ReadFault) (c : Command)
+    → IsWhole format first body last outcome → asked_for outcome ≡ c ∷ []
     → Determined (first ∷ (body ++ last ∷ [])) rest c
-whole_determined first body rest last outcome c trace no_last dot only asked = λ those further d e is ends.
-    whole_by first body rest those further last outcome c d trace no_last dot only asked e ends (shape those d is)
+whole_determined format first body rest last outcome c w asked = λ those further d e is ends.
+    whole_by format first body rest those further last outcome c d w asked e ends (shape those d is)
 
-open_by : (first : List ℕ) (body those further : List (List ℕ)) (d : Command) → line_of first ≡ codes "trace" → IsBody body
+open_by : (format : Format) (first : List ℕ) (body those further : List (List ℕ)) (d : Command) → Announces format (line_of first) → IsBody body
     → first ∷ body ≡ those ++ further → EndsInput d further → Shape those d → (d ≡ Unfinished) × (further ≡ [])
-open_by first body those further d trace no_last e ends (ASingle s) =
+open_by format first body those further d announces no_last e ends (ASingle s) =
     let all : first ∷ body ≡ s.piece ∷ further = e ∙ ap (λ (u : List (List ℕ)). u ++ further) s.is in
     let same : first ≡ s.piece = cc in
-    absurd (not_trace (line_of s.piece) d s.says (ap line_of (sym same) ∙ trace))
-open_by first body those further d trace no_last e ends (AWhole s) =
+    let P : List ℕ → Type 0 = λ u. Announces format (line_of u) in
+    absurd (not_text (line_of s.piece) d format s.says (subst P same announces))
+open_by format first body those further d announces no_last e ends (AWhole s) =
     let all : first ∷ body ≡ s.first ∷ ((s.body ++ s.last ∷ []) ++ further) = e ∙ ap (λ (u : List (List ℕ)). u ++ further) s.is in
     let tails : body ≡ (s.body ++ s.last ∷ []) ++ further = cc in
     absurd (no_dot body s.body further s.last no_last s.dot (tails ∙ append_assoc s.body (s.last ∷ []) further))
-open_by first body those further d trace no_last e ends (AnOpen s) = (s.asked, open_ends d further s.asked ends)
+open_by format first body those further d announces no_last e ends (AnOpen s) = (s.asked, open_ends d further s.asked ends)
 
-pub open_determined : (first : List ℕ) (body : List (List ℕ)) → line_of first ≡ codes "trace" → IsBody body → Determined (first ∷ body) [] Unfinished
-open_determined first body trace no_last = λ those further d e is ends.
-    open_by first body those further d trace no_last (sym (append-nil (first ∷ body)) ∙ e) ends (shape those d is)
+pub open_determined : (format : Format) (first : List ℕ) (body : List (List ℕ)) → Announces format (line_of first) → IsBody body → Determined (first ∷ body) [] Unfinished
+open_determined format first body announces no_last = λ those further d e is ends.
+    open_by format first body those further d announces no_last (sym (append-nil (first ∷ body)) ∙ e) ends (shape those d is)
 
 -- a command has a piece
 not_none : (those : List (List ℕ)) (d : Command) → Shape those d → those ≢ []
@@ -288,11 +303,11 @@ not_told : (fault : ReadFault) → IsTold fault → told_as fault ≡ told_as fa
 not_told fault told e = not_memory fault told (same_fault fault faults.Memory e)
 
 -- a fault that is told is what the text is read as
-pub told_outcome : (text : List ℕ) (fault : ReadFault) → IsTold fault → Answers text (Err fault) → IsOutcome text (Err fault)
-told_outcome text fault told (inl none) = absurd (not_told fault told none.1)
-told_outcome text fault told (inr h) = h
+told_outcome : (format : Format) (text : List ℕ) (fault : ReadFault) → IsTold fault → AnswersAs format text (Err fault) → IsReadAs format text (Err fault)
+told_outcome format text fault told (inl none) = absurd (not_told fault told none)
+told_outcome format text fault told (inr h) = h
 
-pub told_only : (fault : ReadFault) (outcome : Result SubmissionData ReadFault) → IsTold fault → IsOrMemory (Err fault) outcome → outcome ≡ Err fault
+told_only : (fault : ReadFault) (outcome : Result SubmissionData ReadFault) → IsTold fault → IsOrMemory (Err fault) outcome → outcome ≡ Err fault
 told_only fault outcome told (inl none) = absurd (not_told fault told none)
 told_only fault outcome told (inr h) = h
 
@@ -303,10 +318,19 @@ answered submission = Ok submission
 ok_no_fault : (submission : SubmissionData) → answered submission ≡ told_as faults.Memory → ⊥
 ok_no_fault submission e = cc
 
-pub ok_outcome : (text : List ℕ) (submission : SubmissionData) → Answers text (Ok submission) → IsOutcome text (Ok submission)
-ok_outcome text submission (inl none) = absurd (ok_no_fault submission none.1)
-ok_outcome text submission (inr h) = h
+ok_outcome : (format : Format) (text : List ℕ) (submission : SubmissionData) → AnswersAs format text (Ok submission) → IsReadAs format text (Ok submission)
+ok_outcome format text submission (inl none) = absurd (ok_no_fault submission none)
+ok_outcome format text submission (inr h) = h
 
-pub ok_only : (submission : SubmissionData) (outcome : Result SubmissionData ReadFault) → IsOrMemory (Ok submission) outcome → outcome ≡ Ok submission
+ok_only : (submission : SubmissionData) (outcome : Result SubmissionData ReadFault) → IsOrMemory (Ok submission) outcome → outcome ≡ Ok submission
 ok_only submission outcome (inl none) = absurd (ok_no_fault submission none)
 ok_only submission outcome (inr h) = h
+
+-- an answer that is told is what the text is read as, and the only one
+pub answer_outcome : (format : Format) (text : List ℕ) (answer : Result SubmissionData ReadFault) → IsToldAnswer answer → AnswersAs format text answer → IsReadAs format text answer
+answer_outcome format text (Ok submission) told h = ok_outcome format text submission h
+answer_outcome format text (Err fault) told h = told_outcome format text fault told h
+
+pub answer_only : (answer outcome : Result SubmissionData ReadFault) → IsToldAnswer answer → IsOrMemory answer outcome → outcome ≡ answer
+answer_only (Ok submission) outcome told h = ok_only submission outcome h
+answer_only (Err fault) outcome told h = told_only fault outcome told h

@@ -17,19 +17,21 @@ use Rattle.covcollect.specs.declared.session.text.LineEnd.{LineEnd}
 use Rattle.covcollect.specs.declared.session.text.LineEnd.TheVariants.{Feed, Input}
 use Rattle.covcollect.specs.declared.session.text.Taken.{Taken}
 use Rattle.covcollect.specs.declared.session.text.Taken.TheVariants as taken
+use Rattle.covcollect.specs.declared.session.command.word.Format.{Format as TextFormat}
 use Rattle.covcollect.specs.declared.session.command.word.Pick.{Pick}
 use Rattle.covcollect.specs.declared.session.command.word.Pick.TheVariants as picks
 use Rattle.covcollect.specs.declared.session.command.word.Word.{Word}
 use Rattle.covcollect.specs.declared.session.command.word.Word.TheVariants as words
 use Rattle.covread.specs.Outcome.{IsOutcome, most_bytes}
-use Rattle.covcollect.specs.Command.{Command, Blank, Ask, RefusePattern, Submit, Refuse, Unknown, Unfinished, AsksFor, IsTooLong, IsUnknown, IsBody, AreCommands, ops_of, ops_asked, IsWord, IsWordWith, pick_name, pick_op, asked_by, chosen_by, IsListOf}
+use Rattle.covread.specs.GcovOutcome as gcov
+use Rattle.covcollect.specs.Command.{Command, Format, Tracefile, Annotated, Announces, IsReadAs, format_of, Blank, Ask, RefusePattern, Submit, Refuse, Unknown, Unfinished, AsksFor, IsTooLong, IsUnknown, AreCommands, ops_of, ops_asked, IsWord, IsWordWith, pick_name, pick_op, asked_by, chosen_by, IsListOf}
 use Rattle.covcollect.specs.Session.{IsSession, IsWholeSession, text_after, Asks}
 use Rattle.covcollect.specs.Streams.{InputData, OutputData, Moment, Takes, Says, Moves, TakesLine, TakesPieces, EndsAs, turns, unread, line_bytes, line_pieces}
 use Rattle.covcollect.specs.Text.{IsTaken, asked_for, IsAnsweredAs}
-use Rattle.covcollect.specs.Run.{IsRun, TakesTrace, TakesCommand, IsSoFar, IsDone}
+use Rattle.covcollect.specs.Run.{IsRun, TakesText, TakesCommand, IsSoFar, IsDone}
 use Rattle.covcollect.proofs.SessionMoves.{Says-trans, Moves-trans, Moves-none}
 use Rattle.covcollect.proofs.SessionPieces.{cut_append, cut_ending, line_of_bytes}
-use Rattle.covcollect.proofs.SessionRun.{text_more, run_none, run_one, run_one_input, run_more, single_determined, whole_determined, open_determined}
+use Rattle.covcollect.proofs.SessionRun.{text_more, run_none, run_one, run_one_input, run_more, single_determined, IsWhole, whole_determined, open_determined}
 
 -- pieces were taken, and then something was said
 pub says_on : (m n : Moment) (p : OutputData) (pieces : List (List ℕ)) (ending : LineEnd) (text : List ℕ)
@@ -63,42 +65,58 @@ line_taken m n line ending h = record {
   ended = h.ended;
 }
 
--- a text behind a line `trace`
-pub whole_run : (ending : LineEnd) (first : List ℕ) (body : List (List ℕ)) (last : List ℕ) (outcome : Result SubmissionData ReadFault)
-    → line_of first ≡ codes "trace" → IsBody body → line_of last ≡ codes "." → IsOutcome (concat body) outcome
-    → ((other : Result SubmissionData ReadFault) → IsOutcome (concat body) other → other ≡ outcome)
+-- a text behind a line
+pub whole_run : (ending : LineEnd) (format : Format) (first : List ℕ) (body : List (List ℕ)) (last : List ℕ) (outcome : Result SubmissionData ReadFault)
+    → IsWhole format first body last outcome → IsReadAs format (concat body) outcome
     → IsRun ending (first ∷ (body ++ last ∷ [])) (asked_for outcome)
-whole_run ending first body last (Ok submission) trace no_last dot read only =
+whole_run ending format first body last (Ok submission) w read =
     run_one ending (first ∷ (body ++ last ∷ [])) (Submit submission)
-    (concat body, (first, body, last, refl, trace, no_last, dot, refl), read) (λ rest. tt)
-    (λ rest. whole_determined first body rest last (Ok submission) (Submit submission) trace no_last dot only refl)
-whole_run ending first body last (Err fault) trace no_last dot read only =
+    (format, concat body, (first, body, last, refl, w.announces, w.no_last, w.dot, refl), read) (λ rest. tt)
+    (λ rest. whole_determined format first body rest last (Ok submission) (Submit submission) w refl)
+whole_run ending format first body last (Err fault) w read =
     run_one ending (first ∷ (body ++ last ∷ [])) (Refuse fault)
-    (concat body, (first, body, last, refl, trace, no_last, dot, refl), read) (λ rest. tt)
-    (λ rest. whole_determined first body rest last (Err fault) (Refuse fault) trace no_last dot only refl)
+    (format, concat body, (first, body, last, refl, w.announces, w.no_last, w.dot, refl), read) (λ rest. tt)
+    (λ rest. whole_determined format first body rest last (Err fault) (Refuse fault) w refl)
 
-too_long_only : (text : List ℕ) → most_bytes < length text → (other : Result SubmissionData ReadFault) → IsOutcome text other → other ≡ Err faults.TooLong
-too_long_only text long (Ok submission) h = absurd (let few : length text ≤ most_bytes = h.0 in omega arith)
-too_long_only text long (Err fault) (inl h) = ap (λ (f : ReadFault). Err f) h.1
-too_long_only text long (Err fault) (inr h) = absurd (let few : length text ≤ most_bytes = h.0 in omega arith)
+too_long_read : (format : Format) (text : List ℕ) → most_bytes < length text → IsReadAs format text (Err faults.TooLong)
+too_long_read Tracefile text long = inl (long, refl)
+too_long_read (Annotated test) text long = inl (long, refl)
 
-pub taken_run : {A : Type 0} (taken : Taken A) (pieces : List (List ℕ)) (ending : LineEnd) (commands : List Command)
-    → IsTaken pieces ending taken → IsAnsweredAs taken commands → (first : List ℕ) → line_of first ≡ codes "trace" → IsRun ending (first ∷ pieces) commands
-taken_run (taken.Whole kept) pieces ending commands (body, last, is, no_last, dot, (same, few)) (outcome, asked, read, only) first trace =
-    let P : List ℕ → Type 0 = λ u. IsOutcome u outcome in
-    let O : List ℕ → Type 0 = λ u. (other : Result SubmissionData ReadFault) → IsOutcome u other → other ≡ outcome in
+too_long_trace : (text : List ℕ) → most_bytes < length text → (other : Result SubmissionData ReadFault) → IsOutcome text other → other ≡ Err faults.TooLong
+too_long_trace text long (Ok submission) h = absurd (let few : length text ≤ most_bytes = h.0 in omega arith)
+too_long_trace text long (Err fault) (inl h) = ap (λ (f : ReadFault). Err f) h.1
+too_long_trace text long (Err fault) (inr h) = absurd (let few : length text ≤ most_bytes = h.0 in omega arith)
+
+too_long_gcov : (test text : List ℕ) → most_bytes < length text → (other : Result SubmissionData ReadFault) → gcov.IsOutcome test text other → other ≡ Err faults.TooLong
+too_long_gcov test text long (Ok submission) h = absurd (let few : length text ≤ most_bytes = h.0 in omega arith)
+too_long_gcov test text long (Err fault) (inl h) = ap (λ (f : ReadFault). Err f) h.1
+too_long_gcov test text long (Err fault) (inr (inl h)) = absurd (let few : length text ≤ most_bytes = h.0 in omega arith)
+too_long_gcov test text long (Err fault) (inr (inr (inl h))) = absurd (let few : length text ≤ most_bytes = h.0 in omega arith)
+too_long_gcov test text long (Err fault) (inr (inr (inr h))) = absurd (let few : length text ≤ most_bytes = h.0 in omega arith)
+
+too_long_only : (format : Format) (text : List ℕ) → most_bytes < length text → (other : Result SubmissionData ReadFault) → IsReadAs format text other → other ≡ Err faults.TooLong
+too_long_only Tracefile text long other h = too_long_trace text long other h
+too_long_only (Annotated test) text long other h = too_long_gcov test text long other h
+
+pub taken_run : {A : Type 0} (format : Format) (taken : Taken A) (pieces : List (List ℕ)) (ending : LineEnd) (commands : List Command)
+    → IsTaken pieces ending taken → IsAnsweredAs format taken commands → (first : List ℕ) → Announces format (line_of first) → IsRun ending (first ∷ pieces) commands
+taken_run format (taken.Whole kept) pieces ending commands (body, last, is, no_last, dot, (same, few)) (outcome, asked, read, only) first announces =
+    let P : List ℕ → Type 0 = λ u. IsReadAs format u outcome in
+    let O : List ℕ → Type 0 = λ u. (other : Result SubmissionData ReadFault) → IsReadAs format u other → other ≡ outcome in
     let Q : List (List ℕ) → Type 0 = λ u. IsRun ending (first ∷ u) commands in
     let R : List Command → Type 0 = λ u. IsRun ending (first ∷ (body ++ last ∷ [])) u in
-    subst Q (sym is) (subst R (sym asked) (whole_run ending first body last outcome trace no_last dot (subst P same read) (subst O same only)))
-taken_run taken.TooLong pieces ending commands (body, last, is, no_last, dot, long) asked first trace =
+    let whole : IsWhole format first body last outcome = record { announces = announces; no_last = no_last; dot = dot; only = subst O same only } in
+    subst Q (sym is) (subst R (sym asked) (whole_run ending format first body last outcome whole (subst P same read)))
+taken_run format taken.TooLong pieces ending commands (body, last, is, no_last, dot, long) asked first announces =
     let Q : List (List ℕ) → Type 0 = λ u. IsRun ending (first ∷ u) commands in
     let R : List Command → Type 0 = λ u. IsRun ending (first ∷ (body ++ last ∷ [])) u in
-    subst Q (sym is) (subst R (sym asked) (whole_run ending first body last (Err faults.TooLong) trace no_last dot (inl (long, refl)) (too_long_only (concat body) long)))
-taken_run taken.Unfinished pieces ending commands (no_last, ends) asked first trace =
+    let whole : IsWhole format first body last (Err faults.TooLong) = record { announces = announces; no_last = no_last; dot = dot; only = too_long_only format (concat body) long } in
+    subst Q (sym is) (subst R (sym asked) (whole_run ending format first body last (Err faults.TooLong) whole (too_long_read format (concat body) long)))
+taken_run format taken.Unfinished pieces ending commands (no_last, ends) asked first announces =
     let Q : LineEnd → Type 0 = λ u. IsRun u (first ∷ pieces) commands in
     let R : List Command → Type 0 = λ u. IsRun Input (first ∷ pieces) u in
     subst Q (sym ends) (subst R (sym asked)
-    (run_one_input (first ∷ pieces) Unfinished (first, pieces, refl, trace, no_last) refl (open_determined first pieces trace no_last)))
+    (run_one_input (first ∷ pieces) Unfinished (format, first, pieces, refl, announces, no_last) refl (open_determined format first pieces announces no_last)))
 
 -- a command of one line
 pub blank_run : (ending : LineEnd) (piece : List ℕ) → line_of piece ≡ [] → IsRun ending (piece ∷ []) (Blank ∷ [])
@@ -133,16 +151,20 @@ choose_run ending piece picks.Remove None h = ask_run ending piece (RemoveOp [])
 choose_run ending piece picks.Remove (Some pattern) h =
     fit_run ending piece pattern (RemoveOp (pattern ∷ [])) (leb (length pattern) most_pattern_bytes) refl (λ fits. (h, fits)) (λ long. (pattern, long, inr h))
 
-word_run : (ending : LineEnd) (piece : List ℕ) (word : Word) → IsWord (line_of piece) word → (word ≡ words.Trace → ending ≡ Input)
+-- a word that a text follows stands at the end of the input
+abbrev pub IsLastText : LineEnd → Word → Type 0
+IsLastText ending word = (format : TextFormat) → word ≡ words.Text format → ending ≡ Input
+
+word_run : (ending : LineEnd) (piece : List ℕ) (word : Word) → IsWord (line_of piece) word → IsLastText ending word
     → IsRun ending (piece ∷ []) (asked_by word)
 word_run ending piece words.Blank h last = blank_run ending piece h
 word_run ending piece words.Report h last = ask_run ending piece ReportOp h
 word_run ending piece words.Summary h last = ask_run ending piece SummaryOp h
 word_run ending piece (words.Choose pick pattern) h last = choose_run ending piece pick (option_map (λ p. p.now) pattern) h
 word_run ending piece words.Other h last = unknown_run ending piece h
-word_run ending piece words.Trace h last =
+word_run ending piece (words.Text format) h last =
     let Q : LineEnd → Type 0 = λ u. IsRun u (piece ∷ []) (Unfinished ∷ []) in
-    subst Q (sym (last refl)) (run_one_input (piece ∷ []) Unfinished (piece, [], refl, h, tt) refl (open_determined piece [] h tt))
+    subst Q (sym (last format refl)) (run_one_input (piece ∷ []) Unfinished (format_of format, piece, [], refl, h, tt) refl (open_determined (format_of format) piece [] h tt))
 
 -- what a line is asked for, and nothing behind the last line
 pub record LineRun (ending : LineEnd) (pieces : List (List ℕ)) (word : Word) : Type 0 where
@@ -157,16 +179,22 @@ no_choice [] pattern some h = omega arith
 no_choice (b ∷ bs) None some h = cc
 no_choice (b ∷ bs) (Some pattern) some h = cc
 
+-- no text follows nothing
+no_text : (format : Format) → Announces format [] → ⊥
+no_text Tracefile h = cc
+no_text (Annotated test) (inl h) = let e = h.0 in cc
+no_text (Annotated test) (inr h) = cc
+
 nothing_run : (word : Word) → IsWord [] word → LineRun Input [] word
 nothing_run words.Blank h = record { commands = []; run = run_none Input; same_text = λ table. refl; same_ops = refl }
 nothing_run words.Report h = absurd (let nothing : ⊥ = cc in nothing)
 nothing_run words.Summary h = absurd (let nothing : ⊥ = cc in nothing)
 nothing_run (words.Choose picks.Extract pattern) h = absurd (no_choice (codes "extract") (option_map (λ p. p.now) pattern) (omega arith) h)
 nothing_run (words.Choose picks.Remove pattern) h = absurd (no_choice (codes "remove") (option_map (λ p. p.now) pattern) (omega arith) h)
-nothing_run words.Trace h = absurd (let nothing : ⊥ = cc in nothing)
+nothing_run (words.Text format) h = absurd (no_text (format_of format) h)
 nothing_run words.Other h = absurd (h.some refl)
 
-piece_line : (ending : LineEnd) (piece : List ℕ) (word : Word) → IsWord (line_of piece) word → (word ≡ words.Trace → ending ≡ Input) → LineRun ending (piece ∷ []) word
+piece_line : (ending : LineEnd) (piece : List ℕ) (word : Word) → IsWord (line_of piece) word → IsLastText ending word → LineRun ending (piece ∷ []) word
 piece_line ending piece word h last = record {
   commands = asked_by word;
   run = word_run ending piece word h last;
@@ -174,7 +202,7 @@ piece_line ending piece word h last = record {
   same_ops = refl;
 }
 
-pub line_run : (ending : LineEnd) (line : List ℕ) (word : Word) → before_feed line ≡ line → IsWord (strip line) word → (word ≡ words.Trace → ending ≡ Input)
+pub line_run : (ending : LineEnd) (line : List ℕ) (word : Word) → before_feed line ≡ line → IsWord (strip line) word → IsLastText ending word
     → LineRun ending (line_pieces ending line) word
 line_run Feed line word one h last =
     let P : List ℕ → Type 0 = λ u. IsWord u word in
@@ -186,7 +214,7 @@ line_run Input (b ∷ bs) word one h last =
 
 -- a line and its answer are a command
 pub line_command : (m n : Moment) (p : OutputData) (line : List ℕ) (ending : LineEnd) (word : Word) (before after : List OpData)
-    → TakesLine m n line ending → IsWord (strip line) word → (word ≡ words.Trace → ending ≡ Input)
+    → TakesLine m n line ending → IsWord (strip line) word → IsLastText ending word
     → Asks (asked_by word) before after → Says n.output p (text_after (table_of before) (asked_by word))
     → TakesCommand m (record n { output = p }) before after ending
 line_command m n p line ending word before after h is last asks says =
@@ -201,18 +229,19 @@ line_command m n p line ending word before after h is last asks says =
       run = r.run;
     }
 
--- a line `trace` with its text and the answer are a command
-pub trace_command : (m n o : Moment) (line : List ℕ) (ending first : LineEnd) (before after : List OpData)
-    → TakesLine m n line first → first ≡ Feed → strip line ≡ codes "trace" → TakesTrace n o before after ending → TakesCommand m o before after ending
-trace_command m n o line ending first before after h feed is t =
+-- a line with its text and the answer are a command
+pub text_command : (format : Format) (m n o : Moment) (line : List ℕ) (ending first : LineEnd) (before after : List OpData)
+    → TakesLine m n line first → first ≡ Feed → Announces format (strip line) → TakesText format n o before after ending → TakesCommand m o before after ending
+text_command format m n o line ending first before after h feed is t =
     let F : LineEnd → Type 0 = λ u. TakesLine m n line u in
     let taken : TakesLine m n line Feed = subst F feed h in
+    let A : List ℕ → Type 0 = λ u. Announces format u in
     record {
       pieces = (line ++ line_feed ∷ []) ∷ t.pieces;
       commands = t.commands;
       taken = pieces_trans m n o ((line ++ line_feed ∷ []) ∷ []) t.pieces ending [] (text_after (table_of before) t.commands) (line_taken m n line Feed taken) t.taken;
       asks = t.asks;
-      run = t.run (line ++ line_feed ∷ []) (line_of_bytes Feed line h.one_line ∙ is);
+      run = t.run (line ++ line_feed ∷ []) (subst A (sym (line_of_bytes Feed line h.one_line)) is);
     }
 
 -- the whole session
@@ -371,11 +400,16 @@ only_at m n p left written written_after e l w wa =
 pub few_reads : (i j : InputData) (most : ℕ) (bytes : List ℕ) → i.reads_left ≡ most → Takes i j bytes → j.reads ≤ i.reads + most
 few_reads i j most bytes e h = let counted = h.counted in omega arith
 
-pub answered : {A : Type 0} (taken other : Taken A) (commands : List Command) → taken ≡ other → IsAnsweredAs other commands → IsAnsweredAs taken commands
-answered {A} taken other commands e h = let P : Taken A → Type 0 = λ t. IsAnsweredAs t commands in subst P (sym e) h
+pub answered : {A : Type 0} (format : Format) (taken other : Taken A) (commands : List Command) → taken ≡ other → IsAnsweredAs format other commands → IsAnsweredAs format taken commands
+answered {A} format taken other commands e h = let P : Taken A → Type 0 = λ t. IsAnsweredAs format t commands in subst P (sym e) h
 
 pub says_nil : (o p : OutputData) (text : List ℕ) → Says o p text → Says o p (text ++ [])
 says_nil o p text h = let P : List ℕ → Type 0 = λ u. Says o p u in subst P (sym (append-nil text)) h
+
+-- what follows from what is so where a call ended well
+pub ok_map : {X E P Q : Type 0} (r : Result X E) → (P → Q) → OnOk r P → OnOk r Q
+ok_map (Ok x) f h = f h
+ok_map (Err e) f h = h
 
 -- the one answer of a command
 pub ok_says : {E : Type 0} (r : Result (Unit {0}) E) (o p : OutputData) (text : List ℕ) → OnOk r (Says o p text) → OnOk r (Says o p (text ++ []))

@@ -1,11 +1,12 @@
--- What a line of its own asks for: it is read as one command, by its sixth byte and what is behind the word.
-use Rattle.std.proofs.Common.{◌≡◌, ◌≢◌, ◌⊎◌, ℕ, zero, suc, ◌<◌, ◌≤◌, Bool, true, false, cond, eqb, leb, length, get_or, take, drop, List, [], ◌∷◌, Option, None, Some, refl, sym, ◌∙◌, ap, subst, arith, codes, inl, inr}
+-- What a line of its own asks for: it is read as one command, by its first and its sixth byte and what is behind the
+-- word.
+use Rattle.std.proofs.Common.{◌≡◌, ◌⊎◌, ℕ, zero, suc, ◌<◌, ◌≤◌, Bool, true, false, cond, eqb, leb, length, get_or, take, drop, List, [], ◌∷◌, Option, None, Some, refl, sym, ◌∙◌, ap, subst, arith, inl, inr}
 use Rattle.std.proofs.lemmas.Bool.{le-leb, lt-leb}
 use Rattle.std.proofs.lemmas.List.{take_all}
 use Rattle.memchr.specs.Find.{IsFirstByte, is_byte}
 use Rattle.covbook.specs.Op.{OpData, SubmitOp, ReportOp, ExtractOp, RemoveOp, SummaryOp}
 use Rattle.covreport.specs.Choice.{most_pattern_bytes}
-use Rattle.covcollect.specs.Command.{Command, Blank, Ask, RefusePattern, Submit, Refuse, Unknown, Unfinished, AsksFor, IsTooLong, IsUnknown, before_space}
+use Rattle.covcollect.specs.Command.{Command, Format, Tracefile, Annotated, Announces, Blank, Ask, RefusePattern, Submit, Refuse, Unknown, Unfinished, AsksFor, IsTooLong, IsUnknown, before_space}
 use Rattle.covcollect.proofs.SessionBytes.{not_true}
 
 -- ---- cut at the first space
@@ -47,14 +48,14 @@ read_by false false true r line = choice_read ExtractOp (behind_space (drop 7 li
 read_by false false false true line = choice_read RemoveOp (behind_space (drop 6 line))
 read_by false false false false line = Unfinished
 
--- the words' sixth bytes differ: t, r, c, e, and none in `trace`
+-- the sixth bytes of the words without a test differ: t, r, c, e, and none in `trace`
 abbrev read_at : ℕ → List ℕ → Command
 read_at sixth line = read_by (eqb sixth 116) (eqb sixth 114) (eqb sixth 99) (eqb sixth 101) line
 
 -- what a line is read as, whatever else it may be: one that is no command is read as some command too
 abbrev read_line : List ℕ → Command
 read_line [] = Blank
-read_line (b ∷ bs) = read_at (get_or (b ∷ bs) 5 0) (b ∷ bs)
+read_line (b ∷ bs) = cond (eqb b 103) Unfinished (read_at (get_or (b ∷ bs) 5 0) (b ∷ bs))
 
 short_read : (op : List (List ℕ) → OpData) (pattern : List ℕ) → length pattern ≤ most_pattern_bytes → choice_read op (Some pattern) ≡ Ask (op (pattern ∷ []))
 short_read op pattern h = rw (le-leb (length pattern) most_pattern_bytes h) refl
@@ -109,12 +110,29 @@ both_read line c d (inr h) (inr k) = sym k.1 ∙ h.1
 pub single_unique : (line : List ℕ) (c d : Command) → IsSingle line c → IsSingle line d → d ≡ c
 single_unique line c d h k = both_read line c d (single_read line c h) (single_read line d k)
 
--- no such line is `trace`, which is read as a text that doesn't end
-trace_read : (line : List ℕ) (d : Command) → IsSingle line d → IsRead line d → line ≢ codes "trace"
-trace_read line d k (inl h) e = h.1.no_trace e
-trace_read line d k (inr h) e =
-    let P : Command → Type 0 = λ u. IsSingle line u in
-    let same : d ≡ Unfinished = sym h.1 ∙ ap read_line e in subst P same k
+-- a text follows no such line: it is read as a text that doesn't end
+text_read : (format : Format) (line : List ℕ) → Announces format line → read_line line ≡ Unfinished
+text_read Tracefile line h = ap read_line h
+text_read (Annotated test) line (inl h) = ap read_line h.0
+text_read (Annotated test) line (inr h) = ap read_line h
 
-pub not_trace : (line : List ℕ) (d : Command) → IsSingle line d → line ≢ codes "trace"
-not_trace line d k e = trace_read line d k (single_read line d k) e
+single_text : (line : List ℕ) (d : Command) (format : Format) → IsSingle line d → IsRead line d → Announces format line → ⊥
+single_text line d format k (inl h) a = h.1.no_text format a
+single_text line d format k (inr h) a =
+    let P : Command → Type 0 = λ u. IsSingle line u in
+    let same : d ≡ Unfinished = sym h.1 ∙ text_read format line a in subst P same k
+
+pub not_text : (line : List ℕ) (d : Command) (format : Format) → IsSingle line d → Announces format line → ⊥
+not_text line d format k a = single_text line d format k (single_read line d k) a
+
+-- a line announces one format: by its first byte and what stands behind the fifth
+abbrev format_read : List ℕ → Format
+format_read line = cond (eqb (get_or line 0 0) 103) (Annotated (drop 5 line)) Tracefile
+
+announced : (format : Format) (line : List ℕ) → Announces format line → format_read line ≡ format
+announced Tracefile line h = ap format_read h
+announced (Annotated test) line (inl h) = ap format_read h.0 ∙ ap (λ (u : List ℕ). Annotated u) (sym h.1)
+announced (Annotated test) line (inr h) = ap format_read h
+
+pub one_format : (line : List ℕ) (x y : Format) → Announces x line → Announces y line → y ≡ x
+one_format line x y h k = sym (announced y line k) ∙ announced x line h

@@ -1,18 +1,21 @@
--- What a command line asks for, what the text behind a line `trace` is, and what the book is asked.
+-- What a command line asks for, what the text behind a line is, and what the book is asked.
 use Rattle.std.specs.List.{concat, flat_map, AllByRecursion}
-use Rattle.std.specs.Prelude.{◌≡◌, ◌≢◌, ◌⊎◌, ◌<◌, ◌≤◌, ℕ, length, List, [], ◌∷◌, ◌++◌, codes, Ok, Err, ◌==◌, if◌then◌else◌, Option, Some, None, option_map, nat_le}
+use Rattle.std.specs.Prelude.{◌≡◌, ◌≢◌, ◌⊎◌, ◌<◌, ◌≤◌, ℕ, length, List, [], ◌∷◌, ◌++◌, codes, Ok, Err, ◌==◌, if◌then◌else◌, Result, Option, Some, None, option_map, nat_le}
 use Rattle.covbook.specs.Op.{OpData, SubmitOp, ReportOp, ExtractOp, RemoveOp, SummaryOp}
 use Rattle.covline.specs.Lines.{line_of}
 use Rattle.covline.specs.Row.{SubmissionData}
 use Rattle.covread.specs.Outcome.{IsOutcome}
+use Rattle.covread.specs.GcovOutcome as gcov
 use Rattle.covread.specs.declared.fault.ReadFault.{ReadFault}
 use Rattle.covreport.specs.Choice.{most_pattern_bytes}
+use Rattle.covcollect.specs.declared.session.command.word.Format.{Format as TextFormat}
+use Rattle.covcollect.specs.declared.session.command.word.Format.TheVariants as formats
 use Rattle.covcollect.specs.declared.session.command.word.Pick.{Pick}
 use Rattle.covcollect.specs.declared.session.command.word.Pick.TheVariants as picks
 use Rattle.covcollect.specs.declared.session.command.word.Word.{Word}
 use Rattle.covcollect.specs.declared.session.command.word.Word.TheVariants as words
 
--- the byte between a command's word and its pattern
+-- the byte between a command's word and what belongs to it
 abbrev pub space : ℕ
 space = 32
 
@@ -50,10 +53,29 @@ IsTooLong line =
     (pattern : List ℕ) × (most_pattern_bytes < length pattern)
     × ((line ≡ codes "extract" ++ space ∷ pattern) ⊎ (line ≡ codes "remove" ++ space ∷ pattern))
 
+-- a word, and behind a space the name of a test, which may be empty; or the word alone and the empty name
+abbrev pub IsNaming : List ℕ → List ℕ → List ℕ → Type 0
+IsNaming word test line = ((line ≡ word) × (test ≡ [])) ⊎ (line ≡ word ++ space ∷ test)
+
+-- the format of a text: a tracefile, or gcov's annotated source, whose counts are of this test
+pub data Format : Type 0 where
+  Tracefile : Format
+  Annotated : (test : List ℕ) → Format
+
+-- a text of this format follows the line
+abbrev pub Announces : Format → List ℕ → Type 0
+Announces Tracefile line = line ≡ codes "trace"
+Announces (Annotated test) line = IsNaming (codes "gcov") test line
+
+-- what a text of this format is read as
+abbrev pub IsReadAs : Format → List ℕ → Result SubmissionData ReadFault → Type 0
+IsReadAs Tracefile text outcome = IsOutcome text outcome
+IsReadAs (Annotated test) text outcome = gcov.IsOutcome test text outcome
+
 -- the line is none of the commands
 pub record IsUnknown (line : List ℕ) : Type 0 where
   pub some : line ≢ []
-  pub no_trace : line ≢ codes "trace"
+  pub no_text : (format : Format) → Announces format line → ⊥
   pub no_op : (op : OpData) → AsksFor op line → ⊥
   pub short : IsTooLong line → ⊥
 
@@ -61,24 +83,27 @@ pub record IsUnknown (line : List ℕ) : Type 0 where
 abbrev pub IsBody : List (List ℕ) → Type 0
 IsBody body = AllByRecursion (λ piece. line_of piece ≢ codes ".") body
 
--- a line `trace`, a text, and a line `.`; the text's bytes are all between the two lines, line ends included
-abbrev pub IsTrace : List (List ℕ) → List ℕ → Type 0
-IsTrace pieces text =
+-- a line that a text follows, the text, and a line `.`; the text's bytes are all between the two lines, line ends included
+abbrev pub IsText : List (List ℕ) → Format → List ℕ → Type 0
+IsText pieces format text =
     (first : List ℕ) × (body : List (List ℕ)) × (last : List ℕ) × (pieces ≡ first ∷ (body ++ last ∷ []))
-    × (line_of first ≡ codes "trace") × IsBody body × (line_of last ≡ codes ".") × (text ≡ concat body)
+    × Announces format (line_of first) × IsBody body × (line_of last ≡ codes ".") × (text ≡ concat body)
 
--- a line `trace`, and no line `.` after it
+-- a line that a text follows, and no line `.` after it
 abbrev pub IsUnfinished : List (List ℕ) → Type 0
 IsUnfinished pieces =
-    (first : List ℕ) × (body : List (List ℕ)) × (pieces ≡ first ∷ body) × (line_of first ≡ codes "trace") × IsBody body
+    (format : Format) × (first : List ℕ) × (body : List (List ℕ)) × (pieces ≡ first ∷ body)
+    × Announces format (line_of first) × IsBody body
 
 -- the pieces are this command
 abbrev pub IsCommand : List (List ℕ) → Command → Type 0
 IsCommand pieces Blank = IsLine pieces []
 IsCommand pieces (Ask op) = (line : List ℕ) × IsLine pieces line × AsksFor op line
 IsCommand pieces RefusePattern = (line : List ℕ) × IsLine pieces line × IsTooLong line
-IsCommand pieces (Submit submission) = (text : List ℕ) × IsTrace pieces text × IsOutcome text (Ok submission)
-IsCommand pieces (Refuse fault) = (text : List ℕ) × IsTrace pieces text × IsOutcome text (Err fault)
+IsCommand pieces (Submit submission) =
+    (format : Format) × (text : List ℕ) × IsText pieces format text × IsReadAs format text (Ok submission)
+IsCommand pieces (Refuse fault) =
+    (format : Format) × (text : List ℕ) × IsText pieces format text × IsReadAs format text (Err fault)
 IsCommand pieces Unknown = (line : List ℕ) × IsLine pieces line × IsUnknown line
 IsCommand pieces Unfinished = IsUnfinished pieces
 
@@ -131,13 +156,18 @@ abbrev pub IsWordWith : List ℕ → List ℕ → Option (List ℕ) → Type 0
 IsWordWith line word None = line ≡ word
 IsWordWith line word (Some pattern) = line ≡ word ++ space ∷ pattern
 
+-- the format of the text that a line announces
+abbrev pub format_of : TextFormat → Format
+format_of formats.Tracefile = Tracefile
+format_of (formats.Annotated test) = Annotated test.now
+
 -- what a line without the carriage returns at its end asks for
 abbrev pub IsWord : List ℕ → Word → Type 0
 IsWord line words.Blank = line ≡ []
 IsWord line words.Report = line ≡ codes "report"
 IsWord line words.Summary = line ≡ codes "summary"
 IsWord line (words.Choose pick pattern) = IsWordWith line (pick_name pick) (option_map (λ p. p.now) pattern)
-IsWord line words.Trace = line ≡ codes "trace"
+IsWord line (words.Text format) = Announces (format_of format) line
 IsWord line words.Other = IsUnknown line
 
 -- the command that a choice of files by a pattern is, or by none
@@ -152,11 +182,11 @@ IsListOf None None = ⊥
 IsListOf (Some pattern) (Some patterns) = (patterns ≡ pattern ∷ []) × (length pattern ≤ most_pattern_bytes)
 IsListOf (Some pattern) None = most_pattern_bytes < length pattern
 
--- the command that a line of its own is; a line `trace` is one where the input ends behind it
+-- the command that a line of its own is; one that a text follows is such where the input ends behind it
 abbrev pub asked_by : Word → List Command
 asked_by words.Blank = Blank ∷ []
 asked_by words.Report = Ask ReportOp ∷ []
 asked_by words.Summary = Ask SummaryOp ∷ []
 asked_by (words.Choose pick pattern) = chosen_by (pick_op pick) (option_map (λ p. p.now) pattern)
-asked_by words.Trace = Unfinished ∷ []
+asked_by (words.Text format) = Unfinished ∷ []
 asked_by words.Other = Unknown ∷ []

@@ -1,12 +1,12 @@
--- A text behind a line `trace`: how it is collected, taken and answered.
+-- A text behind a line `trace` or `gcov`: how it is collected, taken, read and answered.
 use Rattle.std.specs.List.{concat}
-use Rattle.std.specs.Prelude.{◌≡◌, ◌<◌, ◌≤◌, ℕ, length, List, [], ◌∷◌, ◌++◌, codes, Ok, Err, ◌-◌, ◌^◌, ◌==◌, min, if◌then◌else◌, take, Result}
+use Rattle.std.specs.Prelude.{◌≡◌, ◌⊎◌, ◌<◌, ◌≤◌, ℕ, length, List, [], ◌∷◌, ◌++◌, codes, Ok, Err, ◌-◌, ◌^◌, ◌==◌, min, if◌then◌else◌, take, Result}
 use Rattle.covline.specs.Lines.{line_of, carriage_return}
 use Rattle.covline.specs.Row.{SubmissionData}
-use Rattle.covread.specs.Outcome.{IsOutcome, most_bytes}
+use Rattle.covread.specs.Outcome.{most_bytes}
 use Rattle.covread.specs.declared.fault.ReadFault.{ReadFault}
 use Rattle.covread.specs.declared.fault.ReadFault.TheVariants as faults
-use Rattle.covcollect.specs.Command.{Command, IsBody, Submit, Refuse, Unfinished}
+use Rattle.covcollect.specs.Command.{Command, Format, IsBody, IsReadAs, Submit, Refuse, Unfinished}
 use Rattle.covcollect.specs.declared.session.text.LineEnd.{LineEnd}
 use Rattle.covcollect.specs.declared.session.text.LineEnd.TheVariants.{Input}
 use Rattle.covcollect.specs.declared.session.text.LineSoFar.{LineSoFar}
@@ -44,7 +44,7 @@ IsTextOf text (Whole kept) = (kept.items ≡ text) × (length text ≤ most_byte
 IsTextOf text TooLong = most_bytes < length text
 IsTextOf text taken.Unfinished = ⊥
 
--- the pieces behind a line `trace`: a text and its last line
+-- the pieces behind a line: a text and its last line
 abbrev pub IsTextTaken : {A : Type 0} → List (List ℕ) → Taken A → Type 0
 IsTextTaken pieces taken =
     (body : List (List ℕ)) × (last : List ℕ) × (pieces ≡ body ++ last ∷ []) × IsBody body × (line_of last ≡ codes ".")
@@ -67,10 +67,19 @@ abbrev pub IsTold : ReadFault → Type 0
 IsTold faults.Memory = ⊥
 IsTold fault = Unit {0}
 
--- what was taken of a text is these commands
-abbrev pub IsAnsweredAs : {A : Type 0} → Taken A → List Command → Type 0
-IsAnsweredAs (Whole kept) commands =
-    (outcome : Result SubmissionData ReadFault) × (commands ≡ asked_for outcome) × IsOutcome kept.items outcome
-    × ((other : Result SubmissionData ReadFault) → IsOutcome kept.items other → other ≡ outcome)
-IsAnsweredAs TooLong commands = commands ≡ Refuse faults.TooLong ∷ []
-IsAnsweredAs taken.Unfinished commands = commands ≡ Unfinished ∷ []
+-- the answer of a reader is what the text is read as, or memory ran out
+abbrev pub AnswersAs : Format → List ℕ → Result SubmissionData ReadFault → Type 0
+AnswersAs format text answer = (answer ≡ Err faults.Memory) ⊎ IsReadAs format text answer
+
+-- a reader's answer is told: not that memory ran out
+abbrev pub IsToldAnswer : Result SubmissionData ReadFault → Type 0
+IsToldAnswer (Ok submission) = Unit {0}
+IsToldAnswer (Err fault) = IsTold fault
+
+-- what was taken of a text of this format is these commands
+abbrev pub IsAnsweredAs : {A : Type 0} → Format → Taken A → List Command → Type 0
+IsAnsweredAs format (Whole kept) commands =
+    (outcome : Result SubmissionData ReadFault) × (commands ≡ asked_for outcome) × IsReadAs format kept.items outcome
+    × ((other : Result SubmissionData ReadFault) → IsReadAs format kept.items other → other ≡ outcome)
+IsAnsweredAs format TooLong commands = commands ≡ Refuse faults.TooLong ∷ []
+IsAnsweredAs format taken.Unfinished commands = commands ≡ Unfinished ∷ []

@@ -3,7 +3,7 @@
 ghost use Rattle.std.specs.Prelude.{◌≡◌, ℕ, List};
 ghost use Rattle.covcollect.specs.Session.{IsSession};
 
-use covread::each_text_has_one_outcome;
+use covread::{each_gcov_text_has_one_outcome, each_text_has_one_outcome};
 
 /// Each input has exactly one session text.
 pub fn each_input_has_one_session_text()
@@ -11,4 +11,5 @@ pub fn each_input_has_one_session_text()
     ensures one { (input x y : List ℕ) → IsSession input x → IsSession input y → x ≡ y }
 {
     each_text_has_one_outcome();
+    each_gcov_text_has_one_outcome();
 }

@@ -46,7 +46,7 @@ pub fn run_session<I: Source, O: Sink, E: Sink, A: Allocator + Copy>(
     requires failed_reads { I.failed_reads source.old < 2 ^ 62 }
     requires failed_writes { O.failed_writes sink.old < 2 ^ 62 }
     requires failed_words { E.failed_writes faults.old < 2 ^ 62 }
-    // It tells the end of one session over these streams; a status of 0 tells that it ended well.
+    // A status of 0 tells that a session ran over these streams and ended well; another one tells a fault, with its words.
     ensures { (ended : Result (Unit {0}) Fault) × (result ≡ end_status ended)
         × OnOk ended (IsWholeSession (I.left source.old) (I.left source.new) (O.written sink.old) (O.written sink.new))
         × (E.failed_writes faults.new ≡ E.failed_writes faults.old → Appends (E.written faults.old) (E.written faults.new) (end_words ended)) }

@@ -1,8 +1,9 @@
 //! One session: commands in, answers out.
 
-ghost use Rattle.std.specs.Prelude.{◌≡◌, ℕ, ◌+◌, ◌^◌, ◌<◌, ◌≤◌, List, IfOk, OnOk, IfSome, IsTrue, IsFalse};
+ghost use Rattle.std.specs.Prelude.{◌≡◌, ℕ, ◌+◌, ◌^◌, ◌<◌, ◌≤◌, List, IfOk, OnOk, IfSome, IfNone};
 ghost use Rattle.std.specs.Io.KnownBytes.{Appends};
 ghost use Rattle.covbook.specs.Step.{ops_in};
+ghost use Rattle.covcollect.specs.declared.session.command.word.Format.{Format as TextFormat};
 ghost use Rattle.covcollect.specs.Session.{IsSession, IsWholeSession};
 ghost use Rattle.covcollect.specs.Streams.{moment, CanCall};
 ghost use Rattle.covcollect.specs.Run.{TakesCommand, IsDone};
@@ -12,29 +13,29 @@ pub mod command;
 mod fault;
 mod input;
 pub mod output;
+mod submit;
 mod text;
-mod trace;
 
-use crate::session::command::{Word, answer_word, word_of};
+use crate::session::command::{Format, Word, answer_word, word_of};
 use crate::session::input::Input;
 use crate::session::output::Output;
+use crate::session::submit::{Given, answer_given, take_text};
 use crate::session::text::{LineEnd, Text};
-use crate::session::trace::answer_trace;
 use crate::stream::{Sink, Source};
 use covbook::Book;
 pub use fault::SessionFault;
 use std::alloc::Allocator;
 
-// Whether a text follows a line.
-fn text_follows(word: Word<'_>, ending: LineEnd) -> bool
-    ensures text { IsTrue result → (word.entry ≡ Word.Trace) × (ending ≡ LineEnd.Feed) }
-    ensures no_text { IsFalse result → word.entry ≡ Word.Trace → ending ≡ LineEnd.Input }
+// The format of the text that follows a line, where one does.
+fn text_behind(word: Word<'_>, ending: LineEnd) -> Option<Format<'_>>
+    ensures text { IfSome result (λ format. (word.entry ≡ Word.Text format) × (ending ≡ LineEnd.Feed)) }
+    ensures no_text { IfNone result ((format : TextFormat) → word.entry ≡ Word.Text format → ending ≡ LineEnd.Input) }
 {
     match word {
-        Word::Blank | Word::Report | Word::Summary | Word::Choose(_, _) | Word::Other => false,
-        Word::Trace => match ending {
-            LineEnd::Feed => true,
-            LineEnd::Input => false,
+        Word::Blank | Word::Report | Word::Summary | Word::Choose(_, _) | Word::Other => None,
+        Word::Text(format) => match ending {
+            LineEnd::Feed => Some(format),
+            LineEnd::Input => None,
         },
     }
 }
@@ -53,9 +54,9 @@ fn answer_command<I: Source, O: Sink, A: Allocator + Copy>(
     let mut line = Text::new(alloc, usize::MAX);
     let ending = input.take_line(&mut line, output)?;
     let word = word_of(line.whole());
-    if text_follows(word, ending) {
-        drop(line);
-        let ended = answer_trace(alloc, book, input, output)?;
+    if let Some(format) = text_behind(word, ending) {
+        let (taken, ended) = take_text(alloc, input, output)?;
+        answer_given(alloc, book, Given { format, taken }, output)?;
         return Ok(ended);
     }
     answer_word(alloc, book, word, output)?;
@@ -81,8 +82,8 @@ fn answer_all<I: Source, O: Sink, A: Allocator + Copy>(
 }
 
 /// Runs one book, with job 0, on the commands of the source, and writes the answers to the sink. A text of more than
-/// 67,108,864 bytes isn't kept. Output is written when more than 65,536 bytes of it wait, before each read, and at the
-/// end.
+/// 67,108,864 bytes isn't kept. At most 65,536 bytes of output wait: more is written at once, and all of it before each
+/// read and at the end.
 pub fn session<I: Source, O: Sink, A: Allocator + Copy>(
     alloc: A,
     source: &mut I,

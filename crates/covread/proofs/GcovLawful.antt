@@ -19,7 +19,7 @@ use Rattle.covread.specs.declared.gcov.reader.Place.{Place}
 use Rattle.covread.specs.Gcov.{Shape, Instances, Function, Never, Taken, Block, Numbered, Other, HasShape, IsName, Says, says_of, GcovLine, Path, SourceLine, FuncCount, BranchCount, BlockNumber, Nothing, with_number, are_digits, without_last, percent, star, branch_says, source_says, path_says, colon}
 use Rattle.covread.specs.GcovReading.{shape_of}
 use Rattle.covread.specs.GcovItems.{func_item, line_item, is_empty}
-use Rattle.covread.specs.GcovOutcome.{most_bytes}
+use Rattle.covread.specs.Outcome.{most_bytes}
 use Rattle.covread.specs.GcovSteps.{SectionData, HeldData, empty, closed, section_with, Stepped, begun, step_path, step_source, step_func, step_branch, step_branch_in, in_block, section_in_block, step_block, step, line_step, run_on, run, submission_held}
 use Rattle.covread.proofs.GcovParts.{key_or_none}
 use Rattle.covread.proofs.GcovShapes.{found_fits}

@@ -1,8 +1,7 @@
 -- The loop over the lines of a text, and what the reader's lists hold.
-use Rattle.std.proofs.Common.{◌≡◌, ℕ, ◌+◌, ◌<◌, ◌≤◌, ◌⊎◌, inl, inr, true, false, eqb, get_or, take, List, [], ◌∷◌, ◌++◌, length, map, Option, Result, Ok, Err, refl, sym, ap, subst, ◌∙◌, append_assoc, arith}
-use Rattle.std.specs.Prelude.{is_ok}
-use Rattle.std.proofs.lemmas.List.{take_more, map_push}
-use Rattle.std.proofs.lemmas.Bool.{cases_Bool, false≢true}
+use Rattle.std.proofs.Common.{◌≡◌, ℕ, ◌+◌, ◌<◌, ◌≤◌, ◌⊎◌, inl, inr, true, false, eqb, get_or, take, List, [], ◌∷◌, ◌++◌, length, map, Option, None, Result, Ok, Err, refl, sym, ap, subst, ◌∙◌, append_assoc, arith}
+use Rattle.std.specs.Prelude.{is_ok, is_some}
+use Rattle.std.proofs.lemmas.List.{length-append, take_more, map_push}
 use Rattle.covline.specs.Lines.{lines_of}
 use Rattle.covline.specs.Lawful.{IsGoodTest, IsLawful}
 use Rattle.covline.specs.Row.{ItemData, FuncItem, SectData, SubmissionData}
@@ -10,48 +9,76 @@ use Rattle.covline.proofs.LineLaws.{few_lines}
 use Rattle.covread.specs.declared.fault.ReadFault.{ReadFault}
 use Rattle.covread.specs.declared.fault.ReadFault.TheVariants as faults
 use Rattle.covread.specs.declared.gcov.reader.Function.{Function}
-use Rattle.covread.specs.GcovItems.{func_item}
-use Rattle.covread.specs.GcovOutcome.{most_bytes, IsOutcome, Answers}
-use Rattle.covread.specs.GcovSteps.{line_grows, dry, SectionData, HeldData, func_data, empty, Stepped, line_step, run_on, run, submission_held, ends, EndsTo}
-use Rattle.covread.proofs.GcovText.{read, whole_run, then_ends, whole_outcome}
-use Rattle.covread.proofs.GcovEarly.{dry_next, dry_stop}
+use Rattle.covread.specs.GcovItems.{func_item, place_fault}
+use Rattle.covread.specs.Gcov.{GcovLine, Says, LineSays}
+use Rattle.covread.specs.Outcome.{most_bytes}
+use Rattle.covread.specs.GcovOutcome.{HasBegun, IsOutcome, Answers}
+use Rattle.covread.specs.GcovSteps.{line_grows, SectionData, HeldData, func_data, empty, Stepped, line_step, run_on, run, submission_held, ends, EndsTo}
+use Rattle.covread.proofs.GcovRuns.{stands_at_first, goes, Stands}
+use Rattle.covread.proofs.GcovText.{read, some_says, Above, above_more, line_more, whole_run, then_ends, whole_outcome}
+use Rattle.covread.proofs.GcovBegun.{err_isnt_ok, line_begun, ok_same}
 use Rattle.covread.proofs.GcovLawful.{lawful_run}
 
 -- ---- one line after the other
 
--- what is left of the text leads on to where the whole text leads
+-- what is left of the text leads on to where the whole text leads, behind lines without a fault
 pub record Reading (test text rest : List ℕ) (held : HeldData) (at : ℕ) : Type 0 where
   pub same : run test at held (lines_of rest) ≡ whole_run test text
-  pub number : at + length (lines_of rest) ≡ length (lines_of text)
-  pub dried : dry test 0 empty (lines_of text) ≡ true → dry test at held (lines_of rest) ≡ true
+  pub before : List (List ℕ)
+  pub above : List GcovLine
+  pub place : lines_of text ≡ before ++ lines_of rest
+  pub number : at ≡ length before
+  pub known : Above test before above held
 
 pub reading_begins : (test text rest : List ℕ) (held : HeldData) → held ≡ empty → rest ≡ text → Reading test text rest held 0
 reading_begins test text rest held e f = record {
   same = ap (λ (h : HeldData). run test 0 h (lines_of rest)) e ∙ ap (λ (t : List ℕ). run test 0 empty (lines_of t)) f;
-  number = omega (arith, ap (λ (t : List ℕ). length (lines_of t)) f);
-  dried = λ d. ap (λ (h : HeldData). dry test 0 h (lines_of rest)) e ∙ ap (λ (t : List ℕ). dry test 0 empty (lines_of t)) f ∙ d;
+  before = [];
+  above = [];
+  place = ap lines_of (sym f);
+  number = refl;
+  known = record { said = tt; stands = subst (λ (h : HeldData). Stands test [] h) (sym e) (stands_at_first test) };
 }
 
--- the lines that are left begin with this one
-dried_here : (test text rest line left : List ℕ) (held : HeldData) (at : ℕ) → Reading test text rest held at → lines_of rest ≡ line ∷ lines_of left → dry test 0 empty (lines_of text) ≡ true
-    → dry test at held (line ∷ lines_of left) ≡ true
-dried_here test text rest line left held at r e d = ap (dry test at held) (sym e) ∙ r.dried d
+-- the place of the line that is next
+place_is : (test text rest line left : List ℕ) (held : HeldData) (at : ℕ) (r : Reading test text rest held at) → lines_of rest ≡ line ∷ lines_of left → lines_of text ≡ r.before ++ line ∷ lines_of left
+place_is test text rest line left held at r e = r.place ∙ ap (λ (ls : List (List ℕ)). r.before ++ ls) e
 
 stepped_on : (test text rest line left : List ℕ) (held : HeldData) (at : ℕ) (stepped : Stepped) → Reading test text rest held at → lines_of rest ≡ line ∷ lines_of left → line_step test (at + 1) held (read line) ≡ stepped
     → run_on stepped (λ next. run test (at + 1) next (lines_of left)) ≡ whole_run test text
 stepped_on test text rest line left held at stepped r e f =
     ap (λ (s : Stepped). run_on s (λ next. run test (at + 1) next (lines_of left))) (sym f) ∙ ap (run test at held) (sym e) ∙ r.same
 
+-- what is known behind a line more
+known_more : (test : List ℕ) (before : List (List ℕ)) (above : List GcovLine) (held next : HeldData) (line : List ℕ) (at : ℕ) (says : Says) → Above test before above held → at ≡ length before
+    → LineSays line says → line_step test (at + 1) held says ≡ Ok next → (more : GcovLine) × Above test (before ++ line ∷ []) (above ++ more ∷ []) next
+known_more test before above held next line at (Err why) h number spells f = absurd cc
+known_more test before above held next line at (Ok says) h number spells f =
+    elim (goes test (at + 1) above held says h.stands) [
+      | inl on ↦ (
+        says,
+        subst (λ (x : HeldData). Above test (before ++ line ∷ []) (above ++ says ∷ []) x) (ok_same on.0 next (line_step test (at + 1) held (Ok says)) on.1 f)
+            (above_more test before above held on.0 line says h spells (subst (λ (n : ℕ). place_fault (n + 1) above says ≡ None) number on.2) on.3),
+      )
+      | inr off ↦ absurd (err_isnt_ok off.0 next (line_step test (at + 1) held (Ok says)) off.1 f)
+    ]
+
 reading_more : (test text rest line left : List ℕ) (held next : HeldData) (at : ℕ) → Reading test text rest held at → lines_of rest ≡ line ∷ lines_of left → line_step test (at + 1) held (read line) ≡ Ok next
     → Reading test text left next (at + 1)
-reading_more test text rest line left held next at r e f = record {
-  same = stepped_on test text rest line left held at (Ok next) r e f;
-  number = omega (arith, r.number, ap length e);
-  dried = λ d. dry_next (line_step test (at + 1) held (read line)) (line_grows held (read line)) (λ h. dry test (at + 1) h (lines_of left)) next f (dried_here test text rest line left held at r e d);
-}
+reading_more test text rest line left held next at r e f =
+    let more = known_more test r.before r.above held next line at (read line) r.known r.number (some_says line) f in
+    record {
+      same = stepped_on test text rest line left held at (Ok next) r e f;
+      before = r.before ++ line ∷ [];
+      above = r.above ++ more.0 ∷ [];
+      place = place_is test text rest line left held at r e ∙ sym (append_assoc r.before (line ∷ []) (lines_of left));
+      number = ap (λ (n : ℕ). n + 1) r.number ∙ sym (line_more r.before line);
+      known = more.1;
+    }
 
 pub reading_room : (test text rest line left : List ℕ) (held : HeldData) (at : ℕ) → length text ≤ most_bytes → Reading test text rest held at → lines_of rest ≡ line ∷ lines_of left → at + 1 ≤ most_bytes
-reading_room test text rest line left held at short r e = omega (arith, r.number, ap length e, few_lines text, short)
+reading_room test text rest line left held at short r e =
+    omega (arith, r.number, ap length (place_is test text rest line left held at r e), length-append r.before (line ∷ lines_of left), few_lines text, short)
 
 -- the step was refused: memory ran out where lists grow, or the line is faulty
 abbrev pub StopsBy : List ℕ → HeldData → List ℕ → ℕ → ReadFault → Type 0
@@ -59,16 +86,9 @@ StopsBy test held line at fault =
     ((fault ≡ faults.Memory) × (is_ok (line_step test (at + 1) held (read line)) ≡ true) × (line_grows held (read line) ≡ true)) ⊎ (line_step test (at + 1) held (read line) ≡ Err fault)
 
 reading_stop : (test text rest line left : List ℕ) (held : HeldData) (at : ℕ) (fault : ReadFault) → Reading test text rest held at → lines_of rest ≡ line ∷ lines_of left
-    → StopsBy test held line at fault → ((fault ≡ faults.Memory) × (dry test 0 empty (lines_of text) ≡ false)) ⊎ (whole_run test text ≡ Err fault)
+    → StopsBy test held line at fault → ((fault ≡ faults.Memory) × HasBegun (lines_of text)) ⊎ (whole_run test text ≡ Err fault)
 reading_stop test text rest line left held at fault r e (inl none) =
-    let stop = dry_stop (line_step test (at + 1) held (read line)) (line_grows held (read line)) (λ h. dry test (at + 1) h (lines_of left)) none.1 none.2 in
-    inl (
-      none.0,
-      elim (cases_Bool (dry test 0 empty (lines_of text))) [
-        | inl d ↦ absurd (false≢true (sym stop ∙ dried_here test text rest line left held at r e d))
-        | inr wet ↦ wet
-      ],
-    )
+    inl (none.0, line_begun test r.before (lines_of left) (lines_of text) r.above held line at (read line) (place_is test text rest line left held at r e) r.known r.number (some_says line) none.1 none.2)
 reading_stop test text rest line left held at fault r e (inr f) = inr (sym (stepped_on test text rest line left held at (Err fault) r e f))
 
 pub reading_end : (test text rest : List ℕ) (held : HeldData) (at : ℕ) → Reading test text rest held at → lines_of rest ≡ [] → whole_run test text ≡ Ok held
@@ -81,26 +101,26 @@ own_more test own text rest line left held next at same r e f =
     reading_more test text rest line left held next at r e (subst (λ (t : List ℕ). line_step t (at + 1) held (read line) ≡ Ok next) same f)
 
 pub own_stop : (test own text rest line left : List ℕ) (held : HeldData) (at : ℕ) (fault : ReadFault) → own ≡ test → Reading test text rest held at → lines_of rest ≡ line ∷ lines_of left
-    → StopsBy own held line at fault → ((fault ≡ faults.Memory) × (dry test 0 empty (lines_of text) ≡ false)) ⊎ (whole_run test text ≡ Err fault)
+    → StopsBy own held line at fault → ((fault ≡ faults.Memory) × HasBegun (lines_of text)) ⊎ (whole_run test text ≡ Err fault)
 own_stop test own text rest line left held at fault same r e f =
     reading_stop test text rest line left held at fault r e (subst (λ (t : List ℕ). StopsBy t held line at fault) same f)
 
 -- ---- the answer
 
-pub answer_fault : (test text : List ℕ) (fault : ReadFault) → length text ≤ most_bytes → IsGoodTest test → ((fault ≡ faults.Memory) × (dry test 0 empty (lines_of text) ≡ false)) ⊎ (whole_run test text ≡ Err fault) → Answers test text (Err fault)
+pub answer_fault : (test text : List ℕ) (fault : ReadFault) → length text ≤ most_bytes → IsGoodTest test → ((fault ≡ faults.Memory) × HasBegun (lines_of text)) ⊎ (whole_run test text ≡ Err fault) → Answers test text (Err fault)
 answer_fault test text fault short good (inl none) = inl (short, good, ap (λ (f : ReadFault). Err f) none.0)
 answer_fault test text fault short good (inr e) = inr (subst (λ (r : Result SubmissionData ReadFault). IsOutcome test text r) (ap (then_ends test) e) (whole_outcome test text short good))
 
-pub answer_end : (test text : List ℕ) (held : HeldData) (answer : Result SubmissionData ReadFault) → length text ≤ most_bytes → IsGoodTest test → whole_run test text ≡ Ok held → EndsTo answer (ends test held) → Answers test text answer
-answer_end test text held answer short good e (inl none) = inl (short, good, none)
+pub answer_end : (test text : List ℕ) (held : HeldData) (answer : Result SubmissionData ReadFault) → length text ≤ most_bytes → IsGoodTest test → whole_run test text ≡ Ok held → EndsTo answer (is_some held.section) (ends test held) → Answers test text answer
+answer_end test text held answer short good e (inl none) = inl (short, good, none.0)
 answer_end test text held answer short good e (inr is) =
     inr (subst (λ (r : Result SubmissionData ReadFault). IsOutcome test text r) (ap (then_ends test) e ∙ sym is) (whole_outcome test text short good))
 
 pub lawful_end : (test own text : List ℕ) (held : HeldData) → own ≡ test → length text ≤ most_bytes → IsGoodTest test → whole_run test text ≡ Ok held → IsLawful (submission_held own held)
 lawful_end test own text held same short good e = subst (λ (t : List ℕ). IsLawful (submission_held t held)) (sym same) (lawful_run test text held short good e)
 
-pub answer_own : (test own text : List ℕ) (held : HeldData) (answer : Result SubmissionData ReadFault) → own ≡ test → length text ≤ most_bytes → IsGoodTest test → whole_run test text ≡ Ok held → EndsTo answer (ends own held) → Answers test text answer
-answer_own test own text held answer same short good e ended = answer_end test text held answer short good e (subst (λ (t : List ℕ). EndsTo answer (ends t held)) same ended)
+pub answer_own : (test own text : List ℕ) (held : HeldData) (answer : Result SubmissionData ReadFault) → own ≡ test → length text ≤ most_bytes → IsGoodTest test → whole_run test text ≡ Ok held → EndsTo answer (is_some held.section) (ends own held) → Answers test text answer
+answer_own test own text held answer same short good e ended = answer_end test text held answer short good e (subst (λ (t : List ℕ). EndsTo answer (is_some held.section) (ends t held)) same ended)
 
 -- ---- the functions that wait
 

@@ -12,7 +12,8 @@ use Rattle.covread.specs.declared.fault.ReadFault.TheVariants as faults
 use Rattle.covread.specs.Gcov.{GcovLine, Says, says_of, LineSays}
 use Rattle.covread.specs.GcovReading.{is_name, shape_of}
 use Rattle.covread.specs.GcovItems.{waiting, sects_from, is_empty, place_fault}
-use Rattle.covread.specs.GcovOutcome.{most_bytes, AllSay, own_fault, IsFaultAt, IsFirstFault, LosesFunction, Reads, IsOutcome, Answers, IsOrMemory}
+use Rattle.covread.specs.Outcome.{most_bytes, IsOrMemory}
+use Rattle.covread.specs.GcovOutcome.{AllSay, own_fault, IsFaultAt, IsFirstFault, LosesFunction, Reads, IsOutcome, Answers}
 use Rattle.covread.specs.GcovSteps.{HeldData, empty, Stepped, step, line_step, run_on, run, submission_held, ends}
 use Rattle.covread.proofs.GcovRuns.{Stands, stands_at_first, goes}
 use Rattle.covread.proofs.GcovParts.{is_name-from, is_name-true}
@@ -59,7 +60,7 @@ all_say-length above (l ∷ lines) (s ∷ said) all = omega (arith, all_say-leng
 -- ---- the run, forward
 
 -- what the lines up to the end lead to
-data Ending (test : List ℕ) (all : List (List ℕ)) (stepped : Stepped) : Type 0 where
+pub data Ending (test : List ℕ) (all : List (List ℕ)) (stepped : Stepped) : Type 0 where
   To : (held : HeldData) (said : List GcovLine) → stepped ≡ Ok held → AllSay [] all said → Stands test said held → Ending test all stepped
   At : (fault : ReadFault) → stepped ≡ Err fault → IsFirstFault all fault → Ending test all stepped
 
@@ -67,9 +68,9 @@ ending_same : (test : List ℕ) (all : List (List ℕ)) (x y : Stepped) → x �
 ending_same test all x y e h = subst (λ (s : Stepped). Ending test all s) (sym e) h
 
 -- what is known of the lines above
-record Above (test : List ℕ) (before : List (List ℕ)) (above : List GcovLine) (held : HeldData) : Type 0 where
-  said : AllSay [] before above
-  stands : Stands test above held
+pub record Above (test : List ℕ) (before : List (List ℕ)) (above : List GcovLine) (held : HeldData) : Type 0 where
+  pub said : AllSay [] before above
+  pub stands : Stands test above held
 
 above_length : (test : List ℕ) (before : List (List ℕ)) (above : List GcovLine) (held : HeldData) → Above test before above held → length above ≡ length before
 above_length test before above held h = all_say-length [] before above h.said
@@ -77,14 +78,14 @@ above_length test before above held h = all_say-length [] before above h.said
 faulty_here : (before : List (List ℕ)) (above : List GcovLine) (line : List ℕ) (rest all : List (List ℕ)) (fault : ReadFault) → all ≡ before ++ line ∷ rest → AllSay [] before above → IsFaultAt (length before + 1) above line fault → IsFirstFault all fault
 faulty_here before above line rest all fault e said faulty = record { before = before; line = line; after = rest; place = e; above = above; said = said; faulty = faulty }
 
-above_more : (test : List ℕ) (before : List (List ℕ)) (above : List GcovLine) (held next : HeldData) (line : List ℕ) (says : GcovLine)
+pub above_more : (test : List ℕ) (before : List (List ℕ)) (above : List GcovLine) (held next : HeldData) (line : List ℕ) (says : GcovLine)
     → Above test before above held → LineSays line (Ok says) → place_fault (length before + 1) above says ≡ None → Stands test (above ++ says ∷ []) next → Above test (before ++ line ∷ []) (above ++ says ∷ []) next
 above_more test before above held next line says h spells place stands = record {
   said = all_say-more [] before above line says h.said spells (subst (λ (n : ℕ). place_fault (n + 1) above says ≡ None) (sym (above_length test before above held h)) place);
   stands = stands;
 }
 
-line_more : (before : List (List ℕ)) (line : List ℕ) → length (before ++ line ∷ []) ≡ length before + 1
+pub line_more : (before : List (List ℕ)) (line : List ℕ) → length (before ++ line ∷ []) ≡ length before + 1
 line_more before line = omega (arith, length-append before (line ∷ []))
 
 walk_on : (test : List ℕ) (before : List (List ℕ)) (above : List GcovLine) (held : HeldData) (line : List ℕ) (rest all : List (List ℕ)) (at : ℕ) (says : Says)
@@ -114,7 +115,7 @@ walk test before above held (line ∷ rest) all at h number e =
 abbrev pub whole_run : List ℕ → List ℕ → Stepped
 whole_run test text = run test 0 empty (lines_of text)
 
-ending : (test text : List ℕ) → Ending test (lines_of text) (whole_run test text)
+pub ending : (test text : List ℕ) → Ending test (lines_of text) (whole_run test text)
 ending test text = walk test [] [] empty (lines_of text) (lines_of text) 0 (record { said = tt; stands = stands_at_first test }) refl refl
 
 -- ---- what the run's end is

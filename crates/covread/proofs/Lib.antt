@@ -20,6 +20,6 @@ pub mod GcovParts
 pub mod GcovNumbers
 pub mod GcovShapes
 pub mod GcovText
-pub mod GcovEarly
+pub mod GcovBegun
 pub mod GcovLawful
 pub mod GcovLoop

@@ -1,6 +1,6 @@
 -- What one line of gcov's annotated source says (gcov(1), and the GCC manual's chapter on gcov). A line has the first
 -- of seven shapes that fits it. The forms of function, block and branch lines are this project's profile of what gcov
--- writes with `-b -c`.
+-- writes with `-b -c`, with or without `-a`.
 use Rattle.std.specs.Prelude.{◌≡◌, ◌≢◌, ℕ, ◌<◌, ◌^◌, Bool, true, false, not, ◌&&◌, ◌||◌, ◌==◌, nat_lt, if◌then◌else◌, List, [], ◌∷◌, ◌++◌, length, Option, Some, None, Result, Ok, Err, codes}
 use Rattle.std.specs.List.{AllByRecursion, list_all}
 use Rattle.std.specs.Str.{bytes_eq}
@@ -136,20 +136,20 @@ without_last c [] = []
 without_last c (b ∷ []) = if b == c then [] else b ∷ []
 without_last c (b ∷ d ∷ ds) = b ∷ without_last c (d ∷ ds)
 
--- how often a branch was taken: a number alone; percentages and other words are refused before large numbers are
 abbrev pub percent : ℕ
 percent = 37
 
+-- how often a branch was taken: a number alone; percentages and other words are refused before large numbers are
 abbrev pub branch_says : List ℕ → List ℕ → Says
 branch_says branch word =
     if are_digits word then with_number branch (λ b. with_number word (λ n. Ok (BranchCount b (Some n))))
     else (if are_digits (without_last percent word) then Err own.Percent else Err own.BadMark)
 
--- the mark of a source line: `-` without code; `#####` and `=====` not executed; a count, with a `*` where the line has
--- a block that wasn't executed
 abbrev pub star : ℕ
 star = 42
 
+-- the mark of a source line: `-` without code; `#####` and `=====` not executed; a count, with a `*` where the line has
+-- a block that wasn't executed
 abbrev pub source_says : List ℕ → List ℕ → Says
 source_says mark line =
     if bytes_eq mark (codes "-") then with_number line (λ l. Ok (SourceLine l None))
@@ -157,7 +157,7 @@ source_says mark line =
     else (if are_digits (without_last star mark) then with_number line (λ l. with_number (without_last star mark) (λ n. Ok (SourceLine l (Some n))))
     else Err own.BadMark))
 
--- a line with the number 0 tells of the whole text; only the path of its source file matters
+-- a line with the number 0 tells of a source file as a whole; only the file's path matters
 abbrev pub path_says : Option (List ℕ) → Says
 path_says None = Ok Nothing
 path_says (Some path) = Ok (Path path)

@@ -5,45 +5,29 @@ use Rattle.std.specs.List.{flat_map, list_any}
 use Rattle.covline.specs.Row.{ItemData, LineItem, FuncItem, BranchItem, SectData}
 use Rattle.covread.specs.declared.fault.ReadFault.{ReadFault}
 use Rattle.covread.specs.declared.fault.ReadFault.TheVariants as faults
-use Rattle.covread.specs.Gcov.{GcovLine, Path, SourceLine, FuncCount, BranchCount, BlockNumber, Nothing}
+use Rattle.covread.specs.Gcov.{GcovLine, Path, SourceLine, FuncCount, BranchCount, BlockNumber}
 
 -- a line with the path of a source file
 abbrev pub is_path : GcovLine → Bool
 is_path (Path path) = true
-is_path (SourceLine line count) = false
-is_path (FuncCount name count) = false
-is_path (BranchCount branch taken) = false
-is_path (BlockNumber block) = false
-is_path Nothing = false
+is_path says = false
 
 -- the number of a source line
 abbrev pub source_number : GcovLine → Option ℕ
 source_number (SourceLine line count) = Some line
-source_number (Path path) = None
-source_number (FuncCount name count) = None
-source_number (BranchCount branch taken) = None
-source_number (BlockNumber block) = None
-source_number Nothing = None
+source_number says = None
 
 abbrev pub is_source : GcovLine → Bool
 is_source says = is_some (source_number says)
 
 abbrev pub block_number : GcovLine → Option ℕ
 block_number (BlockNumber block) = Some block
-block_number (Path path) = None
-block_number (SourceLine line count) = None
-block_number (FuncCount name count) = None
-block_number (BranchCount branch taken) = None
-block_number Nothing = None
+block_number says = None
 
 -- the name and the count of a function line
 abbrev pub func_said : GcovLine → List (List ℕ × ℕ)
 func_said (FuncCount name count) = (name, count) ∷ []
-func_said (Path path) = []
-func_said (SourceLine line count) = []
-func_said (BranchCount branch taken) = []
-func_said (BlockNumber block) = []
-func_said Nothing = []
+func_said says = []
 
 -- the lines behind the last one that is so; all of them where none is
 abbrev pub behind_last : (GcovLine → Bool) → List GcovLine → List GcovLine
@@ -59,7 +43,7 @@ last_given gives (says ∷ more) = option_or (last_given gives more) (gives says
 abbrev pub waiting : List GcovLine → List (List ℕ × ℕ)
 waiting above = flat_map func_said (behind_last (λ says. is_source says || is_path says) above)
 
--- the number of the nearest source line above, and of the nearest block line between that and here, else 0
+-- the number of the nearest source line above
 abbrev pub line_above : List GcovLine → Option ℕ
 line_above above = last_given source_number above
 
@@ -67,6 +51,7 @@ abbrev pub or_zero : Option ℕ → ℕ
 or_zero None = 0
 or_zero (Some n) = n
 
+-- the number of the nearest block line between that source line and here, 0 where there is none
 abbrev pub block_above : List GcovLine → ℕ
 block_above above = or_zero (last_given block_number (behind_last is_source above))
 
@@ -86,10 +71,7 @@ branch_item (Some line) block branch taken = BranchItem line block branch taken 
 abbrev pub items_given : List GcovLine → GcovLine → List ItemData
 items_given above (SourceLine line count) = map (func_item line) (waiting above) ++ line_item line count
 items_given above (BranchCount branch taken) = branch_item (line_above above) (block_above above) branch taken
-items_given above (Path path) = []
-items_given above (FuncCount name count) = []
-items_given above (BlockNumber block) = []
-items_given above Nothing = []
+items_given above says = []
 
 -- the items that lines give up to the next path
 abbrev pub items_until : List GcovLine → List GcovLine → List ItemData
@@ -99,11 +81,7 @@ items_until above (says ∷ more) = if is_path says then [] else items_given abo
 -- the section that begins at a line, of which this test tells: each path begins one
 abbrev pub section_at : List ℕ → List ItemData → GcovLine → List SectData
 section_at test items (Path path) = record { test = test; file = path; items = items } ∷ []
-section_at test items (SourceLine line count) = []
-section_at test items (FuncCount name count) = []
-section_at test items (BranchCount branch taken) = []
-section_at test items (BlockNumber block) = []
-section_at test items Nothing = []
+section_at test items says = []
 
 -- the sections of the lines, in their order
 abbrev pub sects_from : List ℕ → List GcovLine → List GcovLine → List SectData
@@ -113,10 +91,11 @@ sects_from test above (says ∷ more) =
 
 -- ---- what is wrong with a line's place
 
--- no path stands above; no source line stands between the last path and here
+-- a path stands above
 abbrev pub has_path : List GcovLine → Bool
 has_path above = list_any is_path above
 
+-- a path stands above, and a source line between the last path and here
 abbrev pub has_line : List GcovLine → Bool
 has_line above = has_path above && list_any is_source (behind_last is_path above)
 
@@ -124,21 +103,17 @@ abbrev pub is_empty : {X : Type 0} → List X → Bool
 is_empty [] = true
 is_empty (x ∷ xs) = false
 
--- the fault of the line's place, with its number: functions that wait are lost at a path
+-- the fault of the line's place: with the line's number, but for functions that wait and are lost at a path
 abbrev pub place_fault : ℕ → List GcovLine → GcovLine → Option ReadFault
 place_fault at above (Path []) = Some (faults.NoSource at)
 place_fault at above (Path (b ∷ bs)) = if is_empty (waiting above) then None else Some faults.LostFunction
 place_fault at above (SourceLine line count) = if has_path above then None else Some (faults.NoSource at)
 place_fault at above (BranchCount branch taken) = if has_line above then None else Some (faults.Misplaced at)
-place_fault at above (FuncCount name count) = None
-place_fault at above (BlockNumber block) = None
-place_fault at above Nothing = None
+place_fault at above says = None
 
--- a line of which something is kept: a path begins a section, and a function waits
-abbrev pub is_kept : GcovLine → Bool
-is_kept (Path path) = true
-is_kept (FuncCount name count) = true
-is_kept (SourceLine line count) = false
-is_kept (BranchCount branch taken) = false
-is_kept (BlockNumber block) = false
-is_kept Nothing = false
+-- the lines with which keeping begins: a path begins a section, and a function waits. Nothing is kept before the first
+-- of them
+abbrev pub begins_keeping : GcovLine → Bool
+begins_keeping (Path path) = true
+begins_keeping (FuncCount name count) = true
+begins_keeping says = false

@@ -1,4 +1,4 @@
--- What a text of gcov's is read as: one section for each source file, or its first fault.
+-- What a text of gcov's is read as: one section for each line with a path, or its first fault.
 use Rattle.std.specs.Prelude.{◌⊎◌, ◌≡◌, ℕ, ◌+◌, ◌<◌, ◌≤◌, true, false, List, [], ◌∷◌, ◌++◌, length, Some, None, Result, Ok, Err}
 use Rattle.std.specs.List.{list_any}
 use Rattle.covline.specs.Row.{SubmissionData}
@@ -10,11 +10,8 @@ use Rattle.covread.specs.declared.fault.ReadFault.TheVariants as faults
 use Rattle.covread.specs.declared.gcov.line.OwnFault.{OwnFault}
 use Rattle.covread.specs.declared.gcov.line.OwnFault.TheVariants as own
 use Rattle.covread.specs.Gcov.{GcovLine, LineSays}
-use Rattle.covread.specs.GcovItems.{is_kept, place_fault, waiting, sects_from, is_empty}
-
--- how many bytes a text has at the most: 64 MiB
-abbrev pub most_bytes : ℕ
-most_bytes = 67108864
+use Rattle.covread.specs.Outcome.{most_bytes}
+use Rattle.covread.specs.GcovItems.{begins_keeping, place_fault, waiting, sects_from, is_empty}
 
 -- the lines below the ones above say this one by one, and none of them is at a wrong place
 abbrev pub AllSay : List GcovLine → List (List ℕ) → List GcovLine → Type 0
@@ -50,7 +47,7 @@ pub record IsFirstFault (lines : List (List ℕ)) (fault : ReadFault) : Type 0 w
 -- the first fault comes before anything was kept
 pub record FaultsEarly (lines : List (List ℕ)) (fault : ReadFault) : Type 0 where
   pub first : IsFirstFault lines fault
-  pub none_kept : list_any is_kept first.above ≡ false
+  pub none_kept : list_any begins_keeping first.above ≡ false
 
 -- no line is faulty, but functions wait at the end
 pub record LosesFunction (lines : List (List ℕ)) : Type 0 where
@@ -79,6 +76,15 @@ IsOutcome test text (Err fault) =
 abbrev pub Answers : List ℕ → List ℕ → Result SubmissionData ReadFault → Type 0
 Answers test text answer = ((length text ≤ most_bytes) × IsGoodTest test × (answer ≡ Err faults.Memory)) ⊎ IsOutcome test text answer
 
--- the answer is the outcome, or memory ran out
-abbrev pub IsOrMemory : Result SubmissionData ReadFault → Result SubmissionData ReadFault → Type 0
-IsOrMemory answer outcome = (answer ≡ Err faults.Memory) ⊎ (outcome ≡ answer)
+-- keeping began: of some first lines none is faulty, and one begins it
+pub record HasBegun (lines : List (List ℕ)) : Type 0 where
+  pub before : List (List ℕ)
+  pub after : List (List ℕ)
+  pub place : lines ≡ before ++ after
+  pub above : List GcovLine
+  pub said : AllSay [] before above
+  pub begun : list_any begins_keeping above ≡ true
+
+-- memory ran out only where keeping began
+abbrev pub GrowsLate : List ℕ → Result SubmissionData ReadFault → Type 0
+GrowsLate text answer = answer ≡ Err faults.Memory → HasBegun (lines_of text)

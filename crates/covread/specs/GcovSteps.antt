@@ -11,8 +11,8 @@ use Rattle.covread.specs.declared.gcov.reader.OpenSection.{OpenSection}
 use Rattle.covread.specs.declared.gcov.reader.Reader.{Reader}
 use Rattle.covread.specs.Gcov.{GcovLine, Path, SourceLine, FuncCount, BranchCount, BlockNumber, Nothing, Says, says_of}
 use Rattle.covread.specs.GcovReading.{shape_of}
-use Rattle.covread.specs.GcovItems.{is_kept, func_item, line_item, is_empty}
-use Rattle.covread.specs.GcovOutcome.{own_fault}
+use Rattle.covread.specs.GcovItems.{begins_keeping, func_item, line_item, is_empty}
+use Rattle.covread.specs.GcovOutcome.{own_fault, HasBegun}
 
 -- the section of the last path: its items so far, and its last source line with the block that branches belong to
 pub record SectionData : Type 0 where
@@ -95,9 +95,9 @@ abbrev pub line_step : List ℕ → ℕ → HeldData → Says → Stepped
 line_step test at held (Err why) = Err (own_fault at why)
 line_step test at held (Ok says) = step test at held says
 
--- a line makes the reader's lists grow: it is kept, or a section is open
+-- a line makes the reader's lists grow: keeping begins with it, or a section is open
 abbrev pub grows : HeldData → GcovLine → Bool
-grows held says = is_kept says || is_some held.section
+grows held says = begins_keeping says || is_some held.section
 
 abbrev pub line_grows : HeldData → Says → Bool
 line_grows held (Err why) = false
@@ -117,19 +117,9 @@ abbrev pub run : List ℕ → ℕ → HeldData → List (List ℕ) → Stepped
 run test at held [] = Ok held
 run test at held (line ∷ lines) = run_on (line_step test (at + 1) held (says_of (shape_of line))) (λ next. run test (at + 1) next lines)
 
--- a faulty line comes before the lists grow
-abbrev pub dry_on : Stepped → Bool → (HeldData → Bool) → Bool
-dry_on (Err fault) growing next = true
-dry_on (Ok held) growing next = if growing then false else next held
-
-abbrev pub dry : List ℕ → ℕ → HeldData → List (List ℕ) → Bool
-dry test at held [] = false
-dry test at held (line ∷ lines) =
-    dry_on (line_step test (at + 1) held (says_of (shape_of line))) (line_grows held (says_of (shape_of line))) (λ next. dry test (at + 1) next lines)
-
 abbrev pub ReadsTo : {A : Type 0} → List ℕ → List ℕ → Result (Reader A) ReadFault → Type 0
 ReadsTo test text (Ok reader) = (run test 0 empty (lines_of text) ≡ Ok (held_data reader)) × (reader.test.now ≡ test)
-ReadsTo test text (Err fault) = ((fault ≡ faults.Memory) × (dry test 0 empty (lines_of text) ≡ false)) ⊎ (run test 0 empty (lines_of text) ≡ Err fault)
+ReadsTo test text (Err fault) = ((fault ≡ faults.Memory) × HasBegun (lines_of text)) ⊎ (run test 0 empty (lines_of text) ≡ Err fault)
 
 -- behind the last line
 abbrev pub submission_held : List ℕ → HeldData → SubmissionData
@@ -138,5 +128,6 @@ submission_held test held = record { sects = held.sects ++ closed test held.sect
 abbrev pub ends : List ℕ → HeldData → Result SubmissionData ReadFault
 ends test held = if is_empty held.waiting then Ok (submission_held test held) else Err faults.LostFunction
 
-abbrev pub EndsTo : Result SubmissionData ReadFault → Result SubmissionData ReadFault → Type 0
-EndsTo answer ended = (answer ≡ Err faults.Memory) ⊎ (answer ≡ ended)
+-- what the end gives is that, unless memory ran out, which comes only where a section is open
+abbrev pub EndsTo : Result SubmissionData ReadFault → Bool → Result SubmissionData ReadFault → Type 0
+EndsTo answer is_open ended = ((answer ≡ Err faults.Memory) × (is_open ≡ true)) ⊎ (answer ≡ ended)

@@ -7,6 +7,9 @@ use covline::{LineFault, Memory};
 use std::alloc::AllocFailed;
 use thiserror::Error;
 
+/// How many bytes a text has at the most: 64 MiB.
+pub const MOST_BYTES: usize = 67_108_864;
+
 /// Why a text was not read. The first fault of a text is told, with the number of its line, counted from 1.
 #[derive(Clone, Copy, Debug, PartialEq, Eq, Error)]
 pub enum ReadFault {

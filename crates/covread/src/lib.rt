@@ -15,9 +15,9 @@
 #![tactic(auto)]
 
 mod fault;
-pub mod gcov;
+mod gcov;
 mod trace;
 
-pub use fault::ReadFault;
-pub use gcov::{each_gcov_text_has_one_outcome, read_gcov};
-pub use trace::{MOST_BYTES, each_text_has_one_outcome, laws, read_trace};
+pub use fault::{MOST_BYTES, ReadFault};
+pub use gcov::{an_early_fault_is_told, each_gcov_text_has_one_outcome, read_gcov};
+pub use trace::{each_text_has_one_outcome, laws, read_trace};

@@ -12,4 +12,4 @@ mod settle;
 mod tally;
 
 pub use laws::each_text_has_one_outcome;
-pub use read::{MOST_BYTES, read_trace};
+pub use read::read_trace;

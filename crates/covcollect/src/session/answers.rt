@@ -37,7 +37,7 @@ fn accepted_line<A: Allocator>(
 }
 
 // Where a submission clashes, with the checksum that is held and the given one.
-#[derive(Clone, Copy, Debug)]
+#[derive(Clone, Copy)]
 struct Clash<'a> {
     file: &'a [u8],
     line: u64,

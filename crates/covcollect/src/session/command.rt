@@ -17,7 +17,7 @@ use crate::stream::Sink;
 use covbook::{Book, Op};
 use covreport::{PatternFault, Patterns};
 use std::alloc::Allocator;
-pub use word::{Pick, Word, word_of};
+pub use word::{Format, Pick, Word, word_of};
 
 /// The job that a session's entries have.
 const SESSION_JOB: u32 = 0;
@@ -87,7 +87,7 @@ pub fn answer_word<O: Sink, A: Allocator + Copy>(
             Some(patterns) => step(alloc, book, &op_of(pick, patterns), output),
             None => output.say(b"refused TooLong\n"),
         },
-        Word::Trace => output.say(b"unfinished\n"),
+        Word::Text(_) => output.say(b"unfinished\n"),
         Word::Other => output.say(b"unknown\n"),
     }
 }

@@ -7,7 +7,7 @@ use std::alloc::AllocError;
 /// Why a session ended before its input.
 #[derive(Clone, Copy, Debug, PartialEq, Eq)]
 pub enum SessionFault {
-    /// A read failed, or 2^32 reads were made.
+    /// A read failed, or more than 2^32 reads were needed.
     Read = 1,
     /// A write failed, or took none of some bytes.
     Write = 2,

@@ -9,7 +9,7 @@ use crate::session::fault::SessionFault;
 use std::alloc::Allocator;
 
 /// How a line ended.
-#[derive(Clone, Copy, Debug, PartialEq, Eq)]
+#[derive(Clone, Copy)]
 pub enum LineEnd {
     /// With a line feed.
     Feed,
@@ -18,7 +18,7 @@ pub enum LineEnd {
 }
 
 /// What a line is so far: whether it may be the one that ends a text.
-#[derive(Clone, Copy, Debug, PartialEq, Eq)]
+#[derive(Clone, Copy)]
 pub enum LineSoFar {
     /// It has no byte yet.
     Nothing,
@@ -57,7 +57,7 @@ pub fn with_bytes(so_far: LineSoFar, bytes: &[u8]) -> LineSoFar
 {
     let mut line = so_far;
     for byte in bytes {
-        if line == LineSoFar::Other {
+        if let LineSoFar::Other = line {
             return LineSoFar::Other;
         }
         line = with_byte(line, *byte);

@@ -1,10 +1,13 @@
 //! Laws of what a text is read as, as functions that do nothing: their contracts are the laws.
 
-ghost use Rattle.std.specs.Prelude.{◌≡◌, ℕ, List, Result};
+ghost use Rattle.std.specs.Prelude.{◌≡◌, ◌≤◌, ℕ, List, length, Result, Err};
 ghost use Rattle.covline.specs.Row.{SubmissionData};
+ghost use Rattle.covline.specs.Lines.{lines_of};
+ghost use Rattle.covline.specs.Lawful.{IsGoodTest};
 ghost use Rattle.covread.specs.declared.fault.ReadFault.{ReadFault as Fault};
 ghost use Rattle.covread.specs.Gcov.{Says, LineSays};
-ghost use Rattle.covread.specs.GcovOutcome.{IsOutcome};
+ghost use Rattle.covread.specs.Outcome.{most_bytes};
+ghost use Rattle.covread.specs.GcovOutcome.{IsOutcome, Answers, FaultsEarly, GrowsLate};
 
 /// Each line says exactly one thing, or has exactly one fault; and each text is read as exactly one thing: as a
 /// submission, or with a fault.
@@ -13,4 +16,11 @@ pub fn each_gcov_text_has_one_outcome()
     ensures one_line { (line : List ℕ) (x y : Says) → LineSays line x → LineSays line y → x ≡ y }
     ensures some { (test text : List ℕ) → (outcome : Result SubmissionData Fault) × IsOutcome test text outcome }
     ensures one { (test text : List ℕ) (x y : Result SubmissionData Fault) → IsOutcome test text x → IsOutcome test text y → x ≡ y }
+{}
+
+/// Where the first fault comes before anything was kept, it is answered: by what `read_gcov` ensures, memory can't have
+/// run out before it.
+pub fn an_early_fault_is_told()
+    ensures { (test text : List ℕ) (answer : Result SubmissionData Fault) (fault : Fault) → Answers test text answer → GrowsLate text answer
+        → length text ≤ most_bytes → IsGoodTest test → FaultsEarly (lines_of text) fault → answer ≡ Err fault }
 {}

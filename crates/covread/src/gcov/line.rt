@@ -9,7 +9,7 @@ use crate::gcov::shape::{Shape, shape_of};
 use crate::gcov::text::{are_digits, behind, number, without_last};
 
 /// What is wrong with a line by itself.
-#[derive(Clone, Copy, Debug, PartialEq, Eq)]
+#[derive(Clone, Copy)]
 pub enum OwnFault {
     /// Counts of template instances follow.
     Instances,
@@ -22,7 +22,7 @@ pub enum OwnFault {
 }
 
 /// What a line says; its texts are parts of it.
-#[derive(Clone, Copy, Debug)]
+#[derive(Clone, Copy)]
 pub enum GcovLine<'a> {
     /// The path of a source file.
     Path(&'a [u8]),
@@ -92,7 +92,7 @@ fn read_branch<'a>(branch: &[u8], word: &[u8]) -> Result<GcovLine<'a>, OwnFault>
     }
 }
 
-/// A line with a mark and a number: that with the number 0 tells of the whole text.
+/// A line with a mark and a number: one with the number 0 tells of a source file as a whole.
 fn read_numbered<'a>(mark: &[u8], line: &[u8], text: &'a [u8]) -> Result<GcovLine<'a>, OwnFault>
     ensures { Gives result (says_of (Numbered mark.now line.now text.now)) }
 {

@@ -1,23 +1,19 @@
 //! The reader: forward over the text once.
 
-ghost use Rattle.std.specs.Prelude.{◌≡◌, ◌+◌, ◌<◌, ◌≤◌, ◌^◌, length, Result};
+ghost use Rattle.std.specs.Prelude.{◌≡◌, ◌≤◌, length, Result};
 ghost use Rattle.covline.specs.Row.{SubmissionData};
-ghost use Rattle.covline.specs.Lines.{lines_of};
-ghost use Rattle.covline.specs.Lawful.{IsGoodTest};
 ghost use Rattle.covread.specs.declared.fault.ReadFault.{ReadFault as Fault};
-ghost use Rattle.covread.specs.GcovOutcome.{most_bytes, IsOutcome, Answers, IsOrMemory, FaultsEarly};
+ghost use Rattle.covread.specs.Outcome.{most_bytes, IsOrMemory};
+ghost use Rattle.covread.specs.GcovOutcome.{IsOutcome, Answers, GrowsLate};
 ghost use Rattle.covread.specs.Gcov.{says_of};
 ghost use Rattle.covread.specs.GcovReading.{shape_of};
 ghost use Rattle.covread.specs.GcovSteps.{held_data, line_step, line_grows, StepsTo, ReadsTo};
 
-use crate::fault::ReadFault;
+use crate::fault::{MOST_BYTES, ReadFault};
 use crate::gcov::line::{OwnFault, read_line};
 use crate::gcov::reader::Reader;
 use covline::{LineFault, Submission, good_test, lines};
 use std::alloc::Allocator;
-
-/// How many bytes a text has at the most: 64 MiB.
-pub const MOST_BYTES: usize = 67_108_864;
 
 /// Reads gcov's annotated source, as the counts of this test: answers what its lines say, or the text's first fault.
 pub fn read_gcov<A: Allocator + Copy>(
@@ -27,10 +23,10 @@ pub fn read_gcov<A: Allocator + Copy>(
 ) -> Result<Submission<A>, ReadFault>
     // What is answered is what the text is read as, or memory ran out.
     ensures answers { Answers test.now text.now result }
-    // Nothing else is what the text is read as.
+    // What the text is read as is the answer, unless memory ran out.
     ensures only { (outcome : Result SubmissionData Fault) → IsOutcome test.now text.now outcome → IsOrMemory result outcome }
-    // Where the first fault comes before anything was kept, it is answered: memory can't have run out.
-    ensures early { (fault : Fault) → length text.now ≤ most_bytes → IsGoodTest test.now → FaultsEarly (lines_of text.now) fault → result ≡ Err fault }
+    // Nothing is kept before the first path or function, so memory runs out only behind one.
+    ensures memory { GrowsLate text.now result }
 {
     if text.len() > MOST_BYTES {
         return Err(ReadFault::TooLong);

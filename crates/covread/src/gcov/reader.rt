@@ -111,6 +111,7 @@ impl<'a, A: Allocator + Copy> Reader<'a, A> {
     fn close(&mut self, alloc: A) -> Result<(), ReadFault>
         ensures ok { OnOk result (held_data self.new ≡ record { waiting = map func_data self.old.waiting.items; section = None; sects = self.old.sects ++ closed self.old.test.now (held_data self.old).section }) }
         ensures err { OnErr result (result ≡ Err NoMemory) }
+        ensures late { OnErr result (is_some (held_data self.old).section ≡ true) }
         ensures test { self.new.test.now ≡ self.old.test.now }
     {
         if let Some(section) = self.section.take() {
@@ -184,7 +185,7 @@ impl<'a, A: Allocator + Copy> Reader<'a, A> {
     /// What was read, behind the last line.
     pub fn finish(mut self, alloc: A) -> Result<Submission<A>, ReadFault>
         requires { IsLawful (submission_held self.test.now (held_data self)) }
-        ensures { EndsTo result (ends self.entry.test.now (held_data self.entry)) }
+        ensures { EndsTo result (is_some (held_data self.entry).section) (ends self.entry.test.now (held_data self.entry)) }
     {
         if !self.waiting.is_empty() {
             return Err(ReadFault::LostFunction);

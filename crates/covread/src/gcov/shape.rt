@@ -9,7 +9,7 @@ use crate::gcov::text::{
 };
 
 /// What a line looks like, with the texts of its parts.
-#[derive(Clone, Copy, Debug)]
+#[derive(Clone, Copy)]
 pub(crate) enum Shape<'a> {
     /// `-----`: counts of template instances follow.
     Instances,

@@ -7,7 +7,7 @@ ghost use Rattle.covread.specs.Gcov.{are_digits, without_last};
 ghost use Rattle.covread.specs.GcovReading.{in_class, front_of, rest_of, some_front, behind_spaces, fitting, number_of, ends_word, is_name, last_called};
 
 /// A kind of bytes.
-#[derive(Clone, Copy, Debug, PartialEq, Eq)]
+#[derive(Clone, Copy)]
 pub(crate) enum Class {
     /// `0` to `9`.
     Digit,

@@ -10,7 +10,7 @@ use std::alloc::Allocator;
 use std::collections::BTreeMap;
 
 /// A function that has a start line.
-#[derive(Clone, Copy, Debug, PartialEq, Eq, Drop)]
+#[derive(Clone, Copy, Drop)]
 pub struct Function {
     /// The least of its start lines.
     pub start: u64,
@@ -22,7 +22,7 @@ pub struct Function {
 pub type Functions<'a, A> = BTreeMap<&'a [u8], Function, A>;
 
 /// What a count of a function finds.
-#[derive(Clone, Copy, Debug, PartialEq, Eq, Drop)]
+#[derive(Clone, Copy, Drop)]
 pub struct Found {
     /// The function's start line.
     pub start: u64,

@@ -7,7 +7,7 @@ use covline::Memory;
 use std::alloc::AllocFailed;
 
 /// Why a reader doesn't take a line.
-#[derive(Clone, Copy, Debug, PartialEq, Eq)]
+#[derive(Clone, Copy)]
 pub enum Misplaced {
     /// No section is open.
     Outside,

@@ -35,14 +35,14 @@ impl Point for BranchPoint {
 }
 
 /// A point that an item speaks of, and whether the item's count is above 0.
-#[derive(Clone, Copy, Debug, PartialEq, Eq, PartialOrd, Ord, Drop)]
+#[derive(Clone, Copy, PartialEq, Eq, PartialOrd, Ord, Drop)]
 pub struct Hit<P> {
     pub point: P,
     pub is_hit: bool,
 }
 
 /// Points none of which is below the one before it. The last one may come again, so it isn't counted yet.
-#[derive(Clone, Copy, Debug, Drop)]
+#[derive(Clone, Copy, Drop)]
 pub struct Ascent<P> {
     /// Those below the last one.
     pub below: Tally,
@@ -50,7 +50,7 @@ pub struct Ascent<P> {
 }
 
 /// The points of items, counted as they come.
-#[derive(Clone, Copy, Debug, Drop)]
+#[derive(Clone, Copy, Drop)]
 pub enum Points<P> {
     /// They ascend, as in most tracefiles.
     Ascending(Ascent<P>),

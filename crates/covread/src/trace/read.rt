@@ -7,20 +7,17 @@ ghost use Rattle.covread.specs.Outcome.{most_bytes, IsOutcome, Answers, GrowsLat
 ghost use Rattle.covline.specs.Spells.{LineData};
 ghost use Rattle.covread.specs.TraceSteps.{held_data, HasRoom, IsOpen, ReadsTo, TakesLine};
 
-use crate::fault::ReadFault;
+use crate::fault::{MOST_BYTES, ReadFault};
 use crate::trace::misplaced::Misplaced;
 use crate::trace::reader::Reader;
 use covline::{Submission, each_line_has_one_meaning, lines, lines_are_the_text, read_line};
 use std::alloc::Allocator;
 
-/// How many bytes a text has at the most: 64 MiB.
-pub const MOST_BYTES: usize = 67_108_864;
-
 /// Reads a tracefile: answers what its lines say, or the text's first fault.
 pub fn read_trace<A: Allocator + Copy>(alloc: A, text: &[u8]) -> Result<Submission<A>, ReadFault>
     // What is answered is what the text is read as, or memory ran out.
     ensures answers { Answers text.now result }
-    // Nothing else is what the text is read as.
+    // What the text is read as is the answer, unless memory ran out.
     ensures only { (outcome : Result SubmissionData Fault) → IsOutcome text.now outcome → IsOrMemory result outcome }
     // Nothing is kept before the first path, so memory runs out only behind one.
     ensures memory { GrowsLate text.now result }

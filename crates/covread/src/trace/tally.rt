@@ -12,14 +12,14 @@ use covline::{BranchPoint, Item, Memory, Tally, TotalKind};
 use std::alloc::Allocator;
 
 /// A total that a line states.
-#[derive(Clone, Copy, Debug, PartialEq, Eq, Drop)]
+#[derive(Clone, Copy, Drop)]
 pub struct Stated {
     pub kind: TotalKind,
     pub value: u64,
 }
 
 /// What a total counts.
-#[derive(Clone, Copy, Debug, PartialEq, Eq)]
+#[derive(Clone, Copy)]
 enum Sort {
     Functions,
     Branches,
@@ -27,7 +27,7 @@ enum Sort {
 }
 
 /// How many functions a section has.
-#[derive(Clone, Copy, Debug, PartialEq, Eq, Drop)]
+#[derive(Clone, Copy, Drop)]
 pub struct FunctionTotals {
     /// Those with a start line.
     pub found: u64,
@@ -44,7 +44,7 @@ pub struct Has {
 }
 
 /// A section's own totals. Those of a sort that no line of the section states aren't counted.
-#[derive(Clone, Copy, Debug)]
+#[derive(Clone, Copy)]
 struct Own {
     functions: FunctionTotals,
     branches: Tally,

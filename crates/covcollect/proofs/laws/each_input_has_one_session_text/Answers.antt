@@ -1,8 +1,14 @@
-use Rattle.covcollect.proofs.SessionLaw.{some_session, one_session}
+use Rattle.covcollect.proofs.SessionLaw.{some_session, one_session, read_some, read_one}
 use Rattle.covcollect.proofs.laws.each_input_has_one_session_text.Goals as goal
 
 pub returns-clause-some : goal.returns-clause-some
-returns-clause-some c = some_session c.each_text_has_one_outcome.ensures.some c.each_text_has_one_outcome.ensures.one
+returns-clause-some c =
+    let trace = c.each_text_has_one_outcome.ensures in
+    let gcov = c.each_gcov_text_has_one_outcome.ensures in
+    some_session (read_some trace.some gcov.some) (read_one trace.one gcov.one)
 
 pub returns-clause-one : goal.returns-clause-one
-returns-clause-one c = one_session c.each_text_has_one_outcome.ensures.some c.each_text_has_one_outcome.ensures.one
+returns-clause-one c =
+    let trace = c.each_text_has_one_outcome.ensures in
+    let gcov = c.each_gcov_text_has_one_outcome.ensures in
+    one_session (read_some trace.some gcov.some) (read_one trace.one gcov.one)

@@ -1,14 +1,14 @@
 //! What a command line asks for.
 
-ghost use Rattle.std.specs.Prelude.{◌≡◌, ◌≢◌, [], codes, option_map};
+ghost use Rattle.std.specs.Prelude.{◌≡◌, ◌≢◌, ℕ, List, [], codes, option_map};
 ghost use Rattle.covline.specs.Lines.{strip};
-ghost use Rattle.covcollect.specs.Command.{before_space, IsWord, IsWordWith};
+ghost use Rattle.covcollect.specs.Command.{before_space, IsNaming, IsWord, IsWordWith};
 
 use covline::without_returns;
 use memchr::memchr;
 
 /// Which files a pattern chooses.
-#[derive(Clone, Copy, Debug, PartialEq, Eq)]
+#[derive(Clone, Copy)]
 pub enum Pick {
     /// `extract`, those that match; none without a pattern.
     Extract,
@@ -16,8 +16,17 @@ pub enum Pick {
     Remove,
 }
 
+/// The format of a text that follows a line.
+#[derive(Clone, Copy)]
+pub enum Format<'a> {
+    /// A tracefile (geninfo(1) of LCOV 1.x).
+    Tracefile,
+    /// gcov's annotated source (gcov(1)), whose counts are of this test.
+    Annotated(&'a [u8]),
+}
+
 /// What a command line asks for.
-#[derive(Clone, Copy, Debug, PartialEq, Eq)]
+#[derive(Clone, Copy)]
 pub enum Word<'a> {
     /// Nothing: the line is blank.
     Blank,
@@ -27,8 +36,8 @@ pub enum Word<'a> {
     Summary,
     /// A choice of files, by the pattern behind the first space where there is one.
     Choose(Pick, Option<&'a [u8]>),
-    /// `trace`, a tracefile follows.
-    Trace,
+    /// `trace` or `gcov`, a text of this format follows.
+    Text(Format<'a>),
     /// Something unknown.
     Other,
 }
@@ -45,27 +54,39 @@ pub fn word_of(line: &[u8]) -> Word<'_>
     } else if words == b"summary".as_slice() {
         Word::Summary
     } else if words == b"trace".as_slice() {
-        Word::Trace
+        Word::Text(Format::Tracefile)
     } else {
-        choice_of(words)
+        word_with_argument(words)
     }
 }
 
-/// Which choice of files a line asks for that is no other command.
-fn choice_of(words: &[u8]) -> Word<'_>
+/// What a line asks for that isn't one of the words which stand alone.
+fn word_with_argument(words: &[u8]) -> Word<'_>
     requires some { words.now ≢ [] }
     requires no_report { words.now ≢ codes "report" }
     requires no_summary { words.now ≢ codes "summary" }
     requires no_trace { words.now ≢ codes "trace" }
     ensures { IsWord words.now result }
 {
-    let (name, pattern) = split_at_space(words);
+    let (name, argument) = split_at_space(words);
     if name == b"extract".as_slice() {
-        Word::Choose(Pick::Extract, pattern)
+        Word::Choose(Pick::Extract, argument)
     } else if name == b"remove".as_slice() {
-        Word::Choose(Pick::Remove, pattern)
+        Word::Choose(Pick::Remove, argument)
+    } else if name == b"gcov".as_slice() {
+        Word::Text(Format::Annotated(test_named(argument)))
     } else {
         Word::Other
+    }
+}
+
+/// The test that is named behind a word, where a space stands there; else the one with the empty name.
+fn test_named(argument: Option<&[u8]>) -> &[u8]
+    ensures { (line word : List ℕ) → IsWordWith line word (option_map (λ p. p.now) argument.entry) → IsNaming word result.now line }
+{
+    match argument {
+        Some(test) => test,
+        None => b"",
     }
 }
 

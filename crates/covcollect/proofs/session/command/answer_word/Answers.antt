@@ -11,10 +11,10 @@ use Rattle.covcollect.proofs.session.command.answer_word.Goals as goal
 pub returns-in-Summary-clause-says : goal.returns-in-Summary-clause-says
 returns-in-Summary-clause-says g c = let h = ok_says _ _ _ _ c.step-in-Summary.ensures.said in search rules
 
-pub returns-in-Trace-clause-says : goal.returns-in-Trace-clause-says
-returns-in-Trace-clause-says g c =
-    let P : Word → Type 0 = λ w. OnOk c.say-in-Trace.result (Says c.args.output.now c.say-in-Trace.new.self (text_after (table_of (ops_in c.args.book.now.entries)) (asked_by w))) in
-    subst P (sym c.in-Trace.is) c.say-in-Trace.ensures.says
+pub returns-in-Text-clause-says : goal.returns-in-Text-clause-says
+returns-in-Text-clause-says g c =
+    let P : Word → Type 0 = λ w. OnOk c.say-in-Text.result (Says c.args.output.now c.say-in-Text.new.self (text_after (table_of (ops_in c.args.book.now.entries)) (asked_by w))) in
+    subst P (sym c.in-Text.is) c.say-in-Text.ensures.says
 
 pub returns-in-Some-clause-says : goal.returns-in-Some-clause-says
 returns-in-Some-clause-says g c =

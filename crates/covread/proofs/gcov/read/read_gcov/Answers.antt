@@ -1,9 +1,7 @@
-use Rattle.std.proofs.Common.{ap, Err}
 use Rattle.std.proofs.lemmas.Result.{err_from_is_err_and}
 use Rattle.covread.specs.GcovSteps.{held_data}
 use Rattle.covread.proofs.GcovText.{answer_is}
-use Rattle.covread.specs.declared.fault.ReadFault.{ReadFault}
-use Rattle.covread.proofs.GcovEarly.{early_err, early_isnt_ok}
+use Rattle.covread.proofs.GcovBegun.{late_err, late_own}
 use Rattle.covread.proofs.GcovLoop.{answer_fault, answer_own, lawful_end}
 use Rattle.covread.proofs.gcov.read.read_gcov.Goals as goal
 
@@ -31,11 +29,11 @@ returns-clause-only g c = λ outcome k.
     answer_is c.args.test.now c.args.text.now c.finish.result outcome
     (answer_own c.args.test.now c.in_ok-read_lines.field-0.test.now c.args.text.now (held_data c.in_ok-read_lines.field-0) c.finish.result c.in_ok-read_lines.ensures.1 c.if-text-gt-MOST_BYTES.false (c.good_test.ensures.0 c.if-not-good_test.false) c.in_ok-read_lines.ensures.0 c.finish.ensures) k
 
-pub returns-in_err-read_lines-clause-early : goal.returns-in_err-read_lines-clause-early
-returns-in_err-read_lines-clause-early g c = λ fault short good early.
+pub returns-in_err-read_lines-clause-memory : goal.returns-in_err-read_lines-clause-memory
+returns-in_err-read_lines-clause-memory g c =
     let p = err_from_is_err_and c.from_residual.result c.from_residual.ensures.1 in
-    rw (p.1, p.2) (ap (λ (f : ReadFault). Err f) (early_err c.args.test.now c.args.text.now c.in_err-read_lines.field-0.0 fault c.in_err-read_lines.ensures early))
+    rw (p.1, p.2) (late_err c.args.test.now c.args.text.now c.in_err-read_lines.field-0.0 c.in_err-read_lines.ensures)
 
-pub returns-clause-early : goal.returns-clause-early
-returns-clause-early g c = λ fault short good early.
-    absurd (early_isnt_ok c.args.test.now c.args.text.now (held_data c.in_ok-read_lines.field-0) fault c.in_ok-read_lines.ensures.0 early)
+pub returns-clause-memory : goal.returns-clause-memory
+returns-clause-memory g c =
+    late_own c.args.test.now c.in_ok-read_lines.field-0.test.now c.args.text.now (held_data c.in_ok-read_lines.field-0) c.finish.result c.in_ok-read_lines.ensures.1 c.in_ok-read_lines.ensures.0 c.finish.ensures

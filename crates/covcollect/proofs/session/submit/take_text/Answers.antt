@@ -8,7 +8,7 @@ use Rattle.covcollect.specs.declared.session.text.LineSoFar.TheVariants.{Nothing
 use Rattle.covcollect.specs.declared.session.text.LineEnd.{LineEnd}
 use Rattle.covcollect.specs.declared.session.text.LineEnd.TheVariants.{Feed, Input}
 use Rattle.covcollect.proofs.SessionPieces.{takes_more, text_done, text_rest, is_taken, body_more, not_last, more_cut, more_moves, more_turns, more_collected, same_line}
-use Rattle.covcollect.proofs.session.trace.take_text.Goals as goal
+use Rattle.covcollect.proofs.session.submit.take_text.Goals as goal
 
 pub loop-text-init : goal.loop-text-init
 loop-text-init g c = ([], tt, λ more. refl, search rules, search rules, c.new-text.ensures.empty, c.new-text.ensures.limit)

@@ -1,31 +1,31 @@
-//! A text behind a line `trace`: it is taken, read and submitted, or refused.
+//! A text behind a line `trace` or `gcov`: it is taken, read and submitted, or refused.
 
 ghost use Rattle.std.specs.Prelude.{◌≡◌, ℕ, ◌^◌, ◌<◌, List, [], Result, IfOk, IfErr, OnOk};
 ghost use Rattle.covline.specs.Row.{SubmissionData};
 ghost use Rattle.covbook.specs.Step.{table_of, ops_in};
 ghost use Rattle.covread.specs.declared.fault.ReadFault.{ReadFault as Fault};
 ghost use Rattle.covread.specs.declared.fault.ReadFault.TheVariants as read_faults;
-ghost use Rattle.covread.specs.Outcome.{IsOutcome};
-ghost use Rattle.covcollect.specs.Command.{Command};
+ghost use Rattle.covread.specs.Outcome.{IsOrMemory};
+ghost use Rattle.covcollect.specs.Command.{Command, format_of, IsReadAs};
 ghost use Rattle.covcollect.specs.Session.{refused_text, text_after, Asks};
 ghost use Rattle.covcollect.specs.Streams.{moment, CanCall, Says, TakesPieces};
-ghost use Rattle.covcollect.specs.Text.{asked_for, IsAnsweredAs, IsTaken, IsTold};
-ghost use Rattle.covcollect.specs.Run.{TakesTrace};
+ghost use Rattle.covcollect.specs.Text.{asked_for, AnswersAs, IsAnsweredAs, IsTaken, IsTold, IsToldAnswer};
 ghost use Rattle.covcollect.specs.declared.session.fault.SessionFault.TheVariants as session_faults;
 
 use crate::session::answers::refused_line;
-use crate::session::command::step;
+use crate::session::command::{Format, step};
 use crate::session::fault::SessionFault;
 use crate::session::input::Input;
 use crate::session::output::Output;
 use crate::session::text::{LineEnd, Taken, Text};
 use crate::stream::{Sink, Source};
 use covbook::{Book, Op, SubRef};
-use covread::{MOST_BYTES, ReadFault, read_trace};
+use covline::Submission;
+use covread::{MOST_BYTES, ReadFault, read_gcov, read_trace};
 use std::alloc::Allocator;
 
-// Takes the lines of a text, up to a line `.`, and answers what they are and how the last line ended.
-fn take_text<I: Source, O: Sink, A: Allocator>(
+/// Takes the lines of a text, up to a line `.`, and answers what they are and how the last line ended.
+pub fn take_text<I: Source, O: Sink, A: Allocator>(
     alloc: A,
     input: &mut Input<'_, I, A>,
     output: &mut Output<'_, O, A>,
@@ -83,76 +83,74 @@ fn refuse<O: Sink, A: Allocator + Copy>(
     output.say(line.as_slice())
 }
 
-// Reads a text and submits what it says, or says why it is refused. The text is let go as soon as it is read.
+// Reads a text of this format.
+fn read_as<A: Allocator + Copy>(
+    alloc: A,
+    format: Format<'_>,
+    text: &[u8],
+) -> Result<Submission<A>, ReadFault>
+    ensures answers { AnswersAs (format_of format.entry) text.now result }
+    ensures only { (outcome : Result SubmissionData Fault) → IsReadAs (format_of format.entry) text.now outcome → IsOrMemory result outcome }
+{
+    match format {
+        Format::Tracefile => read_trace(alloc, text),
+        Format::Annotated(test) => read_gcov(alloc, test, text),
+    }
+}
+
+// Submits what a text says, or says why it is refused.
 fn submit<O: Sink, A: Allocator + Copy>(
     alloc: A,
     book: &mut Book<A>,
-    text: Vec<u8, A>,
+    read: Result<Submission<A>, ReadFault>,
     output: &mut Output<'_, O, A>,
 ) -> Result<(), SessionFault>
     requires { output.old.failed_writes < 2 ^ 63 }
-    ensures { OnOk result ((outcome : Result SubmissionData Fault)
-        × IsOutcome text.items outcome
-        × ((other : Result SubmissionData Fault) → IsOutcome text.items other → other ≡ outcome)
-        × Asks (asked_for outcome) (ops_in book.old.entries) (ops_in book.new.entries)
-        × Says output.old output.new (text_after (table_of (ops_in book.old.entries)) (asked_for outcome))) }
+    ensures told { OnOk result (IsToldAnswer read) }
+    ensures asks { OnOk result (Asks (asked_for read) (ops_in book.old.entries) (ops_in book.new.entries)) }
+    ensures says { OnOk result (Says output.old output.new (text_after (table_of (ops_in book.old.entries)) (asked_for read))) }
 {
-    let read = read_trace(alloc, text.as_slice());
-    drop(text);
     match read {
         Ok(submission) => {
             let op = Op::Submit(SubRef::of(alloc, submission)?);
-            step(alloc, book, &op, output)?;
-            Ok(())
+            step(alloc, book, &op, output)
         }
         Err(fault) => {
             told(fault)?;
-            refuse(alloc, fault, output)?;
-            Ok(())
+            refuse(alloc, fault, output)
         }
     }
 }
 
-// Answers what was taken of a text.
-fn answer_taken<O: Sink, A: Allocator + Copy>(
+/// What was taken behind a line that a text of this format follows.
+#[derive(Drop)]
+pub struct Given<'a, A: Allocator> {
+    /// The text's format.
+    pub format: Format<'a>,
+    /// What was taken.
+    pub taken: Taken<A>,
+}
+
+/// Answers what was taken of a text. A whole one is let go as soon as it is read.
+pub fn answer_given<O: Sink, A: Allocator + Copy>(
     alloc: A,
     book: &mut Book<A>,
-    taken: Taken<A>,
+    given: Given<'_, A>,
     output: &mut Output<'_, O, A>,
 ) -> Result<(), SessionFault>
     requires { output.old.failed_writes < 2 ^ 63 }
-    ensures { OnOk result ((commands : List Command) × IsAnsweredAs taken commands
+    ensures { OnOk result ((commands : List Command) × IsAnsweredAs (format_of given.entry.format) given.entry.taken commands
         × Asks commands (ops_in book.old.entries) (ops_in book.new.entries)
         × Says output.old output.new (text_after (table_of (ops_in book.old.entries)) commands)) }
 {
+    let Given { format, taken } = given;
     match taken {
         Taken::Whole(text) => {
-            submit(alloc, book, text, output)?;
-            Ok(())
+            let read = read_as(alloc, format, text.as_slice());
+            drop(text);
+            submit(alloc, book, read, output)
         }
-        Taken::TooLong => {
-            refuse(alloc, ReadFault::TooLong, output)?;
-            Ok(())
-        }
-        Taken::Unfinished => {
-            output.say(b"unfinished\n")?;
-            Ok(())
-        }
+        Taken::TooLong => refuse(alloc, ReadFault::TooLong, output),
+        Taken::Unfinished => output.say(b"unfinished\n"),
     }
-}
-
-/// Answers a text that follows a line `trace`.
-pub fn answer_trace<I: Source, O: Sink, A: Allocator + Copy>(
-    alloc: A,
-    book: &mut Book<A>,
-    input: &mut Input<'_, I, A>,
-    output: &mut Output<'_, O, A>,
-) -> Result<LineEnd, SessionFault>
-    requires { CanCall (moment input.old output.old) }
-    ensures { IfOk result (λ ending. TakesTrace (moment input.old output.old) (moment input.new output.new)
-        (ops_in book.old.entries) (ops_in book.new.entries) ending) }
-{
-    let (taken, ending) = take_text(alloc, input, output)?;
-    answer_taken(alloc, book, taken, output)?;
-    Ok(ending)
 }

@@ -5,7 +5,7 @@ use Rattle.covcollect.specs.Command.{IsBody}
 use Rattle.covcollect.specs.Streams.{turns, moment, Moves, AreCut}
 use Rattle.covcollect.specs.Text.{HasCollected}
 use Rattle.covcollect.specs.declared.session.text.LineEnd.TheVariants.{Feed}
-use Rattle.covcollect.proofs.session.trace.take_text.Given as goal
+use Rattle.covcollect.proofs.session.submit.take_text.Given as goal
 
 abbrev pub invariant-loop-text : goal.invariant-loop-text
 invariant-loop-text g l =
