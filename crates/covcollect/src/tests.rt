@@ -1,6 +1,6 @@
-//! Tests of the whole program: sessions, bytes in and bytes out, and what no session reaches, by the public calls of the
-//! crates below. What is wanted was worked out by hand from the formats (geninfo(1), section FILES; gcov(1)), never taken
-//! from an output.
+//! Tests of the whole program: sessions, bytes in and bytes out. What no session reaches is tested by the crate covtests, with
+//! the public calls of the crates below. What is wanted was worked out by hand from the formats (geninfo(1), section FILES;
+//! gcov(1)), never taken from an output.
 //!
 //! Examples are text, so that they cost the proof of these tests nothing. `check_all` says how they are written.
 
@@ -10,18 +10,13 @@ use std::alloc::Global;
 use std::process::Abort;
 use std::test::*;
 
-mod books;
-mod calls;
 mod choosing;
 mod clashes;
 mod commands;
 mod gcov;
-mod limits;
 mod lines;
 mod merging;
-mod records;
 mod sections;
-mod store;
 mod streams;
 mod summaries;
 mod texts;

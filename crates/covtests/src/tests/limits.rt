@@ -1,7 +1,6 @@
 //! Limits, and what is large.
 
 use super::calls::{is_match, read, repeated, text_of};
-use super::check;
 use covread::ReadFault;
 use std::alloc::Global;
 use std::test::*;
@@ -10,29 +9,6 @@ use std::test::*;
 fn counted(alloc: Global, text: &[u8]) -> Result<(u64, u64), ReadFault> {
     let submission = read(alloc, text)?;
     Ok((submission.items(), submission.odd()))
-}
-
-/// The first bytes of a text, so many of them.
-#[test]
-fn cut_texts(rt: HostRuntime) -> Result<(), Fail> {
-    let text = b"TN:t\nSF:/a.c\nDA:1,2\nDA:2,0\nLF:2\nLH:1\nend_of_record\n";
-    for n in 0..=text.len() {
-        let wanted: &[u8] = match n {
-            0..=7 => b"accepted 1 items 0 odd 0\n",
-            8 => b"refused EmptyPath at 2\n",
-            16..=18 => b"refused BadLine at 3\n",
-            23..=25 => b"refused BadLine at 4\n",
-            30 => b"refused BadLine at 5\n",
-            35 => b"refused BadLine at 6\n",
-            50..=51 => b"accepted 1 items 2 odd 0\n",
-            _ => b"refused OpenEnd\n",
-        };
-        let mut input = Vec::from_slice(rt.alloc(), b"trace\n")?;
-        input.extend_from_slice(&text[..n])?;
-        input.extend_from_slice(b"\n.\n")?;
-        check(&rt, &text[..n], input.as_slice(), wanted);
-    }
-    Ok(())
 }
 
 /// A text of 67,108,864 bytes is read, one of a byte more isn't.

@@ -1,0 +1,85 @@
+//! The reader of gcov's annotated source: what it answers, item by item, and what no session hands it.
+
+use super::calls::annotated;
+use super::push_line;
+use std::alloc::Global;
+use std::test::*;
+
+mod items;
+mod real;
+
+/// How many sections and items a text gives, or its fault.
+fn counted(alloc: Global, test: &[u8], text: &[u8]) -> Result<String, Fail> {
+    Ok(match annotated(alloc, test, text) {
+        Ok(submission) => {
+            let sects = submission.sects().len();
+            let items = submission.items();
+            format!(in alloc; "sections {sects} items {items}")?
+        }
+        Err(fault) => format!(in alloc; "{fault}")?,
+    })
+}
+
+/// What the lines down to here give, behind each line of one text.
+#[test]
+fn first_lines(rt: HostRuntime) -> Result<(), Fail> {
+    let lines = b"> sections 0 items 0
+        -:    0:Source:tmp.c
+> sections 1 items 0
+        -:    0:Runs:1
+> sections 1 items 0
+        -:    1:#include <stdio.h>
+> sections 1 items 0
+function main called 1 returned 100% blocks executed 80%
+> LostFunction
+        1:    2:int main(void)
+> sections 1 items 2
+       3*:    3:  if (x)
+> sections 1 items 3
+        3:    3-block  2
+> sections 1 items 3
+branch  0 taken 2 (fallthrough)
+> sections 1 items 4
+branch  1 taken 1
+> sections 1 items 5
+call    2 returned 3
+> sections 1 items 5
+    #####:    4:  f();
+> sections 1 items 6
+branch  0 never executed
+> sections 1 items 7
+    =====:    5:  g();
+> sections 1 items 8";
+    let mut text: Vec<u8> = Vec::new(rt.alloc());
+    for line in lines.split(|byte| *byte == b'\n') {
+        match line.strip_prefix(b"> ") {
+            None => push_line(&mut text, line)?,
+            Some(wanted) => {
+                let counted = counted(rt.alloc(), b"t", text.as_slice())?;
+                assert_eq!(rt; counted.as_bytes(), wanted);
+            }
+        }
+    }
+    Ok(())
+}
+
+/// No session gives such a name to the reader.
+#[test]
+fn unlawful_names(rt: HostRuntime) -> Result<(), Fail> {
+    for name in b"a\nb|\n|a\r|\r".split(|byte| *byte == b'|') {
+        let counted = counted(rt.alloc(), name, b"")?;
+        assert_eq!(rt; counted.as_bytes(), b"BadTest".as_slice(), "{name:?}");
+    }
+    Ok(())
+}
+
+/// A text of 67,108,864 bytes is read. That one is longer is told before an unlawful name.
+#[test]
+fn longest_text(rt: HostRuntime) -> Result<(), Fail> {
+    let text = vec![in rt.alloc(); b'#'; 67_108_865]?;
+    let longer = counted(rt.alloc(), b"a\nb", &text)?;
+    let longest = counted(rt.alloc(), b"t", &text[1..])?;
+    assert_eq!(rt; longer.as_bytes(), b"TooLong".as_slice());
+    assert_eq!(rt; longest.as_bytes(), b"sections 0 items 0".as_slice());
+    Ok(())
+}
