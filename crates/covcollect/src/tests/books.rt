@@ -115,6 +115,66 @@ fn a_history_with_a_clash(rt: HostRuntime) -> Result<(), Fail> {
     check_step(&rt, &mut book, 1, &first, ((1, 1), (2, 1, 1), b""))
 }
 
+/// How many lines are found and hit after a step that is made ready and dropped.
+fn lines_after(alloc: Global, book: &mut Book, op: &Op) -> Result<(u64, u64), BookFault> {
+    let ready = book.ready(alloc, 4, op)?;
+    let after = ready.after();
+    Ok((after.lf, after.lh))
+}
+
+/// A step by its two halves, of job 3.
+fn in_halves(alloc: Global, book: &mut Book, op: &Op) -> Result<Receipt, BookFault> {
+    let ready = book.ready(alloc, 3, op)?;
+    Ok(book.finish(ready))
+}
+
+/// The next step of the one book, in two halves, has the receipt and the entry that it has in the other book in one.
+fn check_halves(
+    rt: &(impl Abort + AllocGlobal),
+    book: &mut Book,
+    other: &mut Book,
+    op: &Op,
+) -> Result<(), Fail> {
+    let half = in_halves(rt.alloc(), book, op)?;
+    let whole = step(rt.alloc(), other, 3, op)?;
+    assert_eq!(rt; half.place, whole.place);
+    let (numbers, text) = (numbers_in(&whole.answer), text_in(&whole.answer));
+    check_words(rt, &half.op, &half.answer, (numbers_of(op), numbers, text));
+    assert_eq!(rt; entries(book).len(), entries(other).len());
+    match entries(book).split_last() {
+        Some((entry, _before)) => {
+            assert_eq!(rt; entry.job, 3);
+            check_words(
+                rt,
+                &entry.op,
+                &entry.answer,
+                (numbers_of(op), numbers, text),
+            );
+        }
+        None => assert!(rt; false, "no entry"),
+    }
+    Ok(())
+}
+
+/// A step that is made ready and dropped is none, and tells the totals that would stand after it.
+#[test]
+fn halves_of_a_step(rt: HostRuntime) -> Result<(), Fail> {
+    let alloc = rt.alloc();
+    let mut book = Book::new(alloc);
+    let mut other = Book::new(alloc);
+    let small = submit(alloc, SMALL)?;
+    assert_eq!(rt; lines_after(alloc, &mut book, &small)?, (2, 1));
+    assert_eq!(rt; lines_after(alloc, &mut book, &Op::Summary)?, (0, 0));
+    assert_eq!(rt; entries(&book).len(), 0);
+    check_halves(&rt, &mut book, &mut other, &Op::Report)?;
+    check_halves(&rt, &mut book, &mut other, &small)?;
+    check_halves(&rt, &mut book, &mut other, &small)?;
+    check_halves(&rt, &mut book, &mut other, &Op::Report)?;
+    assert_eq!(rt; lines_after(alloc, &mut book, &Op::Report)?, (2, 1));
+    assert_eq!(rt; entries(&book).len(), 4);
+    Ok(())
+}
+
 #[test]
 fn lists(rt: HostRuntime) -> Result<(), Fail> {
     let text = TextRef::of(rt.alloc(), bytes_of(rt.alloc(), b"ab")?)?;
