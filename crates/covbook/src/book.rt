@@ -95,8 +95,8 @@ impl<A: Allocator + Copy> Book<A> {
         self.history.get()
     }
 
-    /// One step of the table: the operation is answered, and its entry appended. A refusal leaves the book as it
-    /// was.
+    /// One step of the table: the operation is answered, and its entry appended. A refusal leaves history and content
+    /// as they were. This is `ready` and then `finish`.
     pub fn step(&mut self, alloc: A, job: u32, op: &Op<A>) -> Result<Receipt<A>, BookFault>
         ensures answer { IfOk result (λ r. answer_data r.answer ≡ answer_of (table_of (ops_in self.old.entries)) (op_data op.now)) }
         ensures place { IfOk result (λ r. r.place ≡ length self.old.entries) }
