@@ -23,3 +23,8 @@ pub mod ContentsPoints
 pub mod ContentsSections
 pub mod ContentsChecksums
 pub mod Contents
+pub mod Leads
+pub mod SlotSearch
+pub mod SlotPages
+pub mod SlotWrites
+pub mod SlotSplit

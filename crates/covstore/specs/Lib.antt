@@ -15,3 +15,6 @@ pub mod KeyView
 pub mod Walk
 pub mod ClashView
 pub mod ChecksumView
+pub mod Asked
+pub mod Slots
+pub mod SlotPlace

@@ -38,6 +38,7 @@ mod next;
 mod plan;
 mod refuse;
 mod rows;
+mod slots;
 mod store;
 mod totals;
 mod values;
