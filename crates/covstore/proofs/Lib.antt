@@ -28,3 +28,8 @@ pub mod SlotSearch
 pub mod SlotPages
 pub mod SlotWrites
 pub mod SlotSplit
+pub mod Comings
+pub mod SlotPlaces
+pub mod ComingSearch
+pub mod ComingTouch
+pub mod ComingPut

@@ -18,3 +18,4 @@ pub mod ChecksumView
 pub mod Asked
 pub mod Slots
 pub mod SlotPlace
+pub mod Coming

@@ -4,13 +4,15 @@
 //! last key, and a slot on it, by a binary search; a walk in order costs no search, where each place is the guess for
 //! the next one. What stands above knows the list of all slots and what a place is, and not how the pages are cut.
 
-ghost use Rattle.std.specs.Prelude.{◌≡◌, ◌↔◌, ◌+◌, ◌^◌, ◌<◌, [], IfNone, IfSome, IsTrue, OnErr, OnOk, length, option_map};
+ghost use Rattle.std.specs.Prelude.{◌≡◌, ◌↔◌, ◌+◌, ◌^◌, ◌<◌, [], IfNone, IfOk, IfSome, IsTrue, OnErr, OnOk, length, option_map};
 ghost use Rattle.std.specs.declared.cmp.Ordering.TheVariants.{Less};
 ghost use Rattle.std.specs.List.{AllByRecursion};
 ghost use Rattle.covstore.specs.Slots.{AreSlots, IsAscending, IsCut, IsGap, IsPlace, ends_before, filled, is_before, lead, page_at, slot_at, slot_value, slots_of, with_page_split, with_slot};
+ghost use Rattle.covstore.specs.Coming.{column_of};
 ghost use Rattle.covstore.specs.SlotPlace.{at};
 
 mod asked;
+mod coming;
 mod filled;
 
 use crate::slots::asked::Asked;
@@ -158,6 +160,15 @@ impl<K: Ord, V, A: Allocator> Slots<K, V, A> {
         ensures { result ≡ filled (slots_of self.now) }
     {
         Filled::of(&self.pages)
+    }
+}
+
+impl<K: Ord, V: Copy, A: Allocator> Slots<K, V, A> {
+    /// A copy of the values of a page.
+    fn column(&self, alloc: A, number: usize) -> Result<Vec<Option<V>, A>, AllocError>
+        ensures { IfOk result (λ column. column.items ≡ column_of (page_at self.now number)) }
+    {
+        self.page(number).iter().map(|slot| slot.1).collect(alloc)
     }
 }
 
