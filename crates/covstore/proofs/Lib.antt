@@ -33,3 +33,5 @@ pub mod SlotPlaces
 pub mod ComingSearch
 pub mod ComingTouch
 pub mod ComingPut
+pub mod ComingReads
+pub mod ComingWhole

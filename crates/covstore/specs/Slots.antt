@@ -59,6 +59,15 @@ At = ℕ × ℕ
 abbrev pub slot_at : {K V : Type 0} → List (List (K × Option V)) → At → Option (K × Option V)
 slot_at pages at = slice_get (page_at pages at.0) at.1
 
+-- a value that may be missing in what may be missing
+abbrev pub value_in : {V : Type 0} → Option (Option V) → Option V
+value_in None = None
+value_in (Some value) = value
+
+-- the value in the slot at a place
+abbrev pub value_at : {K V : Type 0} → List (List (K × Option V)) → At → Option V
+value_at pages at = value_in (option_map (λ slot. slot.1) (slot_at pages at))
+
 -- the slots before a place, and those from it on
 abbrev pub before : {K V : Type 0} → List (List (K × Option V)) → At → List (K × Option V)
 before pages at = slots_of (take at.0 pages) ++ take at.1 (page_at pages at.0)

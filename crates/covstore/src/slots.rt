@@ -7,7 +7,7 @@
 ghost use Rattle.std.specs.Prelude.{◌≡◌, ◌↔◌, ◌+◌, ◌^◌, ◌<◌, [], IfNone, IfOk, IfSome, IsTrue, OnErr, OnOk, length, option_map};
 ghost use Rattle.std.specs.declared.cmp.Ordering.TheVariants.{Less};
 ghost use Rattle.std.specs.List.{AllByRecursion};
-ghost use Rattle.covstore.specs.Slots.{AreSlots, IsAscending, IsCut, IsGap, IsPlace, ends_before, filled, is_before, lead, page_at, slot_at, slot_value, slots_of, with_page_split, with_slot};
+ghost use Rattle.covstore.specs.Slots.{AreSlots, IsAscending, IsCut, IsGap, IsPlace, ends_before, filled, is_before, lead, page_at, slot_at, slot_value, slots_of, value_at, with_page_split, with_slot};
 ghost use Rattle.covstore.specs.Coming.{column_of};
 ghost use Rattle.covstore.specs.SlotPlace.{at};
 
@@ -164,6 +164,16 @@ impl<K: Ord, V, A: Allocator> Slots<K, V, A> {
 }
 
 impl<K: Ord, V: Copy, A: Allocator> Slots<K, V, A> {
+    /// The value in the slot at a place.
+    pub(crate) fn value_at(&self, place: Place) -> Option<V>
+        ensures { result ≡ value_at self.now (at place) }
+    {
+        match self.slot_at(place) {
+            Some(slot) => slot.1,
+            None => None,
+        }
+    }
+
     /// A copy of the values of a page.
     fn column(&self, alloc: A, number: usize) -> Result<Vec<Option<V>, A>, AllocError>
         ensures { IfOk result (λ column. column.items ≡ column_of (page_at self.now number)) }

@@ -3,7 +3,7 @@
 ghost use Rattle.std.specs.Prelude.{◌≡◌, ◌↔◌, ◌<◌, nat_lt, [], IfOk, IsTrue, OnErr, OnOk, length, option_map, slice_get};
 ghost use Rattle.covstore.specs.Coming.{AreAscending, AreColumnsOf, IsTouched, coming_of, with_value_at};
 ghost use Rattle.covstore.specs.SlotPlace.{at};
-ghost use Rattle.covstore.specs.Slots.{lead, page_at};
+ghost use Rattle.covstore.specs.Slots.{lead, page_at, value_at, value_in};
 
 use crate::slots::{Place, Slots};
 use std::alloc::{AllocError, Allocator};
@@ -106,5 +106,31 @@ impl<V: Copy, A: Allocator> Coming<V, A> {
         let index = self.touch(alloc, slots, place.page)?;
         self.columns[index].1[place.index] = Some(value);
         Ok(())
+    }
+
+    /// The value that is to come at the place of a slot.
+    pub(crate) fn value_at<K: Ord>(&self, slots: &Slots<K, V, A>, place: Place) -> Option<V>
+        requires page { place.page < length slots.now }
+        requires columns { AreColumnsOf slots.now self.now }
+        ensures { result ≡ value_at (coming_of slots.now self.now) (at place) }
+    {
+        let index = self.index_of(place.page);
+        if self.has(index, place.page) {
+            return self.value_of(index, place.index);
+        }
+        slots.value_at(place)
+    }
+
+    /// A value of a column.
+    fn value_of(&self, index: usize, at: usize) -> Option<V>
+        ensures { (column : _) → slice_get self.now index ≡ Some column → result ≡ value_in (slice_get column.1 at) }
+    {
+        match self.columns.get(index) {
+            Some(column) => match column.1.get(at) {
+                Some(value) => *value,
+                None => None,
+            },
+            None => None,
+        }
     }
 }
