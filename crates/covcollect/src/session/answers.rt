@@ -80,7 +80,8 @@ fn line_fault_text(fault: LineFault) -> &'static [u8]
 
 // A name, and the number of the line.
 fn text_at<A: Allocator>(alloc: A, name: &[u8], at: u64) -> Result<Vec<u8, A>, SessionFault>
-    ensures { IfOk result (λ text. text.items ≡ name.now ++ codes " at " ++ decimal at) }
+    ensures words { IfOk result (λ text. text.items ≡ name.now ++ codes " at " ++ decimal at) }
+    ensures fault { IfErr result (λ f. f ≡ session_faults.Memory) }
 {
     let mut text = Vec::from_slice(alloc, name)?;
     text.extend_from_slice(b" at ")?;
@@ -90,14 +91,16 @@ fn text_at<A: Allocator>(alloc: A, name: &[u8], at: u64) -> Result<Vec<u8, A>, S
 
 // A name alone.
 fn text_alone<A: Allocator>(alloc: A, name: &[u8]) -> Result<Vec<u8, A>, SessionFault>
-    ensures { IfOk result (λ text. text.items ≡ name.now) }
+    ensures words { IfOk result (λ text. text.items ≡ name.now) }
+    ensures fault { IfErr result (λ f. f ≡ session_faults.Memory) }
 {
     Ok(Vec::from_slice(alloc, name)?)
 }
 
 // What a fault is called, with its line where it has one.
 fn fault_words<A: Allocator>(alloc: A, fault: ReadFault) -> Result<Vec<u8, A>, SessionFault>
-    ensures { IfOk result (λ text. text.items ≡ fault_text fault) }
+    ensures words { IfOk result (λ text. text.items ≡ fault_text fault) }
+    ensures fault { IfErr result (λ f. f ≡ session_faults.Memory) }
 {
     match fault {
         ReadFault::TooLong => text_alone(alloc, b"TooLong"),
@@ -121,7 +124,8 @@ pub fn refused_line<A: Allocator + Copy>(
     alloc: A,
     fault: ReadFault,
 ) -> Result<Vec<u8, A>, SessionFault>
-    ensures { IfOk result (λ line. line.items ≡ refused_text fault) }
+    ensures line { IfOk result (λ line. line.items ≡ refused_text fault) }
+    ensures fault { IfErr result (λ f. f ≡ session_faults.Memory) }
 {
     let words = fault_words(alloc, fault)?;
     let mut line = Vec::from_slice(alloc, b"refused ")?;

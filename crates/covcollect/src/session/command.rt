@@ -1,8 +1,9 @@
 //! The commands of one line: what such a line asks for, and the answer to it.
 
-ghost use Rattle.std.specs.Prelude.{◌≡◌, ◌↔◌, ◌^◌, ◌<◌, [], ◌∷◌, ◌++◌, length, Err, IfOk, IfErr, OnOk, option_map};
+ghost use Rattle.std.specs.Prelude.{◌≡◌, ◌↔◌, ◌^◌, ◌<◌, [], ◌∷◌, ◌++◌, length, ◌≤◌, Err, IfOk, IfErr, IfSome, OnOk, OnErr, option_map};
 ghost use Rattle.covbook.specs.Step.{answer_of, most_entries, next_entry, table_of, ops_in};
 ghost use Rattle.covbook.specs.View.{op_data};
+ghost use Rattle.covreport.specs.Choice.{most_pattern_bytes};
 ghost use Rattle.covcollect.specs.Command.{asked_by, pick_op, IsListOf};
 ghost use Rattle.covcollect.specs.Session.{answer_text, text_after, Asks};
 ghost use Rattle.covcollect.specs.Streams.{Says};
@@ -46,6 +47,8 @@ fn patterns_of<A: Allocator + Copy>(
 ) -> Result<Option<Patterns<A>>, SessionFault>
     ensures list { IfOk result (λ r. IsListOf (option_map (λ p. p.now) pattern.entry) r) }
     ensures fault { IfErr result (λ f. f ≡ session_faults.Memory) }
+    // Memory runs out only where a pattern is copied, and so behind the test of its length.
+    ensures short { OnErr result (IfSome pattern.entry (λ p. length p.now ≤ most_pattern_bytes)) }
 {
     let mut patterns = Patterns::new(alloc);
     let Some(pattern) = pattern else {

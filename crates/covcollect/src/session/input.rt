@@ -1,6 +1,6 @@
 //! The input of a session: a block of bytes that was read, and the source of further ones.
 
-ghost use Rattle.std.specs.Prelude.{◌≡◌, ℕ, ◌-◌, ◌+◌, ◌^◌, ◌<◌, ◌≤◌, List, [], ◌∷◌, ◌++◌, length, take, drop, IfOk, IfErr, OnOk};
+ghost use Rattle.std.specs.Prelude.{◌≡◌, ◌⊎◌, ℕ, ◌-◌, ◌+◌, ◌^◌, ◌<◌, ◌≤◌, List, [], ◌∷◌, ◌++◌, length, take, drop, IfOk, IfErr, OnOk, OnErr};
 ghost use Rattle.std.specs.Io.KnownBytes.{IsAtEnd};
 ghost use Rattle.covline.specs.Lines.{before_feed, line_feed};
 ghost use Rattle.covcollect.specs.Streams.{unread, turns, moment, CanRead, CanCall, Takes, Moves, TakesPart, TakesLine};
@@ -59,6 +59,7 @@ impl<'s, I: Source, A: Allocator> Input<'s, I, A> {
         ensures reads { IfOk result (λ i. i.reads ≡ I.reads source.old) }
         ensures failed { IfOk result (λ i. i.failed_reads ≡ I.failed_reads source.old) }
         ensures same { IfOk result (λ i. i.source ≡ source.entry.ghost_name) }
+        ensures fault { IfErr result (λ f. f ≡ session_faults.Memory) }
     {
         Ok(Input {
             bytes: vec![in alloc; 0; BLOCK_BYTES]?,
@@ -109,14 +110,18 @@ impl<'s, I: Source, A: Allocator> Input<'s, I, A> {
         self.from += count;
     }
 
-    // Reads the next block, after the last one was taken.
-    fn read(&mut self) -> Result<(), SessionFault>
+    // Reads the next block, after the last one was taken and all that was said was written: the read may have to wait
+    // for the one who is answered.
+    fn read<O: Sink>(&mut self, output: &Output<'_, O, A>) -> Result<(), SessionFault>
         requires taken { self.old.pending ≡ [] }
+        requires answered { output.now.waiting ≡ [] }
         requires few { CanRead self.old }
         ensures took { OnOk result (Takes self.old self.new []) }
         ensures ended { OnOk result (self.new.pending ≡ [] → IsAtEnd self.new.left) }
         ensures fewer { OnOk result (turns self.new < turns self.old) }
         ensures fault { IfErr result (λ f. f ≡ session_faults.Read) }
+        // It fails only where no read is left, or one failed.
+        ensures cause { OnErr result ((self.old.reads_left ≡ 0) ⊎ (self.new.failed_reads ≡ self.old.failed_reads + 1)) }
     {
         if self.reads_left == 0 {
             return Err(SessionFault::Read);
@@ -131,7 +136,7 @@ impl<'s, I: Source, A: Allocator> Input<'s, I, A> {
     }
 
     // Sees to it that some byte is there to be taken, unless the source is at its end. What waits is written before
-    // a read, which may have to wait for the one who is answered.
+    // a read.
     fn fill<O: Sink>(&mut self, output: &mut Output<'_, O, A>) -> Result<(), SessionFault>
         requires { CanCall (moment self.old output.old) }
         ensures moves { OnOk result (Moves (moment self.old output.old) (moment self.new output.new) [] []) }
@@ -143,7 +148,7 @@ impl<'s, I: Source, A: Allocator> Input<'s, I, A> {
             return Ok(());
         }
         output.put_out()?;
-        self.read()
+        self.read(output)
     }
 
     // Takes what is there of a line, and answers whether that is all of it, the line feed too.
@@ -153,6 +158,7 @@ impl<'s, I: Source, A: Allocator> Input<'s, I, A> {
             × ((before : List ℕ) → (now : List ℕ) → HasCollected text.old before now → HasCollected text.new before (now ++ part))) }
         ensures limit { OnOk result (text.new.limit ≡ text.old.limit) }
         ensures kept { OnOk result (self.new ≡ record self.old { pending = self.new.pending }) }
+        ensures fault { IfErr result (λ f. f ≡ session_faults.Memory) }
     {
         let count = self.feed_at();
         let pending = self.pending();

@@ -1,9 +1,10 @@
 //! A text, or a command line, while it is collected part by part.
 
-ghost use Rattle.std.specs.Prelude.{◌≡◌, ◌↔◌, ℕ, List, [], ◌∷◌, ◌++◌, take, IsTrue, OnOk};
+ghost use Rattle.std.specs.Prelude.{◌≡◌, ◌↔◌, ℕ, List, [], ◌∷◌, ◌++◌, take, IsTrue, IfErr, OnOk};
 ghost use Rattle.covline.specs.Lines.{line_feed};
 ghost use Rattle.covread.specs.Outcome.{most_bytes};
 ghost use Rattle.covcollect.specs.Text.{line_after, line_with, HasCollected, IsTextOf};
+ghost use Rattle.covcollect.specs.declared.session.fault.SessionFault.TheVariants as session_faults;
 
 use crate::session::fault::SessionFault;
 use std::alloc::Allocator;
@@ -114,6 +115,7 @@ impl<A: Allocator> Text<A> {
         ensures begins { OnOk result (self.new.begins ≡ self.old.begins) }
         ensures line { OnOk result (self.new.line ≡ self.old.line) }
         ensures total { OnOk result (self.new.total ≡ self.old.total) }
+        ensures fault { IfErr result (λ f. f ≡ session_faults.Memory) }
     {
         let room = self.limit.saturating_sub(self.kept.len());
         let count = part.len().min(room);
@@ -127,6 +129,7 @@ impl<A: Allocator> Text<A> {
             → HasCollected self.old before now
             → HasCollected self.new before (now ++ part.now)) }
         ensures limit { OnOk result (self.new.limit ≡ self.old.limit) }
+        ensures fault { IfErr result (λ f. f ≡ session_faults.Memory) }
     {
         self.keep(part)?;
         self.total = self.total.saturating_add(part.len() as u64);
@@ -140,6 +143,7 @@ impl<A: Allocator> Text<A> {
             → HasCollected self.old before now
             → HasCollected self.new (before ++ (now ++ line_feed ∷ [])) []) }
         ensures limit { OnOk result (self.new.limit ≡ self.old.limit) }
+        ensures fault { IfErr result (λ f. f ≡ session_faults.Memory) }
     {
         self.keep(b"\n")?;
         self.total = self.total.saturating_add(1);
