@@ -1,12 +1,13 @@
 //! One session: commands in, answers out.
 
-ghost use Rattle.std.specs.Prelude.{◌≡◌, ℕ, ◌+◌, ◌^◌, ◌<◌, ◌≤◌, List, IfOk, OnOk, IfSome, IfNone};
+ghost use Rattle.std.specs.Prelude.{◌≡◌, ℕ, ◌+◌, ◌^◌, ◌<◌, ◌≤◌, length, List, Err, IfOk, OnOk, IfSome, IfNone};
 ghost use Rattle.std.specs.Io.KnownBytes.{Appends};
-ghost use Rattle.covbook.specs.Step.{ops_in};
+ghost use Rattle.covbook.specs.Step.{most_entries, ops_in};
 ghost use Rattle.covcollect.specs.declared.session.command.word.Format.{Format as TextFormat};
 ghost use Rattle.covcollect.specs.Session.{IsSession, IsWholeSession};
 ghost use Rattle.covcollect.specs.Streams.{moment, CanCall};
 ghost use Rattle.covcollect.specs.Run.{TakesCommand, IsDone};
+ghost use Rattle.covcollect.specs.declared.session.fault.SessionFault.TheVariants as faults;
 
 mod answers;
 pub mod command;
@@ -48,8 +49,9 @@ fn answer_command<I: Source, O: Sink, A: Allocator + Copy>(
     output: &mut Output<'_, O, A>,
 ) -> Result<LineEnd, SessionFault>
     requires { CanCall (moment input.old output.old) }
-    ensures { IfOk result (λ ending. TakesCommand (moment input.old output.old) (moment input.new output.new)
+    ensures takes { IfOk result (λ ending. TakesCommand (moment input.old output.old) (moment input.new output.new)
         (ops_in book.old.entries) (ops_in book.new.entries) ending) }
+    ensures full { result ≡ Err faults.Full → length book.old.entries ≡ most_entries }
 {
     let mut line = Text::new(alloc, usize::MAX);
     let ending = input.take_line(&mut line, output)?;

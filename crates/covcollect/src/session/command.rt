@@ -81,6 +81,7 @@ pub fn answer_word<O: Sink, A: Allocator + Copy>(
     requires { output.old.failed_writes < 2 ^ 63 }
     ensures asks { OnOk result (Asks (asked_by word.entry) (ops_in book.old.entries) (ops_in book.new.entries)) }
     ensures says { OnOk result (Says output.old output.new (text_after (table_of (ops_in book.old.entries)) (asked_by word.entry))) }
+    ensures full { result ≡ Err session_faults.Full → length book.old.entries ≡ most_entries }
 {
     match word {
         Word::Blank => output.say(b""),

@@ -1,6 +1,6 @@
 //! The input of a session: a block of bytes that was read, and the source of further ones.
 
-ghost use Rattle.std.specs.Prelude.{◌≡◌, ◌⊎◌, ℕ, ◌-◌, ◌+◌, ◌^◌, ◌<◌, ◌≤◌, List, [], ◌∷◌, ◌++◌, length, take, drop, IfOk, IfErr, OnOk, OnErr};
+ghost use Rattle.std.specs.Prelude.{◌≡◌, ◌≢◌, ◌⊎◌, ℕ, ◌-◌, ◌+◌, ◌^◌, ◌<◌, ◌≤◌, List, [], ◌∷◌, ◌++◌, length, take, drop, IfOk, IfErr, OnOk, OnErr};
 ghost use Rattle.std.specs.Io.KnownBytes.{IsAtEnd};
 ghost use Rattle.covline.specs.Lines.{before_feed, line_feed};
 ghost use Rattle.covcollect.specs.Streams.{unread, turns, moment, CanRead, CanCall, Takes, Moves, TakesPart, TakesLine};
@@ -143,6 +143,7 @@ impl<'s, I: Source, A: Allocator> Input<'s, I, A> {
         ensures ended { OnOk result (self.new.pending ≡ [] → IsAtEnd (unread self.new)) }
         ensures fewer { OnOk result (turns self.new ≤ turns self.old) }
         ensures shown { OnOk result (self.old.pending ≡ [] → output.new.waiting ≡ []) }
+        ensures fault { IfErr result (λ f. f ≢ session_faults.Full) }
     {
         if !self.pending().is_empty() {
             return Ok(());
@@ -183,6 +184,7 @@ impl<'s, I: Source, A: Allocator> Input<'s, I, A> {
             × TakesLine (moment self.old output.old) (moment self.new output.new) line ending
             × ((before : List ℕ) → (now : List ℕ) → HasCollected text.old before now → HasCollected text.new before (now ++ line))) }
         ensures limit { OnOk result (text.new.limit ≡ text.old.limit) }
+        ensures fault { IfErr result (λ f. f ≢ session_faults.Full) }
     {
         loop {
             self.fill(output)?;

@@ -1,8 +1,8 @@
 //! A text behind a line `trace` or `gcov`: it is taken, read and submitted, or refused.
 
-ghost use Rattle.std.specs.Prelude.{◌≡◌, ℕ, ◌^◌, ◌<◌, List, [], Result, IfOk, IfErr, OnOk};
+ghost use Rattle.std.specs.Prelude.{◌≡◌, ◌≢◌, ℕ, ◌^◌, ◌<◌, length, List, [], Result, Err, IfOk, IfErr, OnOk};
 ghost use Rattle.covline.specs.Row.{SubmissionData};
-ghost use Rattle.covbook.specs.Step.{table_of, ops_in};
+ghost use Rattle.covbook.specs.Step.{most_entries, table_of, ops_in};
 ghost use Rattle.covread.specs.declared.fault.ReadFault.{ReadFault as Fault};
 ghost use Rattle.covread.specs.declared.fault.ReadFault.TheVariants as read_faults;
 ghost use Rattle.covread.specs.Outcome.{IsOrMemory};
@@ -31,9 +31,10 @@ pub fn take_text<I: Source, O: Sink, A: Allocator>(
     output: &mut Output<'_, O, A>,
 ) -> Result<(Taken<A>, LineEnd), SessionFault>
     requires { CanCall (moment input.old output.old) }
-    ensures { IfOk result (λ r. (pieces : List (List ℕ))
+    ensures taken { IfOk result (λ r. (pieces : List (List ℕ))
         × TakesPieces (moment input.old output.old) (moment input.new output.new) pieces r.1 []
         × IsTaken pieces r.1 r.0) }
+    ensures fault { IfErr result (λ f. f ≢ session_faults.Full) }
 {
     let mut text = Text::new(alloc, MOST_BYTES);
     loop {
@@ -77,7 +78,8 @@ fn refuse<O: Sink, A: Allocator + Copy>(
     output: &mut Output<'_, O, A>,
 ) -> Result<(), SessionFault>
     requires { output.old.failed_writes < 2 ^ 63 }
-    ensures { OnOk result (Says output.old output.new (refused_text fault)) }
+    ensures says { OnOk result (Says output.old output.new (refused_text fault)) }
+    ensures fault { IfErr result (λ f. f ≢ session_faults.Full) }
 {
     let line = refused_line(alloc, fault)?;
     output.say(line.as_slice())
@@ -109,6 +111,7 @@ fn submit<O: Sink, A: Allocator + Copy>(
     ensures told { OnOk result (IsToldAnswer read) }
     ensures asks { OnOk result (Asks (asked_for read) (ops_in book.old.entries) (ops_in book.new.entries)) }
     ensures says { OnOk result (Says output.old output.new (text_after (table_of (ops_in book.old.entries)) (asked_for read))) }
+    ensures full { result ≡ Err session_faults.Full → length book.old.entries ≡ most_entries }
 {
     match read {
         Ok(submission) => {
@@ -139,9 +142,10 @@ pub fn answer_given<O: Sink, A: Allocator + Copy>(
     output: &mut Output<'_, O, A>,
 ) -> Result<(), SessionFault>
     requires { output.old.failed_writes < 2 ^ 63 }
-    ensures { OnOk result ((commands : List Command) × IsAnsweredAs (format_of given.entry.format) given.entry.taken commands
+    ensures answered { OnOk result ((commands : List Command) × IsAnsweredAs (format_of given.entry.format) given.entry.taken commands
         × Asks commands (ops_in book.old.entries) (ops_in book.new.entries)
         × Says output.old output.new (text_after (table_of (ops_in book.old.entries)) commands)) }
+    ensures full { result ≡ Err session_faults.Full → length book.old.entries ≡ most_entries }
 {
     let Given { format, taken } = given;
     match taken {

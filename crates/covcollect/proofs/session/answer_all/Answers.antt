@@ -16,7 +16,7 @@ loop-book-preserved g c =
     let n = moment c.loop-book.input c.loop-book.output in
     let o = moment c.answer_command.new.input c.answer_command.new.output in
     let P : LineEnd → Type 0 = λ e. TakesCommand n o (ops_in c.loop-book.book.entries) (ops_in c.answer_command.new.book.entries) e in
-    so_far_more m n o (ops_in c.loop-book.book.entries) (ops_in c.answer_command.new.book.entries) c.loop-book.invariant (subst P c.in-Feed.is c.in_ok-answer_command.ensures)
+    so_far_more m n o (ops_in c.loop-book.book.entries) (ops_in c.answer_command.new.book.entries) c.loop-book.invariant (subst P c.in-Feed.is c.in_ok-answer_command.ensures.takes)
 
 pub returns-in-Input : goal.returns-in-Input
 returns-in-Input g c =
@@ -24,4 +24,4 @@ returns-in-Input g c =
     let n = moment c.loop-book.input c.loop-book.output in
     let o = moment c.answer_command.new.input c.answer_command.new.output in
     let P : LineEnd → Type 0 = λ e. TakesCommand n o (ops_in c.loop-book.book.entries) (ops_in c.answer_command.new.book.entries) e in
-    so_far_done m n o (ops_in c.loop-book.book.entries) (ops_in c.answer_command.new.book.entries) c.loop-book.invariant (subst P c.in-Input.is c.in_ok-answer_command.ensures)
+    so_far_done m n o (ops_in c.loop-book.book.entries) (ops_in c.answer_command.new.book.entries) c.loop-book.invariant (subst P c.in-Input.is c.in_ok-answer_command.ensures.takes)

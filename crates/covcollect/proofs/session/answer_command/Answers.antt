@@ -8,8 +8,8 @@ use Rattle.covcollect.specs.declared.session.command.word.Word.{Word}
 use Rattle.covcollect.proofs.SessionSteps.{line_command, says_on, taken_run, text_command}
 use Rattle.covcollect.proofs.session.answer_command.Goals as goal
 
-pub returns-in-Some : goal.returns-in-Some
-returns-in-Some g c =
+pub returns-in-Some-clause-takes : goal.returns-in-Some-clause-takes
+returns-in-Some-clause-takes g c =
     let m = moment c.args.input.now c.args.output.now in
     let n = moment c.take_line.new.self c.take_line.new.output in
     let o = moment c.take_text.new.input c.take_text.new.output in
@@ -21,8 +21,8 @@ returns-in-Some g c =
     let follows = c.in-Some.ensures.text in
     let Q : Word → Type 0 = λ u. IsWord (strip t.0) u in
     let format = format_of c.in-Some.format in
-    let s = c.in_ok-taken.ensures in
-    let a = c.in_ok-answer_given.ensures in
+    let s = c.in_ok-taken.ensures.taken in
+    let a = c.in_ok-answer_given.ensures.answered in
     let text : TakesText format n p (ops_in c.args.book.now.entries) (ops_in c.answer_given.new.book.entries) c.in_ok-taken.ended = record {
       pieces = s.0;
       commands = a.0;
@@ -33,8 +33,8 @@ returns-in-Some g c =
     text_command format m n p t.0 c.in_ok-taken.ended c.in_ok-ending.ending (ops_in c.args.book.now.entries) (ops_in c.answer_given.new.book.entries)
     t.1 follows.1 (subst Q follows.0 word) text
 
-pub returns : goal.returns
-returns g c =
+pub returns-clause-takes : goal.returns-clause-takes
+returns-clause-takes g c =
     let m = moment c.args.input.now c.args.output.now in
     let n = moment c.take_line.new.self c.take_line.new.output in
     let t = c.in_ok-ending.ensures.taken in

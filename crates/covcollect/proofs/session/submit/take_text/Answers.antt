@@ -13,8 +13,8 @@ use Rattle.covcollect.proofs.session.submit.take_text.Goals as goal
 pub loop-text-init : goal.loop-text-init
 loop-text-init g c = ([], tt, λ more. refl, search rules, search rules, c.new-text.ensures.empty, c.new-text.ensures.limit)
 
-pub returns-then-is_last : goal.returns-then-is_last
-returns-then-is_last g c =
+pub returns-then-is_last-clause-taken : goal.returns-then-is_last-clause-taken
+returns-then-is_last-clause-taken g c =
     let m = moment c.args.input.now c.args.output.now in
     let n = moment c.loop-text.input c.loop-text.output in
     let o = moment c.take_line.new.self c.take_line.new.output in
@@ -27,8 +27,8 @@ returns-then-is_last g c =
       is_taken c.body.result i.0 t.0 c.in_ok-ending.ending i.1 t.1.one_line dot (c.body.ensures (concat i.0) t.0 col),
     )
 
-pub returns-in-Input : goal.returns-in-Input
-returns-in-Input g c =
+pub returns-in-Input-clause-taken : goal.returns-in-Input-clause-taken
+returns-in-Input-clause-taken g c =
     let m = moment c.args.input.now c.args.output.now in
     let n = moment c.loop-text.input c.loop-text.output in
     let o = moment c.take_line.new.self c.take_line.new.output in
