@@ -5,3 +5,4 @@ pub mod SessionRun
 pub mod SessionSteps
 pub mod SessionWords
 pub mod SessionLaw
+pub mod SessionFaultLaw
