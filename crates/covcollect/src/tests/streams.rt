@@ -126,7 +126,7 @@ fn failing_reads_and_writes(rt: HostRuntime) {
         "a read in the text"
     );
     assert_eq!(rt;
-        by_bytes(rt.alloc(), 64, 1000),
+        by_bytes(rt.alloc(), 59, 1000),
         (read, 25, true),
         "a read behind the text"
     );
