@@ -7,7 +7,7 @@ use Rattle.covline.specs.Lines.{line_of, pieces_of}
 use Rattle.covread.specs.declared.fault.ReadFault.{ReadFault}
 use Rattle.covbook.specs.Op.{OpData, SubmitOp, ReportOp, ExtractOp, RemoveOp, SummaryOp}
 use Rattle.covreport.specs.Choice.{most_pattern_bytes}
-use Rattle.covcollect.specs.Command.{Command, Format, Tracefile, Annotated, Announces, IsReadAs, Blank, Ask, RefusePattern, Unknown, Unfinished, AsksFor, IsTooLong, IsBody, space}
+use Rattle.covcollect.specs.Command.{Command, Format, Tracefile, Annotated, Announces, IsReadAs, Blank, Ask, RefusePattern, Unknown, Unfinished, AsksFor, IsTooLong, IsBody, AreCommands, space}
 use Rattle.covcollect.specs.Session.{IsSession, session_text}
 use Rattle.covcollect.specs.Text.{asked_for}
 use Rattle.covcollect.specs.Run.{IsRun}
@@ -206,6 +206,12 @@ module _ (read : (format : Format) (text : List ℕ) → (outcome : Result Submi
 
   of_input : (input : List ℕ) → Commands (pieces_of input)
   of_input input = commands_of (length (pieces_of input)) (pieces_of input) (omega arith)
+
+  pub some_commands : (input : List ℕ) → (commands : List Command) × AreCommands (pieces_of input) commands
+  some_commands input = let all = of_input input in (all.0, all.1.are)
+
+  pub one_commands : (input : List ℕ) (x y : List Command) → AreCommands (pieces_of input) x → AreCommands (pieces_of input) y → x ≡ y
+  one_commands input x y h k = let all = of_input input in all.1.only x h ∙ sym (all.1.only y k)
 
   pub some_session : (input : List ℕ) → (output : List ℕ) × IsSession input output
   some_session input = let all = of_input input in (session_text all.0, (all.0, all.1.are, refl))

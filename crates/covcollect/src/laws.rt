@@ -1,4 +1,4 @@
-//! Laws of what a session writes, as functions that do nothing: their contracts are the laws.
+//! Laws of what a session is asked and writes, as functions that do nothing: their contracts are the laws.
 
 ghost use Rattle.std.specs.Prelude.{◌≡◌, ◌≢◌, ℕ, List};
 ghost use Rattle.std.specs.List.{AllByRecursion};
@@ -9,6 +9,15 @@ ghost use Rattle.covcollect.specs.Session.{IsSession};
 
 use covline::lines_are_the_text;
 use covread::{each_gcov_text_has_one_outcome, each_text_has_one_outcome};
+
+/// Each input asks for exactly one list of commands.
+pub fn each_input_is_one_list_of_commands()
+    ensures some { (input : List ℕ) → (commands : List Command) × AreCommands (pieces_of input) commands }
+    ensures one { (input : List ℕ) (x y : List Command) → AreCommands (pieces_of input) x → AreCommands (pieces_of input) y → x ≡ y }
+{
+    each_text_has_one_outcome();
+    each_gcov_text_has_one_outcome();
+}
 
 /// Each input has exactly one session text.
 pub fn each_input_has_one_session_text()
