@@ -6,7 +6,7 @@ use crate::program::run_session;
 use crate::session::{SessionFault, session};
 use crate::stream::{Failed, FromRead, FromWrite, Sink, Source};
 use std::alloc::Global;
-use std::io::{self, Write};
+use std::io::{self, Read, Write};
 use std::test::*;
 
 const INPUT: &[u8] =
@@ -220,6 +220,53 @@ impl Write for Stuck {
 fn a_writer_that_cannot_send_on(rt: HostRuntime) {
     let mut source = FromRead::new(INPUT);
     let mut sink = FromWrite::new(Stuck);
+    assert_eq!(rt;
+        session(rt.alloc(), &mut source, &mut sink),
+        Err(SessionFault::Write)
+    );
+}
+
+/// A reader and writer of std whose first call fails, unless one failed before.
+#[derive(Drop)]
+struct FailsOnce {
+    failed: bool,
+}
+
+impl Read for FailsOnce {
+    fn read(&mut self, _buffer: &mut [u8]) -> io::Result<usize> {
+        if self.failed {
+            return Ok(0);
+        }
+        self.failed = true;
+        Err(io::Error::from(io::ErrorKind::Interrupted))
+    }
+}
+
+impl Write for FailsOnce {
+    fn write(&mut self, bytes: &[u8]) -> io::Result<usize> {
+        if self.failed {
+            return Ok(bytes.len());
+        }
+        self.failed = true;
+        Err(io::Error::from(io::ErrorKind::Interrupted))
+    }
+
+    fn flush(&mut self) -> io::Result<()> {
+        Ok(())
+    }
+}
+
+/// A call of std that failed, of whatever kind its error is, isn't made again.
+#[test]
+fn a_failed_call_is_not_made_again(rt: HostRuntime) {
+    let mut source = FromRead::new(FailsOnce { failed: false });
+    let mut sink = FromWrite::new(FailsOnce { failed: true });
+    assert_eq!(rt;
+        session(rt.alloc(), &mut source, &mut sink),
+        Err(SessionFault::Read)
+    );
+    let mut source = FromRead::new(INPUT);
+    let mut sink = FromWrite::new(FailsOnce { failed: false });
     assert_eq!(rt;
         session(rt.alloc(), &mut source, &mut sink),
         Err(SessionFault::Write)
