@@ -91,7 +91,7 @@ impl<'s, O: Sink, A: Allocator> Output<'s, O, A> {
 
     /// Writes the bytes that wait, and has the sink send on all that it took.
     pub fn finish(&mut self) -> Result<(), SessionFault>
-        requires { self.old.failed_writes < 2 ^ 62 }
+        requires { self.old.failed_writes < 2 ^ 63 }
         ensures says { OnOk result (Says self.old self.new []) }
         ensures emptied { OnOk result (self.new.waiting ≡ []) }
         ensures fault { IfErr result (λ f. f ≡ session_faults.Write) }

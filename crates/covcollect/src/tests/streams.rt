@@ -497,3 +497,14 @@ fn exit_status_and_words(rt: HostRuntime) {
     assert_eq!(rt; end_of(alloc, 40, 1_000, b"read fault\n"), (1, true));
     assert_eq!(rt; end_of(alloc, 1_000, 30, b"write fault\n"), (1, true));
 }
+
+#[test]
+fn numbers_of_faults(rt: HostRuntime) {
+    let numbers = [
+        SessionFault::Read.number(),
+        SessionFault::Write.number(),
+        SessionFault::Memory.number(),
+        SessionFault::Full.number(),
+    ];
+    assert_eq!(rt; numbers, [1, 2, 3, 4]);
+}
