@@ -353,9 +353,19 @@ fn numbers_of_faults(rt: HostRuntime) {
         ReadFault::Outside { at: 1 }.number(),
         ReadFault::Inside { at: 1 }.number(),
         ReadFault::OpenEnd.number(),
+        ReadFault::BadMark { at: 1 }.number(),
+        ReadFault::NoSource { at: 1 }.number(),
+        ReadFault::Percent { at: 1 }.number(),
+        ReadFault::Instances { at: 1 }.number(),
+        ReadFault::Misplaced { at: 1 }.number(),
+        ReadFault::LostFunction.number(),
+        ReadFault::BadTest.number(),
         ReadFault::Memory.number(),
     ];
-    assert_eq!(rt; numbers, [1, 2, 3, 1, 2, 1, 2, 3, 4, 5, 13]);
+    assert_eq!(rt;
+        numbers,
+        [1, 2, 3, 1, 2, 1, 2, 3, 4, 5, 6, 7, 8, 9, 10, 11, 12, 13]
+    );
 }
 
 /// A text is read as these sections, with no odd line.
