@@ -12,6 +12,7 @@ mod answers;
 pub mod command;
 mod fault;
 mod input;
+mod lines;
 pub mod output;
 mod submit;
 mod text;
