@@ -132,7 +132,8 @@ impl<'a, A: Allocator + Copy> Gathered<'a, A> {
     }
 
     /// The execution count of a line.
-    fn take_line(
+    #[inline]
+    pub fn take_line(
         &mut self,
         alloc: A,
         line: u64,
