@@ -66,7 +66,7 @@ fn take_first<'a, A: Allocator + Copy>(
         × ((inside : List LineData) → IsOpen reader.old.section inside → TakesLine result (held_data reader.old inside) reader.new line at) }
 {
     if let Some(first) = first_count(text) {
-        take_count(reader, alloc, at, first.line, first.count)?;
+        take_count(reader, at, first.line, first.count)?;
         return Ok(first.rest);
     }
     let (line, rest) = first_line(text);
@@ -78,7 +78,6 @@ fn take_first<'a, A: Allocator + Copy>(
 #[inline]
 fn take_count<A: Allocator + Copy>(
     reader: &mut Reader<'_, A>,
-    alloc: A,
     at: u64,
     line: u64,
     count: u64,
@@ -86,7 +85,7 @@ fn take_count<A: Allocator + Copy>(
     requires { (inside : List LineData) × HasRoom reader.old inside }
     ensures { (text : List ℕ) → Spells text (Line line count None) → (inside : List LineData) → IsOpen reader.old.section inside → TakesLine result (held_data reader.old inside) reader.new text at }
 {
-    match reader.keep_count(alloc, line, count) {
+    match reader.keep_count(line, count) {
         Ok(()) => Ok(()),
         Err(Misplaced::Outside) => Err(ReadFault::Outside { at }),
         Err(Misplaced::Inside) => Err(ReadFault::Inside { at }),

@@ -137,12 +137,12 @@ impl<'a, A: Allocator + Copy> Reader<'a, A> {
 
     /// A line of the open section that only counts a line of the source file: one without a checksum.
     #[inline]
-    pub fn keep_count(&mut self, alloc: A, line: u64, count: u64) -> Result<(), Misplaced>
+    pub fn keep_count(&mut self, line: u64, count: u64) -> Result<(), Misplaced>
         requires { (inside : List LineData) × HasRoom self.old inside }
         ensures { (inside : List LineData) → IsOpen self.old.section inside → Steps result (held_data self.old inside) self.new (Line line count None) }
     {
         if let Some(section) = &mut self.section {
-            section.gathered.take_line(alloc, line, count, None)?;
+            section.gathered.take_plain(line, count)?;
             return Ok(());
         }
         Err(Misplaced::Outside)
