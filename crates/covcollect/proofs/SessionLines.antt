@@ -1,8 +1,6 @@
 -- Whole lines of a text that are taken at once.
-use Rattle.std.proofs.Common.{◌≡◌, ◌⊎◌, inl, inr, None, Some, ℕ, zero, suc, ◌+◌, ◌^◌, ◌-◌, ◌<◌, ◌≤◌, Bool, true, false, eqb, List, [], ◌∷◌, ◌++◌, length, take, get_or, min, refl, sym, ◌∙◌, ap, subst, arith, append_assoc, append-nil, length-append}
-use Rattle.std.proofs.Math.Nat.{eq-or-lt_of_le}
+use Rattle.std.proofs.Common.{◌≡◌, None, Some, ℕ, zero, suc, ◌+◌, ◌^◌, ◌-◌, ◌<◌, ◌≤◌, Bool, true, false, eqb, List, [], ◌∷◌, ◌++◌, length, take, get_or, min, refl, sym, ◌∙◌, ap, subst, arith, append_assoc, append-nil, length-append}
 use Rattle.std.proofs.lemmas.Bool.{eqb-true}
-use Rattle.std.proofs.lemmas.List.{get_or-take, length-take}
 use Rattle.memchr.specs.Find.{FindsNeedle, IsLastByte, Nowhere, OccursAt, is_byte}
 use Rattle.std.specs.List.{concat}
 use Rattle.covline.specs.Lines.{line_feed, before_feed}
@@ -81,60 +79,47 @@ lines_in line (b ∷ bs) (suc m) so_far one is other first few last pairs =
 
 -- ---- lines found by the place of the last line feed, and of the first that a dot stands behind
 
-feed_not_dot : (b : ℕ) → eqb b line_feed ≡ true → eqb b 46 ≡ false
-feed_not_dot b e = let P : ℕ → Type 0 = λ c. eqb c 46 ≡ false in subst P (sym (eqb-true b line_feed e)) refl
-
-occurs : (bytes : List ℕ) (last j : ℕ) → last < length bytes → suc j < last → get_or bytes j 0 ≡ line_feed → get_or bytes (suc j) 0 ≡ 46
-    → OccursAt (take last bytes) (line_feed ∷ 46 ∷ []) j
-occurs bytes last j few low feed dot = record {
-  fits = omega (arith, length-take last bytes);
+occurs : (bytes : List ℕ) (j : ℕ) → suc j < length bytes → get_or bytes j 0 ≡ line_feed → get_or bytes (suc j) 0 ≡ 46 → OccursAt bytes (line_feed ∷ 46 ∷ []) j
+occurs bytes j low feed dot = record {
+  fits = omega (arith, low);
   reads = λ i l. by i l;
 }
   where
-    by : (i : ℕ) → i < 2 → get_or (take last bytes) (j + i) 0 ≡ get_or (line_feed ∷ 46 ∷ []) i 0
-    by zero l = get_or-take last bytes (j + 0) 0 (omega arith) ∙ ap (λ (n : ℕ). get_or bytes n 0) (let e : j + 0 ≡ j = omega arith in e) ∙ feed
-    by (suc zero) l = get_or-take last bytes (j + 1) 0 (omega arith) ∙ ap (λ (n : ℕ). get_or bytes n 0) (let e : j + 1 ≡ suc j = omega arith in e) ∙ dot
+    by : (i : ℕ) → i < 2 → get_or bytes (j + i) 0 ≡ get_or (line_feed ∷ 46 ∷ []) i 0
+    by zero l = ap (λ (n : ℕ). get_or bytes n 0) (let e : j + 0 ≡ j = omega arith in e) ∙ feed
+    by (suc zero) l = ap (λ (n : ℕ). get_or bytes n 0) (let e : j + 1 ≡ suc j = omega arith in e) ∙ dot
     by (suc (suc i)) l = absurd (omega arith)
 
-no_dot_behind : (bytes : List ℕ) (last j bound : ℕ) → last < length bytes → suc j < last → j < bound → Nowhere (OccursAt (take last bytes) (line_feed ∷ 46 ∷ [])) 0 bound
+no_dot_behind : (bytes : List ℕ) (j bound : ℕ) → suc j < length bytes → j < bound → Nowhere (OccursAt bytes (line_feed ∷ 46 ∷ [])) 0 bound
     → eqb (get_or bytes j 0) line_feed ≡ true → eqb (get_or bytes (suc j) 0) 46 ≡ false
-no_dot_behind bytes last j bound few low within none feed =
-    not_true (eqb (get_or bytes (suc j) 0) 46) (λ dot. none j (omega arith) within (occurs bytes last j few low (eqb-true (get_or bytes j 0) line_feed feed) (eqb-true (get_or bytes (suc j) 0) 46 dot)))
+no_dot_behind bytes j bound low within none feed =
+    not_true (eqb (get_or bytes (suc j) 0) 46) (λ dot. none j (omega arith) within (occurs bytes j low (eqb-true (get_or bytes j 0) line_feed feed) (eqb-true (get_or bytes (suc j) 0) 46 dot)))
 
 first_byte : (bytes : List ℕ) → starts_with_dot bytes ≡ false → eqb (get_or bytes 0 0) 46 ≡ false
 first_byte [] e = refl
 first_byte (b ∷ bs) e = e
 
 -- up to the first line that begins with a dot
-pub lines_to_dot : (bytes : List ℕ) (last feed : ℕ) (b : Bool) → b ≡ starts_with_dot bytes → b ≡ false → IsLastByte (is_byte line_feed) bytes (Some last)
-    → FindsNeedle (take last bytes) (line_feed ∷ 46 ∷ []) 0 (Some feed) → AreLines (take (feed + 1) bytes)
-lines_to_dot bytes last feed b is e at found =
-    let few : last < length bytes = at.0.high in
-    let low : feed + 2 ≤ last = omega (arith, found.1.fits, length-take last bytes) in
-    let here : get_or (take last bytes) (feed + 0) 0 ≡ line_feed = found.1.reads 0 (omega arith) in
-    let feed_at : get_or bytes feed 0 ≡ line_feed =
-    ap (λ (n : ℕ). get_or bytes n 0) (let e : feed ≡ feed + 0 = omega arith in e) ∙ sym (get_or-take last bytes (feed + 0) 0 (omega (arith, low))) ∙ here in
+pub lines_to_dot : (bytes : List ℕ) (feed : ℕ) (b : Bool) → b ≡ starts_with_dot bytes → b ≡ false → FindsNeedle bytes (line_feed ∷ 46 ∷ []) 0 (Some feed) → AreLines (take (feed + 1) bytes)
+lines_to_dot bytes feed b is e found =
+    let low : feed + 2 ≤ length bytes = found.1.fits in
+    let here : get_or bytes (feed + 0) 0 ≡ line_feed = found.1.reads 0 (omega arith) in
+    let feed_at : get_or bytes feed 0 ≡ line_feed = ap (λ (n : ℕ). get_or bytes n 0) (let e : feed ≡ feed + 0 = omega arith in e) ∙ here in
     let is_feed : eqb (get_or bytes feed 0) line_feed ≡ true = ap (λ (n : ℕ). eqb n line_feed) feed_at in
     let P : ℕ → Type 0 = λ n. AreLines (take n bytes) in
     subst P (let e : suc feed ≡ feed + 1 = omega arith in e)
-    (lines_in [] bytes feed Nothing refl refl none_dot (λ n. first_byte bytes (sym is ∙ e)) (omega (arith, low, few)) is_feed
-    (λ j l f. no_dot_behind bytes last j feed few (omega (arith, low, l)) l found.0.before f))
+    (lines_in [] bytes feed Nothing refl refl none_dot (λ n. first_byte bytes (sym is ∙ e)) (omega (arith, low)) is_feed
+    (λ j l f. no_dot_behind bytes j feed (omega (arith, low, l)) l found.0.before f))
 
 -- where none does, up to the last line feed
-pub lines_to_last : (bytes : List ℕ) (last : ℕ) (b : Bool) → b ≡ starts_with_dot bytes → b ≡ false → IsLastByte (is_byte line_feed) bytes (Some last)
-    → FindsNeedle (take last bytes) (line_feed ∷ 46 ∷ []) 0 None → AreLines (take (last + 1) bytes)
-lines_to_last bytes last b is e at none =
+pub lines_to_last : (bytes : List ℕ) (last : ℕ) (b : Bool) → b ≡ starts_with_dot bytes → b ≡ false → FindsNeedle bytes (line_feed ∷ 46 ∷ []) 0 None
+    → IsLastByte (is_byte line_feed) bytes (Some last) → AreLines (take (last + 1) bytes)
+lines_to_last bytes last b is e none at =
     let few : last < length bytes = at.0.high in
     let P : ℕ → Type 0 = λ n. AreLines (take n bytes) in
     subst P (let e : suc last ≡ last + 1 = omega arith in e)
-    (lines_in [] bytes last Nothing refl refl none_dot (λ n. first_byte bytes (sym is ∙ e)) few at.1 pairs)
-  where
-    pairs : (j : ℕ) → j < last → eqb (get_or bytes j 0) line_feed ≡ true → eqb (get_or bytes (suc j) 0) 46 ≡ false
-    pairs j l f = by (eq-or-lt_of_le (let le : suc j ≤ last = omega arith in le))
-      where
-        by : (suc j ≡ last) ⊎ (suc j < last) → eqb (get_or bytes (suc j) 0) 46 ≡ false
-        by (inl same) = ap (λ (n : ℕ). eqb (get_or bytes n 0) 46) same ∙ feed_not_dot (get_or bytes last 0) at.1
-        by (inr low) = no_dot_behind bytes last j (length (take last bytes) + 1) at.0.high low (omega (arith, low, at.0.high, length-take last bytes)) none f
+    (lines_in [] bytes last Nothing refl refl none_dot (λ n. first_byte bytes (sym is ∙ e)) few at.1
+    (λ j l f. no_dot_behind bytes j (length bytes + 1) (omega (arith, few, l)) (omega (arith, few, l)) none f))
 
 -- ---- lines are collected
 

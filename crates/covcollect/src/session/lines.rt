@@ -20,11 +20,11 @@ pub fn whole_lines(bytes: &[u8]) -> usize
     if begins_with_dot(bytes) {
         return 0;
     }
-    let Some(last) = memrchr(b'\n', bytes) else {
-        return 0;
-    };
-    match memmem::find(&bytes[..last], b"\n.") {
+    match memmem::find(bytes, b"\n.") {
         Some(feed) => feed + 1,
-        None => last + 1,
+        None => match memrchr(b'\n', bytes) {
+            Some(last) => last + 1,
+            None => 0,
+        },
     }
 }
