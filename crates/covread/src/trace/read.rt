@@ -6,7 +6,7 @@ ghost use Rattle.covread.specs.declared.fault.ReadFault.{ReadFault as Fault};
 ghost use Rattle.covread.specs.Outcome.{most_bytes, IsOutcome, Answers, GrowsLate, IsOrMemory};
 ghost use Rattle.covline.specs.Lines.{lines_of};
 ghost use Rattle.covline.specs.Spells.{LineData, Line, Spells};
-ghost use Rattle.covread.specs.TraceSteps.{held_data, HasRoom, IsOpen, ReadsTo, TakesLine};
+ghost use Rattle.covread.specs.TraceSteps.{held_data, HasRoom, IsOpen, ReadsTo, TakesLine, misplaced_at};
 
 use crate::fault::{MOST_BYTES, ReadFault};
 use crate::trace::misplaced::Misplaced;
@@ -87,9 +87,7 @@ fn take_count<A: Allocator + Copy>(
 {
     match reader.keep_count(line, count) {
         Ok(()) => Ok(()),
-        Err(Misplaced::Outside) => Err(ReadFault::Outside { at }),
-        Err(Misplaced::Inside) => Err(ReadFault::Inside { at }),
-        Err(Misplaced::Memory) => Err(ReadFault::Memory),
+        Err(why) => Err(fault_at(why, at)),
     }
 }
 
@@ -109,8 +107,17 @@ fn take_line<'a, A: Allocator + Copy>(
     };
     match reader.take(alloc, says) {
         Ok(()) => Ok(()),
-        Err(Misplaced::Outside) => Err(ReadFault::Outside { at }),
-        Err(Misplaced::Inside) => Err(ReadFault::Inside { at }),
-        Err(Misplaced::Memory) => Err(ReadFault::Memory),
+        Err(why) => Err(fault_at(why, at)),
+    }
+}
+
+/// The fault of the line with this number, which isn't taken.
+fn fault_at(why: Misplaced, at: u64) -> ReadFault
+    ensures { result ≡ misplaced_at why at }
+{
+    match why {
+        Misplaced::Outside => ReadFault::Outside { at },
+        Misplaced::Inside => ReadFault::Inside { at },
+        Misplaced::Memory => ReadFault::Memory,
     }
 }
