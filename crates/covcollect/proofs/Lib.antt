@@ -1,4 +1,5 @@
 pub mod SessionBytes
+pub mod SessionLines
 pub mod SessionMoves
 pub mod SessionPieces
 pub mod SessionRun

@@ -97,7 +97,7 @@ Takes-part i j part e same =
     let P : InputData → Type 0 = λ k. Takes i k part in
     subst P (sym same) (record { took = Consumes-part i.pending part j.pending i.left e; counted = refl; failed = refl; same_source = refl })
 
-Moves-part : (m : Moment) (j : InputData) (part : List ℕ) → m.input.pending ≡ part ++ j.pending → j ≡ record m.input { pending = j.pending }
+pub Moves-part : (m : Moment) (j : InputData) (part : List ℕ) → m.input.pending ≡ part ++ j.pending → j ≡ record m.input { pending = j.pending }
     → Moves m (record m { input = j }) part []
 Moves-part m j part e same = record { takes = Takes-part m.input j part e same; says = Says-none m.output }
 

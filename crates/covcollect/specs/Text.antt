@@ -1,14 +1,15 @@
 -- A text behind a line `trace` or `gcov`: how it is collected, taken, read and answered.
 use Rattle.std.specs.List.{concat}
-use Rattle.std.specs.Prelude.{◌≡◌, ◌⊎◌, ◌<◌, ◌≤◌, ℕ, length, List, [], ◌∷◌, ◌++◌, codes, Ok, Err, ◌-◌, ◌^◌, ◌==◌, min, if◌then◌else◌, take, Result}
+use Rattle.std.specs.Prelude.{◌≡◌, ◌⊎◌, ◌<◌, ◌≤◌, ℕ, Bool, false, length, List, [], ◌∷◌, ◌++◌, codes, Ok, Err, ◌-◌, ◌^◌, ◌==◌, min, if◌then◌else◌, take, Result}
 use Rattle.covline.specs.Lines.{line_of, carriage_return}
 use Rattle.covline.specs.Row.{SubmissionData}
 use Rattle.covread.specs.Outcome.{most_bytes}
 use Rattle.covread.specs.declared.fault.ReadFault.{ReadFault}
 use Rattle.covread.specs.declared.fault.ReadFault.TheVariants as faults
 use Rattle.covcollect.specs.Command.{Command, Format, IsBody, IsReadAs, Submit, Refuse, Unfinished}
+use Rattle.covcollect.specs.Streams.{AreCut}
 use Rattle.covcollect.specs.declared.session.text.LineEnd.{LineEnd}
-use Rattle.covcollect.specs.declared.session.text.LineEnd.TheVariants.{Input}
+use Rattle.covcollect.specs.declared.session.text.LineEnd.TheVariants.{Feed, Input}
 use Rattle.covcollect.specs.declared.session.text.LineSoFar.{LineSoFar}
 use Rattle.covcollect.specs.declared.session.text.LineSoFar.TheVariants.{Nothing, Dot, Other}
 use Rattle.covcollect.specs.declared.session.text.Taken.{Taken}
@@ -37,6 +38,18 @@ pub record IsCollected (limit : ℕ) (kept : List ℕ) (total begins : ℕ) (lin
 -- so much is collected of it
 abbrev pub HasCollected : {A : Type 0} → Text A → List ℕ → List ℕ → Type 0
 HasCollected text before now = IsCollected text.limit text.kept.items text.total text.begins text.line before now
+
+-- the first byte is a dot
+abbrev pub starts_with_dot : List ℕ → Bool
+starts_with_dot [] = false
+starts_with_dot (b ∷ bs) = b == 46
+
+-- these bytes are whole lines, whatever follows, and none of them is the line that ends a text
+pub record AreLines (bytes : List ℕ) : Type 0 where
+  pub body : List (List ℕ)
+  pub joined : concat body ≡ bytes
+  pub none_last : IsBody body
+  pub cut : AreCut Feed bytes body
 
 -- what was taken is this text, which is kept unless it is too long
 abbrev pub IsTextOf : {A : Type 0} → List ℕ → Taken A → Type 0

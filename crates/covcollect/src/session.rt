@@ -13,6 +13,7 @@ mod answers;
 pub mod command;
 mod fault;
 mod input;
+mod lines;
 pub mod output;
 mod submit;
 mod text;

@@ -1,9 +1,10 @@
 //! Reading one line of a tracefile: its key by its first bytes, then the key's fields from left to right, each key by a
 //! function of its own. Nothing is copied.
 
-ghost use Rattle.std.specs.Prelude.{◌≡◌, ◌≤◌, ◌++◌, Some, Ok, codes, option_map, Err, MatchResult, IfOk, IfErr};
+ghost use Rattle.std.specs.Prelude.{◌≡◌, ◌≤◌, ◌++◌, ◌∷◌, [], None, Some, Ok, codes, option_map, Err, MatchResult, IfOk, IfErr, IfSome};
 ghost use Rattle.covline.specs.declared.trace_line.LineFault.{LineFault};
-ghost use Rattle.covline.specs.Spells.{LineData, line_data, Spells, HasFault};
+ghost use Rattle.covline.specs.Spells.{LineData, Line, line_data, Spells, HasFault, BeginsWithLine};
+ghost use Rattle.covline.specs.Lines.{line_feed};
 ghost use Rattle.covline.specs.Reading.{Gives, behind_key, with_digit, digits_from, number_at, number_of, count_at, before_comma, field_at, taken_of, only_checksum, checksum_of, fit, start_fields, calls_fields, branch_of, branch_fields, line_fields, total_fields, path_fields, read_of};
 
 use crate::names::good_checksum;
@@ -361,4 +362,50 @@ pub fn read_line(line: &[u8]) -> Result<TraceLine<'_>, LineFault>
     ensures only_fault { (fault : LineFault) → HasFault line.now fault → result ≡ Err fault }
 {
     read_any(line)
+}
+
+/// The first line of a text, which counts a line of a source file, and what stands behind it.
+#[derive(Clone, Copy)]
+pub struct FirstCount<'a> {
+    /// The line of the source file.
+    pub line: u64,
+    /// Its execution count.
+    pub count: u64,
+    /// What stands behind the first line.
+    pub rest: &'a [u8],
+}
+
+/// What follows the key of a counted line.
+fn behind_line_key(text: &[u8]) -> Option<&[u8]>
+    ensures { option_map (λ rest. rest.now) result ≡ behind_key (codes "DA:") text.now }
+{
+    match text {
+        [b'D', b'A', b':', fields @ ..] => Some(fields),
+        _ => None,
+    }
+}
+
+/// What follows a line feed.
+fn behind_feed(text: &[u8]) -> Option<&[u8]>
+    ensures { option_map (λ rest. rest.now) result ≡ behind_key (line_feed ∷ []) text.now }
+{
+    match text {
+        [b'\n', rest @ ..] => Some(rest),
+        _ => None,
+    }
+}
+
+/// The first line, where it is `DA:<line>,<count>` of digits alone and a line feed ends it: most lines of a tracefile
+/// are so, and these are read in one pass. Any other first line is left to be cut and read.
+#[inline]
+pub fn first_count(text: &[u8]) -> Option<FirstCount<'_>>
+    ensures { IfSome result (λ f. BeginsWithLine text.now (Line f.line f.count None) f.rest.now) }
+{
+    let (line, rest) = read_field(behind_line_key(text)?)?;
+    let (count, rest) = read_number(rest)?;
+    let rest = behind_feed(rest)?;
+    let (Number::Value(line), Number::Value(count)) = (line, count) else {
+        return None;
+    };
+    Some(FirstCount { line, count, rest })
 }

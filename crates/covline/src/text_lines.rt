@@ -16,7 +16,7 @@ pub fn lines(text: &[u8]) -> Lines<'_>
 }
 
 /// The first line, and what stands behind it.
-pub(crate) fn first_line(text: &[u8]) -> (&[u8], &[u8])
+pub fn first_line(text: &[u8]) -> (&[u8], &[u8])
     requires { 0 < length text.now }
     ensures { lines_of text.now ≡ result.0.now ∷ lines_of result.1.now }
 {

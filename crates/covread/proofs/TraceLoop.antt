@@ -1,6 +1,7 @@
 -- Reading line after line, as the loop does.
-use Rattle.std.proofs.Common.{◌≡◌, ℕ, ◌+◌, ◌<◌, ◌≤◌, ◌^◌, false, List, [], ◌∷◌, ◌++◌, length, Option, Some, None, Ok, Err, refl, sym, ap, subst, ◌∙◌, append_assoc, arith, inl, inr}
+use Rattle.std.proofs.Common.{◌≡◌, ℕ, ◌+◌, ◌<◌, ◌≤◌, ◌^◌, Bool, true, false, eqb, List, [], ◌∷◌, ◌++◌, length, Option, Some, None, Ok, Err, refl, sym, ap, subst, ◌∙◌, append_assoc, arith, inl, inr}
 use Rattle.std.specs.Prelude.{option_map, is_some}
+use Rattle.std.proofs.lemmas.Bool.{eqb-true}
 use Rattle.std.proofs.lemmas.List.{append-nil, length-append}
 use Rattle.covline.specs.Lines.{lines_of}
 use Rattle.covline.specs.Row.{SectData}
@@ -47,6 +48,10 @@ reading_more text rest line left before after at r f says spells e = record {
 pub reading_number : TextLaw → (text rest line left : List ℕ) (held : HeldData) (at : ℕ) → length text ≤ most_bytes → Reading text rest held at → lines_of rest ≡ line ∷ lines_of left → at + 1 < 2 ^ 64
 reading_number law text rest line left held at short r f =
     omega (arith, short, law.few_lines text, r.number, ap length (place_is text rest line left held at r f), length-append r.before (line ∷ lines_of left))
+
+-- so does the number of the next one
+pub reading_next : TextLaw → (text rest : List ℕ) (held : HeldData) (at : ℕ) → length text ≤ most_bytes → Reading text rest held at → at + 1 < 2 ^ 64
+reading_next law text rest held at short r = omega (arith, short, law.few_lines text, r.number, ap length r.whole, length-append r.before (lines_of rest))
 
 pub reading_room : TextLaw → (text rest : List ℕ) (held : HeldData) (at : ℕ) → length text ≤ most_bytes → Reading text rest held at → held.odd + length (kept_in held.section) + 1 < 2 ^ 64
 reading_room law text rest held at short r =
@@ -120,6 +125,11 @@ reading_end law text rest held at short r none =
     let all : r.before ≡ lines_of text = sym (r.whole ∙ ap (λ (x : List (List ℕ)). r.before ++ x) none ∙ append-nil r.before) in
     let s : Stands (lines_of text) r.holds.parts r.holds.place = subst (λ (x : List (List ℕ)). Stands x r.holds.parts r.holds.place) all r.holds.stands in
     subst (λ (x : HeldData). Ended text x) (sym r.holds.is) (ended law text r.holds.parts r.holds.place short s)
+
+-- nothing is left of the text
+pub no_lines : (rest : List ℕ) (b : Bool) → b ≡ eqb (length rest) 0 → b ≡ true → lines_of rest ≡ []
+no_lines [] b is e = refl
+no_lines (x ∷ xs) b is e = let none : length (x ∷ xs) ≡ 0 = eqb-true (length (x ∷ xs)) 0 (sym is ∙ e) in absurd (omega arith)
 
 pub reading_begins : (text rest : List ℕ) (held : HeldData) → held ≡ empty → rest ≡ text → Reading text rest held 0
 reading_begins text rest held e f =

@@ -105,6 +105,12 @@ StopsAt (faults.Inside n) before line at = (n ≡ at) × (says : LineData) × Sp
 StopsAt faults.Memory before line at = (says : LineData) × Spells line says × GrowsAt before.section says
 StopsAt other before line at = ⊥
 
+-- the fault of a line that isn't taken
+abbrev pub misplaced_at : Misplaced → ℕ → ReadFault
+misplaced_at misplaced.Outside at = faults.Outside at
+misplaced_at misplaced.Inside at = faults.Inside at
+misplaced_at misplaced.Memory at = faults.Memory
+
 -- what a reader takes of a line, or why it doesn't
 abbrev pub TakesLine : {A T : Type 0} → Result T ReadFault → HeldData → Reader A → List ℕ → ℕ → Type 0
 TakesLine (Ok done) before after line at = (says : LineData) × Spells line says × (inside : List LineData) × (step before says ≡ Ok (held_data after inside)) × IsOpen after.section inside

@@ -4,10 +4,11 @@ ghost use Rattle.std.specs.Prelude.{◌≡◌, ◌≢◌, ◌⊎◌, ℕ, ◌-�
 ghost use Rattle.std.specs.Io.KnownBytes.{IsAtEnd};
 ghost use Rattle.covline.specs.Lines.{before_feed, line_feed};
 ghost use Rattle.covcollect.specs.Streams.{unread, turns, moment, CanRead, CanCall, Takes, Moves, TakesPart, TakesLine};
-ghost use Rattle.covcollect.specs.Text.{HasCollected};
+ghost use Rattle.covcollect.specs.Text.{AreLines, HasCollected};
 ghost use Rattle.covcollect.specs.declared.session.fault.SessionFault.TheVariants as session_faults;
 
 use crate::session::fault::SessionFault;
+use crate::session::lines::whole_lines;
 use crate::session::output::Output;
 use crate::session::text::{LineEnd, Text};
 use crate::stream::{Sink, Source};
@@ -171,6 +172,21 @@ impl<'s, I: Source, A: Allocator> Input<'s, I, A> {
         text.add(pending)?;
         self.take(count);
         Ok(false)
+    }
+
+    /// Takes the whole lines of a text that are there, up to one that begins with a dot. No line was begun.
+    pub fn take_lines(&mut self, text: &mut Text<A>) -> Result<(), SessionFault>
+        ensures taken { OnOk result ((lines : List ℕ) × AreLines lines × (self.old.pending ≡ lines ++ self.new.pending)
+            × ((before : List ℕ) → HasCollected text.old before [] → HasCollected text.new (before ++ lines) [])) }
+        ensures limit { OnOk result (text.new.limit ≡ text.old.limit) }
+        ensures kept { OnOk result (self.new ≡ record self.old { pending = self.new.pending }) }
+        ensures fewer { OnOk result (turns self.new ≤ turns self.old) }
+    {
+        let pending = self.pending();
+        let count = whole_lines(pending);
+        text.add_lines(&pending[..count])?;
+        self.take(count);
+        Ok(())
     }
 
     /// Takes a line, and answers how it ended.

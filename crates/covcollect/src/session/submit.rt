@@ -38,6 +38,7 @@ pub fn take_text<I: Source, O: Sink, A: Allocator>(
 {
     let mut text = Text::new(alloc, MOST_BYTES);
     loop {
+        input.take_lines(&mut text)?;
         let ending = input.take_line(&mut text, output)?;
         if text.is_last() {
             return Ok((text.body(), ending));

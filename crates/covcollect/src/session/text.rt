@@ -152,6 +152,17 @@ impl<A: Allocator> Text<A> {
         Ok(())
     }
 
+    /// Takes whole lines, before a line was begun.
+    pub fn add_lines(&mut self, lines: &[u8]) -> Result<(), SessionFault>
+        ensures collected { OnOk result ((before : List ℕ) → HasCollected self.old before [] → HasCollected self.new (before ++ lines.now) []) }
+        ensures limit { OnOk result (self.new.limit ≡ self.old.limit) }
+    {
+        self.keep(lines)?;
+        self.total = self.total.saturating_add(lines.len() as u64);
+        self.begins = self.total;
+        Ok(())
+    }
+
     /// All bytes, where there is no limit to keep.
     pub fn whole(&self) -> &[u8]
         ensures { (before : List ℕ) → (now : List ℕ) → self.now.limit ≡ usize.MAX → HasCollected self.now before now

@@ -70,8 +70,8 @@ impl<P: Point> Ascent<P> {
     }
 
     /// Whether the point may come next.
-    fn goes_on_to(self, point: P) -> bool
-        ensures { result ≡ goes_on P.cmp self.last point }
+    fn goes_on_to(&self, point: P) -> bool
+        ensures { result ≡ goes_on P.cmp self.now.last point }
     {
         match &self.last {
             Some(last) => last.point.cmp(&point).is_le(),
@@ -79,34 +79,25 @@ impl<P: Point> Ascent<P> {
         }
     }
 
-    /// With one point more.
-    fn and(self, next: Hit<P>) -> Ascent<P>
-        requires ascends { goes_on P.cmp self.last next.point ≡ true }
-        requires fits { (seen : List (HitOf P)) × IsAscent P.cmp self seen × length seen < 2 ^ 64 }
-        ensures ascent { (seen : List (HitOf P)) → IsAscent P.cmp self seen → IsAscent P.cmp result (seen ++ next ∷ []) }
-        ensures last { option_map (λ h. h.point) result.last ≡ Some next.point }
+    /// Takes one point more, in place: a copy of the whole, with its tags, costs as much as the rest of a line.
+    fn add(&mut self, next: Hit<P>)
+        requires ascends { goes_on P.cmp self.old.last next.point ≡ true }
+        requires fits { (seen : List (HitOf P)) × IsAscent P.cmp self.old seen × length seen < 2 ^ 64 }
+        ensures ascent { (seen : List (HitOf P)) → IsAscent P.cmp self.old seen → IsAscent P.cmp self.new (seen ++ next ∷ []) }
+        ensures last { option_map (λ h. h.point) self.new.last ≡ Some next.point }
     {
-        let Ascent { below, last } = self;
-        let Some(last) = last else {
-            return Ascent {
-                below,
-                last: Some(next),
-            };
-        };
-        if last.point.cmp(&next.point).is_lt() {
-            return Ascent {
-                below: below.and(last.is_hit),
-                last: Some(next),
-            };
+        if let Some(last) = &mut self.last {
+            if last.point.cmp(&next.point).is_lt() {
+                self.below = self.below.and(last.is_hit);
+                last.point = next.point;
+                last.is_hit = next.is_hit;
+                return;
+            }
+            last.point = next.point;
+            last.is_hit = last.is_hit || next.is_hit;
+            return;
         }
-        let again = Hit {
-            point: next.point,
-            is_hit: last.is_hit || next.is_hit,
-        };
-        Ascent {
-            below,
-            last: Some(again),
-        }
+        self.last = Some(next);
     }
 
     /// How many different points there were.
@@ -130,13 +121,14 @@ impl<P: Point> Points<P> {
         let Some(point) = P::of(item) else {
             return;
         };
-        let is_hit = item.is_hit();
-        *self = match *self {
-            Points::Ascending(ascent) if ascent.goes_on_to(point) => Points::Ascending(ascent.and(
-                Hit { point, is_hit },
-            )),
-            Points::Ascending(_) | Points::Scattered => Points::Scattered,
-        };
+        if let Points::Ascending(ascent) = self {
+            if ascent.goes_on_to(point) {
+                let is_hit = item.is_hit();
+                ascent.add(Hit { point, is_hit });
+                return;
+            }
+        }
+        *self = Points::Scattered;
     }
 }
 
@@ -185,7 +177,7 @@ fn sorted_totals<P: Point, A: Allocator>(mut hits: Vec<Hit<P>, A>) -> Tally
     hits.sort_unstable();
     let mut ascent = Ascent::new();
     for hit in hits.as_slice() {
-        ascent = ascent.and(*hit);
+        ascent.add(*hit);
     }
     ascent.tally()
 }

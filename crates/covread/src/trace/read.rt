@@ -1,16 +1,19 @@
 //! The reader: forward over the text once.
 
-ghost use Rattle.std.specs.Prelude.{◌≤◌, length, List, Result};
+ghost use Rattle.std.specs.Prelude.{◌≡◌, ◌≤◌, ◌<◌, ◌∷◌, ℕ, None, IfOk, length, List, Result};
 ghost use Rattle.covline.specs.Row.{SubmissionData};
 ghost use Rattle.covread.specs.declared.fault.ReadFault.{ReadFault as Fault};
 ghost use Rattle.covread.specs.Outcome.{most_bytes, IsOutcome, Answers, GrowsLate, IsOrMemory};
-ghost use Rattle.covline.specs.Spells.{LineData};
-ghost use Rattle.covread.specs.TraceSteps.{held_data, HasRoom, IsOpen, ReadsTo, TakesLine};
+ghost use Rattle.covline.specs.Lines.{lines_of};
+ghost use Rattle.covline.specs.Spells.{LineData, Line, Spells};
+ghost use Rattle.covread.specs.TraceSteps.{held_data, HasRoom, IsOpen, ReadsTo, TakesLine, misplaced_at};
 
 use crate::fault::{MOST_BYTES, ReadFault};
 use crate::trace::misplaced::Misplaced;
 use crate::trace::reader::Reader;
-use covline::{Submission, each_line_has_one_meaning, lines, lines_are_the_text, read_line};
+use covline::{
+    Submission, each_line_has_one_meaning, first_count, first_line, lines_are_the_text, read_line,
+};
 use std::alloc::Allocator;
 
 /// Reads a tracefile: answers what its lines say, or the text's first fault.
@@ -40,11 +43,52 @@ fn read_lines<'a, A: Allocator + Copy>(alloc: A, text: &'a [u8]) -> Result<Reade
     lines_are_the_text();
     let mut reader = Reader::new(alloc);
     let mut at: u64 = 0;
-    for line in lines(text) {
+    let mut rest = text;
+    while !rest.is_empty() {
         at += 1;
-        take_line(&mut reader, alloc, at, line)?;
+        rest = take_first(&mut reader, alloc, at, rest)?;
     }
     Ok(reader)
+}
+
+/// Takes the first line of what is left of the text, which has this number, and answers what stands behind it. A line
+/// that only counts is read before it is cut, as most lines are such.
+#[inline]
+fn take_first<'a, A: Allocator + Copy>(
+    reader: &mut Reader<'a, A>,
+    alloc: A,
+    at: u64,
+    text: &'a [u8],
+) -> Result<&'a [u8], ReadFault>
+    requires some { 0 < length text.now }
+    requires room { (inside : List LineData) × HasRoom reader.old inside }
+    ensures { (line left : List ℕ) × (lines_of text.now ≡ line ∷ lines_of left) × IfOk result (λ rest. rest.now ≡ left)
+        × ((inside : List LineData) → IsOpen reader.old.section inside → TakesLine result (held_data reader.old inside) reader.new line at) }
+{
+    if let Some(first) = first_count(text) {
+        take_count(reader, at, first.line, first.count)?;
+        return Ok(first.rest);
+    }
+    let (line, rest) = first_line(text);
+    take_line(reader, alloc, at, line)?;
+    Ok(rest)
+}
+
+/// Takes a line with this number that only counts a line of the source file.
+#[inline]
+fn take_count<A: Allocator + Copy>(
+    reader: &mut Reader<'_, A>,
+    at: u64,
+    line: u64,
+    count: u64,
+) -> Result<(), ReadFault>
+    requires { (inside : List LineData) × HasRoom reader.old inside }
+    ensures { (text : List ℕ) → Spells text (Line line count None) → (inside : List LineData) → IsOpen reader.old.section inside → TakesLine result (held_data reader.old inside) reader.new text at }
+{
+    match reader.keep_count(line, count) {
+        Ok(()) => Ok(()),
+        Err(why) => Err(fault_at(why, at)),
+    }
 }
 
 /// Takes the line with this number.
@@ -63,8 +107,17 @@ fn take_line<'a, A: Allocator + Copy>(
     };
     match reader.take(alloc, says) {
         Ok(()) => Ok(()),
-        Err(Misplaced::Outside) => Err(ReadFault::Outside { at }),
-        Err(Misplaced::Inside) => Err(ReadFault::Inside { at }),
-        Err(Misplaced::Memory) => Err(ReadFault::Memory),
+        Err(why) => Err(fault_at(why, at)),
+    }
+}
+
+/// The fault of the line with this number, which isn't taken.
+fn fault_at(why: Misplaced, at: u64) -> ReadFault
+    ensures { result ≡ misplaced_at why at }
+{
+    match why {
+        Misplaced::Outside => ReadFault::Outside { at },
+        Misplaced::Inside => ReadFault::Inside { at },
+        Misplaced::Memory => ReadFault::Memory,
     }
 }

@@ -1,7 +1,7 @@
 //! What the reader of a tracefile holds between two lines.
 
-ghost use Rattle.std.specs.Prelude.{◌≡◌, List, []};
-ghost use Rattle.covline.specs.Spells.{LineData, line_data, HasSmallNumbers, Test, Path, End};
+ghost use Rattle.std.specs.Prelude.{◌≡◌, List, [], None};
+ghost use Rattle.covline.specs.Spells.{LineData, line_data, HasSmallNumbers, Test, Path, Line, End};
 ghost use Rattle.covread.specs.Said.{said_data};
 ghost use Rattle.covread.specs.TraceSteps.{held_data, empty, IsOpen, HasRoom, Steps, ends, EndsLawfully};
 
@@ -130,6 +130,19 @@ impl<'a, A: Allocator + Copy> Reader<'a, A> {
     {
         if let Some(section) = &mut self.section {
             section.gathered.take(alloc, said)?;
+            return Ok(());
+        }
+        Err(Misplaced::Outside)
+    }
+
+    /// A line of the open section that only counts a line of the source file: one without a checksum.
+    #[inline]
+    pub fn keep_count(&mut self, line: u64, count: u64) -> Result<(), Misplaced>
+        requires { (inside : List LineData) × HasRoom self.old inside }
+        ensures { (inside : List LineData) → IsOpen self.old.section inside → Steps result (held_data self.old inside) self.new (Line line count None) }
+    {
+        if let Some(section) = &mut self.section {
+            section.gathered.take_plain(line, count)?;
             return Ok(());
         }
         Err(Misplaced::Outside)

@@ -42,7 +42,7 @@ pub struct Gathered<'a, A: Allocator> {
 }
 
 impl<'a, A: Allocator + Copy> Gathered<'a, A> {
-    ghost use Rattle.std.specs.Prelude.{◌≡◌, ◌+◌, ◌<◌, ◌^◌, ◌++◌, ◌∷◌, [], List, OnOk, length, option_map};
+    ghost use Rattle.std.specs.Prelude.{◌≡◌, ◌+◌, ◌<◌, ◌^◌, ◌++◌, ◌∷◌, [], List, None, OnOk, length, option_map};
     ghost use Rattle.covline.specs.Row.{BranchItem, item_data};
     ghost use Rattle.covline.specs.Spells.{LineData, FuncStart, FuncCount, Branch, Line};
     ghost use Rattle.covread.specs.Said.{said_data};
@@ -127,6 +127,22 @@ impl<'a, A: Allocator + Copy> Gathered<'a, A> {
             taken,
         };
         self.branches.take(&item);
+        self.items.push(item)?;
+        Ok(())
+    }
+
+    /// The execution count of a line without a checksum. It takes no memory but for the list.
+    #[inline]
+    pub fn take_plain(&mut self, line: u64, count: u64) -> Result<(), Memory>
+        requires { (inside : List LineData) × IsGathered self.old inside × length inside + 1 < 2 ^ 64 }
+        ensures { OnOk result ((inside : List LineData) → IsGathered self.old inside → IsGathered self.new (inside ++ Line line count None ∷ [])) }
+    {
+        let item = Item::Line {
+            line,
+            count,
+            checksum: None,
+        };
+        self.lines.take(&item);
         self.items.push(item)?;
         Ok(())
     }

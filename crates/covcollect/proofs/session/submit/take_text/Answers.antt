@@ -7,6 +7,7 @@ use Rattle.covcollect.specs.Text.{line_after}
 use Rattle.covcollect.specs.declared.session.text.LineSoFar.TheVariants.{Nothing, Dot}
 use Rattle.covcollect.specs.declared.session.text.LineEnd.{LineEnd}
 use Rattle.covcollect.specs.declared.session.text.LineEnd.TheVariants.{Feed, Input}
+use Rattle.covcollect.proofs.SessionLines.{begun_more}
 use Rattle.covcollect.proofs.SessionPieces.{takes_more, text_done, text_rest, is_taken, body_more, not_last, more_cut, more_moves, more_turns, more_collected, same_line}
 use Rattle.covcollect.proofs.session.submit.take_text.Goals as goal
 
@@ -16,9 +17,11 @@ loop-text-init g c = ([], tt, λ more. refl, search rules, search rules, c.new-t
 pub returns-then-is_last-clause-taken : goal.returns-then-is_last-clause-taken
 returns-then-is_last-clause-taken g c =
     let m = moment c.args.input.now c.args.output.now in
-    let n = moment c.loop-text.input c.loop-text.output in
+    let n = moment c.take_lines.new.self c.loop-text.output in
     let o = moment c.take_line.new.self c.take_line.new.output in
-    let i = c.loop-text.invariant in
+    let lines = c.in_ok-take_lines.ensures in
+    let i = begun_more m (moment c.loop-text.input c.loop-text.output) c.take_lines.new.self c.loop-text.text c.take_lines.new.text lines.taken.0 c.loop-text.invariant
+    lines.taken.1 lines.taken.2 lines.kept lines.fewer lines.taken.3 lines.limit in
     let t = c.in_ok-ending.ensures.taken in
     let col = t.2 (concat i.0) [] i.5 in
     let dot : line_after Nothing t.0 ≡ Dot = sym col.so_far ∙ c.if-is_last.ensures.0 refl in (
@@ -30,9 +33,11 @@ returns-then-is_last-clause-taken g c =
 pub returns-in-Input-clause-taken : goal.returns-in-Input-clause-taken
 returns-in-Input-clause-taken g c =
     let m = moment c.args.input.now c.args.output.now in
-    let n = moment c.loop-text.input c.loop-text.output in
+    let n = moment c.take_lines.new.self c.loop-text.output in
     let o = moment c.take_line.new.self c.take_line.new.output in
-    let i = c.loop-text.invariant in
+    let lines = c.in_ok-take_lines.ensures in
+    let i = begun_more m (moment c.loop-text.input c.loop-text.output) c.take_lines.new.self c.loop-text.text c.take_lines.new.text lines.taken.0 c.loop-text.invariant
+    lines.taken.1 lines.taken.2 lines.kept lines.fewer lines.taken.3 lines.limit in
     let t = c.in_ok-ending.ensures.taken in
     let col = t.2 (concat i.0) [] i.5 in
     let other : line_after Nothing t.0 ≡ Dot → ⊥ = same_line _ t.0 col.so_far (λ d. false≢true (c.if-is_last.ensures.1 d)) in
@@ -46,9 +51,11 @@ returns-in-Input-clause-taken g c =
 pub loop-text-preserved : goal.loop-text-preserved
 loop-text-preserved g c =
     let m = moment c.args.input.now c.args.output.now in
-    let n = moment c.loop-text.input c.loop-text.output in
+    let n = moment c.take_lines.new.self c.loop-text.output in
     let o = moment c.take_line.new.self c.take_line.new.output in
-    let i = c.loop-text.invariant in
+    let lines = c.in_ok-take_lines.ensures in
+    let i = begun_more m (moment c.loop-text.input c.loop-text.output) c.take_lines.new.self c.loop-text.text c.take_lines.new.text lines.taken.0 c.loop-text.invariant
+    lines.taken.1 lines.taken.2 lines.kept lines.fewer lines.taken.3 lines.limit in
     let t = c.in_ok-ending.ensures.taken in
     let col = t.2 (concat i.0) [] i.5 in
     let other : line_after Nothing t.0 ≡ Dot → ⊥ = same_line _ t.0 col.so_far (λ d. false≢true (c.if-is_last.ensures.1 d)) in
