@@ -20,6 +20,21 @@ pub(super) fn put_line(record: &TraceLine<'_>, text: &mut Bytes) -> Result<(), M
     covline::put_line(record, text)
 }
 
+/// The numbers of a first line that only counts, and how many bytes are behind it.
+pub(super) fn counted_first(text: &[u8]) -> Option<(u64, u64, usize)> {
+    let first = covline::first_count(text)?;
+    Some((first.line, first.count, first.rest.len()))
+}
+
+/// How long the first line of a text is, and what is behind it.
+pub(super) fn cut_first(text: &[u8]) -> (usize, usize) {
+    if text.is_empty() {
+        return (0, 0);
+    }
+    let (line, rest) = covline::first_line(text);
+    (line.len(), rest.len())
+}
+
 pub(super) fn submission_of(sects: Sects, odd: u64) -> Result<Submission, (Sects, BadSubmission)> {
     Submission::of(sects, odd)
 }

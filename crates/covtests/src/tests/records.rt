@@ -1,6 +1,8 @@
 //! Calls of covline and covread that no session shows: single records, lists, submissions, and the items of a text.
 
-use super::calls::{append, bytes_of, put_line, read, submission_of, text_of};
+use super::calls::{
+    append, bytes_of, counted_first, cut_first, put_line, read, submission_of, text_of,
+};
 use covline::{
     BadSubmission, BranchPoint, Bytes, Item, Items, LineFault, Memory, Sect, Sects, Submission,
     Tally, TotalKind, TraceLine, good_test, lines, read_line, without_returns,
@@ -47,6 +49,16 @@ fn printed_records(rt: HostRuntime) -> Result<(), Fail> {
         b"#\nFNDA:340282366920938463463374607431768211455,g(int, int)\nLH:18446744073709551615\n".as_slice()
     );
     Ok(())
+}
+
+/// A first line that only counts is read before it is cut; another one is cut.
+#[test]
+fn first_lines(rt: HostRuntime) {
+    assert_eq!(rt; counted_first(b"DA:7,12\nDA:8,1\n"), Some((7, 12, 7)));
+    assert_eq!(rt; counted_first(b"DA:7,12,sum\n"), None);
+    assert_eq!(rt; counted_first(b"DA:7,12"), None);
+    assert_eq!(rt; cut_first(b"TN:a\r\nrest"), (4, 4));
+    assert_eq!(rt; cut_first(b"rest"), (4, 0));
 }
 
 /// What is read of each line, as it is printed.
