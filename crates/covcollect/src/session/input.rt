@@ -181,6 +181,7 @@ impl<'s, I: Source, A: Allocator> Input<'s, I, A> {
         ensures limit { OnOk result (text.new.limit ≡ text.old.limit) }
         ensures kept { OnOk result (self.new ≡ record self.old { pending = self.new.pending }) }
         ensures fewer { OnOk result (turns self.new ≤ turns self.old) }
+        ensures fault { IfErr result (λ f. f ≡ session_faults.Memory) }
     {
         let pending = self.pending();
         let count = whole_lines(pending);

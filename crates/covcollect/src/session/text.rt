@@ -156,6 +156,7 @@ impl<A: Allocator> Text<A> {
     pub fn add_lines(&mut self, lines: &[u8]) -> Result<(), SessionFault>
         ensures collected { OnOk result ((before : List ℕ) → HasCollected self.old before [] → HasCollected self.new (before ++ lines.now) []) }
         ensures limit { OnOk result (self.new.limit ≡ self.old.limit) }
+        ensures fault { IfErr result (λ f. f ≡ session_faults.Memory) }
     {
         self.keep(lines)?;
         self.total = self.total.saturating_add(lines.len() as u64);

@@ -53,7 +53,7 @@ fn printed_records(rt: HostRuntime) -> Result<(), Fail> {
 
 /// A first line that only counts is read before it is cut; another one is cut.
 #[test]
-fn first_lines(rt: HostRuntime) {
+fn counts_before_a_cut(rt: HostRuntime) {
     assert_eq!(rt; counted_first(b"DA:7,12\nDA:8,1\n"), Some((7, 12, 7)));
     assert_eq!(rt; counted_first(b"DA:7,12,sum\n"), None);
     assert_eq!(rt; counted_first(b"DA:7,12"), None);
