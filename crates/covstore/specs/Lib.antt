@@ -13,5 +13,8 @@ pub mod RefuseView
 pub mod ValueView
 pub mod KeyView
 pub mod Walk
+pub mod Puts
+pub mod Sums
+pub mod Counts
 pub mod ClashView
 pub mod ChecksumView

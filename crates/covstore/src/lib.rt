@@ -39,6 +39,7 @@ mod plan;
 mod refuse;
 mod rows;
 mod store;
+mod sums;
 mod totals;
 mod values;
 
