@@ -14,7 +14,10 @@ pub mod ValueView
 pub mod KeyView
 pub mod Walk
 pub mod Puts
+pub mod PointsData
+pub mod KeyOrders
 pub mod Sums
 pub mod Counts
+pub mod State
 pub mod ClashView
 pub mod ChecksumView

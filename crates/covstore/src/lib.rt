@@ -36,6 +36,7 @@ pub mod laws;
 mod lines;
 mod next;
 mod plan;
+mod points;
 mod refuse;
 mod rows;
 mod store;
