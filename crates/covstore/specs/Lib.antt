@@ -19,5 +19,7 @@ pub mod KeyOrders
 pub mod Sums
 pub mod Counts
 pub mod State
+pub mod TestView
+pub mod Changes
 pub mod ClashView
 pub mod ChecksumView

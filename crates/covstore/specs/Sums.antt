@@ -1,5 +1,5 @@
 -- What the items of a file and a test add up to, by kinds: each point with its value, ascending; and what one item more does.
-use Rattle.std.specs.Prelude.{ℕ, ◌+◌, min, Bool, ◌||◌, Option, Some, None, List, map}
+use Rattle.std.specs.Prelude.{ℕ, ◌+◌, ◌^◌, ◌<◌, min, Bool, ◌||◌, Option, Some, None, List, map}
 use Rattle.std.specs.Cmp.Lexicographic.{slice_cmp}
 use Rattle.std.specs.Option.{is_some}
 use Rattle.std.specs.Ordering.{nat_cmp}
@@ -70,3 +70,12 @@ with_item (BranchItem line block branch taken) test = let point : BranchPoint = 
   functions = test.functions;
   branches = put branch_cmp point (branch_with taken (value_of branch_cmp point test.branches)) test.branches;
 }
+
+-- two numbers that may be missing have a sum that fits
+abbrev pub sum_fits : Option ℕ → Option ℕ → Type 0
+sum_fits (Some held) (Some taken) = held + taken < 2 ^ 128
+sum_fits held taken = Unit {0}
+
+abbrev pub branch_fits : Option ℕ → Option Taken → Type 0
+branch_fits taken None = Unit {0}
+branch_fits taken (Some held) = sum_fits held.times taken

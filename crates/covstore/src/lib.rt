@@ -31,6 +31,7 @@ mod clash;
 mod content;
 mod file_rows;
 mod functions;
+mod kept;
 mod keys;
 pub mod laws;
 mod lines;
@@ -41,6 +42,7 @@ mod refuse;
 mod rows;
 mod store;
 mod sums;
+mod test;
 mod totals;
 mod values;
 

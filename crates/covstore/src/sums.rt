@@ -1,5 +1,8 @@
 //! What the items of a file and a test add up to at a point, and in how many tests a file has a point.
 
+ghost use Rattle.std.specs.Prelude.{◌≡◌, ◌+◌, ◌^◌, ◌<◌, IfSome};
+ghost use Rattle.covstore.specs.Sums.{branch_fits, branch_with, function_with, line_with};
+
 /// A line: the sum of its execution counts, and whether an item has a checksum of it (geninfo(1): `DA:`).
 #[derive(Clone, Copy)]
 pub(crate) struct LineSum {
@@ -25,4 +28,62 @@ pub(crate) struct Taken {
 pub(crate) struct Tests {
     pub tests: u64,
     pub hit: u64,
+}
+
+impl LineSum {
+    /// The sum with one count more.
+    pub(crate) fn with(held: Option<LineSum>, count: u64, has_checksum: bool) -> LineSum
+        requires { IfSome held (λ sum. sum.count + count < 2 ^ 128) }
+        ensures { result ≡ line_with count has_checksum held }
+    {
+        match held {
+            Some(sum) => LineSum {
+                count: sum.count + u128::from(count),
+                has_checksum: sum.has_checksum || has_checksum,
+            },
+            None => LineSum {
+                count: u128::from(count),
+                has_checksum,
+            },
+        }
+    }
+}
+
+impl FunctionSum {
+    /// The sum with one count more.
+    pub(crate) fn with(held: Option<FunctionSum>, line: u64, count: u64) -> FunctionSum
+        requires { IfSome held (λ sum. sum.count + count < 2 ^ 128) }
+        ensures { result ≡ function_with line count held }
+    {
+        match held {
+            Some(sum) => FunctionSum {
+                line: sum.line.min(line),
+                count: sum.count + u128::from(count),
+            },
+            None => FunctionSum {
+                line,
+                count: u128::from(count),
+            },
+        }
+    }
+}
+
+impl Taken {
+    /// The sum with one number more, which may be missing.
+    pub(crate) fn with(held: Option<Taken>, times: Option<u64>) -> Taken
+        requires { branch_fits times held }
+        ensures { result ≡ branch_with times held }
+    {
+        let Some(times) = times else {
+            return held.unwrap_or(Taken { times: None });
+        };
+        match held {
+            Some(Taken { times: Some(sum) }) => Taken {
+                times: Some(sum + u128::from(times)),
+            },
+            Some(Taken { times: None }) | None => Taken {
+                times: Some(u128::from(times)),
+            },
+        }
+    }
 }
