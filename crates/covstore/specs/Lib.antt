@@ -21,5 +21,9 @@ pub mod Counts
 pub mod State
 pub mod TestView
 pub mod Changes
+pub mod Checksums
+pub mod Marks
+pub mod CountsView
+pub mod Steps
 pub mod ClashView
 pub mod ChecksumView

@@ -27,10 +27,13 @@
 #![tactic(auto)]
 
 mod branches;
+mod checksums;
 mod clash;
 mod content;
+mod counts;
 mod file_rows;
 mod functions;
+mod items;
 mod kept;
 mod keys;
 pub mod laws;
@@ -40,6 +43,7 @@ mod plan;
 mod points;
 mod refuse;
 mod rows;
+mod stop;
 mod store;
 mod sums;
 mod test;

@@ -2,6 +2,7 @@
 
 ghost use Rattle.std.specs.Prelude.{◌≡◌, ◌+◌, ◌^◌, ◌<◌, IfSome};
 ghost use Rattle.covstore.specs.Sums.{branch_fits, branch_with, function_with, line_with};
+ghost use Rattle.covstore.specs.Value.{is_taken};
 
 /// A line: the sum of its execution counts, and whether an item has a checksum of it (geninfo(1): `DA:`).
 #[derive(Clone, Copy)]
@@ -85,5 +86,12 @@ impl Taken {
                 times: Some(u128::from(times)),
             },
         }
+    }
+
+    /// Whether the branch was taken.
+    pub(crate) fn is_above(&self) -> bool
+        ensures { result ≡ is_taken self.now.times }
+    {
+        self.times.is_some_and(|times| times > 0)
     }
 }
