@@ -23,3 +23,4 @@ pub mod ContentsPoints
 pub mod ContentsSections
 pub mod ContentsChecksums
 pub mod Contents
+pub mod SumsPuts
