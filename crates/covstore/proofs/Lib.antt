@@ -24,3 +24,9 @@ pub mod ContentsSections
 pub mod ContentsChecksums
 pub mod Contents
 pub mod SumsPuts
+pub mod SumsKinds
+pub mod SumsLast
+pub mod SumsLines
+pub mod SumsFunctions
+pub mod SumsBranches
+pub mod SumsMore

@@ -11,7 +11,7 @@ use Rattle.std.proofs.lemmas.Option.{same_Some, none-some}
 use Rattle.covstore.specs.Puts.{ArePairs, put, value_of}
 use Rattle.covstore.proofs.Ascend.{IsExactOrder}
 
-less_not_equal : Less ≡ Equal → ⊥
+pub less_not_equal : Less ≡ Equal → ⊥
 less_not_equal e = absurd cc
 
 -- ---- the value of a key where another was put in
@@ -53,7 +53,7 @@ pub own_value : {K V : Type 0} {cmp : K → K → Ordering} → IsTotalOrder cmp
 own_value {K} {V} {cmp} t key value pairs =
     value_of-put t key value pairs key ∙ ap (λ (r : Ordering). cond (is_eq r) (Some value) (value_of cmp key pairs)) (tied_itself t key)
 
-if_not : {X : Type 0} (r : Ordering) (x y : X) → (r ≡ Equal → ⊥) → cond (is_eq r) x y ≡ y
+pub if_not : {X : Type 0} (r : Ordering) (x y : X) → (r ≡ Equal → ⊥) → cond (is_eq r) x y ≡ y
 if_not Less x y not = refl
 if_not Equal x y not = absurd (not refl)
 if_not Greater x y not = refl
