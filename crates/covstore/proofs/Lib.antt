@@ -30,3 +30,5 @@ pub mod SumsLines
 pub mod SumsFunctions
 pub mod SumsBranches
 pub mod SumsMore
+pub mod SumsMembers
+pub mod SumsBounds

@@ -1,6 +1,6 @@
 -- The sums of one kind of points (lines, functions or branches): each point of the items once, in order, with its value.
 use Rattle.std.proofs.Common.{◌≡◌, cond, Option, Some, None, List, [], ◌∷◌, ◌++◌, map, refl, sym, ap, ◌∙◌, subst, inl, inr, ⊎_elim}
-use Rattle.std.specs.Prelude.{◌≢◌, ◌⊎◌}
+use Rattle.std.specs.Prelude.{◌≢◌, ◌⊎◌, ◌↔◌, Contains}
 use Rattle.std.specs.declared.cmp.Ordering.{Ordering}
 use Rattle.std.specs.declared.cmp.Ordering.TheVariants.{Less, Equal, Greater}
 use Rattle.std.specs.List.{AllByRecursion, flat_map}
@@ -8,12 +8,13 @@ use Rattle.std.specs.List.Sorted.{IsStrictlySortedBy}
 use Rattle.std.specs.Ordering.{is_eq}
 use Rattle.std.proofs.lemmas.Cmp.{tied_itself}
 use Rattle.std.proofs.lemmas.List.Concat.{flat_map-append}
+use Rattle.std.proofs.lemmas.Option.{same_Some, none-some}
 use Rattle.covline.specs.Row.{ItemData}
 use Rattle.covstore.specs.Ascending.{ascending}
 use Rattle.covstore.specs.Puts.{ArePairs, put, value_of}
 use Rattle.covstore.proofs.Ascend.{IsExactOrder, ascending_sorted, In-ascending, In-to_ascending}
 use Rattle.covstore.proofs.ContentsLists.{In-or_not}
-use Rattle.covstore.proofs.Members.{In, In-joined, In-parts}
+use Rattle.covstore.proofs.Members.{In, In-from, Contains-from, In-joined, In-parts}
 use Rattle.covstore.proofs.SumsPuts.{if_not, less_not_equal, one_pairs, other_value, own_value, put_pairs}
 
 -- ---- points with their values
@@ -133,3 +134,20 @@ module _ {P V : Type 0} {cmp : P → P → Ordering} (order : IsExactOrder cmp) 
           let new = with (value_of cmp own (sums cmp point value items)) in
           one_pairs order (sums cmp point value (items ++ item ∷ [])) (put cmp own new (sums cmp point value items)) (sums_pairs (items ++ item ∷ []))
           (put_pairs order.total own new (sums cmp point value items) (sums_pairs items)) put_each
+
+  -- ---- which points have a value, and which
+
+  pub sums_held : (items : List ItemData) (p : P) (held : V) → value_of cmp p (sums cmp point value items) ≡ Some held → In p (flat_map point items) × (value items p ≡ held)
+  sums_held items p held h =
+      ⊎_elim {C = In p (flat_map point items) × (value items p ≡ held)}
+      (λ (i : In p (flat_map point items)). (i, same_Some (value items p) held (sym (sums_some items p i) ∙ h)))
+      (λ (none : In p (flat_map point items) → ⊥). absurd (none-some held (sym (sums_none items p none) ∙ h)))
+      (In-or_not cmp order p (flat_map point items))
+
+  pub sums_known : (items : List ItemData) (p : P) → Contains (flat_map point items) p → value_of cmp p (sums cmp point value items) ≡ Some (value items p)
+  sums_known items p there = sums_some items p (In-from (flat_map point items) p there)
+
+  pub sums_unknown : (items : List ItemData) (p : P) → (value_of cmp p (sums cmp point value items) ≡ None) ↔ (Contains (flat_map point items) p → ⊥)
+  sums_unknown items p =
+      (λ e there. none-some (value items p) (sym e ∙ sums_known items p there),
+      λ none. sums_none items p (λ i. none (Contains-from (flat_map point items) p i)))
