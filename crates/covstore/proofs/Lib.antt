@@ -32,3 +32,4 @@ pub mod SumsBranches
 pub mod SumsMore
 pub mod SumsMembers
 pub mod SumsBounds
+pub mod SumsSections

@@ -15,6 +15,7 @@ pub mod KeyView
 pub mod Walk
 pub mod Puts
 pub mod Sums
+pub mod SumsSection
 pub mod Counts
 pub mod ClashView
 pub mod ChecksumView
