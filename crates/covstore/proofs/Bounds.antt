@@ -43,7 +43,7 @@ items_fit key held h =
 
 -- ---- their numbers
 
-All-joined : {X : Type 0} (P : X → Type 0) (xs ys : List X) → AllByRecursion P xs → AllByRecursion P ys → AllByRecursion P (xs ++ ys)
+pub All-joined : {X : Type 0} (P : X → Type 0) (xs ys : List X) → AllByRecursion P xs → AllByRecursion P ys → AllByRecursion P (xs ++ ys)
 All-joined P [] ys left right = right
 All-joined P (x ∷ xs) ys left right = (left.0, All-joined P xs ys left.1 right)
 

@@ -1,5 +1,5 @@
 -- How large the sums of items get whose numbers have 64 bits.
-use Rattle.std.proofs.Common.{◌≡◌, ℕ, ◌+◌, ◌-◌, ◌*◌, ◌^◌, ◌<◌, ◌≤◌, Bool, true, false, if◌then◌else◌, min, Option, Some, None, unwrap_or, List, [], ◌∷◌, ◌++◌, length, sym, subst, arith}
+use Rattle.std.proofs.Common.{◌≡◌, ℕ, ◌+◌, ◌-◌, ◌*◌, ◌^◌, ◌<◌, ◌≤◌, Bool, true, false, if◌then◌else◌, min, Option, Some, None, unwrap_or, List, [], ◌∷◌, length, subst, arith}
 use Rattle.std.specs.Prelude.{IfSome}
 use Rattle.std.specs.Cmp.Lexicographic.{slice_cmp}
 use Rattle.std.specs.List.{AllByRecursion, flat_map, fold, sum_by}
@@ -13,8 +13,8 @@ use Rattle.covstore.specs.declared.sums.FunctionSum.{FunctionSum}
 use Rattle.covstore.specs.declared.sums.Taken.{Taken}
 use Rattle.covstore.specs.Puts.{value_of}
 use Rattle.covstore.specs.Sums.{SmallItem, test_of}
-use Rattle.covstore.specs.Value.{branch_cmp, branch_value, function_added, function_start, line_added, start_said, sum_if_any, taken_said}
-use Rattle.covstore.proofs.Bounds.{AddsFew, function_added_fits, line_added_fits, sum_joined, sum_of, sum_said, sum_said_fits}
+use Rattle.covstore.specs.Value.{branch_cmp, branch_value, function_added, line_added, start_said, sum_if_any, taken_said}
+use Rattle.covstore.proofs.Bounds.{AddsFew, All-joined, function_added_fits, line_added_fits, sum_joined, sum_of, sum_said, sum_said_fits}
 use Rattle.covstore.proofs.SumsMembers.{branch_is, function_is, line_is}
 
 -- a number of 64 bits for each item adds up to no more than this
@@ -52,10 +52,6 @@ fold_min_le n (m ∷ ns) = omega (arith, fold_min_le (min n m) ns)
 least_small : (ns : List ℕ) → AllByRecursion (λ n. n < 2 ^ 64) ns → unwrap_or (least ns) 0 < 2 ^ 64
 least_small [] small = omega arith
 least_small (n ∷ ns) small = omega (arith, fold_min_le n ns, small.0)
-
-All-joined : {X : Type 0} (P : X → Type 0) (xs ys : List X) → AllByRecursion P xs → AllByRecursion P ys → AllByRecursion P (xs ++ ys)
-All-joined P [] ys left right = right
-All-joined P (x ∷ xs) ys left right = (left.0, All-joined P xs ys left.1 right)
 
 small_if : (own : Bool) (n : ℕ) → n < 2 ^ 64 → AllByRecursion (λ m. m < 2 ^ 64) (if own then n ∷ [] else [])
 small_if true n small = (small, tt)

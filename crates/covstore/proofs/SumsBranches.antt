@@ -1,15 +1,15 @@
 -- The sums of branches with one item more.
-use Rattle.std.proofs.Common.{◌≡◌, ℕ, ◌+◌, Bool, true, ◌&&◌, eqb, Option, Some, None, List, [], ◌∷◌, ◌++◌, refl, sym, ap, ◌∙◌, arith}
+use Rattle.std.proofs.Common.{◌≡◌, ℕ, ◌+◌, Bool, true, ◌&&◌, eqb, Option, Some, None, List, [], ◌∷◌, ◌++◌, refl, ap, ◌∙◌, arith}
 use Rattle.std.specs.List.{flat_map, sum_by}
 use Rattle.std.proofs.lemmas.Bool.{cond-true, eq-eqb}
 use Rattle.std.proofs.lemmas.List.{append-nil}
 use Rattle.std.proofs.lemmas.List.Sums.{sum_by-append, sum_by-cons}
 use Rattle.covline.specs.Points.{BranchPoint, branch_point, branch_points}
-use Rattle.covline.specs.Row.{ItemData, LineItem, FuncItem, BranchItem}
+use Rattle.covline.specs.Row.{ItemData, BranchItem}
 use Rattle.covstore.specs.declared.sums.Taken.{Taken}
 use Rattle.covstore.specs.Puts.{put, value_of}
 use Rattle.covstore.specs.Sums.{branch_sum, branch_with, sum_taken}
-use Rattle.covstore.specs.Value.{branch_cmp, branch_value, is_branch, sum_if_any, taken_said}
+use Rattle.covstore.specs.Value.{branch_cmp, is_branch, sum_if_any, taken_said}
 use Rattle.covstore.proofs.ContentsPoints.{nothing_said, taken_unsaid}
 use Rattle.covstore.proofs.Members.{In}
 use Rattle.covstore.proofs.Orders.{branches_order}

@@ -1,7 +1,7 @@
 -- The sums of functions with one item more.
-use Rattle.std.proofs.Common.{◌≡◌, ℕ, ◌+◌, true, min, Option, Some, None, unwrap_or, List, [], ◌∷◌, ◌++◌, refl, sym, ap, ◌∙◌, arith}
+use Rattle.std.proofs.Common.{◌≡◌, ℕ, ◌+◌, true, min, Some, None, unwrap_or, List, [], ◌∷◌, ◌++◌, refl, ap, ◌∙◌, arith}
 use Rattle.std.specs.Cmp.Lexicographic.{slice_cmp}
-use Rattle.std.specs.List.{flat_map, sum_by, fold}
+use Rattle.std.specs.List.{flat_map}
 use Rattle.std.specs.Option.{is_some}
 use Rattle.std.specs.Ordering.{nat_cmp}
 use Rattle.std.specs.Str.{bytes_eq}
@@ -9,7 +9,7 @@ use Rattle.std.proofs.lemmas.Bool.{cond-true, false≢true}
 use Rattle.std.proofs.lemmas.List.Sums.{fold-append}
 use Rattle.std.proofs.lemmas.Slice.Eq.{bytes_eq-Decides}
 use Rattle.covline.specs.Points.{func_point, func_points, least}
-use Rattle.covline.specs.Row.{ItemData, LineItem, FuncItem, BranchItem}
+use Rattle.covline.specs.Row.{ItemData, FuncItem}
 use Rattle.covstore.specs.declared.sums.FunctionSum.{FunctionSum}
 use Rattle.covstore.specs.Puts.{put, value_of}
 use Rattle.covstore.specs.Sums.{function_sum, function_with}
@@ -70,9 +70,12 @@ module _ (name : List ℕ) (items : List ItemData) (line count : ℕ) where
   function_first none =
       same_sum (function_start name (items ++ FuncItem name line count ∷ [])) line (function_count name (items ++ FuncItem name line count ∷ [])) count
       (starts_more ∙ ap (λ (said : List ℕ). unwrap_or (least (said ++ line ∷ [])) 0) (nothing_said func_point (start_said name) name (start_unsaid name) items none))
-      (omega
-      (arith, last_added (function_added name) items (FuncItem name line count), own_count name line count,
-      nothing_added func_point (function_added name) name (count_unadded name) items none))
+      (omega (
+        arith,
+        last_added (function_added name) items (FuncItem name line count),
+        own_count name line count,
+        nothing_added func_point (function_added name) name (count_unadded name) items none,
+      ))
 
   pub functions_put : sums (slice_cmp nat_cmp) func_point function_held (items ++ FuncItem name line count ∷ [])
       ≡ put (slice_cmp nat_cmp) name (function_with line count (value_of (slice_cmp nat_cmp) name (sums (slice_cmp nat_cmp) func_point function_held items)))

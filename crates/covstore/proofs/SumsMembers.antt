@@ -1,5 +1,5 @@
 -- A point has a value exactly where items speak of it, and a line's sum says whether an item has a checksum of it.
-use Rattle.std.proofs.Common.{◌≡◌, ℕ, Option, Some, None, List, sym, ap}
+use Rattle.std.proofs.Common.{◌≡◌, ℕ, Some, None, List, sym, ap}
 use Rattle.std.specs.Prelude.{◌↔◌, Contains}
 use Rattle.std.specs.Cmp.Lexicographic.{slice_cmp}
 use Rattle.std.specs.Option.{is_some}

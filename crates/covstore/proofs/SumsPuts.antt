@@ -9,7 +9,7 @@ use Rattle.std.specs.Ordering.{is_eq, match_ordering, ordering_reverse}
 use Rattle.std.proofs.lemmas.Cmp.{tied_itself, tied_back}
 use Rattle.std.proofs.lemmas.Option.{same_Some, none-some}
 use Rattle.covstore.specs.Puts.{ArePairs, put, value_of}
-use Rattle.covstore.proofs.Ascend.{IsExactOrder}
+use Rattle.covstore.proofs.Ascend.{IsExactOrder, All-match, All-weaker, flips}
 
 pub less_not_equal : Less ≡ Equal → ⊥
 less_not_equal e = absurd cc
@@ -65,37 +65,27 @@ other_value {K} {V} {cmp} order key value pairs other not =
 
 -- ---- a list stays ascending
 
-All-put_at : {K V : Type 0} (P : K × V → Type 0) (r : Ordering) (a b c : List (K × V)) → AllByRecursion P a → AllByRecursion P b → AllByRecursion P c → AllByRecursion P (match_ordering r a b c)
-All-put_at P Less a b c x y z = x
-All-put_at P Equal a b c x y z = y
-All-put_at P Greater a b c x y z = z
-
 All-put : {K V : Type 0} (cmp : K → K → Ordering) (P : K × V → Type 0) (key : K) (value : V) (pairs : List (K × V)) → P (key, value) → AllByRecursion P pairs → AllByRecursion P (put cmp key value pairs)
 All-put cmp P key value [] h all = (h, tt)
 All-put cmp P key value (pair ∷ pairs) h all =
-    All-put_at P (cmp pair.0 key) (pair ∷ put cmp key value pairs) ((key, value) ∷ pairs) ((key, value) ∷ pair ∷ pairs)
+    All-match P (cmp pair.0 key) (pair ∷ put cmp key value pairs) ((key, value) ∷ pairs) ((key, value) ∷ pair ∷ pairs)
     (all.0, All-put cmp P key value pairs h all.1) (h, all.1) (h, all)
-
--- what holds of each pair, where one implies the other
-All-from : {X : Type 0} (P Q : X → Type 0) (xs : List X) → ((x : X) → P x → Q x) → AllByRecursion P xs → AllByRecursion Q xs
-All-from P Q [] f all = tt
-All-from P Q (x ∷ xs) f all = (f x all.0, All-from P Q xs f all.1)
 
 -- the key comes before all of these
 abbrev IsBefore : {K V : Type 0} → (K → K → Ordering) → K → List (K × V) → Type 0
 IsBefore cmp key pairs = AllByRecursion (λ next. cmp key next.0 ≡ Less) pairs
 
 before_too : {K V : Type 0} {cmp : K → K → Ordering} → IsTotalOrder cmp → (key other : K) (pairs : List (K × V)) → cmp key other ≡ Less → IsBefore cmp other pairs → IsBefore cmp key pairs
-before_too {K} {V} {cmp} t key other pairs e all = All-from (λ next. cmp other next.0 ≡ Less) (λ next. cmp key next.0 ≡ Less) pairs (λ next l. t.trans key other next.0 e l) all
+before_too {K} {V} {cmp} t key other pairs e all = All-weaker (λ next. cmp other next.0 ≡ Less) (λ next. cmp key next.0 ≡ Less) pairs (λ next l. t.trans key other next.0 e l) all
 
 put_pairs_at : {K V : Type 0} {cmp : K → K → Ordering} → IsTotalOrder cmp → (key : K) (value : V) (pair : K × V) (pairs : List (K × V)) (r : Ordering) → cmp pair.0 key ≡ r
     → ArePairs cmp (pair ∷ pairs) → ArePairs cmp (put cmp key value pairs)
     → ArePairs cmp (match_ordering r (pair ∷ put cmp key value pairs) ((key, value) ∷ pairs) ((key, value) ∷ pair ∷ pairs))
 put_pairs_at {K} {V} {cmp} t key value pair pairs Less e s more = (All-put cmp (λ next. cmp pair.0 next.0 ≡ Less) key value pairs e s.0, more)
 put_pairs_at {K} {V} {cmp} t key value pair pairs Equal e s more =
-    (All-from (λ next. cmp pair.0 next.0 ≡ Less) (λ next. cmp key next.0 ≡ Less) pairs (λ next l. sym (t.congr pair.0 key next.0 e) ∙ l) s.0, s.1)
+    (All-weaker (λ next. cmp pair.0 next.0 ≡ Less) (λ next. cmp key next.0 ≡ Less) pairs (λ next l. sym (t.congr pair.0 key next.0 e) ∙ l) s.0, s.1)
 put_pairs_at {K} {V} {cmp} t key value pair pairs Greater e s more =
-    let first : cmp key pair.0 ≡ Less = t.antisymm key pair.0 ∙ ap ordering_reverse e in
+    let first : cmp key pair.0 ≡ Less = flips t pair.0 key e in
     ((first, before_too t key pair.0 pairs first s.0), s)
 
 pub put_pairs : {K V : Type 0} {cmp : K → K → Ordering} → IsTotalOrder cmp → (key : K) (value : V) (pairs : List (K × V)) → ArePairs cmp pairs → ArePairs cmp (put cmp key value pairs)
@@ -128,8 +118,8 @@ by_order Greater less greater equal = absurd (greater refl)
 rest_value : {K V : Type 0} {cmp : K → K → Ordering} → IsTotalOrder cmp → (first : K) (x y : V) (xs ys : List (K × V)) (key : K) (r : Ordering) → cmp first key ≡ r
     → IsBefore cmp first xs → IsBefore cmp first ys → value_of cmp key ((first, x) ∷ xs) ≡ value_of cmp key ((first, y) ∷ ys) → value_of cmp key xs ≡ value_of cmp key ys
 rest_value {K} {V} {cmp} t first x y xs ys key Equal e left right same =
-    no_value t key xs (All-from (λ next. cmp first next.0 ≡ Less) (λ next. cmp key next.0 ≡ Less) xs (λ next l. sym (t.congr first key next.0 e) ∙ l) left)
-    ∙ sym (no_value t key ys (All-from (λ next. cmp first next.0 ≡ Less) (λ next. cmp key next.0 ≡ Less) ys (λ next l. sym (t.congr first key next.0 e) ∙ l) right))
+    no_value t key xs (All-weaker (λ next. cmp first next.0 ≡ Less) (λ next. cmp key next.0 ≡ Less) xs (λ next l. sym (t.congr first key next.0 e) ∙ l) left)
+    ∙ sym (no_value t key ys (All-weaker (λ next. cmp first next.0 ≡ Less) (λ next. cmp key next.0 ≡ Less) ys (λ next l. sym (t.congr first key next.0 e) ∙ l) right))
 rest_value {K} {V} {cmp} t first x y xs ys key Less e left right same =
     sym (ap (λ (r : Ordering). cond (is_eq r) (Some x) (value_of cmp key xs)) e) ∙ same ∙ ap (λ (r : Ordering). cond (is_eq r) (Some y) (value_of cmp key ys)) e
 rest_value {K} {V} {cmp} t first x y xs ys key Greater e left right same =
@@ -153,5 +143,5 @@ one_pairs {K} {V} {cmp} order ((k, v) ∷ xs) ((l, w) ∷ ys) left right same =
     let rest : ((key : K) → value_of cmp key xs ≡ value_of cmp key ys) → xs ≡ ys = λ values. one_pairs order xs ys left.1 right.1 values in
     by_order (cmp k l)
     (λ e. not_later order.total k v xs l w ys (same k) right.0 e)
-    (λ e. not_later order.total l w ys k v xs (sym (same l)) left.0 (order.total.antisymm l k ∙ ap ordering_reverse e))
+    (λ e. not_later order.total l w ys k v xs (sym (same l)) left.0 (flips order.total k l e))
     (λ e. same_lists order.total k l v w xs ys (order.exact k l e) left.0 right.0 same rest)

@@ -1,11 +1,21 @@
 -- The section of a file and a test is the one that is made from its sums and the checksums of its lines.
-use Rattle.std.proofs.Common.{◌≡◌, ℕ, if◌then◌else◌, Option, Some, None, List, [], ◌∷◌, map, refl, sym, ap, ◌∙◌}
+use Rattle.std.proofs.Common.{◌≡◌, ℕ, true, if◌then◌else◌, Option, Some, None, List, [], ◌∷◌, map, refl, sym, ap, ◌∙◌, ⊎_elim}
 use Rattle.std.specs.Option.{is_some}
+use Rattle.std.specs.Ordering.{nat_cmp}
+use Rattle.std.proofs.lemmas.Option.{same_Some, none-some}
+use Rattle.covline.specs.Points.{line_point, line_points}
 use Rattle.covline.specs.Row.{ItemData}
+use Rattle.covstore.specs.declared.sums.LineSum.{LineSum}
 use Rattle.covstore.specs.Content.{FunctionValueData, BranchValueData, LineValueData, SectionData, function_at, branch_at, line_at, section_with}
 use Rattle.covstore.specs.Sums.{test_of, line_sum, function_sum, branch_sum}
 use Rattle.covstore.specs.SumsSection.{AreChecksums, branch_printed, function_printed, line_printed, section_from}
-use Rattle.covstore.specs.Value.{Key, branches_in, line_checksum, line_value, lines_in, names_in}
+use Rattle.covstore.specs.Puts.{value_of}
+use Rattle.covstore.specs.Value.{Key, branches_in, checksum_said, first_of, line_checksum, line_value, lines_in, names_in}
+use Rattle.covstore.proofs.ContentsLists.{In-or_not}
+use Rattle.covstore.proofs.ContentsPoints.{checksum_unsaid, nothing_said}
+use Rattle.covstore.proofs.Members.{In, Contains-from}
+use Rattle.covstore.proofs.Orders.{lines_order}
+use Rattle.covstore.proofs.SumsMembers.{line_known}
 
 each_printed : {P V W : Type 0} (own : P → W) (value : P → V) (printed : V → W) → ((p : P) → own p ≡ printed (value p)) → (ps : List P) → map own ps ≡ map printed (map value ps)
 each_printed own value printed one [] = refl
@@ -43,3 +53,22 @@ section_from_sums key items texts are =
     ap (λ (fs : List FunctionValueData). section_parts key fs (section_with key items).branches (section_with key items).lines) (section_functions key items)
     ∙ ap (λ (bs : List BranchValueData). section_parts key (map function_printed (test_of items).functions) bs (section_with key items).lines) (section_branches key items)
     ∙ ap (λ (ls : List LineValueData). section_parts key (map function_printed (test_of items).functions) (map branch_printed (test_of items).branches) ls) (section_lines key items texts are)
+
+-- ---- the checksums, told by the sums
+
+-- a line of which an item has a checksum is one of which items speak
+checksum_spoken : (items : List ItemData) (line : ℕ) (checksum : List ℕ) → line_checksum line items ≡ Some checksum → In line (line_points items)
+checksum_spoken items line checksum e =
+    ⊎_elim {C = In line (line_points items)}
+    (λ (i : In line (line_points items)). i)
+    (λ (none : In line (line_points items) → ⊥).
+    absurd (none-some checksum (sym (ap first_of (nothing_said line_point (checksum_said line) line (checksum_unsaid line) items none)) ∙ e)))
+    (In-or_not nat_cmp lines_order line (line_points items))
+
+-- it is enough to have the checksum of each line whose sum has one
+pub checksums_from_sums : (items : List ItemData) (texts : ℕ → List ℕ)
+    → ((line : ℕ) (held : LineSum) → value_of nat_cmp line (test_of items).lines ≡ Some held → held.has_checksum ≡ true → line_checksum line items ≡ Some (texts line)) → AreChecksums items texts
+checksums_from_sums items texts are line checksum e =
+    let known = line_known items line (Contains-from (line_points items) line (checksum_spoken items line checksum e)) in
+    let found = are line (line_sum items line).1 known (ap (λ (o : Option (List ℕ)). is_some o) e) in
+    same_Some (texts line) checksum (sym found ∙ e)

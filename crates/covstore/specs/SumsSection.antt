@@ -1,5 +1,5 @@
 -- The section of a file and a test, from what its items add up to and the checksums of its lines.
-use Rattle.std.specs.Prelude.{◌≡◌, ℕ, if◌then◌else◌, Option, Some, None, List, map}
+use Rattle.std.specs.Prelude.{◌≡◌, ℕ, if◌then◌else◌, Some, None, List, map}
 use Rattle.covline.specs.Points.{BranchPoint}
 use Rattle.covline.specs.Row.{ItemData}
 use Rattle.covstore.specs.declared.sums.LineSum.{LineSum}
