@@ -20,7 +20,7 @@ use Rattle.covstore.proofs.SumsLast.{last_added, last_said, none_added, none_sai
 abbrev pub line_held : List ItemData → ℕ → LineSum
 line_held items line = (line_sum items line).1
 
-pub line_of : ℕ → Bool → LineSum
+line_of : ℕ → Bool → LineSum
 line_of count has_checksum = record { count = count; has_checksum = has_checksum }
 
 -- two sums of the same parts are the same
