@@ -43,7 +43,7 @@ items_fit key held h =
 
 -- ---- their numbers
 
-All-joined : {X : Type 0} (P : X → Type 0) (xs ys : List X) → AllByRecursion P xs → AllByRecursion P ys → AllByRecursion P (xs ++ ys)
+pub All-joined : {X : Type 0} (P : X → Type 0) (xs ys : List X) → AllByRecursion P xs → AllByRecursion P ys → AllByRecursion P (xs ++ ys)
 All-joined P [] ys left right = right
 All-joined P (x ∷ xs) ys left right = (left.0, All-joined P xs ys left.1 right)
 
@@ -96,21 +96,21 @@ abbrev pub sum_of : List ℕ → ℕ
 sum_of numbers = sum_by (λ n. n) numbers
 
 -- the numbers of a branch, item by item
-sum_said : (point : BranchPoint) → ItemData → ℕ
+pub sum_said : (point : BranchPoint) → ItemData → ℕ
 sum_said point item = sum_of (taken_said point item)
 
 few_said : (own : Bool) (n : ℕ) → n < 2 ^ 64 → sum_of (if own then n ∷ [] else []) < 2 ^ 64
 few_said true n few = omega arith
 few_said false n few = omega arith
 
-sum_said_fits : (point : BranchPoint) → AddsFew (sum_said point)
+pub sum_said_fits : (point : BranchPoint) → AddsFew (sum_said point)
 unfolding sum_said
 sum_said_fits point (BranchItem line block branch None) fit = omega arith
 sum_said_fits point (BranchItem line block branch (Some taken)) fit = few_said (is_branch point line block branch) taken fit.3
 sum_said_fits point (LineItem line count checksum) fit = omega arith
 sum_said_fits point (FuncItem name line count) fit = omega arith
 
-sum_joined : (point : BranchPoint) (items : List ItemData) → sum_of (flat_map (taken_said point) items) ≡ sum_by (sum_said point) items
+pub sum_joined : (point : BranchPoint) (items : List ItemData) → sum_of (flat_map (taken_said point) items) ≡ sum_by (sum_said point) items
 unfolding sum_said
 sum_joined point [] = refl
 sum_joined point (item ∷ items) =

@@ -23,3 +23,13 @@ pub mod ContentsPoints
 pub mod ContentsSections
 pub mod ContentsChecksums
 pub mod Contents
+pub mod SumsPuts
+pub mod SumsKinds
+pub mod SumsLast
+pub mod SumsLines
+pub mod SumsFunctions
+pub mod SumsBranches
+pub mod SumsMore
+pub mod SumsMembers
+pub mod SumsBounds
+pub mod SumsSections

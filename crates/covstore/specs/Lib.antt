@@ -17,6 +17,7 @@ pub mod Puts
 pub mod PointsData
 pub mod KeyOrders
 pub mod Sums
+pub mod SumsSection
 pub mod Counts
 pub mod State
 pub mod TestView

@@ -3,6 +3,7 @@ use Rattle.std.specs.Prelude.{ℕ, ◌+◌, ◌^◌, ◌<◌, min, Bool, ◌||�
 use Rattle.std.specs.Cmp.Lexicographic.{slice_cmp}
 use Rattle.std.specs.Option.{is_some}
 use Rattle.std.specs.Ordering.{nat_cmp}
+use Rattle.covline.specs.Lawful.{Fits64}
 use Rattle.covline.specs.Points.{BranchPoint}
 use Rattle.covline.specs.Row.{ItemData, LineItem, FuncItem, BranchItem}
 use Rattle.covstore.specs.declared.sums.LineSum.{LineSum}
@@ -33,6 +34,10 @@ test_of items = record {
   functions = map (function_sum items) (names_in items);
   branches = map (branch_sum items) (branches_in items);
 }
+
+-- every number of the item is one of 64 bits
+abbrev pub SmallItem : ItemData → Type 0
+SmallItem item = Fits64 item
 
 -- ---- one item more
 
