@@ -17,6 +17,7 @@ pub mod TotalsDifferent
 pub mod TotalsFiles
 pub mod Looks
 pub mod Clashes
+pub mod Puts
 pub mod ContentsLists
 pub mod ContentsKinds
 pub mod ContentsPoints
