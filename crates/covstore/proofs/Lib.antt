@@ -18,6 +18,8 @@ pub mod TotalsFiles
 pub mod Looks
 pub mod Clashes
 pub mod Puts
+pub mod Counts
+pub mod CountsPut
 pub mod ContentsLists
 pub mod ContentsKinds
 pub mod ContentsPoints
