@@ -20,6 +20,8 @@ pub mod Clashes
 pub mod Puts
 pub mod Counts
 pub mod CountsPut
+pub mod CountsTotals
+pub mod CountsMapped
 pub mod ContentsLists
 pub mod ContentsKinds
 pub mod ContentsPoints
