@@ -10,7 +10,7 @@ use Rattle.covstore.specs.Counts.{AreCounts, count_above, count_with, is_above_a
 use Rattle.covstore.specs.Puts.{value_of}
 use Rattle.covstore.proofs.Counts.{same_tests}
 
-count_by-map : {X Y : Type 0} (p : X → Bool) (q : Y → Bool) (f : X → Y) → ((x : X) → q (f x) ≡ p x) → (xs : List X) → count_by q (map f xs) ≡ count_by p xs
+pub count_by-map : {X Y : Type 0} (p : X → Bool) (q : Y → Bool) (f : X → Y) → ((x : X) → q (f x) ≡ p x) → (xs : List X) → count_by q (map f xs) ≡ count_by p xs
 count_by-map p q f same [] = refl
 count_by-map p q f same (x ∷ xs) =
     let first : cond {A = ℕ} (q (f x)) 1 0 ≡ cond {A = ℕ} (p x) 1 0 = ap (λ (b : Bool). cond {A = ℕ} b 1 0) (same x) in

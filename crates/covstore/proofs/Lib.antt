@@ -22,6 +22,7 @@ pub mod Counts
 pub mod CountsPut
 pub mod CountsTotals
 pub mod CountsMapped
+pub mod CountsFound
 pub mod ContentsLists
 pub mod ContentsKinds
 pub mod ContentsPoints
