@@ -23,6 +23,7 @@ pub mod CountsPut
 pub mod CountsTotals
 pub mod CountsMapped
 pub mod CountsFound
+pub mod CountsKinds
 pub mod ContentsLists
 pub mod ContentsKinds
 pub mod ContentsPoints
