@@ -2,7 +2,7 @@
 use Rattle.std.proofs.Common.{◌≡◌, ℕ, Bool, true, false, ◌&&◌, ◌||◌, cond, nat_lt, Option, Some, None, List, [], ◌∷◌, ◌++◌, length, map, refl, sym, ap, ◌∙◌, subst, inl, inr, arith}
 use Rattle.std.specs.declared.cmp.Ordering.{Ordering}
 use Rattle.std.specs.declared.cmp.Ordering.TheVariants.{Less, Equal, Greater}
-use Rattle.std.specs.List.{AllByRecursion, count_by, flat_map, list_any, sum_by}
+use Rattle.std.specs.List.{AllByRecursion, count_by, flat_map, list_any}
 use Rattle.std.specs.List.Sorted.{IsStrictlySortedBy}
 use Rattle.std.specs.Option.{is_some}
 use Rattle.std.specs.Ordering.{is_eq}
@@ -14,7 +14,7 @@ use Rattle.covstore.specs.declared.sums.Tests.{Tests}
 use Rattle.covstore.specs.Ascending.{ascending}
 use Rattle.covstore.specs.Counts.{AreCounts, count_above, count_with, found_of, hit_of, is_above_at}
 use Rattle.covstore.specs.Puts.{ArePairs, value_of}
-use Rattle.covstore.proofs.Ascend.{IsExactOrder, All-weaker, In-ascending, In-to_ascending, ascending_sorted, one_sorted}
+use Rattle.covstore.proofs.Ascend.{IsExactOrder, In-ascending, In-to_ascending, ascending_sorted, one_sorted}
 use Rattle.covstore.proofs.CountsMapped.{count_by-map}
 use Rattle.covstore.proofs.Members.{In, In-map, In-unmap}
 use Rattle.covstore.proofs.Puts.{pair_in, some_in, value_of_before, value_of_pair}

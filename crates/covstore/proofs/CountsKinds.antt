@@ -1,5 +1,5 @@
 -- For each kind of points, the numbers kept for a file give what is found and hit in its sections.
-use Rattle.std.proofs.Common.{◌≡◌, ℕ, Bool, true, false, ◌==◌, ◌&&◌, nat_lt, List, [], ◌∷◌, length, map, filter, cond, refl, sym, ap, ◌∙◌, subst}
+use Rattle.std.proofs.Common.{◌≡◌, ℕ, Bool, true, false, ◌==◌, ◌&&◌, nat_lt, List, [], ◌∷◌, length, map, filter, cond, refl, sym, ap, subst}
 use Rattle.std.specs.declared.cmp.Ordering.{Ordering}
 use Rattle.std.specs.declared.cmp.Ordering.TheVariants.{Less}
 use Rattle.std.specs.Cmp.Lexicographic.{slice_cmp}
@@ -50,31 +50,34 @@ module _ (own : List SectionData) where
       → (length (lines_found own) ≡ found_of counts) × (count_by (is_line_hit own) (lines_found own) ≡ hit_of counts)
   lines_counted counts sorted are =
       let at = λ (l : LineValueData). l.line in
-      let above = λ (l : LineValueData). nat_lt 0 l.count in
-      (section_points_found lines_order (λ (s : SectionData). s.lines) at above own counts are,
+      let above = λ (l : LineValueData). nat_lt 0 l.count in (
+        section_points_found lines_order (λ (s : SectionData). s.lines) at above own counts are,
         section_points_hit lines_order (λ (s : SectionData). s.lines) at above own counts are (λ line l. l.line == line && nat_lt 0 l.count)
-        (λ line l. ap (λ (b : Bool). b && nat_lt 0 l.count) (same_test lines_order (λ x y. x == y) eqb-true (λ x. eq-eqb x x refl) l.line line)) sorted)
+            (λ line l. ap (λ (b : Bool). b && nat_lt 0 l.count) (same_test lines_order (λ x y. x == y) eqb-true (λ x. eq-eqb x x refl) l.line line)) sorted,
+      )
 
   pub functions_counted : (counts : List (List ℕ × Tests)) → AllByRecursion (λ s. ArePairs (slice_cmp nat_cmp) (functions_of s)) own
       → AreCounts (slice_cmp nat_cmp) (λ f. nat_lt 0 f.count) (map functions_of own) counts
       → (length (functions_found own) ≡ found_of counts) × (count_by (is_function_hit own) (functions_found own) ≡ hit_of counts)
   functions_counted counts sorted are =
       let at = λ (f : FunctionValueData). f.name in
-      let above = λ (f : FunctionValueData). nat_lt 0 f.count in
-      (section_points_found names_order (λ (s : SectionData). s.functions) at above own counts are,
+      let above = λ (f : FunctionValueData). nat_lt 0 f.count in (
+        section_points_found names_order (λ (s : SectionData). s.functions) at above own counts are,
         section_points_hit names_order (λ (s : SectionData). s.functions) at above own counts are (λ name f. bytes_eq f.name name && nat_lt 0 f.count)
-        (λ name f. ap (λ (b : Bool). b && nat_lt 0 f.count)
-        (same_test names_order bytes_eq (λ x y. (bytes_eq-Decides x y).0) (λ x. (bytes_eq-Decides x x).1 refl) f.name name)) sorted)
+            (λ name f. ap (λ (b : Bool). b && nat_lt 0 f.count)
+            (same_test names_order bytes_eq (λ x y. (bytes_eq-Decides x y).0) (λ x. (bytes_eq-Decides x x).1 refl) f.name name)) sorted,
+      )
 
   pub branches_counted : (counts : List (BranchPoint × Tests)) → AllByRecursion (λ s. ArePairs branch_cmp (branches_of s)) own → AreCounts branch_cmp (λ b. is_taken b.taken) (map branches_of own) counts
       → (length (branches_found own) ≡ found_of counts) × (count_by (is_branch_hit own) (branches_found own) ≡ hit_of counts)
   branches_counted counts sorted are =
       let at = λ (b : BranchValueData). b.point in
-      let above = λ (b : BranchValueData). is_taken b.taken in
-      (section_points_found branches_order (λ (s : SectionData). s.branches) at above own counts are,
+      let above = λ (b : BranchValueData). is_taken b.taken in (
+        section_points_found branches_order (λ (s : SectionData). s.branches) at above own counts are,
         section_points_hit branches_order (λ (s : SectionData). s.branches) at above own counts are (λ point b. is_branch point b.point.line b.point.block b.point.branch && is_taken b.taken)
-        (λ point b. ap (λ (equal : Bool). equal && is_taken b.taken)
-        (same_test branches_order (λ x y. is_branch y x.line x.block x.branch) (λ x y h. same_branch y x.line x.block x.branch h) itself b.point point)) sorted)
+            (λ point b. ap (λ (equal : Bool). equal && is_taken b.taken)
+            (same_test branches_order (λ x y. is_branch y x.line x.block x.branch) (λ x y h. same_branch y x.line x.block x.branch h) itself b.point point)) sorted,
+      )
 
 -- ---- the sections of a content are ascending
 

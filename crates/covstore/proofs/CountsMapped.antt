@@ -1,12 +1,12 @@
 -- Values of another type keep the numbers, where they are above 0 in the same places.
-use Rattle.std.proofs.Common.{◌≡◌, ℕ, Bool, true, false, cond, Option, Some, None, List, [], ◌∷◌, map, refl, sym, ap, ◌∙◌, arith}
+use Rattle.std.proofs.Common.{◌≡◌, ℕ, Bool, true, false, cond, Option, Some, List, [], ◌∷◌, map, refl, sym, ap, ◌∙◌, arith}
 use Rattle.std.specs.declared.cmp.Ordering.{Ordering}
-use Rattle.std.specs.List.{count_by, sum_by}
+use Rattle.std.specs.List.{count_by}
 use Rattle.std.specs.Option.{is_some}
 use Rattle.std.specs.Ordering.{is_eq}
 use Rattle.std.proofs.lemmas.List.Sums.{sum_by-cons}
 use Rattle.covstore.specs.declared.sums.Tests.{Tests}
-use Rattle.covstore.specs.Counts.{AreCounts, count_above, count_with, is_above_at, tests_at}
+use Rattle.covstore.specs.Counts.{AreCounts, is_above_at, tests_at}
 use Rattle.covstore.specs.Puts.{value_of}
 use Rattle.covstore.proofs.Counts.{same_tests}
 

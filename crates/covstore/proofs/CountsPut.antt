@@ -1,5 +1,5 @@
 -- A value put into one test: the numbers that are kept then are those of the tests.
-use Rattle.std.proofs.Common.{◌≡◌, ℕ, ◌+◌, ◌<◌, ◌≤◌, Bool, true, false, ◌&&◌, not, cond, if◌then◌else◌, nat_lt, Option, Some, None, List, [], ◌∷◌, ◌++◌, refl, sym, ap, ◌∙◌, subst, ⊎_elim, arith}
+use Rattle.std.proofs.Common.{◌≡◌, ℕ, ◌+◌, ◌<◌, ◌≤◌, Bool, true, false, ◌&&◌, not, if◌then◌else◌, nat_lt, Option, Some, None, List, ◌∷◌, ◌++◌, refl, sym, ap, ◌∙◌, subst, ⊎_elim, arith}
 use Rattle.std.specs.declared.cmp.Ordering.{Ordering}
 use Rattle.std.specs.Ordering.{is_eq}
 use Rattle.std.proofs.lemmas.Bool.{cases_Bool, cond-true, false≢true, lt-ltb, ltb-false}
@@ -12,9 +12,6 @@ use Rattle.covstore.proofs.Counts.{above_le_with, same_tests, tests_among, tests
 use Rattle.covstore.proofs.Puts.{ArePairs-put, value_of-put, value_of-put_apart}
 
 -- ---- the numbers of the point itself
-
-pair_of : ℕ → ℕ → Tests
-pair_of tests hit = record { tests = tests; hit = hit }
 
 -- one test more has the point, or one more has it above 0
 more_at : (new newly : Bool) (tests hit : ℕ) (is : Bool) → nat_lt 0 tests ≡ is → hit ≤ tests → 0 < tests + one_if new
@@ -35,14 +32,14 @@ module _ {K V : Type 0} {cmp : K → K → Ordering} (o : IsExactOrder cmp) (is_
 
   apart_at : (new newly : Bool) (before : Option V) (other : K) → is_eq (cmp key other) ≡ false
       → value_of cmp other (if new then put cmp key (tests_more true (is_newly_hit is_above before value) (value_of cmp key counts)) counts else
-        if newly then put cmp key (tests_more false true (value_of cmp key counts)) counts else counts) ≡ value_of cmp other counts
+      if newly then put cmp key (tests_more false true (value_of cmp key counts)) counts else counts) ≡ value_of cmp other counts
   apart_at true newly before other e = value_of-put_apart o key other (tests_more true (is_newly_hit is_above before value) (value_of cmp key counts)) counts e
   apart_at false true before other e = value_of-put_apart o key other (tests_more false true (value_of cmp key counts)) counts e
   apart_at false false before other e = refl
 
   ascending_at : (new newly : Bool) (before : Option V) → ArePairs cmp counts
       → ArePairs cmp (if new then put cmp key (tests_more true (is_newly_hit is_above before value) (value_of cmp key counts)) counts else
-        if newly then put cmp key (tests_more false true (value_of cmp key counts)) counts else counts)
+      if newly then put cmp key (tests_more false true (value_of cmp key counts)) counts else counts)
   ascending_at true newly before sorted = ArePairs-put o key (tests_more true (is_newly_hit is_above before value) (value_of cmp key counts)) counts sorted
   ascending_at false true before sorted = ArePairs-put o key (tests_more false true (value_of cmp key counts)) counts sorted
   ascending_at false false before sorted = sorted

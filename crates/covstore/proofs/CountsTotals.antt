@@ -1,5 +1,5 @@
 -- How the totals of a file move where a value is put into one of its tests.
-use Rattle.std.proofs.Common.{◌≡◌, ℕ, ◌+◌, Bool, true, false, ◌&&◌, not, cond, if◌then◌else◌, nat_lt, Option, Some, None, List, ◌∷◌, ◌++◌, refl, sym, ap, ◌∙◌, arith}
+use Rattle.std.proofs.Common.{◌≡◌, ℕ, ◌+◌, Bool, true, false, ◌&&◌, not, if◌then◌else◌, nat_lt, Option, Some, None, List, ◌∷◌, ◌++◌, refl, ap, ◌∙◌, arith}
 use Rattle.std.specs.declared.cmp.Ordering.{Ordering}
 use Rattle.std.proofs.lemmas.Bool.{cond-true, lt-ltb, true≢false}
 use Rattle.covstore.specs.declared.sums.Tests.{Tests}

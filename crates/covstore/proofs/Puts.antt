@@ -22,6 +22,10 @@ abbrev pub at_before : {K V : Type 0} → (K × V → ℕ) → K → Option V �
 at_before f key None = 0
 at_before f key (Some value) = f (key, value)
 
+pub counted_one : (b : Bool) → cond {A = ℕ} b 1 0 ≡ one_if b
+counted_one true = refl
+counted_one false = refl
+
 same_pair : {K V : Type 0} {key other : K} {value held : V} → key ≡ other → value ≡ held → ◌≡◌ {A = K × V} (key, value) (other, held)
 same_pair keys values = λ i. (keys i, values i)
 
@@ -179,10 +183,6 @@ module _ {K V : Type 0} {cmp : K → K → Ordering} (o : IsExactOrder cmp) wher
       let sums = sum_by-put (λ pair. cond (p pair) 1 0) key value pairs sorted in
       omega (arith, sums, counted (value_of cmp key pairs), counted_one (p (key, value)))
     where
-      counted_one : (b : Bool) → cond {A = ℕ} b 1 0 ≡ one_if b
-      counted_one true = refl
-      counted_one false = refl
-
       counted : (before : Option V) → at_before (λ pair. cond (p pair) 1 0) key before ≡ one_if (is_above_at (λ held. p (key, held)) before)
       counted None = refl
       counted (Some held) = counted_one (p (key, held))
