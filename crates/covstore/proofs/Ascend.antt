@@ -111,7 +111,7 @@ not_head : {X : Type 0} {cmp : X → X → Ordering} → IsTotalOrder cmp → (x
 not_head {X} {cmp} t x z xs ys a i (inl e) = absurd (not_itself t x (subst (λ (w : X). cmp x w ≡ Less) (sym e) (All-in (λ z. cmp x z ≡ Less) xs z a i)))
 not_head t x z xs ys a i (inr h) = h
 
-one_sorted : {X : Type 0} {cmp : X → X → Ordering} → IsTotalOrder cmp → (xs ys : List X) → IsStrictlySortedBy cmp xs → IsStrictlySortedBy cmp ys → ((z : X) → In z xs → In z ys) → ((z : X) → In z ys → In z xs) → xs ≡ ys
+pub one_sorted : {X : Type 0} {cmp : X → X → Ordering} → IsTotalOrder cmp → (xs ys : List X) → IsStrictlySortedBy cmp xs → IsStrictlySortedBy cmp ys → ((z : X) → In z xs → In z ys) → ((z : X) → In z ys → In z xs) → xs ≡ ys
 unfolding IsStrictlySortedBy
 one_sorted t [] [] s r f g = refl
 one_sorted t [] (y ∷ ys) s r f g = absurd (g y (inl refl))

@@ -17,6 +17,13 @@ pub mod TotalsDifferent
 pub mod TotalsFiles
 pub mod Looks
 pub mod Clashes
+pub mod Puts
+pub mod Counts
+pub mod CountsPut
+pub mod CountsTotals
+pub mod CountsMapped
+pub mod CountsFound
+pub mod CountsKinds
 pub mod ContentsLists
 pub mod ContentsKinds
 pub mod ContentsPoints
