@@ -24,7 +24,7 @@ pub mod TestView
 pub mod Changes
 pub mod Checksums
 pub mod Marks
-pub mod CountsView
+pub mod MarksView
 pub mod Steps
 pub mod ClashView
 pub mod ChecksumView

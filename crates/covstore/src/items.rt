@@ -2,14 +2,14 @@
 
 ghost use Rattle.std.specs.Prelude.{◌≡◌, [], ◌∷◌, ◌++◌, List, option_map, IfErr, OnOk};
 ghost use Rattle.covline.specs.Row.{ItemData, LineItem, FuncItem, BranchItem, item_data};
-ghost use Rattle.covstore.specs.CountsView.{counts_coming, counts_held};
+ghost use Rattle.covstore.specs.MarksView.{marks_coming, marks_held};
 ghost use Rattle.covstore.specs.TestView.{test_coming, test_held};
 ghost use Rattle.covstore.specs.Sums.{TestData, with_item};
 ghost use Rattle.covstore.specs.Steps.{CanTake, HasRoom, IsClashOf, IsTextOf, KeepsCounts, KeepsTextsOf};
-ghost use Rattle.covstore.specs.CountsView.{KeepsHeld};
+ghost use Rattle.covstore.specs.MarksView.{KeepsHeld};
 ghost use Rattle.covstore.specs.declared.stop.Stop.TheVariants as stops;
 
-use crate::counts::Counts;
+use crate::marks::Marks;
 use crate::kept::Change;
 use crate::stop::Stop;
 use crate::sums::{FunctionSum, LineSum, Taken};
@@ -20,19 +20,19 @@ use std::alloc::Allocator;
 /// Takes an item into what is to come.
 pub(crate) fn add_item<A: Allocator + Copy>(
     test: &mut Test<A>,
-    counts: &mut Counts<A>,
+    marks: &mut Marks<A>,
     alloc: A,
     item: &Item<A>,
 ) -> Result<(), Stop<A>>
     requires fits { CanTake (item_data item.now) (test_coming test.old) }
-    requires room { HasRoom (test_coming test.old) (counts_coming counts.old) }
+    requires room { HasRoom (test_coming test.old) (marks_coming marks.old) }
     ensures test_held { test_held test.new ≡ test_held test.old }
-    ensures counts_held { KeepsHeld counts.old counts.new }
+    ensures marks_held { KeepsHeld marks.old marks.new }
     ensures test { OnOk result (test_coming test.new ≡ with_item (item_data item.now) (test_coming test.old)) }
-    ensures counts { OnOk result (KeepsCounts (test_coming test.old) (test_coming test.new) (counts_coming counts.old) (counts_coming counts.new)) }
-    ensures text { OnOk result (IsTextOf (item_data item.now) (counts_coming counts.new)) }
-    ensures others { KeepsTextsOf (counts_coming counts.old) (counts_coming counts.new) }
-    ensures clash { IfErr result (IsClashOf (item_data item.now) (counts_coming counts.old)) }
+    ensures counts { OnOk result (KeepsCounts (test_coming test.old) (test_coming test.new) (marks_coming marks.old) (marks_coming marks.new)) }
+    ensures text { OnOk result (IsTextOf (item_data item.now) (marks_coming marks.new)) }
+    ensures others { KeepsTextsOf (marks_coming marks.old) (marks_coming marks.new) }
+    ensures clash { IfErr result (IsClashOf (item_data item.now) (marks_coming marks.old)) }
 {
     match item {
         Item::Line {
@@ -44,10 +44,10 @@ pub(crate) fn add_item<A: Allocator + Copy>(
                 Some(text) => Some(text.get()),
                 None => None,
             };
-            add_line(test, counts, alloc, *line, *count, text)
+            add_line(test, marks, alloc, *line, *count, text)
         }
         Item::Func { name, line, count } => {
-            add_function(test, counts, alloc, name.get(), *line, *count)
+            add_function(test, marks, alloc, name.get(), *line, *count)
         }
         Item::Branch {
             line,
@@ -60,7 +60,7 @@ pub(crate) fn add_item<A: Allocator + Copy>(
                 block: *block,
                 branch: *branch,
             };
-            add_branch(test, counts, alloc, point, *taken)
+            add_branch(test, marks, alloc, point, *taken)
         }
     }
 }
@@ -68,31 +68,31 @@ pub(crate) fn add_item<A: Allocator + Copy>(
 /// Takes a line's item.
 fn add_line<A: Allocator + Copy>(
     test: &mut Test<A>,
-    counts: &mut Counts<A>,
+    marks: &mut Marks<A>,
     alloc: A,
     line: u64,
     count: u64,
     checksum: Option<&[u8]>,
 ) -> Result<(), Stop<A>>
     requires fits { CanTake (LineItem line count (option_map (λ c. c.now) checksum)) (test_coming test.old) }
-    requires room { HasRoom (test_coming test.old) (counts_coming counts.old) }
+    requires room { HasRoom (test_coming test.old) (marks_coming marks.old) }
     ensures test_held { test_held test.new ≡ test_held test.old }
-    ensures counts_held { KeepsHeld counts.old counts.new }
+    ensures marks_held { KeepsHeld marks.old marks.new }
     ensures test { OnOk result (test_coming test.new ≡ with_item (LineItem line count (option_map (λ c. c.now) checksum.entry)) (test_coming test.old)) }
-    ensures counts { OnOk result (KeepsCounts (test_coming test.old) (test_coming test.new) (counts_coming counts.old) (counts_coming counts.new)) }
-    ensures text { OnOk result (IsTextOf (LineItem line count (option_map (λ c. c.now) checksum.entry)) (counts_coming counts.new)) }
-    ensures others { KeepsTextsOf (counts_coming counts.old) (counts_coming counts.new) }
-    ensures clash { IfErr result (IsClashOf (LineItem line count (option_map (λ c. c.now) checksum.entry)) (counts_coming counts.old)) }
+    ensures counts { OnOk result (KeepsCounts (test_coming test.old) (test_coming test.new) (marks_coming marks.old) (marks_coming marks.new)) }
+    ensures text { OnOk result (IsTextOf (LineItem line count (option_map (λ c. c.now) checksum.entry)) (marks_coming marks.new)) }
+    ensures others { KeepsTextsOf (marks_coming marks.old) (marks_coming marks.new) }
+    ensures clash { IfErr result (IsClashOf (LineItem line count (option_map (λ c. c.now) checksum.entry)) (marks_coming marks.old)) }
 {
     let before = test.lines.coming_at(line);
     if let Some(text) = checksum {
         let is_held = before.is_some_and(|sum| sum.has_checksum);
-        counts.checksums.hold(alloc, line, text, is_held)?;
+        marks.checksums.hold(alloc, line, text, is_held)?;
     }
     let after = LineSum::with(before, count, checksum.is_some());
     let was_above = before.is_some_and(|sum| sum.count > 0);
     let change = Change::of(before.is_some(), was_above, after.count > 0);
-    counts.lines.add(alloc, line, change)?;
+    marks.lines.add(alloc, line, change)?;
     test.lines.put(alloc, line, after)?;
     Ok(())
 }
@@ -100,26 +100,26 @@ fn add_line<A: Allocator + Copy>(
 /// Takes a function's item.
 fn add_function<A: Allocator + Copy>(
     test: &mut Test<A>,
-    counts: &mut Counts<A>,
+    marks: &mut Marks<A>,
     alloc: A,
     name: &[u8],
     line: u64,
     count: u64,
 ) -> Result<(), Stop<A>>
     requires fits { CanTake (FuncItem name.now line count) (test_coming test.old) }
-    requires room { HasRoom (test_coming test.old) (counts_coming counts.old) }
+    requires room { HasRoom (test_coming test.old) (marks_coming marks.old) }
     ensures test_held { test_held test.new ≡ test_held test.old }
-    ensures counts_held { KeepsHeld counts.old counts.new }
+    ensures marks_held { KeepsHeld marks.old marks.new }
     ensures test { OnOk result (test_coming test.new ≡ with_item (FuncItem name.now line count) (test_coming test.old)) }
-    ensures counts { OnOk result (KeepsCounts (test_coming test.old) (test_coming test.new) (counts_coming counts.old) (counts_coming counts.new)) }
-    ensures others { KeepsTextsOf (counts_coming counts.old) (counts_coming counts.new) }
+    ensures counts { OnOk result (KeepsCounts (test_coming test.old) (test_coming test.new) (marks_coming marks.old) (marks_coming marks.new)) }
+    ensures others { KeepsTextsOf (marks_coming marks.old) (marks_coming marks.new) }
     ensures clash { IfErr result (λ stop. stop ≡ stops.Memory) }
 {
     let before = test.functions.coming_at(name);
     let after = FunctionSum::with(before, line, count);
     let was_above = before.is_some_and(|sum| sum.count > 0);
     let change = Change::of(before.is_some(), was_above, after.count > 0);
-    counts.functions.add(alloc, name, change)?;
+    marks.functions.add(alloc, name, change)?;
     test.functions.put(alloc, name, after)?;
     Ok(())
 }
@@ -127,25 +127,25 @@ fn add_function<A: Allocator + Copy>(
 /// Takes a branch's item.
 fn add_branch<A: Allocator + Copy>(
     test: &mut Test<A>,
-    counts: &mut Counts<A>,
+    marks: &mut Marks<A>,
     alloc: A,
     point: BranchPoint,
     taken: Option<u64>,
 ) -> Result<(), Stop<A>>
     requires fits { CanTake (BranchItem point.line point.block point.branch taken) (test_coming test.old) }
-    requires room { HasRoom (test_coming test.old) (counts_coming counts.old) }
+    requires room { HasRoom (test_coming test.old) (marks_coming marks.old) }
     ensures test_held { test_held test.new ≡ test_held test.old }
-    ensures counts_held { KeepsHeld counts.old counts.new }
+    ensures marks_held { KeepsHeld marks.old marks.new }
     ensures test { OnOk result (test_coming test.new ≡ with_item (BranchItem point.line point.block point.branch taken) (test_coming test.old)) }
-    ensures counts { OnOk result (KeepsCounts (test_coming test.old) (test_coming test.new) (counts_coming counts.old) (counts_coming counts.new)) }
-    ensures others { KeepsTextsOf (counts_coming counts.old) (counts_coming counts.new) }
+    ensures counts { OnOk result (KeepsCounts (test_coming test.old) (test_coming test.new) (marks_coming marks.old) (marks_coming marks.new)) }
+    ensures others { KeepsTextsOf (marks_coming marks.old) (marks_coming marks.new) }
     ensures clash { IfErr result (λ stop. stop ≡ stops.Memory) }
 {
     let before = test.branches.coming_at(point);
     let after = Taken::with(before, taken);
     let was_above = before.is_some_and(|sum| sum.is_above());
     let change = Change::of(before.is_some(), was_above, after.is_above());
-    counts.branches.add(alloc, point, change)?;
+    marks.branches.add(alloc, point, change)?;
     test.branches.put(alloc, point, after)?;
     Ok(())
 }

@@ -30,7 +30,7 @@ mod branches;
 mod checksums;
 mod clash;
 mod content;
-mod counts;
+
 mod file_rows;
 mod functions;
 mod items;
@@ -38,6 +38,7 @@ mod kept;
 mod keys;
 pub mod laws;
 mod lines;
+mod marks;
 mod next;
 mod plan;
 mod points;

@@ -1,14 +1,14 @@
 -- What is kept of a file beside its tests, of the code, seen as plain data: as it is, and as it is to be.
 use Rattle.std.specs.Prelude.{◌≡◌, []}
-use Rattle.covstore.specs.declared.counts.Counts.{Counts}
+use Rattle.covstore.specs.declared.marks.Marks.{Marks}
 use Rattle.covstore.specs.Marks.{MarksData}
 use Rattle.covstore.specs.TestView.{branches_data}
 
-abbrev pub no_counts : MarksData
-no_counts = record { lines = []; functions = []; branches = []; holders = []; texts = [] }
+abbrev pub no_marks : MarksData
+no_marks = record { lines = []; functions = []; branches = []; holders = []; texts = [] }
 
-abbrev pub counts_held : {A : Type 0} → Counts A → MarksData
-counts_held counts = record {
+abbrev pub marks_held : {A : Type 0} → Marks A → MarksData
+marks_held counts = record {
   lines = counts.lines.held;
   functions = counts.functions.held;
   branches = branches_data counts.branches.held;
@@ -16,8 +16,8 @@ counts_held counts = record {
   texts = counts.checksums.texts;
 }
 
-abbrev pub counts_coming : {A : Type 0} → Counts A → MarksData
-counts_coming counts = record {
+abbrev pub marks_coming : {A : Type 0} → Marks A → MarksData
+marks_coming counts = record {
   lines = counts.lines.coming;
   functions = counts.functions.coming;
   branches = branches_data counts.branches.coming;
@@ -26,7 +26,7 @@ counts_coming counts = record {
 }
 
 -- what is held stays, but that texts may come in of which none is held
-pub record KeepsHeld {A : Type 0} (before after : Counts A) : Type 0 where
+pub record KeepsHeld {A : Type 0} (before after : Marks A) : Type 0 where
   pub lines : after.lines.held ≡ before.lines.held
   pub functions : after.functions.held ≡ before.functions.held
   pub branches : after.branches.held ≡ before.branches.held

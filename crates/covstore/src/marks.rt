@@ -10,23 +10,23 @@ use std::alloc::Allocator;
 
 /// In how many tests of a file each of its points is, and the checksums of its lines.
 #[derive(Drop)]
-pub(crate) struct Counts<A: Allocator> {
+pub(crate) struct Marks<A: Allocator> {
     pub lines: Kept<u64, A>,
     pub functions: Kept<Bytes<A>, A>,
     pub branches: Kept<BranchPoint, A>,
     pub checksums: Checksums<A>,
 }
 
-impl<A: Allocator + Copy> Counts<A> {
-    ghost use Rattle.covstore.specs.CountsView.{counts_coming, counts_held, no_counts};
+impl<A: Allocator + Copy> Marks<A> {
+    ghost use Rattle.covstore.specs.MarksView.{marks_coming, marks_held, no_marks};
     ghost use Rattle.covstore.specs.Marks.{marks_totals};
 
     /// No tests, and no points.
-    pub(crate) fn new(alloc: A) -> Counts<A>
-        ensures held { counts_held result ≡ no_counts }
-        ensures coming { counts_coming result ≡ no_counts }
+    pub(crate) fn new(alloc: A) -> Marks<A>
+        ensures held { marks_held result ≡ no_marks }
+        ensures coming { marks_coming result ≡ no_marks }
     {
-        Counts {
+        Marks {
             lines: Kept::new(alloc),
             functions: Kept::new(alloc),
             branches: Kept::new(alloc),
@@ -36,8 +36,8 @@ impl<A: Allocator + Copy> Counts<A> {
 
     /// What was to come is there.
     pub(crate) fn take(&mut self)
-        ensures held { counts_held self.new ≡ counts_coming self.old }
-        ensures coming { counts_coming self.new ≡ counts_coming self.old }
+        ensures held { marks_held self.new ≡ marks_coming self.old }
+        ensures coming { marks_coming self.new ≡ marks_coming self.old }
     {
         self.lines.take();
         self.functions.take();
@@ -47,8 +47,8 @@ impl<A: Allocator + Copy> Counts<A> {
 
     /// Nothing is to come.
     pub(crate) fn forget(&mut self)
-        ensures held { counts_held self.new ≡ counts_held self.old }
-        ensures coming { counts_coming self.new ≡ counts_held self.old }
+        ensures held { marks_held self.new ≡ marks_held self.old }
+        ensures coming { marks_coming self.new ≡ marks_held self.old }
     {
         self.lines.forget();
         self.functions.forget();
@@ -58,7 +58,7 @@ impl<A: Allocator + Copy> Counts<A> {
 
     /// The file's totals as they are to be.
     pub(crate) fn totals(&self) -> Totals
-        ensures { result ≡ marks_totals (counts_coming self.now) }
+        ensures { result ≡ marks_totals (marks_coming self.now) }
     {
         let lines = self.lines.coming();
         let functions = self.functions.coming();
