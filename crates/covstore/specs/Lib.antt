@@ -26,5 +26,6 @@ pub mod Checksums
 pub mod Marks
 pub mod MarksView
 pub mod Steps
+pub mod Adds
 pub mod ClashView
 pub mod ChecksumView
