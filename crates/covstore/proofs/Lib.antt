@@ -17,9 +17,13 @@ pub mod TotalsDifferent
 pub mod TotalsFiles
 pub mod Looks
 pub mod Clashes
+pub mod Puts
+pub mod Counts
 pub mod ContentsLists
 pub mod ContentsKinds
 pub mod ContentsPoints
 pub mod ContentsSections
 pub mod ContentsChecksums
 pub mod Contents
+pub mod StateSeen
+pub mod StateOrder

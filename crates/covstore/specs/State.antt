@@ -18,9 +18,6 @@ use Rattle.covstore.specs.Puts.{ArePairs, value_of}
 use Rattle.covstore.specs.Sums.{TestData, test_of}
 use Rattle.covstore.specs.Value.{Key, branch_cmp, items_at, is_taken}
 
-abbrev pub name_cmp : List ℕ → List ℕ → _
-name_cmp = slice_cmp nat_cmp
-
 -- ---- one file
 
 -- what is kept for a file: its tests; for each point of a kind in how many tests it is; for each line with a checksum how many
@@ -89,15 +86,24 @@ function_seen pair = record { line = pair.1.line; name = pair.0; count = pair.1.
 abbrev pub branch_seen : BranchPoint × Taken → BranchValueData
 branch_seen pair = record { point = pair.0; taken = pair.1.times }
 
--- the section of a test, and none where it has no points
-abbrev pub section_seen : List ℕ → List (ℕ × List ℕ) → List ℕ → TestData → List SectionData
-section_seen file texts test (record { lines = []; functions = []; branches = [] }) = []
-section_seen file texts test points = record {
+-- the section of a test's points, and none where there are no points
+abbrev pub section_with_points : List ℕ → List (ℕ × List ℕ) → List ℕ → TestData → SectionData
+section_with_points file texts test points = record {
   key = record { file = file; test = test };
   functions = map function_seen points.functions;
   branches = map branch_seen points.branches;
   lines = map (line_seen texts) points.lines;
-} ∷ []
+}
+
+abbrev pub has_none : {X : Type 0} → List X → Bool
+has_none [] = true
+has_none (x ∷ xs) = false
+
+abbrev pub has_no_points : TestData → Bool
+has_no_points points = has_none points.lines && has_none points.functions && has_none points.branches
+
+abbrev pub section_seen : List ℕ → List (ℕ × List ℕ) → List ℕ → TestData → List SectionData
+section_seen file texts test points = if has_no_points points then [] else section_with_points file texts test points ∷ []
 
 abbrev pub sections_of_file : List ℕ × FileData → List SectionData
 sections_of_file pair = flat_map (λ test. section_seen pair.0 pair.1.texts test.0 test.1) pair.1.tests
@@ -118,13 +124,13 @@ totals_in files = record {
 }
 
 -- the points of a file and a test, and none where one of the two isn't there
+abbrev pub points_or_none : Option TestData → TestData
+points_or_none None = test_of []
+points_or_none (Some points) = points
+
 abbrev pub points_in : Option FileData → List ℕ → TestData
 points_in None test = test_of []
-points_in (Some file) test = points_of (value_of (slice_cmp nat_cmp) test file.tests)
-  where
-    abbrev points_of : Option TestData → TestData
-    points_of None = test_of []
-    points_of (Some points) = points
+points_in (Some file) test = points_or_none (value_of (slice_cmp nat_cmp) test file.tests)
 
 abbrev pub points_at : Key → List (List ℕ × FileData) → TestData
 points_at key files = points_in (value_of (slice_cmp nat_cmp) key.file files) key.test
