@@ -62,7 +62,7 @@ said_among rows key line said i =
     subst (λ (k : Key). In (checksum_with k.file line said) (checksums_in rows)) (own_key key row.0 own.1)
     (In-flat checksum_of_row rows row.0 (checksum_with row.0.file line said) own.0 here)
 
-own_row : (row : Row) → has_key (key_of_row row) row ≡ true
+pub own_row : (row : Row) → has_key (key_of_row row) row ≡ true
 own_row row =
     ap (λ (b : Bool). b && bytes_eq row.test row.test) ((bytes_eq-Decides row.file row.file).1 refl) ∙ (bytes_eq-Decides row.test row.test).1 refl
 

@@ -27,3 +27,4 @@ pub mod ContentsChecksums
 pub mod Contents
 pub mod StateSeen
 pub mod StateOrder
+pub mod StateSections

@@ -77,7 +77,7 @@ seen_key file texts test points section i =
 
 -- ---- items have points
 
-pub some_points : (items : List ItemData) (item : ItemData) (others : List ItemData) → items ≡ item ∷ others → HasNone (test_of items) → ⊥
+some_points : (items : List ItemData) (item : ItemData) (others : List ItemData) → items ≡ item ∷ others → HasNone (test_of items) → ⊥
 some_points items (LineItem line count checksum) others e none =
     let first : In line (line_points items) = subst (λ (all : List ItemData). In line (line_points all)) (sym e) (inl refl) in
     not_empty (line_sum items line) (test_of items).lines (In-map (line_sum items) (lines_in items) line (In-to_ascending lines_order.exact line (line_points items) first)) none.lines
@@ -88,6 +88,10 @@ some_points items (BranchItem line block branch taken) others e none =
     let point : BranchPoint = record { line = line; block = block; branch = branch } in
     let first : In point (branch_points items) = subst (λ (all : List ItemData). In point (branch_points all)) (sym e) (inl refl) in
     not_empty (branch_sum items point) (test_of items).branches (In-map (branch_sum items) (branches_in items) point (In-to_ascending branches_order.exact point (branch_points items) first)) none.branches
+
+pub some_points_of : (items : List ItemData) (item : ItemData) → In item items → HasNone (test_of items) → ⊥
+some_points_of [] item i none = i
+some_points_of (first ∷ others) item i none = some_points (first ∷ others) first others refl none
 
 -- ---- the values of the points
 
