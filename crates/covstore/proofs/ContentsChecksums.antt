@@ -37,7 +37,7 @@ said_of_line file line said (FuncItem name start count) i = absurd i
 said_of_line file line said (BranchItem at block branch taken) i = absurd i
 
 -- and the other way
-line_of_said : (file : List ℕ) (c : Checksum) (item : ItemData) → In c (checksum_of file item) → (file ≡ c.file) × In c.checksum (checksum_said c.line item)
+pub line_of_said : (file : List ℕ) (c : Checksum) (item : ItemData) → In c (checksum_of file item) → (file ≡ c.file) × In c.checksum (checksum_said c.line item)
 line_of_said file c (LineItem at count (Some checksum)) (inl is) = (
   ap (λ (d : Checksum). d.file) is,
   subst (In c.checksum) (sym (cond-true (eqb at c.line) (checksum ∷ []) [] (eq-eqb at c.line (ap (λ (d : Checksum). d.line) is)))) (inl (ap (λ (d : Checksum). d.checksum) is)),

@@ -24,7 +24,7 @@ items_at-append key xs ys = ap (map (λ (row : Row). row.item)) (filter-append (
 key_with : List ℕ → List ℕ → Key
 key_with file test = record { file = file; test = test }
 
-both : (x y : Bool) → (x && y) ≡ true → (x ≡ true) × (y ≡ true)
+pub both : (x y : Bool) → (x && y) ≡ true → (x ≡ true) × (y ≡ true)
 both true true e = (refl, refl)
 both true false e = absurd (false≢true e)
 both false y e = absurd (false≢true e)

@@ -28,3 +28,4 @@ pub mod Contents
 pub mod StateSeen
 pub mod StateOrder
 pub mod StateSections
+pub mod StateRows

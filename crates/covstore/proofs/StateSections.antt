@@ -31,6 +31,14 @@ points_there file test points e = rw e refl
 pub points_none : (file : FileData) (test : List ℕ) → value_of (slice_cmp nat_cmp) test file.tests ≡ None → points_in (Some file) test ≡ test_of []
 points_none file test e = rw e refl
 
+-- only the value of a test decides
+pub points_same : (file other : FileData) (test : List ℕ) → value_of (slice_cmp nat_cmp) test file.tests ≡ value_of (slice_cmp nat_cmp) test other.tests → points_in (Some file) test ≡ points_in (Some other) test
+points_same file other test e = by (value_of (slice_cmp nat_cmp) test other.tests) refl
+  where
+    by : (kept : Option TestData) → value_of (slice_cmp nat_cmp) test other.tests ≡ kept → points_in (Some file) test ≡ points_in (Some other) test
+    by None none = points_none file test (e ∙ none) ∙ sym (points_none other test none)
+    by (Some points) there = points_there file test points (e ∙ there) ∙ sym (points_there other test points there)
+
 -- the file's texts have the checksums of the items of its tests
 module _ (rows : List Row) (files : List (List ℕ × FileData)) (state : IsStateOf rows files) where
   pub file_has_checksums : (key : Key) (file : FileData) → value_of (slice_cmp nat_cmp) key.file files ≡ Some file → HasChecksums file.texts (items_at key rows)
