@@ -40,3 +40,7 @@ pub mod SumsMore
 pub mod SumsMembers
 pub mod SumsBounds
 pub mod SumsSections
+pub mod StateSeen
+pub mod StateOrder
+pub mod StateSections
+pub mod StateRows
