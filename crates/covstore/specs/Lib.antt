@@ -27,5 +27,10 @@ pub mod Marks
 pub mod MarksView
 pub mod Steps
 pub mod Adds
+pub mod FileView
+pub mod FileAdds
+pub mod Maps
+pub mod MapsView
+pub mod Exchanged
 pub mod ClashView
 pub mod ChecksumView

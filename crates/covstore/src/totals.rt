@@ -15,6 +15,7 @@ ghost use Rattle.covstore.specs.Next.{IsNext};
 ghost use Rattle.covstore.specs.Table.{all_rows};
 ghost use Rattle.covstore.specs.Totals.{AreTotals, totals_of};
 ghost use Rattle.covstore.specs.TotalsSteps.{file_point};
+ghost use Rattle.covstore.specs.Exchanged.{FitTogether, IsAmong, exchanged};
 
 use crate::next::next_of;
 use crate::rows::Sects;
@@ -37,6 +38,24 @@ pub struct Totals {
     pub bf: u64,
     /// Branches hit.
     pub bh: u64,
+}
+
+impl Totals {
+    /// These totals where what counted as `before` counts as `after`.
+    pub(crate) fn exchanged(self, before: Totals, after: Totals) -> Totals
+        requires part { IsAmong before self }
+        requires fits { FitTogether after self }
+        ensures { result ≡ exchanged self before after }
+    {
+        Totals {
+            lf: self.lf - before.lf + after.lf,
+            lh: self.lh - before.lh + after.lh,
+            ff: self.ff - before.ff + after.ff,
+            fh: self.fh - before.fh + after.fh,
+            bf: self.bf - before.bf + after.bf,
+            bh: self.bh - before.bh + after.bh,
+        }
+    }
 }
 
 /// The totals of these submissions, found by passing over their rows. Takes no memory.

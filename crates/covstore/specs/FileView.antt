@@ -1,0 +1,36 @@
+-- A file of the code, seen as plain data: as it is, and as it is to be.
+use Rattle.std.specs.Prelude.{◌≡◌, ℕ, Bool, true, false, if◌then◌else◌, Option, Some, None, List, [], map}
+use Rattle.std.specs.Cmp.Lexicographic.{slice_cmp}
+use Rattle.std.specs.Option.{is_some}
+use Rattle.std.specs.Ordering.{nat_cmp}
+use Rattle.covstore.specs.declared.file.File.{File}
+use Rattle.covstore.specs.Marks.{MarksData, file_with}
+use Rattle.covstore.specs.MarksView.{marks_coming, marks_held, no_marks}
+use Rattle.covstore.specs.Puts.{put, value_of}
+use Rattle.covstore.specs.State.{FileData}
+use Rattle.covstore.specs.Sums.{TestData, test_of}
+use Rattle.covstore.specs.TestView.{test_coming, test_held}
+
+abbrev pub file_held : {A : Type 0} → File A → FileData
+file_held file = file_with (map (λ pair. (pair.0.items, test_held pair.1)) file.tests.entries) (marks_held file.marks)
+
+abbrev pub file_coming : {A : Type 0} → File A → FileData
+file_coming file = file_with (map (λ pair. (pair.0.items, test_coming pair.1)) file.tests.entries) (marks_coming file.marks)
+
+-- a file without tests
+abbrev pub no_file : FileData
+no_file = file_with [] no_marks
+
+-- the file with this test, without points where it wasn't there
+abbrev pub tests_with : List ℕ → List (List ℕ × TestData) → List (List ℕ × TestData)
+tests_with test tests = if is_some (value_of (slice_cmp nat_cmp) test tests) then tests else put (slice_cmp nat_cmp) test (test_of []) tests
+
+abbrev pub with_test : List ℕ → FileData → FileData
+with_test test file = record {
+  tests = tests_with test file.tests;
+  lines = file.lines;
+  functions = file.functions;
+  branches = file.branches;
+  holders = file.holders;
+  texts = file.texts;
+}

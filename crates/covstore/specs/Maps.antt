@@ -1,0 +1,82 @@
+-- What a store is to its callers: its content, and the tables that it stands for; and what is to come of it.
+use Rattle.std.specs.Prelude.{◌≡◌, ℕ, ◌+◌, ◌<◌, ◌≤◌, ◌^◌, List, [], ◌∷◌, ◌++◌, Some, None, length}
+use Rattle.std.specs.List.{AllByRecursion}
+use Rattle.covline.specs.Row.{Row, SubmissionData, rows_of}
+use Rattle.covline.specs.Lawful.{IsLawful, most_items}
+use Rattle.covstore.specs.declared.totals.Totals.{Totals}
+use Rattle.covstore.specs.Adds.{SmallRow}
+use Rattle.covstore.specs.Clash.{ClashData, Agree, checksums_in, clash_of}
+use Rattle.covstore.specs.Content.{SectionData, content_at}
+use Rattle.covstore.specs.State.{FileData, IsStateOf, totals_in}
+use Rattle.covstore.specs.Stored.{RefuseData, ClashRefuse, MemoryRefuse, most_members}
+use Rattle.covstore.specs.Table.{Table, all_rows, clash_at}
+
+-- the sections, and how many submissions there are; what is kept of the files, as they are and as they are to be, and the totals
+-- that are to be
+pub record StoreData : Type 0 where
+  pub sections : List SectionData
+  pub members : ℕ
+  pub held : List (List ℕ × FileData)
+  pub coming : List (List ℕ × FileData)
+  pub after : Totals
+
+-- the same content; what is to come may differ
+pub record SameContent (before after : StoreData) : Type 0 where
+  pub sections : after.sections ≡ before.sections
+  pub members : after.members ≡ before.members
+
+-- the same is kept; what is to come may differ
+pub record SameHeld (before after : StoreData) : Type 0 where
+  pub sections : after.sections ≡ before.sections
+  pub members : after.members ≡ before.members
+  pub held : after.held ≡ before.held
+
+-- the store's content is the value of all rows of the table, which has no two different checksums of one line of a file
+pub record StandsFor (store : StoreData) (table : Table) : Type 0 where
+  pub content : store.sections ≡ content_at table
+  pub members : store.members ≡ length table
+  pub agree : Agree (checksums_in (all_rows table))
+  pub few : length table ≤ most_members
+  pub small : AllByRecursion (λ rows. length rows ≤ most_items) table
+
+-- what is planned: the totals with it. It is the store's own, and so is what makes it a plan of a store
+pub record PlanData : Type 0 where
+  pub after : Totals
+
+-- files that are the state of rows are, with these added, the state of both, and the added rows clash with nothing
+abbrev pub AddsTo : List Row → List (List ℕ × FileData) → List (List ℕ × FileData) → Type 0
+AddsTo added before after =
+    (rows : List Row) → IsStateOf rows before → Agree (checksums_in rows)
+    → (clash_of rows added ≡ None) × IsStateOf (rows ++ added) after × Agree (checksums_in (rows ++ added))
+
+-- the store is as `prepare` left it when it made this plan for this submission: what is to come is what is kept with the
+-- submission, which is lawful and clashes with nothing, and the totals are those of what is to come. Callers hand it from
+-- `prepare` to `commit` and look at none of its parts
+pub record IsPlanOf (store : StoreData) (submission : SubmissionData) (plan : PlanData) : Type 0 where
+  pub lawful : IsLawful submission
+  pub adds : AddsTo (rows_of submission) store.held store.coming
+  pub planned : plan.after ≡ store.after
+  pub totals : store.after ≡ totals_in store.coming
+  pub few : store.members < most_members
+
+-- ---- rows that come in
+
+-- rows are taken into what is to come, and the totals with them
+pub record AddsRows (added : List Row) (before after : StoreData) : Type 0 where
+  pub adds : AddsTo added before.coming after.coming
+  pub totals : before.after ≡ totals_in before.coming → after.after ≡ totals_in after.coming
+
+-- a clash is told only where the rows clash with what is to come, and then the first
+abbrev pub ClashesWith : List Row → StoreData → RefuseData → Type 0
+ClashesWith added store MemoryRefuse = Unit {0}
+ClashesWith added store (ClashRefuse clash) = (rows : List Row) → IsStateOf rows store.coming → Agree (checksums_in rows) → clash_of rows added ≡ Some clash
+
+-- what is to come is the state of rows of small numbers, not too many with those that are added
+pub record HasRoomForRows (added : List Row) (store : StoreData) : Type 0 where
+  pub rows : List Row
+  pub state : IsStateOf rows store.coming
+  pub agree : Agree (checksums_in rows)
+  pub small : AllByRecursion SmallRow rows
+  pub small_added : AllByRecursion SmallRow added
+  pub few : length rows + length added ≤ 2 ^ 46
+  pub totals : store.after ≡ totals_in store.coming

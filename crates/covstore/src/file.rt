@@ -1,0 +1,90 @@
+//! A file of the store: its tests, and what is kept of them.
+
+ghost use Rattle.std.specs.Prelude.{◌≡◌, map, IfErr, IsTrue, OnErr, OnOk};
+
+use crate::marks::Marks;
+use crate::section::add_items;
+use crate::stop::Stop;
+use crate::test::Test;
+use crate::totals::Totals;
+use covline::{Item, Memory};
+use std::alloc::Allocator;
+use std::collections::BTreeMap;
+
+/// The tests of a file, each with its points, and what is kept of them.
+#[derive(Drop)]
+pub(crate) struct File<A: Allocator> {
+    tests: BTreeMap<Vec<u8, A>, Test<A>, A>,
+    marks: Marks<A>,
+}
+
+impl<A: Allocator + Copy> File<A> {
+    ghost use Rattle.covline.specs.Row.{item_data};
+    ghost use Rattle.covstore.specs.FileAdds.{AddsItems, ClashesIn, HasRoomIn};
+    ghost use Rattle.covstore.specs.FileView.{file_coming, file_held, no_file, with_test};
+    ghost use Rattle.covstore.specs.State.{file_totals};
+
+    /// No tests.
+    pub(crate) fn new(alloc: A) -> File<A>
+        ensures held { file_held result ≡ no_file }
+        ensures coming { file_coming result ≡ no_file }
+    {
+        File {
+            tests: BTreeMap::new(alloc),
+            marks: Marks::new(alloc),
+        }
+    }
+
+    /// Sees to it that the test is there.
+    pub(crate) fn open(&mut self, alloc: A, test: &[u8]) -> Result<(), Memory>
+        ensures held { OnOk result (file_held self.new ≡ with_test test.now (file_held self.old)) }
+        ensures coming { OnOk result (file_coming self.new ≡ with_test test.now (file_coming self.old)) }
+        ensures err_held { OnErr result (file_held self.new ≡ file_held self.old) }
+        ensures err_coming { OnErr result (file_coming self.new ≡ file_coming self.old) }
+    {
+        if self.tests.contains_key(test) {
+            return Ok(());
+        }
+        let name = Vec::from_slice(alloc, test)?;
+        self.tests.insert(name, Test::new(alloc))?;
+        Ok(())
+    }
+
+    /// Takes the items of a test into what is to come, in order, up to the first that clashes.
+    pub(crate) fn add(&mut self, alloc: A, test: &[u8], items: &[Item<A>]) -> Result<(), Stop<A>>
+        requires room { HasRoomIn (map item_data items.now) test.now (file_coming self.old) }
+        ensures held { file_held self.new ≡ file_held self.old }
+        ensures ok { OnOk result (AddsItems (map item_data items.now) test.now (file_coming self.old) (file_coming self.new)) }
+        ensures clash { IfErr result (ClashesIn (map item_data items.now) test.now (file_coming self.old)) }
+    {
+        match self.tests.get_mut(test) {
+            Some(points) => add_items(points, &mut self.marks, alloc, items),
+            None => Ok(()),
+        }
+    }
+
+    /// What was to come of a test, and of what is kept of the file, is there.
+    pub(crate) fn take(&mut self, test: &[u8])
+    {
+        if let Some(points) = self.tests.get_mut(test) {
+            points.take();
+        }
+        self.marks.take();
+    }
+
+    /// Nothing is to come of a test, nor of what is kept of the file.
+    pub(crate) fn forget(&mut self, test: &[u8])
+    {
+        if let Some(points) = self.tests.get_mut(test) {
+            points.forget();
+        }
+        self.marks.forget();
+    }
+
+    /// The file's totals as they are to be.
+    pub(crate) fn totals(&self) -> Totals
+        ensures { result ≡ file_totals (file_coming self.now) }
+    {
+        self.marks.totals()
+    }
+}

@@ -1,0 +1,212 @@
+//! The store.
+
+ghost use Rattle.std.specs.Prelude.{◌≡◌, ◌+◌, ◌≤◌, OnOk};
+
+use crate::file::File;
+use crate::maps_plan::Plan;
+use crate::refuse::Refuse;
+use crate::stop::Stop;
+use crate::totals::Totals;
+use covline::{Memory, Sect, Submission};
+use std::alloc::{Allocator, Global};
+use std::collections::BTreeMap;
+use std::marker::Model;
+
+/// A test of a file of which something is to come.
+#[derive(Drop)]
+pub(crate) struct Touched<A: Allocator> {
+    file: Vec<u8, A>,
+    test: Vec<u8, A>,
+}
+
+/// The value of every line, function and branch at its file and test, over all submissions that are held, of which there
+/// are at most 1,048,576. Contracts see these values as sections, how many submissions there are, and what the store keeps
+/// of the files, as they are and as they are to be.
+#[derive(Drop)]
+pub struct Store<A: Allocator = Global> {
+    files: BTreeMap<Vec<u8, A>, File<A>, A>,
+    touched: Vec<Touched<A>, A>,
+    held: Totals,
+    coming: Totals,
+    members: u64,
+}
+
+impl<A: Allocator> Model for Store<A> {
+    ghost use Rattle.covstore.specs.Maps.{StoreData};
+    ghost use Rattle.covstore.specs.MapsView.{AreSettledBut, IsStore, files_coming, files_held, touched_data};
+    ghost use Rattle.covstore.specs.State.{sections_of};
+
+    ghost Value = { StoreData };
+
+    ghost view = { λ s. record { sections = sections_of (files_held (λ name. name.items) s.files.entries); members = s.members; held = files_held (λ name. name.items) s.files.entries; coming = files_coming (λ name. name.items) s.files.entries; after = s.coming } };
+
+    ghost invariant = { λ s. IsStore s.members s.held (files_held (λ name. name.items) s.files.entries) × AreSettledBut (λ name. name.items) (touched_data s.touched.items) s.files.entries };
+}
+
+impl<A: Allocator + Copy> Store<A> {
+    ghost use Rattle.std.specs.Prelude.{◌≡◌, ◌<◌, ◌++◌, [], ◌∷◌, IfOk, IfErr, None, OnOk};
+    ghost use Rattle.std.specs.Str.{bytes_eq};
+    ghost use Rattle.std.specs.List.{list_any};
+    ghost use Rattle.covline.specs.Row.{SubmissionData, rows_of, rows_of_sect};
+    ghost use Rattle.covline.specs.SectView.{sect_data};
+    ghost use Rattle.covstore.specs.Content.{content_at};
+    ghost use Rattle.covstore.specs.Maps.{AddsRows, ClashesWith, HasRoomForRows, IsPlanOf, SameContent, SameHeld, StandsFor};
+    ghost use Rattle.covstore.specs.Stored.{IsRefusedAt, most_members};
+    ghost use Rattle.covstore.specs.RefuseView.{refuse_data};
+    ghost use Rattle.covstore.specs.Table.{Table, all_rows, clash_at};
+    ghost use Rattle.covstore.specs.Totals.{AreTotals, totals_of};
+
+    /// A store that holds nothing. Takes no memory.
+    pub fn new(alloc: A) -> Store<A>
+        ensures { StandsFor result [] }
+    {
+        let none = Totals {
+            lf: 0,
+            lh: 0,
+            ff: 0,
+            fh: 0,
+            bf: 0,
+            bh: 0,
+        };
+        Store {
+            files: BTreeMap::new(alloc),
+            touched: Vec::new(alloc),
+            held: none,
+            coming: none,
+            members: 0,
+        }
+    }
+
+    /// Makes all ready to hold the submission too, or says why it can't be held: it clashes with what is held, or a growth
+    /// was refused. The content stays as it is. What a plan holds is the store's own business: callers know of it that the
+    /// submission clashes with no table that the store stands for, and the totals behind it, and that it is a plan of this
+    /// store as it is left here, which `commit` asks for.
+    pub fn prepare(&mut self, alloc: A, submission: &Submission<A>) -> Result<Plan, Refuse<A>>
+        requires { self.old.members < most_members }
+        ensures content { SameContent self.old self.new }
+        ensures planned { IfOk result (λ plan. IsPlanOf self.new submission.now plan) }
+        ensures after { IfOk result (λ plan. (table : Table) → StandsFor self.old table → plan.after ≡ totals_of (content_at (table ++ rows_of submission.now ∷ []))) }
+        ensures agrees { IfOk result (λ _. (table : Table) → StandsFor self.old table → clash_at table submission.now ≡ None) }
+        ensures refused { IfErr result (λ e. (table : Table) → StandsFor self.old table → IsRefusedAt table submission.now (refuse_data e)) }
+    {
+        // What a plan left that was dropped.
+        self.forget();
+        let added = self.add_all(alloc, submission);
+        match added {
+            Ok(()) => Ok(Plan::new(self.coming)),
+            Err(refusal) => {
+                self.forget();
+                Err(refusal)
+            }
+        }
+    }
+
+    /// Holds the planned submission too, where the store is as `prepare` left it. Takes no memory.
+    pub fn commit(&mut self, plan: Plan)
+        requires { (s : SubmissionData) × IsPlanOf self.old s plan }
+        ensures stands { (s : SubmissionData) (table : Table) → IsPlanOf self.old s plan → StandsFor self.old table → StandsFor self.new (table ++ rows_of s ∷ []) }
+    {
+        while let Some(touched) = self.touched.pop() {
+            if let Some(file) = self.files.get_mut(touched.file.as_slice()) {
+                file.take(touched.test.as_slice());
+            }
+        }
+        self.coming = plan.after();
+        self.held = self.coming;
+        self.members += 1;
+    }
+
+    /// Nothing is to come.
+    fn forget(&mut self)
+        ensures held { SameHeld self.old self.new }
+        ensures coming { self.new.coming ≡ self.old.held }
+    {
+        while let Some(touched) = self.touched.pop() {
+            if let Some(file) = self.files.get_mut(touched.file.as_slice()) {
+                file.forget(touched.test.as_slice());
+            }
+        }
+        self.coming = self.held;
+    }
+
+    /// Takes the sections into what is to come, in order, up to the first that clashes.
+    fn add_all(&mut self, alloc: A, submission: &Submission<A>) -> Result<(), Refuse<A>>
+        requires { HasRoomForRows (rows_of submission.now) self.old }
+        ensures held { SameHeld self.old self.new }
+        ensures ok { OnOk result (AddsRows (rows_of submission.now) self.old self.new) }
+        ensures clash { IfErr result (λ e. ClashesWith (rows_of submission.now) self.old (refuse_data e)) }
+    {
+        for sect in submission.sects() {
+            self.add_section(alloc, sect)?;
+        }
+        Ok(())
+    }
+
+    /// Takes the items of a section.
+    fn add_section(&mut self, alloc: A, sect: &Sect<A>) -> Result<(), Refuse<A>>
+        requires { HasRoomForRows (rows_of_sect (sect_data sect.now)) self.old }
+        ensures held { SameHeld self.old self.new }
+        ensures ok { OnOk result (AddsRows (rows_of_sect (sect_data sect.now)) self.old self.new) }
+        ensures clash { IfErr result (λ e. ClashesWith (rows_of_sect (sect_data sect.now)) self.old (refuse_data e)) }
+    {
+        if sect.items.get().is_empty() {
+            return Ok(());
+        }
+        self.touch(alloc, sect)?;
+        self.open(alloc, sect.file.get())?;
+        let Some(file) = self.files.get_mut(sect.file.get()) else {
+            return Ok(());
+        };
+        file.open(alloc, sect.test.get())?;
+        let before = file.totals();
+        let added = file.add(alloc, sect.test.get(), sect.items.get());
+        let after = file.totals();
+        match added {
+            Ok(()) => {
+                self.coming = self.coming.exchanged(before, after);
+                Ok(())
+            }
+            Err(Stop::Memory) => Err(Refuse::Memory),
+            Err(Stop::Clash { line, held, given }) => Err(Refuse::Clash {
+                file: sect.file.copy(alloc)?,
+                line,
+                held,
+                given,
+            }),
+        }
+    }
+
+    /// Something is to come of this section's test.
+    fn touch(&mut self, alloc: A, sect: &Sect<A>) -> Result<(), Memory>
+        ensures held { SameHeld self.old self.new }
+        ensures coming { self.new.coming ≡ self.old.coming }
+        ensures after { self.new.after ≡ self.old.after }
+    {
+        let touched = Touched {
+            file: Vec::from_slice(alloc, sect.file.get())?,
+            test: Vec::from_slice(alloc, sect.test.get())?,
+        };
+        self.touched.push(touched)?;
+        Ok(())
+    }
+
+    /// Sees to it that the file is there.
+    fn open(&mut self, alloc: A, file: &[u8]) -> Result<(), Memory>
+        ensures held { SameHeld self.old self.new }
+    {
+        if self.files.contains_key(file) {
+            return Ok(());
+        }
+        let name = Vec::from_slice(alloc, file)?;
+        self.files.insert(name, File::new(alloc))?;
+        Ok(())
+    }
+
+    /// The totals over all files and tests. Takes no memory.
+    pub fn totals(&self) -> Totals
+        ensures value { result ≡ totals_of self.now.sections }
+        ensures bounds { AreTotals result }
+    {
+        self.held
+    }
+}
