@@ -1,14 +1,15 @@
 -- The numbers kept for a point: what they are over all tests, without tests, with an empty test more, and how large they can be.
-use Rattle.std.proofs.Common.{◌≡◌, ℕ, ◌+◌, ◌<◌, ◌≤◌, Bool, true, false, cond, if◌then◌else◌, nat_lt, Option, Some, None, List, [], ◌∷◌, ◌++◌, length, refl, sym, ap, ◌∙◌, ⊎_elim, arith}
+use Rattle.std.proofs.Common.{◌≡◌, ℕ, ◌+◌, ◌<◌, ◌≤◌, Bool, true, false, cond, if◌then◌else◌, nat_lt, Option, Some, None, List, [], ◌∷◌, ◌++◌, length, refl, sym, ap, ◌∙◌, arith}
 use Rattle.std.specs.declared.cmp.Ordering.{Ordering}
 use Rattle.std.specs.List.{count_by, sum_by}
 use Rattle.std.specs.Option.{is_some}
-use Rattle.std.proofs.lemmas.Bool.{cases_Bool, ltb-true, ltb-false, cond-true, cond-false}
+use Rattle.std.proofs.lemmas.Bool.{ltb-true}
 use Rattle.std.proofs.lemmas.List.Sums.{count_by-le-length, sum_by-append, sum_by-cons, sum_by-le-sum_by}
 use Rattle.std.proofs.lemmas.Option.{none-some, same_Some}
 use Rattle.covstore.specs.declared.sums.Tests.{Tests}
 use Rattle.covstore.specs.Counts.{AreCounts, count_above, count_with, is_above_at, one_if, tests_at}
 use Rattle.covstore.specs.Puts.{value_of}
+use Rattle.covstore.proofs.Puts.{counted_one}
 
 -- the numbers of a point, from how many tests have it and how many have it above 0
 abbrev pub tests_of : ℕ → ℕ → Option Tests
@@ -25,10 +26,6 @@ tests_among is_above tests hit value = tests_of (tests + one_if (is_some value))
 
 pub sum_by-between : {X : Type 0} (f : X → ℕ) (front : List X) (x : X) (back : List X) → sum_by f (front ++ x ∷ back) ≡ sum_by f (front ++ back) + f x
 sum_by-between f front x back = omega (arith, sum_by-append f front (x ∷ back), sum_by-append f front back, sum_by-cons f x back)
-
-pub counted_one : (b : Bool) → cond {A = ℕ} b 1 0 ≡ one_if b
-counted_one true = refl
-counted_one false = refl
 
 -- what a count is with this member among the others
 pub count_by-between : {X : Type 0} (p : X → Bool) (front : List X) (x : X) (back : List X) → count_by p (front ++ x ∷ back) ≡ count_by p (front ++ back) + one_if (p x)

@@ -19,6 +19,11 @@ pub mod Looks
 pub mod Clashes
 pub mod Puts
 pub mod Counts
+pub mod CountsPut
+pub mod CountsTotals
+pub mod CountsMapped
+pub mod CountsFound
+pub mod CountsKinds
 pub mod ContentsLists
 pub mod ContentsKinds
 pub mod ContentsPoints
@@ -29,3 +34,4 @@ pub mod StateSeen
 pub mod StateOrder
 pub mod StateSections
 pub mod StateRows
+pub mod StateMore

@@ -4,6 +4,7 @@ use Rattle.std.specs.declared.cmp.Ordering.{Ordering}
 use Rattle.std.specs.declared.cmp.Ordering.TheVariants.{Less, Equal, Greater}
 use Rattle.std.specs.List.{AllByRecursion, sum_by, count_by}
 use Rattle.std.specs.List.Sorted.{IsStrictlySortedBy}
+use Rattle.std.specs.Option.{is_some}
 use Rattle.std.specs.Ordering.{is_eq, match_ordering, ordering_reverse}
 use Rattle.std.proofs.lemmas.Bool.{cases_Bool, cond-true, cond-false, false_from_ne_true}
 use Rattle.std.proofs.lemmas.Cmp.{on_total, tied_itself}
@@ -21,6 +22,10 @@ abbrev pub at_before : {K V : Type 0} → (K × V → ℕ) → K → Option V �
 at_before f key None = 0
 at_before f key (Some value) = f (key, value)
 
+pub counted_one : (b : Bool) → cond {A = ℕ} b 1 0 ≡ one_if b
+counted_one true = refl
+counted_one false = refl
+
 same_pair : {K V : Type 0} {key other : K} {value held : V} → key ≡ other → value ≡ held → ◌≡◌ {A = K × V} (key, value) (other, held)
 same_pair keys values = λ i. (keys i, values i)
 
@@ -34,7 +39,7 @@ module _ {K V : Type 0} {cmp : K → K → Ordering} (o : IsExactOrder cmp) wher
   value_of_later key pair pairs e = cond-false (is_eq (cmp pair.0 key)) (Some pair.1) (value_of cmp key pairs) e
 
   -- a key before all others has no value among them
-  value_of_before : (key : K) (pairs : List (K × V)) → AllByRecursion (λ next. cmp key next.0 ≡ Less) pairs → value_of cmp key pairs ≡ None
+  pub value_of_before : (key : K) (pairs : List (K × V)) → AllByRecursion (λ next. cmp key next.0 ≡ Less) pairs → value_of cmp key pairs ≡ None
   value_of_before key [] behind = refl
   value_of_before key (pair ∷ pairs) behind =
       value_of_later key pair pairs (ap is_eq (o.total.antisymm pair.0 key ∙ ap ordering_reverse behind.0)) ∙ value_of_before key pairs behind.1
@@ -50,7 +55,17 @@ module _ {K V : Type 0} {cmp : K → K → Ordering} (o : IsExactOrder cmp) wher
   pair_in key value [] h = absurd (none-some value h)
   pair_in key value (pair ∷ pairs) h = pair_in_at key value pair pairs (cmp pair.0 key) refl (pair_in key value pairs) h
 
-  -- and all of it
+  some_in_at : (equal : Bool) (held : V) (rest : Option V) → is_some rest ≡ true → is_some (cond equal (Some held) rest) ≡ true
+  some_in_at true held rest e = refl
+  some_in_at false held rest e = e
+
+  -- a key that is there has a value
+  pub some_in : (key : K) (value : V) (pairs : List (K × V)) → In (key, value) pairs → is_some (value_of cmp key pairs) ≡ true
+  some_in key value [] i = absurd i
+  some_in key value (pair ∷ pairs) (inl e) = ap (λ (first : K × V). is_some (value_of cmp key (first ∷ pairs))) e ∙ ap is_some (value_of_first key value pairs)
+  some_in key value (pair ∷ pairs) (inr i) = some_in_at (is_eq (cmp pair.0 key)) pair.1 (value_of cmp key pairs) (some_in key value pairs i)
+
+  -- and in ascending pairs each key has its own value
   pub value_of_pair : (key : K) (value : V) (pairs : List (K × V)) → ArePairs cmp pairs → In (key, value) pairs → value_of cmp key pairs ≡ Some value
   value_of_pair key value [] sorted i = absurd i
   value_of_pair key value (pair ∷ pairs) sorted (inl e) = ap (λ (first : K × V). value_of cmp key (first ∷ pairs)) e ∙ value_of_first key value pairs
@@ -168,10 +183,6 @@ module _ {K V : Type 0} {cmp : K → K → Ordering} (o : IsExactOrder cmp) wher
       let sums = sum_by-put (λ pair. cond (p pair) 1 0) key value pairs sorted in
       omega (arith, sums, counted (value_of cmp key pairs), counted_one (p (key, value)))
     where
-      counted_one : (b : Bool) → cond {A = ℕ} b 1 0 ≡ one_if b
-      counted_one true = refl
-      counted_one false = refl
-
       counted : (before : Option V) → at_before (λ pair. cond (p pair) 1 0) key before ≡ one_if (is_above_at (λ held. p (key, held)) before)
       counted None = refl
       counted (Some held) = counted_one (p (key, held))

@@ -20,13 +20,17 @@ use Rattle.covstore.proofs.Ascend.{All-match}
 use Rattle.covstore.proofs.ContentsChecksums.{line_of_said, own_row}
 use Rattle.covstore.proofs.ContentsLists.{same_or_not, In-unflat}
 use Rattle.covstore.proofs.ContentsSections.{both, items_at-append, own_key}
-use Rattle.covstore.proofs.Members.{In, In-from, Contains-from, In-joined, In-parts}
+use Rattle.covstore.proofs.Members.{All-in, In, In-from, Contains-from, In-joined, In-parts}
 use Rattle.covstore.proofs.Orders.{names_order}
-use Rattle.covstore.proofs.Puts.{ArePairs-put, value_of-put, value_of-put_other}
+use Rattle.covstore.proofs.Puts.{ArePairs-put, pair_in, value_of-put, value_of-put_other}
 use Rattle.covstore.proofs.StateSections.{points_same, points_there}
 
-name_or_not : (one other : List ℕ) → (one ≡ other) ⊎ (one ≡ other → ⊥)
+pub name_or_not : (one other : List ℕ) → (one ≡ other) ⊎ (one ≡ other → ⊥)
 name_or_not one other = same_or_not (slice_cmp nat_cmp) names_order one other (slice_cmp nat_cmp one other) refl
+
+-- a file that is there is whole
+pub file_whole : (rows : List Row) (files : List (List ℕ × FileData)) → IsStateOf rows files → (name : List ℕ) (file : FileData) → value_of (slice_cmp nat_cmp) name files ≡ Some file → IsWholeFile file
+file_whole rows files state name file there = All-in (λ (pair : List ℕ × FileData). IsWholeFile pair.1) files (name, file) state.whole (pair_in names_order name file files there)
 
 All-put : {K V : Type 0} (cmp : K → K → Ordering) (P : K × V → Type 0) (key : K) (value : V) (pairs : List (K × V)) → P (key, value) → AllByRecursion P pairs → AllByRecursion P (put cmp key value pairs)
 All-put cmp P key value [] h all = (h, tt)
