@@ -35,3 +35,4 @@ pub mod StateOrder
 pub mod StateSections
 pub mod StateRows
 pub mod StateMore
+pub mod StateTotals

@@ -36,16 +36,16 @@ sorted_joined {X} cmp (x ∷ xs) ys left right before = (
   sorted_joined cmp xs ys left.1 right (λ z y i j. before z y (inr i) j),
 )
 
-sorted_none : {X : Type 0} (cmp : X → X → Ordering) → IsStrictlySortedBy cmp []
+pub sorted_none : {X : Type 0} (cmp : X → X → Ordering) → IsStrictlySortedBy cmp []
 unfolding IsStrictlySortedBy
 sorted_none cmp = tt
 
-sorted_one : {X : Type 0} (cmp : X → X → Ordering) (x : X) → IsStrictlySortedBy cmp (x ∷ [])
+pub sorted_one : {X : Type 0} (cmp : X → X → Ordering) (x : X) → IsStrictlySortedBy cmp (x ∷ [])
 unfolding IsStrictlySortedBy
 sorted_one cmp x = (tt, tt)
 
 -- the parts of ascending pairs, each ascending, one before the next
-sorted_parts : {K V X : Type 0} (order : K → K → Ordering) (cmp : X → X → Ordering) (part : K × V → List X) (pairs : List (K × V)) → ArePairs order pairs
+pub sorted_parts : {K V X : Type 0} (order : K → K → Ordering) (cmp : X → X → Ordering) (part : K × V → List X) (pairs : List (K × V)) → ArePairs order pairs
     → ((pair : K × V) → In pair pairs → IsStrictlySortedBy cmp (part pair))
     → ((pair next : K × V) (x y : X) → order pair.0 next.0 ≡ Less → In x (part pair) → In y (part next) → cmp x y ≡ Less) → IsStrictlySortedBy cmp (flat_map part pairs)
 sorted_parts order cmp part [] ascending each before = sorted_none cmp
@@ -53,6 +53,10 @@ sorted_parts {K} {V} {X} order cmp part (pair ∷ pairs) ascending each before =
     sorted_joined cmp (part pair) (flat_map part pairs) (each pair (inl refl)) (sorted_parts order cmp part pairs ascending.1 (λ other i. each other (inr i)) before)
     (λ x y i j. let found = In-unflat part pairs y j in
     before pair found.0 x y (All-in (λ (next : K × V). order pair.0 next.0 ≡ Less) pairs found.0 ascending.0 found.1) i found.2)
+
+-- what comes before another thing isn't the same
+pub not_less : {X : Type 0} {cmp : X → X → Ordering} → IsTotalOrder cmp → (x y : X) → cmp x y ≡ Less → x ≡ y → ⊥
+not_less {X} {cmp} t x y less is = let tied = tied_itself t x in let own : cmp x x ≡ Less = subst (λ (z : X). cmp x z ≡ Less) (sym is) less in cc
 
 -- ---- sections
 

@@ -99,7 +99,7 @@ text_as_said : (texts : List (ℕ × List ℕ)) (line : ℕ) (said : Option (Lis
 text_as_said texts line None held = refl
 text_as_said texts line (Some text) held = held text refl
 
-map_of_map : {X Y Z : Type 0} (f : X → Y) (g : Y → Z) (h : X → Z) (xs : List X) → ((x : X) → g (f x) ≡ h x) → map g (map f xs) ≡ map h xs
+pub map_of_map : {X Y Z : Type 0} (f : X → Y) (g : Y → Z) (h : X → Z) (xs : List X) → ((x : X) → g (f x) ≡ h x) → map g (map f xs) ≡ map h xs
 map_of_map f g h [] same = refl
 map_of_map {X} {Y} {Z} f g h (x ∷ xs) same = ap (λ (z : Z). z ∷ map g (map f xs)) (same x) ∙ ap (λ (zs : List Z). h x ∷ zs) (map_of_map f g h xs same)
 
