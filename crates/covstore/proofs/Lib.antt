@@ -35,4 +35,5 @@ pub mod StateOrder
 pub mod StateSections
 pub mod StateRows
 pub mod StateMore
+pub mod StateFiles
 pub mod StateTotals

@@ -1,9 +1,8 @@
 -- The sections of ascending files with ascending tests ascend by their keys.
 use Rattle.std.proofs.Common.{◌≡◌, ℕ, List, [], ◌∷◌, ◌++◌, map, refl, sym, ap, ◌∙◌, subst, inl, inr, ⊎_elim}
-use Rattle.std.specs.Cmp.{IsTotalOrder}
 use Rattle.std.specs.Cmp.Lexicographic.{slice_cmp}
 use Rattle.std.specs.declared.cmp.Ordering.{Ordering}
-use Rattle.std.specs.declared.cmp.Ordering.TheVariants.{Less, Equal}
+use Rattle.std.specs.declared.cmp.Ordering.TheVariants.{Less}
 use Rattle.std.specs.List.{AllByRecursion, flat_map}
 use Rattle.std.specs.List.Sorted.{IsStrictlySortedBy}
 use Rattle.std.specs.Ordering.{nat_cmp, ordering_then}
@@ -16,23 +15,16 @@ use Rattle.covstore.specs.Value.{Key, key_cmp}
 use Rattle.covstore.proofs.ContentsLists.{In-unflat}
 use Rattle.covstore.proofs.Members.{In, All-in}
 use Rattle.covstore.proofs.Orders.{names_order}
+use Rattle.covstore.proofs.TotalsDifferent.{All-from, All-joined}
 use Rattle.covstore.proofs.StateSeen.{section_whole, seen_or_not, seen_key}
 
 -- ---- lists joined
-
-All-each : {X : Type 0} (P : X → Type 0) (xs : List X) → ((x : X) → In x xs → P x) → AllByRecursion P xs
-All-each P [] each = tt
-All-each P (x ∷ xs) each = (each x (inl refl), All-each P xs (λ y i. each y (inr i)))
-
-All-both : {X : Type 0} (P : X → Type 0) (xs ys : List X) → AllByRecursion P xs → AllByRecursion P ys → AllByRecursion P (xs ++ ys)
-All-both P [] ys left right = right
-All-both P (x ∷ xs) ys left right = (left.0, All-both P xs ys left.1 right)
 
 sorted_joined : {X : Type 0} (cmp : X → X → Ordering) (xs ys : List X) → IsStrictlySortedBy cmp xs → IsStrictlySortedBy cmp ys → ((x y : X) → In x xs → In y ys → cmp x y ≡ Less) → IsStrictlySortedBy cmp (xs ++ ys)
 unfolding IsStrictlySortedBy
 sorted_joined cmp [] ys left right before = right
 sorted_joined {X} cmp (x ∷ xs) ys left right before = (
-  All-both (λ z. cmp x z ≡ Less) xs ys left.0 (All-each (λ z. cmp x z ≡ Less) ys (λ y i. before x y (inl refl) i)),
+  All-joined (λ z. cmp x z ≡ Less) xs ys left.0 (All-from (λ z. cmp x z ≡ Less) ys (λ y i. before x y (inl refl) i)),
   sorted_joined cmp xs ys left.1 right (λ z y i j. before z y (inr i) j),
 )
 
@@ -53,10 +45,6 @@ sorted_parts {K} {V} {X} order cmp part (pair ∷ pairs) ascending each before =
     sorted_joined cmp (part pair) (flat_map part pairs) (each pair (inl refl)) (sorted_parts order cmp part pairs ascending.1 (λ other i. each other (inr i)) before)
     (λ x y i j. let found = In-unflat part pairs y j in
     before pair found.0 x y (All-in (λ (next : K × V). order pair.0 next.0 ≡ Less) pairs found.0 ascending.0 found.1) i found.2)
-
--- what comes before another thing isn't the same
-pub not_less : {X : Type 0} {cmp : X → X → Ordering} → IsTotalOrder cmp → (x y : X) → cmp x y ≡ Less → x ≡ y → ⊥
-not_less {X} {cmp} t x y less is = let tied = tied_itself t x in let own : cmp x x ≡ Less = subst (λ (z : X). cmp x z ≡ Less) (sym is) less in cc
 
 -- ---- sections
 

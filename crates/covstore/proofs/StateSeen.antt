@@ -1,7 +1,6 @@
 -- What is seen of a test whose points are what items add up to: the section of these items, and none where there are no items.
-use Rattle.std.proofs.Common.{◌≡◌, ℕ, Bool, true, false, Option, Some, None, List, [], ◌∷◌, map, refl, sym, ap, ◌∙◌, subst, inl, inr, ⊎_elim}
+use Rattle.std.proofs.Common.{◌≡◌, ℕ, Option, Some, None, List, [], ◌∷◌, map, refl, sym, ap, ◌∙◌, subst, inl, inr, ⊎_elim}
 use Rattle.std.specs.Prelude.{◌⊎◌}
-use Rattle.std.specs.Cmp.Lexicographic.{slice_cmp}
 use Rattle.std.specs.Option.{is_some}
 use Rattle.std.specs.Ordering.{nat_cmp}
 use Rattle.covline.specs.Points.{BranchPoint, line_points, func_points, branch_points}
@@ -13,7 +12,7 @@ use Rattle.covstore.specs.Content.{FunctionValueData, BranchValueData, LineValue
 use Rattle.covstore.specs.Puts.{value_of}
 use Rattle.covstore.specs.State.{text_at, line_seen, function_seen, branch_seen, section_seen}
 use Rattle.covstore.specs.Sums.{TestData, test_of, line_sum, function_sum, branch_sum}
-use Rattle.covstore.specs.Value.{Key, branch_cmp, lines_in, line_checksum, names_in, branches_in}
+use Rattle.covstore.specs.Value.{Key, lines_in, line_checksum, names_in, branches_in}
 use Rattle.covstore.proofs.Ascend.{In-to_ascending}
 use Rattle.covstore.proofs.Members.{In, In-map}
 use Rattle.covstore.proofs.Orders.{lines_order, names_order, branches_order}
