@@ -9,14 +9,14 @@ use Rattle.std.specs.Ordering.{nat_cmp, ordering_then}
 use Rattle.std.proofs.lemmas.Cmp.{tied_itself}
 use Rattle.covstore.specs.Content.{SectionData}
 use Rattle.covstore.specs.Puts.{ArePairs}
-use Rattle.covstore.specs.State.{FileData, IsWholeFile, section_seen, sections_of, sections_of_file}
+use Rattle.covstore.specs.State.{FileData, IsWholeFile, section_seen, section_with_points, sections_of, sections_of_file}
 use Rattle.covstore.specs.Sums.{TestData}
 use Rattle.covstore.specs.Value.{Key, key_cmp}
 use Rattle.covstore.proofs.ContentsLists.{In-unflat}
 use Rattle.covstore.proofs.Members.{In, All-in}
 use Rattle.covstore.proofs.Orders.{names_order}
 use Rattle.covstore.proofs.TotalsDifferent.{All-from, All-joined}
-use Rattle.covstore.proofs.StateSeen.{section_whole, seen_or_not, seen_key}
+use Rattle.covstore.proofs.StateSeen.{seen_or_not, seen_key}
 
 -- ---- lists joined
 
@@ -56,7 +56,7 @@ seen_sorted : (file : List ℕ) (texts : List (ℕ × List ℕ)) (test : List �
 seen_sorted file texts test points =
     ⊎_elim {C = IsStrictlySortedBy section_cmp (section_seen file texts test points)}
     (λ seen. subst (IsStrictlySortedBy section_cmp) (sym seen.1) (sorted_none section_cmp))
-    (λ seen. subst (IsStrictlySortedBy section_cmp) (sym seen.1) (sorted_one section_cmp (section_whole file texts test points)))
+    (λ seen. subst (IsStrictlySortedBy section_cmp) (sym seen.1) (sorted_one section_cmp (section_with_points file texts test points)))
     (seen_or_not file texts test points)
 
 by_key : (a b : SectionData) (k l : Key) → k ≡ a.key → l ≡ b.key → key_cmp k l ≡ Less → section_cmp a b ≡ Less

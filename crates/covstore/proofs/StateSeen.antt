@@ -10,7 +10,7 @@ use Rattle.covstore.specs.declared.sums.LineSum.{LineSum}
 use Rattle.covstore.specs.declared.sums.Taken.{Taken}
 use Rattle.covstore.specs.Content.{FunctionValueData, BranchValueData, LineValueData, SectionData, function_at, branch_at, line_at, section_with}
 use Rattle.covstore.specs.Puts.{value_of}
-use Rattle.covstore.specs.State.{text_at, line_seen, function_seen, branch_seen, section_seen}
+use Rattle.covstore.specs.State.{text_at, line_seen, function_seen, branch_seen, section_with_points, section_seen}
 use Rattle.covstore.specs.Sums.{TestData, test_of, line_sum, function_sum, branch_sum}
 use Rattle.covstore.specs.Value.{Key, lines_in, line_checksum, names_in, branches_in}
 use Rattle.covstore.proofs.Ascend.{In-to_ascending}
@@ -25,15 +25,6 @@ pub record HasNone (test : TestData) : Type 0 where
   pub functions : test.functions ≡ []
   pub branches : test.branches ≡ []
 
--- the section of a test that has points
-abbrev pub section_whole : List ℕ → List (ℕ × List ℕ) → List ℕ → TestData → SectionData
-section_whole file texts test points = record {
-  key = record { file = file; test = test };
-  functions = map function_seen points.functions;
-  branches = map branch_seen points.branches;
-  lines = map (line_seen texts) points.lines;
-}
-
 not_empty : {X : Type 0} (x : X) (xs : List X) → In x xs → xs ≡ [] → ⊥
 not_empty {X} x xs i e = subst (In x) e i
 
@@ -43,7 +34,7 @@ points_from lines functions branches = record { lines = lines; functions = funct
 -- what is seen of a test: nothing where it has no points, else one section
 abbrev pub IsSeen : List ℕ → List (ℕ × List ℕ) → List ℕ → TestData → Type 0
 IsSeen file texts test points =
-    (HasNone points × (section_seen file texts test points ≡ [])) ⊎ ((HasNone points → ⊥) × (section_seen file texts test points ≡ section_whole file texts test points ∷ []))
+    (HasNone points × (section_seen file texts test points ≡ [])) ⊎ ((HasNone points → ⊥) × (section_seen file texts test points ≡ section_with_points file texts test points ∷ []))
 
 seen_at : (file : List ℕ) (texts : List (ℕ × List ℕ)) (test : List ℕ) (lines : List (ℕ × LineSum)) (functions : List (List ℕ × FunctionSum)) (branches : List (BranchPoint × Taken))
     → IsSeen file texts test (points_from lines functions branches)
@@ -58,7 +49,7 @@ pub seen_or_not : (file : List ℕ) (texts : List (ℕ × List ℕ)) (test : Lis
 unfolding points_from
 seen_or_not file texts test points = seen_at file texts test points.lines points.functions points.branches
 
-pub seen_whole : (file : List ℕ) (texts : List (ℕ × List ℕ)) (test : List ℕ) (points : TestData) → (HasNone points → ⊥) → section_seen file texts test points ≡ section_whole file texts test points ∷ []
+pub seen_whole : (file : List ℕ) (texts : List (ℕ × List ℕ)) (test : List ℕ) (points : TestData) → (HasNone points → ⊥) → section_seen file texts test points ≡ section_with_points file texts test points ∷ []
 seen_whole file texts test points some = ⊎_elim (λ seen. absurd (some seen.0)) (λ seen. seen.1) (seen_or_not file texts test points)
 
 -- a section that is seen has its file and test
@@ -70,7 +61,7 @@ seen_key file texts test points section i =
     (λ seen. by (subst (In section) seen.1 i))
     (seen_or_not file texts test points)
   where
-    by : In section (section_whole file texts test points ∷ []) → ◌≡◌ {A = Key} (record { file = file; test = test }) section.key
+    by : In section (section_with_points file texts test points ∷ []) → ◌≡◌ {A = Key} (record { file = file; test = test }) section.key
     by (inl is) = ap (λ (s : SectionData). s.key) is
     by (inr none) = absurd none
 
@@ -117,7 +108,7 @@ HasChecksums texts items = (line : ℕ) (text : List ℕ) → line_checksum line
 section_from : Key → List FunctionValueData → List BranchValueData → List LineValueData → SectionData
 section_from key functions branches lines = record { key = key; functions = functions; branches = branches; lines = lines }
 
-whole_as : (key : Key) (texts : List (ℕ × List ℕ)) (items : List ItemData) → HasChecksums texts items → section_whole key.file texts key.test (test_of items) ≡ section_with key items
+whole_as : (key : Key) (texts : List (ℕ × List ℕ)) (items : List ItemData) → HasChecksums texts items → section_with_points key.file texts key.test (test_of items) ≡ section_with key items
 unfolding section_from
 whole_as key texts items held =
     let functions : map function_seen (test_of items).functions ≡ map (function_at items) (names_in items) = map_of_map (function_sum items) function_seen (function_at items) (names_in items) (λ name. refl) in

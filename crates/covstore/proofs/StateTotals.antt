@@ -16,7 +16,7 @@ use Rattle.covstore.specs.Clash.{Agree, checksums_in}
 use Rattle.covstore.specs.Content.{BranchValueData, FunctionValueData, LineValueData, SectionData, content_of}
 use Rattle.covstore.specs.Counts.{AreCounts, found_of, hit_of}
 use Rattle.covstore.specs.Puts.{ArePairs}
-use Rattle.covstore.specs.State.{FileData, IsStateOf, IsWholeFile, branch_above, branch_seen, function_above, function_seen, line_above, line_seen, section_seen, sections_of, sections_of_file, totals_in}
+use Rattle.covstore.specs.State.{FileData, IsStateOf, IsWholeFile, branch_above, branch_seen, function_above, function_seen, line_above, line_seen, section_seen, section_with_points, sections_of, sections_of_file, totals_in}
 use Rattle.covstore.specs.Sums.{TestData}
 use Rattle.covstore.specs.Totals.{branches_found, functions_found, is_branch_hit, is_function_hit, is_line_hit, lines_found, sections_of as own_sections, totals_of}
 use Rattle.covstore.specs.Value.{branch_cmp, is_taken}
@@ -26,14 +26,14 @@ use Rattle.covstore.proofs.CountsMapped.{counts_mapped_at}
 use Rattle.covstore.proofs.Members.{All-in, In}
 use Rattle.covstore.proofs.StateFiles.{over_all, own_seen}
 use Rattle.covstore.proofs.StateSections.{sections_as}
-use Rattle.covstore.proofs.StateSeen.{HasNone, map_of_map, section_whole, seen_or_not}
+use Rattle.covstore.proofs.StateSeen.{HasNone, map_of_map, seen_or_not}
 use Rattle.covstore.proofs.TotalsKinds.{same_totals}
 
 -- ---- what is kept for a file's points counts the sections that are seen
 
 module _ {K V W : Type 0} (cmp : K → K → Ordering) (is_above : V → Bool) (is_other : W → Bool) (seen : K → V → W) (same : (key : K) (value : V) → is_other (seen key value) ≡ is_above value)
     (points : TestData → List (K × V)) (points_of : SectionData → List (K × W)) (file : List ℕ) (texts : List (ℕ × List ℕ)) (none : (test : TestData) → HasNone test → points test ≡ [])
-    (whole : (name : List ℕ) (test : TestData) → points_of (section_whole file texts name test) ≡ map (λ pair. (pair.0, seen pair.0 pair.1)) (points test)) where
+    (whole : (name : List ℕ) (test : TestData) → points_of (section_with_points file texts name test) ≡ map (λ pair. (pair.0, seen pair.0 pair.1)) (points test)) where
   abbrev seen_points : TestData → List (K × W)
   seen_points test = map (λ pair. (pair.0, seen pair.0 pair.1)) (points test)
 
@@ -62,7 +62,7 @@ module _ {K V W : Type 0} (cmp : K → K → Ordering) (is_above : V → Bool) (
       (subst (λ (all : List (List (K × W))). AreCounts cmp is_other all counts) (sym (append_assoc front (own ∷ []) (all_points tests))) are) in
       let joined : AreCounts cmp is_other (front ++ own ∷ map points_of (flat_map part tests)) counts =
       subst (λ (all : List (List (K × W))). AreCounts cmp is_other all counts) (append_assoc front (own ∷ []) (map points_of (flat_map part tests))) others in
-      let of_section : AreCounts cmp is_other (front ++ points_of (section_whole file texts test.0 test.1) ∷ map points_of (flat_map part tests)) counts =
+      let of_section : AreCounts cmp is_other (front ++ points_of (section_with_points file texts test.0 test.1) ∷ map points_of (flat_map part tests)) counts =
       subst (λ (first : List (K × W)). AreCounts cmp is_other (front ++ first ∷ map points_of (flat_map part tests)) counts) (sym (whole test.0 test.1)) joined in
       subst (λ (sections : List SectionData). AreCounts cmp is_other (front ++ map points_of (sections ++ flat_map part tests)) counts) (sym found.1) of_section)
       (seen_or_not file texts test.0 test.1)
