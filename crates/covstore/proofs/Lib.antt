@@ -44,3 +44,6 @@ pub mod StateSeen
 pub mod StateOrder
 pub mod StateSections
 pub mod StateRows
+pub mod StateMore
+pub mod StateFiles
+pub mod StateTotals

@@ -1,51 +1,43 @@
 -- The sections of ascending files with ascending tests ascend by their keys.
 use Rattle.std.proofs.Common.{◌≡◌, ℕ, List, [], ◌∷◌, ◌++◌, map, refl, sym, ap, ◌∙◌, subst, inl, inr, ⊎_elim}
-use Rattle.std.specs.Cmp.{IsTotalOrder}
 use Rattle.std.specs.Cmp.Lexicographic.{slice_cmp}
 use Rattle.std.specs.declared.cmp.Ordering.{Ordering}
-use Rattle.std.specs.declared.cmp.Ordering.TheVariants.{Less, Equal}
+use Rattle.std.specs.declared.cmp.Ordering.TheVariants.{Less}
 use Rattle.std.specs.List.{AllByRecursion, flat_map}
 use Rattle.std.specs.List.Sorted.{IsStrictlySortedBy}
 use Rattle.std.specs.Ordering.{nat_cmp, ordering_then}
 use Rattle.std.proofs.lemmas.Cmp.{tied_itself}
 use Rattle.covstore.specs.Content.{SectionData}
 use Rattle.covstore.specs.Puts.{ArePairs}
-use Rattle.covstore.specs.State.{FileData, IsWholeFile, section_seen, sections_of, sections_of_file}
+use Rattle.covstore.specs.State.{FileData, IsWholeFile, section_seen, section_with_points, sections_of, sections_of_file}
 use Rattle.covstore.specs.Sums.{TestData}
 use Rattle.covstore.specs.Value.{Key, key_cmp}
 use Rattle.covstore.proofs.ContentsLists.{In-unflat}
 use Rattle.covstore.proofs.Members.{In, All-in}
 use Rattle.covstore.proofs.Orders.{names_order}
-use Rattle.covstore.proofs.StateSeen.{section_whole, seen_or_not, seen_key}
+use Rattle.covstore.proofs.TotalsDifferent.{All-from, All-joined}
+use Rattle.covstore.proofs.StateSeen.{seen_or_not, seen_key}
 
 -- ---- lists joined
-
-All-each : {X : Type 0} (P : X → Type 0) (xs : List X) → ((x : X) → In x xs → P x) → AllByRecursion P xs
-All-each P [] each = tt
-All-each P (x ∷ xs) each = (each x (inl refl), All-each P xs (λ y i. each y (inr i)))
-
-All-both : {X : Type 0} (P : X → Type 0) (xs ys : List X) → AllByRecursion P xs → AllByRecursion P ys → AllByRecursion P (xs ++ ys)
-All-both P [] ys left right = right
-All-both P (x ∷ xs) ys left right = (left.0, All-both P xs ys left.1 right)
 
 sorted_joined : {X : Type 0} (cmp : X → X → Ordering) (xs ys : List X) → IsStrictlySortedBy cmp xs → IsStrictlySortedBy cmp ys → ((x y : X) → In x xs → In y ys → cmp x y ≡ Less) → IsStrictlySortedBy cmp (xs ++ ys)
 unfolding IsStrictlySortedBy
 sorted_joined cmp [] ys left right before = right
 sorted_joined {X} cmp (x ∷ xs) ys left right before = (
-  All-both (λ z. cmp x z ≡ Less) xs ys left.0 (All-each (λ z. cmp x z ≡ Less) ys (λ y i. before x y (inl refl) i)),
+  All-joined (λ z. cmp x z ≡ Less) xs ys left.0 (All-from (λ z. cmp x z ≡ Less) ys (λ y i. before x y (inl refl) i)),
   sorted_joined cmp xs ys left.1 right (λ z y i j. before z y (inr i) j),
 )
 
-sorted_none : {X : Type 0} (cmp : X → X → Ordering) → IsStrictlySortedBy cmp []
+pub sorted_none : {X : Type 0} (cmp : X → X → Ordering) → IsStrictlySortedBy cmp []
 unfolding IsStrictlySortedBy
 sorted_none cmp = tt
 
-sorted_one : {X : Type 0} (cmp : X → X → Ordering) (x : X) → IsStrictlySortedBy cmp (x ∷ [])
+pub sorted_one : {X : Type 0} (cmp : X → X → Ordering) (x : X) → IsStrictlySortedBy cmp (x ∷ [])
 unfolding IsStrictlySortedBy
 sorted_one cmp x = (tt, tt)
 
 -- the parts of ascending pairs, each ascending, one before the next
-sorted_parts : {K V X : Type 0} (order : K → K → Ordering) (cmp : X → X → Ordering) (part : K × V → List X) (pairs : List (K × V)) → ArePairs order pairs
+pub sorted_parts : {K V X : Type 0} (order : K → K → Ordering) (cmp : X → X → Ordering) (part : K × V → List X) (pairs : List (K × V)) → ArePairs order pairs
     → ((pair : K × V) → In pair pairs → IsStrictlySortedBy cmp (part pair))
     → ((pair next : K × V) (x y : X) → order pair.0 next.0 ≡ Less → In x (part pair) → In y (part next) → cmp x y ≡ Less) → IsStrictlySortedBy cmp (flat_map part pairs)
 sorted_parts order cmp part [] ascending each before = sorted_none cmp
@@ -64,7 +56,7 @@ seen_sorted : (file : List ℕ) (texts : List (ℕ × List ℕ)) (test : List �
 seen_sorted file texts test points =
     ⊎_elim {C = IsStrictlySortedBy section_cmp (section_seen file texts test points)}
     (λ seen. subst (IsStrictlySortedBy section_cmp) (sym seen.1) (sorted_none section_cmp))
-    (λ seen. subst (IsStrictlySortedBy section_cmp) (sym seen.1) (sorted_one section_cmp (section_whole file texts test points)))
+    (λ seen. subst (IsStrictlySortedBy section_cmp) (sym seen.1) (sorted_one section_cmp (section_with_points file texts test points)))
     (seen_or_not file texts test points)
 
 by_key : (a b : SectionData) (k l : Key) → k ≡ a.key → l ≡ b.key → key_cmp k l ≡ Less → section_cmp a b ≡ Less

@@ -1,32 +1,36 @@
 -- What a state is after one row more, a file more, or a test more in a file.
-use Rattle.std.proofs.Common.{◌≡◌, ℕ, Bool, true, false, ◌&&◌, Option, Some, None, List, [], ◌∷◌, ◌++◌, map, refl, sym, ap, ◌∙◌, subst, inl, inr, ⊎_elim, arith}
+use Rattle.std.proofs.Common.{◌≡◌, ℕ, false, Option, Some, List, [], ◌∷◌, ◌++◌, map, refl, sym, ap, ◌∙◌, subst, inl, inr, ⊎_elim}
 use Rattle.std.specs.Prelude.{◌⊎◌, Contains}
 use Rattle.std.specs.Cmp.Lexicographic.{slice_cmp}
 use Rattle.std.specs.declared.cmp.Ordering.{Ordering}
-use Rattle.std.specs.List.{AllByRecursion, flat_map}
-use Rattle.std.specs.Ordering.{is_eq, match_ordering, nat_cmp}
+use Rattle.std.specs.List.{AllByRecursion}
+use Rattle.std.specs.Ordering.{nat_cmp}
 use Rattle.std.specs.Str.{bytes_eq}
-use Rattle.std.proofs.lemmas.Bool.{cases_Bool, cond-true, cond-false}
+use Rattle.std.proofs.lemmas.Bool.{cond-true, cond-false, false_from_ne_true}
+use Rattle.std.proofs.lemmas.List.{append-nil}
 use Rattle.std.proofs.lemmas.List.Concat.{flat_map-append}
-use Rattle.std.proofs.lemmas.Option.{none-some}
 use Rattle.std.proofs.lemmas.Slice.Eq.{bytes_eq-Decides}
 use Rattle.covline.specs.Row.{ItemData, Row}
 use Rattle.covstore.specs.Clash.{Checksum, checksum_of_row, checksums_in}
-use Rattle.covstore.specs.Puts.{ArePairs, put, value_of}
+use Rattle.covstore.specs.Puts.{put, value_of}
 use Rattle.covstore.specs.State.{FileData, IsStateOf, IsWholeFile, points_at, points_in, text_in}
 use Rattle.covstore.specs.Sums.{TestData, test_of, with_item}
 use Rattle.covstore.specs.Value.{Key, has_key, items_at}
 use Rattle.covstore.proofs.Ascend.{All-match}
 use Rattle.covstore.proofs.ContentsChecksums.{line_of_said, own_row}
 use Rattle.covstore.proofs.ContentsLists.{same_or_not, In-unflat}
-use Rattle.covstore.proofs.ContentsSections.{both, items_at-append, own_key}
-use Rattle.covstore.proofs.Members.{In, In-from, Contains-from, In-joined, In-parts}
+use Rattle.covstore.proofs.ContentsSections.{both, items_at-append}
+use Rattle.covstore.proofs.Members.{All-in, In, In-from, Contains-from, In-parts}
 use Rattle.covstore.proofs.Orders.{names_order}
-use Rattle.covstore.proofs.Puts.{ArePairs-put, value_of-put, value_of-put_other}
+use Rattle.covstore.proofs.Puts.{ArePairs-put, pair_in, value_of-put, value_of-put_other}
 use Rattle.covstore.proofs.StateSections.{points_same, points_there}
 
-name_or_not : (one other : List ℕ) → (one ≡ other) ⊎ (one ≡ other → ⊥)
+pub name_or_not : (one other : List ℕ) → (one ≡ other) ⊎ (one ≡ other → ⊥)
 name_or_not one other = same_or_not (slice_cmp nat_cmp) names_order one other (slice_cmp nat_cmp one other) refl
+
+-- a file that is there is whole
+pub file_whole : (rows : List Row) (files : List (List ℕ × FileData)) → IsStateOf rows files → (name : List ℕ) (file : FileData) → value_of (slice_cmp nat_cmp) name files ≡ Some file → IsWholeFile file
+file_whole rows files state name file there = All-in (λ (pair : List ℕ × FileData). IsWholeFile pair.1) files (name, file) state.whole (pair_in names_order name file files there)
 
 All-put : {K V : Type 0} (cmp : K → K → Ordering) (P : K × V → Type 0) (key : K) (value : V) (pairs : List (K × V)) → P (key, value) → AllByRecursion P pairs → AllByRecursion P (put cmp key value pairs)
 All-put cmp P key value [] h all = (h, tt)
@@ -91,19 +95,17 @@ same_rows rows files state name after whole points texts = state_changed rows ro
 
 -- the row's own key, and others
 not_has_key : (key : Key) (row : Row) → (row.file ≡ key.file → row.test ≡ key.test → ⊥) → has_key key row ≡ false
-not_has_key key row other = unless (has_key key row) (λ e. let parts = both (bytes_eq row.file key.file) (bytes_eq row.test key.test) e in
+not_has_key key row other =
+    false_from_ne_true (has_key key row)
+    (λ e.
+    let parts = both (bytes_eq row.file key.file) (bytes_eq row.test key.test) e in
     other ((bytes_eq-Decides row.file key.file).0 parts.0) ((bytes_eq-Decides row.test key.test).0 parts.1))
-  where
-    unless : (b : Bool) → (b ≡ true → ⊥) → b ≡ false
-    unless true never = absurd (never refl)
-    unless false never = refl
 
 items_as_before : (key : Key) (rows : List Row) (row : Row) → (row.file ≡ key.file → row.test ≡ key.test → ⊥) → items_at key (rows ++ row ∷ []) ≡ items_at key rows
-items_as_before key rows row other = items_at-append key rows (row ∷ []) ∙ ap (λ (own : List Row). items_at key rows ++ map (λ (r : Row). r.item) own) (cond-false (has_key key row) (row ∷ []) [] (not_has_key key row other)) ∙ append_none (items_at key rows)
-  where
-    append_none : (items : List ItemData) → items ++ [] ≡ items
-    append_none [] = refl
-    append_none (item ∷ items) = ap (λ (others : List ItemData). item ∷ others) (append_none items)
+items_as_before key rows row other =
+    items_at-append key rows (row ∷ [])
+    ∙ ap (λ (own : List Row). items_at key rows ++ map (λ (r : Row). r.item) own) (cond-false (has_key key row) (row ∷ []) [] (not_has_key key row other))
+    ∙ append-nil (items_at key rows)
 
 item_more : (rows : List Row) (row : Row) → items_at (record { file = row.file; test = row.test }) (rows ++ row ∷ []) ≡ items_at (record { file = row.file; test = row.test }) rows ++ row.item ∷ []
 item_more rows row =

@@ -1,17 +1,15 @@
 -- The sections that are seen of a state are what its rows add up to.
-use Rattle.std.proofs.Common.{◌≡◌, ℕ, true, Option, Some, None, List, [], ◌∷◌, map, filter, refl, sym, ap, ◌∙◌, subst, inl, inr}
-use Rattle.std.specs.Prelude.{◌⊎◌}
-use Rattle.std.specs.Prelude.{Contains}
+use Rattle.std.proofs.Common.{◌≡◌, ℕ, true, Option, Some, None, List, [], ◌∷◌, map, filter, refl, sym, ap, ◌∙◌, subst, inl}
 use Rattle.std.specs.Cmp.Lexicographic.{slice_cmp}
 use Rattle.std.specs.Ordering.{nat_cmp}
 use Rattle.std.proofs.lemmas.Cmp.{on_total}
 use Rattle.covline.specs.Row.{ItemData, Row}
 use Rattle.covstore.specs.Clash.{Agree, Checksum, checksums_in}
-use Rattle.covstore.specs.Content.{SectionData, section_of, section_with, content_of}
+use Rattle.covstore.specs.Content.{SectionData, section_of, content_of}
 use Rattle.covstore.specs.Puts.{value_of}
-use Rattle.covstore.specs.State.{FileData, IsStateOf, IsWholeFile, points_in, section_seen, sections_of, sections_of_file, text_in}
+use Rattle.covstore.specs.State.{FileData, IsStateOf, IsWholeFile, points_in, points_or_none, section_seen, sections_of, sections_of_file, text_in}
 use Rattle.covstore.specs.Sums.{TestData, test_of}
-use Rattle.covstore.specs.Value.{Key, key_cmp, key_of_row, keys_of, has_key, items_at, line_checksum}
+use Rattle.covstore.specs.Value.{Key, key_cmp, key_of_row, keys_of, has_key, items_at}
 use Rattle.covstore.proofs.Ascend.{In-ascending, In-to_ascending, ascending_sorted, one_sorted}
 use Rattle.covstore.proofs.ContentsChecksums.{line_checksum_held, own_row}
 use Rattle.covstore.proofs.ContentsLists.{In-flat, In-unflat, In-filter, In-unfilter}
@@ -19,25 +17,21 @@ use Rattle.covstore.proofs.ContentsSections.{own_key}
 use Rattle.covstore.proofs.Members.{In, In-from, Contains-from, All-in, In-map, In-unmap}
 use Rattle.covstore.proofs.Orders.{keys_order, names_order}
 use Rattle.covstore.proofs.Puts.{pair_in, value_of_pair}
-use Rattle.covstore.proofs.StateOrder.{made_sorted, section_cmp, section_of_test, state_sorted}
+use Rattle.covstore.proofs.StateOrder.{made_sorted, section_of_test, state_sorted}
 use Rattle.covstore.proofs.StateSeen.{HasChecksums, HasNone, seen_as, seen_is, some_points_of}
 
 -- ---- what is kept of a test
 
 -- the points of a test that is there
 pub points_there : (file : FileData) (test : List ℕ) (points : TestData) → value_of (slice_cmp nat_cmp) test file.tests ≡ Some points → points_in (Some file) test ≡ points
-points_there file test points e = rw e refl
+points_there file test points e = ap points_or_none e
 
 pub points_none : (file : FileData) (test : List ℕ) → value_of (slice_cmp nat_cmp) test file.tests ≡ None → points_in (Some file) test ≡ test_of []
-points_none file test e = rw e refl
+points_none file test e = ap points_or_none e
 
 -- only the value of a test decides
 pub points_same : (file other : FileData) (test : List ℕ) → value_of (slice_cmp nat_cmp) test file.tests ≡ value_of (slice_cmp nat_cmp) test other.tests → points_in (Some file) test ≡ points_in (Some other) test
-points_same file other test e = by (value_of (slice_cmp nat_cmp) test other.tests) refl
-  where
-    by : (kept : Option TestData) → value_of (slice_cmp nat_cmp) test other.tests ≡ kept → points_in (Some file) test ≡ points_in (Some other) test
-    by None none = points_none file test (e ∙ none) ∙ sym (points_none other test none)
-    by (Some points) there = points_there file test points (e ∙ there) ∙ sym (points_there other test points there)
+points_same file other test e = ap points_or_none e
 
 -- the file's texts have the checksums of the items of its tests
 module _ (rows : List Row) (files : List (List ℕ × FileData)) (state : IsStateOf rows files) where

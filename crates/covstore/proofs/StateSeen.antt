@@ -1,7 +1,6 @@
 -- What is seen of a test whose points are what items add up to: the section of these items, and none where there are no items.
-use Rattle.std.proofs.Common.{◌≡◌, ℕ, Bool, true, false, Option, Some, None, List, [], ◌∷◌, map, refl, sym, ap, ◌∙◌, subst, inl, inr, ⊎_elim}
+use Rattle.std.proofs.Common.{◌≡◌, ℕ, Option, Some, None, List, [], ◌∷◌, map, refl, sym, ap, ◌∙◌, subst, inl, inr, ⊎_elim}
 use Rattle.std.specs.Prelude.{◌⊎◌}
-use Rattle.std.specs.Cmp.Lexicographic.{slice_cmp}
 use Rattle.std.specs.Option.{is_some}
 use Rattle.std.specs.Ordering.{nat_cmp}
 use Rattle.covline.specs.Points.{BranchPoint, line_points, func_points, branch_points}
@@ -11,9 +10,9 @@ use Rattle.covstore.specs.declared.sums.LineSum.{LineSum}
 use Rattle.covstore.specs.declared.sums.Taken.{Taken}
 use Rattle.covstore.specs.Content.{FunctionValueData, BranchValueData, LineValueData, SectionData, function_at, branch_at, line_at, section_with}
 use Rattle.covstore.specs.Puts.{value_of}
-use Rattle.covstore.specs.State.{text_at, line_seen, function_seen, branch_seen, section_seen}
+use Rattle.covstore.specs.State.{text_at, line_seen, function_seen, branch_seen, section_with_points, section_seen}
 use Rattle.covstore.specs.Sums.{TestData, test_of, line_sum, function_sum, branch_sum}
-use Rattle.covstore.specs.Value.{Key, branch_cmp, lines_in, line_checksum, names_in, branches_in}
+use Rattle.covstore.specs.Value.{Key, lines_in, line_checksum, names_in, branches_in}
 use Rattle.covstore.proofs.Ascend.{In-to_ascending}
 use Rattle.covstore.proofs.Members.{In, In-map}
 use Rattle.covstore.proofs.Orders.{lines_order, names_order, branches_order}
@@ -26,15 +25,6 @@ pub record HasNone (test : TestData) : Type 0 where
   pub functions : test.functions ≡ []
   pub branches : test.branches ≡ []
 
--- the section of a test that has points
-abbrev pub section_whole : List ℕ → List (ℕ × List ℕ) → List ℕ → TestData → SectionData
-section_whole file texts test points = record {
-  key = record { file = file; test = test };
-  functions = map function_seen points.functions;
-  branches = map branch_seen points.branches;
-  lines = map (line_seen texts) points.lines;
-}
-
 not_empty : {X : Type 0} (x : X) (xs : List X) → In x xs → xs ≡ [] → ⊥
 not_empty {X} x xs i e = subst (In x) e i
 
@@ -44,7 +34,7 @@ points_from lines functions branches = record { lines = lines; functions = funct
 -- what is seen of a test: nothing where it has no points, else one section
 abbrev pub IsSeen : List ℕ → List (ℕ × List ℕ) → List ℕ → TestData → Type 0
 IsSeen file texts test points =
-    (HasNone points × (section_seen file texts test points ≡ [])) ⊎ ((HasNone points → ⊥) × (section_seen file texts test points ≡ section_whole file texts test points ∷ []))
+    (HasNone points × (section_seen file texts test points ≡ [])) ⊎ ((HasNone points → ⊥) × (section_seen file texts test points ≡ section_with_points file texts test points ∷ []))
 
 seen_at : (file : List ℕ) (texts : List (ℕ × List ℕ)) (test : List ℕ) (lines : List (ℕ × LineSum)) (functions : List (List ℕ × FunctionSum)) (branches : List (BranchPoint × Taken))
     → IsSeen file texts test (points_from lines functions branches)
@@ -59,7 +49,7 @@ pub seen_or_not : (file : List ℕ) (texts : List (ℕ × List ℕ)) (test : Lis
 unfolding points_from
 seen_or_not file texts test points = seen_at file texts test points.lines points.functions points.branches
 
-pub seen_whole : (file : List ℕ) (texts : List (ℕ × List ℕ)) (test : List ℕ) (points : TestData) → (HasNone points → ⊥) → section_seen file texts test points ≡ section_whole file texts test points ∷ []
+pub seen_whole : (file : List ℕ) (texts : List (ℕ × List ℕ)) (test : List ℕ) (points : TestData) → (HasNone points → ⊥) → section_seen file texts test points ≡ section_with_points file texts test points ∷ []
 seen_whole file texts test points some = ⊎_elim (λ seen. absurd (some seen.0)) (λ seen. seen.1) (seen_or_not file texts test points)
 
 -- a section that is seen has its file and test
@@ -71,7 +61,7 @@ seen_key file texts test points section i =
     (λ seen. by (subst (In section) seen.1 i))
     (seen_or_not file texts test points)
   where
-    by : In section (section_whole file texts test points ∷ []) → ◌≡◌ {A = Key} (record { file = file; test = test }) section.key
+    by : In section (section_with_points file texts test points ∷ []) → ◌≡◌ {A = Key} (record { file = file; test = test }) section.key
     by (inl is) = ap (λ (s : SectionData). s.key) is
     by (inr none) = absurd none
 
@@ -99,7 +89,7 @@ text_as_said : (texts : List (ℕ × List ℕ)) (line : ℕ) (said : Option (Lis
 text_as_said texts line None held = refl
 text_as_said texts line (Some text) held = held text refl
 
-map_of_map : {X Y Z : Type 0} (f : X → Y) (g : Y → Z) (h : X → Z) (xs : List X) → ((x : X) → g (f x) ≡ h x) → map g (map f xs) ≡ map h xs
+pub map_of_map : {X Y Z : Type 0} (f : X → Y) (g : Y → Z) (h : X → Z) (xs : List X) → ((x : X) → g (f x) ≡ h x) → map g (map f xs) ≡ map h xs
 map_of_map f g h [] same = refl
 map_of_map {X} {Y} {Z} f g h (x ∷ xs) same = ap (λ (z : Z). z ∷ map g (map f xs)) (same x) ∙ ap (λ (zs : List Z). h x ∷ zs) (map_of_map f g h xs same)
 
@@ -118,7 +108,7 @@ HasChecksums texts items = (line : ℕ) (text : List ℕ) → line_checksum line
 section_from : Key → List FunctionValueData → List BranchValueData → List LineValueData → SectionData
 section_from key functions branches lines = record { key = key; functions = functions; branches = branches; lines = lines }
 
-whole_as : (key : Key) (texts : List (ℕ × List ℕ)) (items : List ItemData) → HasChecksums texts items → section_whole key.file texts key.test (test_of items) ≡ section_with key items
+whole_as : (key : Key) (texts : List (ℕ × List ℕ)) (items : List ItemData) → HasChecksums texts items → section_with_points key.file texts key.test (test_of items) ≡ section_with key items
 unfolding section_from
 whole_as key texts items held =
     let functions : map function_seen (test_of items).functions ≡ map (function_at items) (names_in items) = map_of_map (function_sum items) function_seen (function_at items) (names_in items) (λ name. refl) in
