@@ -4,6 +4,7 @@ use Rattle.std.specs.Cmp.Lexicographic.{slice_cmp}
 use Rattle.std.specs.Option.{is_some}
 use Rattle.std.specs.Ordering.{nat_cmp}
 use Rattle.covstore.specs.declared.file.File.{File}
+use Rattle.covstore.specs.Checksums.{KeepsTexts}
 use Rattle.covstore.specs.Marks.{MarksData, file_with}
 use Rattle.covstore.specs.MarksView.{marks_coming, marks_held, no_marks}
 use Rattle.covstore.specs.Puts.{put, value_of}
@@ -34,3 +35,16 @@ with_test test file = record {
   holders = file.holders;
   texts = file.texts;
 }
+
+-- the files with this one, without tests where it wasn't there
+abbrev pub with_file : List ℕ → List (List ℕ × FileData) → List (List ℕ × FileData)
+with_file file files = if is_some (value_of (slice_cmp nat_cmp) file files) then files else put (slice_cmp nat_cmp) file no_file files
+
+-- the same tests and numbers, and the text of each line of which a checksum is held
+pub record KeepsFile (before after : FileData) : Type 0 where
+  pub tests : after.tests ≡ before.tests
+  pub lines : after.lines ≡ before.lines
+  pub functions : after.functions ≡ before.functions
+  pub branches : after.branches ≡ before.branches
+  pub holders : after.holders ≡ before.holders
+  pub texts : KeepsTexts before.holders before.texts after.texts

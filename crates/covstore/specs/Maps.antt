@@ -25,11 +25,16 @@ pub record SameContent (before after : StoreData) : Type 0 where
   pub sections : after.sections ≡ before.sections
   pub members : after.members ≡ before.members
 
--- the same is kept; what is to come may differ
+-- files that are the state of rows still are, and their totals are the same: places may be made ready in them
+pub record KeepsState (before after : List (List ℕ × FileData)) : Type 0 where
+  pub states : (rows : List Row) → IsStateOf rows before → IsStateOf rows after
+  pub totals : totals_in after ≡ totals_in before
+
+-- the content and the state that is kept are the same; what is to come may differ
 pub record SameHeld (before after : StoreData) : Type 0 where
   pub sections : after.sections ≡ before.sections
   pub members : after.members ≡ before.members
-  pub held : after.held ≡ before.held
+  pub held : KeepsState before.held after.held
 
 -- the store's content is the value of all rows of the table, which has no two different checksums of one line of a file
 pub record StandsFor (store : StoreData) (table : Table) : Type 0 where

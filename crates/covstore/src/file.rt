@@ -1,6 +1,6 @@
 //! A file of the store: its tests, and what is kept of them.
 
-ghost use Rattle.std.specs.Prelude.{◌≡◌, map, IfErr, IsTrue, OnErr, OnOk};
+ghost use Rattle.std.specs.Prelude.{◌≡◌, ℕ, List, [], ◌∷◌, ◌++◌, map, IfErr, IsTrue, OnErr, OnOk};
 
 use crate::marks::Marks;
 use crate::section::add_items;
@@ -21,7 +21,8 @@ pub(crate) struct File<A: Allocator> {
 impl<A: Allocator + Copy> File<A> {
     ghost use Rattle.covline.specs.Row.{item_data};
     ghost use Rattle.covstore.specs.FileAdds.{AddsItems, ClashesIn, HasRoomIn};
-    ghost use Rattle.covstore.specs.FileView.{file_coming, file_held, no_file, with_test};
+    ghost use Rattle.covstore.specs.FileView.{KeepsFile, file_coming, file_held, no_file, with_test};
+    ghost use Rattle.covstore.specs.MapsView.{IsSettledBut};
     ghost use Rattle.covstore.specs.State.{file_totals};
 
     /// No tests.
@@ -53,7 +54,7 @@ impl<A: Allocator + Copy> File<A> {
     /// Takes the items of a test into what is to come, in order, up to the first that clashes.
     pub(crate) fn add(&mut self, alloc: A, test: &[u8], items: &[Item<A>]) -> Result<(), Stop<A>>
         requires room { HasRoomIn (map item_data items.now) test.now (file_coming self.old) }
-        ensures held { file_held self.new ≡ file_held self.old }
+        ensures held { KeepsFile (file_held self.old) (file_held self.new) }
         ensures ok { OnOk result (AddsItems (map item_data items.now) test.now (file_coming self.old) (file_coming self.new)) }
         ensures clash { IfErr result (ClashesIn (map item_data items.now) test.now (file_coming self.old)) }
     {
@@ -65,6 +66,8 @@ impl<A: Allocator + Copy> File<A> {
 
     /// What was to come of a test, and of what is kept of the file, is there.
     pub(crate) fn take(&mut self, test: &[u8])
+        ensures coming { file_coming self.new ≡ file_coming self.old }
+        ensures settled { (tests : List (List ℕ)) → IsSettledBut (tests ++ test.now ∷ []) self.old → IsSettledBut tests self.new }
     {
         if let Some(points) = self.tests.get_mut(test) {
             points.take();
@@ -74,6 +77,8 @@ impl<A: Allocator + Copy> File<A> {
 
     /// Nothing is to come of a test, nor of what is kept of the file.
     pub(crate) fn forget(&mut self, test: &[u8])
+        ensures held { file_held self.new ≡ file_held self.old }
+        ensures settled { (tests : List (List ℕ)) → IsSettledBut (tests ++ test.now ∷ []) self.old → IsSettledBut tests self.new }
     {
         if let Some(points) = self.tests.get_mut(test) {
             points.forget();

@@ -44,7 +44,7 @@ impl<A: Allocator> Model for Store<A> {
 }
 
 impl<A: Allocator + Copy> Store<A> {
-    ghost use Rattle.std.specs.Prelude.{◌≡◌, ◌<◌, ◌++◌, [], ◌∷◌, IfOk, IfErr, None, OnOk};
+    ghost use Rattle.std.specs.Prelude.{◌≡◌, ◌<◌, ◌++◌, [], ◌∷◌, IfOk, IfErr, None, OnErr, OnOk};
     ghost use Rattle.std.specs.Str.{bytes_eq};
     ghost use Rattle.std.specs.List.{list_any};
     ghost use Rattle.covline.specs.Row.{SubmissionData, rows_of, rows_of_sect};
@@ -53,6 +53,8 @@ impl<A: Allocator + Copy> Store<A> {
     ghost use Rattle.covstore.specs.Maps.{AddsRows, ClashesWith, HasRoomForRows, IsPlanOf, SameContent, SameHeld, StandsFor};
     ghost use Rattle.covstore.specs.Stored.{IsRefusedAt, most_members};
     ghost use Rattle.covstore.specs.RefuseView.{refuse_data};
+    ghost use Rattle.covstore.specs.State.{totals_in};
+    ghost use Rattle.covstore.specs.FileView.{with_file};
     ghost use Rattle.covstore.specs.Table.{Table, all_rows, clash_at};
     ghost use Rattle.covstore.specs.Totals.{AreTotals, totals_of};
 
@@ -118,8 +120,11 @@ impl<A: Allocator + Copy> Store<A> {
 
     /// Nothing is to come.
     fn forget(&mut self)
-        ensures held { SameHeld self.old self.new }
+        ensures sections { self.new.sections ≡ self.old.sections }
+        ensures members { self.new.members ≡ self.old.members }
+        ensures held { self.new.held ≡ self.old.held }
         ensures coming { self.new.coming ≡ self.old.held }
+        ensures after { self.new.after ≡ totals_in self.old.held }
     {
         while let Some(touched) = self.touched.pop() {
             if let Some(file) = self.files.get_mut(touched.file.as_slice()) {
@@ -178,7 +183,9 @@ impl<A: Allocator + Copy> Store<A> {
 
     /// Something is to come of this section's test.
     fn touch(&mut self, alloc: A, sect: &Sect<A>) -> Result<(), Memory>
-        ensures held { SameHeld self.old self.new }
+        ensures sections { self.new.sections ≡ self.old.sections }
+        ensures members { self.new.members ≡ self.old.members }
+        ensures held { self.new.held ≡ self.old.held }
         ensures coming { self.new.coming ≡ self.old.coming }
         ensures after { self.new.after ≡ self.old.after }
     {
@@ -192,7 +199,11 @@ impl<A: Allocator + Copy> Store<A> {
 
     /// Sees to it that the file is there.
     fn open(&mut self, alloc: A, file: &[u8]) -> Result<(), Memory>
-        ensures held { SameHeld self.old self.new }
+        ensures members { self.new.members ≡ self.old.members }
+        ensures held { OnOk result (self.new.held ≡ with_file file.now self.old.held) }
+        ensures coming { OnOk result (self.new.coming ≡ with_file file.now self.old.coming) }
+        ensures after { self.new.after ≡ self.old.after }
+        ensures err { OnErr result (self.new ≡ self.old) }
     {
         if self.files.contains_key(file) {
             return Ok(());
