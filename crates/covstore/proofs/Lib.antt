@@ -44,6 +44,8 @@ pub mod StateSeen
 pub mod StateOrder
 pub mod StateSections
 pub mod StateRows
+pub mod MapKeys
+pub mod Opens
 pub mod StateMore
 pub mod StateFiles
 pub mod StateTotals
