@@ -44,3 +44,7 @@ pub mod StateSeen
 pub mod StateOrder
 pub mod StateSections
 pub mod StateRows
+pub mod AddsLists
+pub mod AddsPlace
+pub mod AddsItem
+pub mod AddsMore
