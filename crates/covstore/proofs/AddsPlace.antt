@@ -84,6 +84,9 @@ some_value : {V : Type 0} (value : Option V) → is_some value ≡ true → (v :
 some_value None e = absurd (false≢true e)
 some_value (Some v) e = (v, refl)
 
+same_value : {V : Type 0} {value : Option V} {one other : V} → value ≡ Some one → value ≡ Some other → one ≡ other
+same_value {one = one} {other = other} e f = same_Some one other (sym e ∙ f)
+
 -- a line of which an item says a checksum has a sum with one
 abbrev pub HasSum : TestData → ℕ → Type 0
 HasSum test line = (sum : LineSum) × (value_of nat_cmp line test.lines ≡ Some sum) × (sum.has_checksum ≡ true)
@@ -215,5 +218,5 @@ module _ {rows : List Row} {files : List (List ℕ × FileData)} {file name : Li
       let said = some_value (line_checksum line (items_at key rows)) (sym has ∙ sum.2) in
       let there = line_checksum_held rows key line said.0 said.1 in
       let its_text : value_of nat_cmp line marks.texts ≡ Some said.0 = text_kept (checksum_with file line said.0) there refl in
-      let is_text : said.0 ≡ text = same_Some said.0 text (sym {a = value_of nat_cmp line marks.texts} its_text ∙ kept) in
+      let is_text : said.0 ≡ text = same_value {value = value_of nat_cmp line marks.texts} its_text kept in
       subst (λ (t : List ℕ). In (checksum_with file line t) (checksums_in rows)) is_text there
