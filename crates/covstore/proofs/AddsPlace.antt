@@ -84,9 +84,6 @@ some_value : {V : Type 0} (value : Option V) → is_some value ≡ true → (v :
 some_value None e = absurd (false≢true e)
 some_value (Some v) e = (v, refl)
 
-same_value : {V : Type 0} {value : Option V} {one other : V} → value ≡ Some one → value ≡ Some other → one ≡ other
-same_value {one = one} {other = other} e f = same_Some one other (sym e ∙ f)
-
 -- a line of which an item says a checksum has a sum with one
 abbrev pub HasSum : TestData → ℕ → Type 0
 HasSum test line = (sum : LineSum) × (value_of nat_cmp line test.lines ≡ Some sum) × (sum.has_checksum ≡ true)
@@ -202,6 +199,12 @@ module _ {rows : List Row} {files : List (List ℕ × FileData)} {file name : Li
       sum_there row.0.test c.line (value_of (slice_cmp nat_cmp) row.0.test tests) refl
       (subst (λ (of : List ℕ). HasSum (test_of (items_at (record { file = of; test = row.0.test }) rows)) c.line) (says.0 ∙ sym same) sum)
 
+  is_text : (line : ℕ) (said text : List ℕ) → In (checksum_with file line said) (checksums_in rows) → value_of nat_cmp line marks.texts ≡ Some text → In (checksum_with file line text) (checksums_in rows)
+  unfolding checksum_with
+  is_text line said text there kept =
+      let own : value_of nat_cmp line marks.texts ≡ Some said = text_kept (checksum_with file line said) there refl in
+      subst (λ (t : List ℕ). In (checksum_with file line t) (checksums_in rows)) (same_Some said text (sym own ∙ kept)) there
+
   -- the other way: the text of a line of which a test holds a checksum is one of the rows'
   pub held_text : (line : ℕ) (text : List ℕ) → is_some (value_of nat_cmp line marks.holders) ≡ true → value_of nat_cmp line marks.texts ≡ Some text
       → In (record { file = file; line = line; checksum = text }) (checksums_in rows)
@@ -216,7 +219,4 @@ module _ {rows : List Row} {files : List (List ℕ × FileData)} {file name : Li
       let own : value_of nat_cmp line (test_of (items_at key rows)).lines ≡ Some sum.0 = ap (λ (t : TestData). value_of nat_cmp line t.lines) (sym sums) ∙ sum.1 in
       let has : sum.0.has_checksum ≡ is_some (line_checksum line (items_at key rows)) = line_has_checksum (items_at key rows) line sum.0 own in
       let said = some_value (line_checksum line (items_at key rows)) (sym has ∙ sum.2) in
-      let there = line_checksum_held rows key line said.0 said.1 in
-      let its_text : value_of nat_cmp line marks.texts ≡ Some said.0 = text_kept (checksum_with file line said.0) there refl in
-      let is_text : said.0 ≡ text = same_value {value = value_of nat_cmp line marks.texts} its_text kept in
-      subst (λ (t : List ℕ). In (checksum_with file line t) (checksums_in rows)) is_text there
+      is_text line said.0 text (line_checksum_held rows key line said.0 said.1) kept

@@ -48,3 +48,5 @@ pub mod AddsLists
 pub mod AddsPlace
 pub mod AddsItem
 pub mod AddsMore
+pub mod AddsFew
+pub mod AddsRoom
