@@ -1,10 +1,10 @@
 -- What is kept for a file has no more points than there are rows: each is the point of some row, and stands once.
-use Rattle.std.proofs.Common.{◌≡◌, ℕ, ◌≤◌, Bool, Option, Some, None, List, [], ◌∷◌, length, filter, map, refl, sym, ap, ◌∙◌, subst, inl, inr, ⊎_elim, arith}
+use Rattle.std.proofs.Common.{◌≡◌, ℕ, ◌≤◌, Bool, Option, Some, List, [], ◌∷◌, length, filter, map, refl, sym, ap, ◌∙◌, subst, inl, inr, ⊎_elim, arith}
 use Rattle.std.specs.Cmp.{IsTotalOrder}
 use Rattle.std.specs.Cmp.Lexicographic.{slice_cmp}
 use Rattle.std.specs.declared.cmp.Ordering.{Ordering}
 use Rattle.std.specs.declared.cmp.Ordering.TheVariants.{Less}
-use Rattle.std.specs.List.{AllByRecursion, flat_map}
+use Rattle.std.specs.List.{flat_map}
 use Rattle.std.specs.List.Sorted.{IsStrictlySortedBy}
 use Rattle.std.specs.Ordering.{nat_cmp}
 use Rattle.std.proofs.lemmas.Cmp.{tied_itself}
@@ -18,9 +18,9 @@ use Rattle.covstore.specs.declared.sums.Tests.{Tests}
 use Rattle.covstore.specs.Ascending.{ascending}
 use Rattle.covstore.specs.Counts.{AreCounts}
 use Rattle.covstore.specs.Puts.{value_of}
-use Rattle.covstore.specs.State.{FileData, IsStateOf, IsWholeFile, branch_above, function_above, line_above, points_in, tests_in}
+use Rattle.covstore.specs.State.{FileData, IsStateOf, IsWholeFile, points_in, tests_in}
 use Rattle.covstore.specs.Sums.{TestData, branch_sum, function_sum, line_sum, test_of}
-use Rattle.covstore.specs.Value.{Key, branch_cmp, branches_in, has_key, items_at, lines_in, names_in}
+use Rattle.covstore.specs.Value.{Key, branches_in, has_key, items_at, lines_in, names_in}
 use Rattle.covstore.proofs.Ascend.{IsExactOrder, In-ascending, In-to_ascending, ascending_sorted, length-ascending}
 use Rattle.covstore.proofs.ContentsLists.{In-flat, In-unfilter, In-unflat}
 use Rattle.covstore.proofs.CountsFound.{points_kept, points_of, sorted_keys}
@@ -55,8 +55,8 @@ length-within {X} {cmp} t (x ∷ xs) (y ∷ ys) sorted ordered within =
     let before : cmp y x ≡ Less = All-in (λ (w : X). cmp y w ≡ Less) ys x ordered.0 there in
     let later : (z : X) → In z (x ∷ xs) → In z ys =
     λ z i. not_first t y z ys
-        (⊎_elim {C = cmp y z ≡ Less} (λ (same : x ≡ z). subst (λ (w : X). cmp y w ≡ Less) same before)
-        (λ (behind : In z xs). t.trans y x z before (All-in (λ (w : X). cmp x w ≡ Less) xs z sorted.0 behind)) i) (within z i) in
+    (⊎_elim {C = cmp y z ≡ Less} (λ (same : x ≡ z). subst (λ (w : X). cmp y w ≡ Less) same before)
+    (λ (behind : In z xs). t.trans y x z before (All-in (λ (w : X). cmp x w ≡ Less) xs z sorted.0 behind)) i) (within z i) in
     omega (arith, length-within t (x ∷ xs) ys sorted ordered.1 later))
     (within x (inl refl))
 
@@ -68,9 +68,11 @@ kept_within : {K V : Type 0} {cmp : K → K → Ordering} (o : IsExactOrder cmp)
 kept_within {K} {V} {cmp} o tests counts are all within =
     let own : (key : K) → In key (points_of counts) → In key (ascending cmp all) =
     λ key i. In-to_ascending o.exact key all
-        (within key (In-ascending o.exact key (flat_map points_of tests) (subst (λ (keys : List K). In key keys) (points_kept o tests counts are) i))) in
+    (within key (In-ascending o.exact key (flat_map points_of tests) (subst (λ (keys : List K). In key keys) (points_kept o tests counts are) i))) in
     omega (
-      arith, length-map counts (λ (pair : K × Tests). pair.0), length-ascending cmp all,
+      arith,
+      length-map counts (λ (pair : K × Tests). pair.0),
+      length-ascending cmp all,
       length-within o.total (points_of counts) (ascending cmp all) (sorted_keys cmp counts are.ascending) (ascending_sorted o.total all) own,
     )
 
@@ -103,10 +105,10 @@ module _ (rows : List Row) (files : List (List ℕ × FileData)) (state : IsStat
       let all = flat_map (λ (row : Row). point row.item) rows in
       let within : (k : K) → In k (flat_map points_of (map part (tests_in file))) → In k all =
       λ k i. let list = In-unflat points_of (map part (tests_in file)) k i in
-          let test = In-unmap part (tests_in file) list.0 list.1 in
-          let sums = test_sums test.0 test.1 in
-          row_of point sums.0 k
-          (known (items_at sums.0 rows) k (subst (λ (pairs : List (K × V)). In k (points_of pairs)) (sym test.2 ∙ ap part sums.1) list.2)) in
+      let test = In-unmap part (tests_in file) list.0 list.1 in
+      let sums = test_sums test.0 test.1 in
+      row_of point sums.0 k
+      (known (items_at sums.0 rows) k (subst (λ (pairs : List (K × V)). In k (points_of pairs)) (sym test.2 ∙ ap part sums.1) list.2)) in
       omega (arith, kept_within o (map part (tests_in file)) counts are all within, few_parts (λ (row : Row). point row.item) (λ row. one row.item) rows)
 
 -- ---- the three kinds

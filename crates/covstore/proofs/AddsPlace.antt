@@ -1,34 +1,33 @@
 -- What stands where a test and the marks of its file stand: the file is whole, its tests are what their items add up to, and
 -- each checksum of the file is held, with its text.
-use Rattle.std.proofs.Common.{◌≡◌, ℕ, Bool, true, false, ◌&&◌, not, eqb, if◌then◌else◌, nat_lt, Option, Some, None, List, [], ◌∷◌, ◌++◌, length, filter, map, refl, sym, ap, ◌∙◌, subst, inl, inr, ⊎_elim, arith}
+use Rattle.std.proofs.Common.{◌≡◌, ℕ, Bool, true, false, ◌&&◌, not, eqb, if◌then◌else◌, nat_lt, Option, Some, None, List, [], ◌∷◌, ◌++◌, length, filter, map, refl, sym, ap, ◌∙◌, subst, inl}
 use Rattle.std.specs.Prelude.{Contains}
 use Rattle.std.specs.Cmp.Lexicographic.{slice_cmp}
-use Rattle.std.specs.List.{AllByRecursion, count_by, flat_map}
+use Rattle.std.specs.List.{flat_map}
 use Rattle.std.specs.Option.{is_some}
 use Rattle.std.specs.Ordering.{nat_cmp}
 use Rattle.std.specs.Str.{bytes_eq}
-use Rattle.std.proofs.lemmas.Bool.{cond-true, eqb-true, false≢true}
-use Rattle.std.proofs.lemmas.List.{length-append, length-map, map-append}
+use Rattle.std.proofs.lemmas.Bool.{eqb-true, false≢true}
+use Rattle.std.proofs.lemmas.List.{length-map, map-append}
 use Rattle.std.proofs.lemmas.Option.{none-some, same_Some}
 use Rattle.std.proofs.lemmas.Slice.Eq.{bytes_eq-Decides}
 use Rattle.covline.specs.Points.{line_point, line_points}
 use Rattle.covline.specs.Row.{ItemData, LineItem, FuncItem, BranchItem, Row}
 use Rattle.covstore.specs.declared.sums.LineSum.{LineSum}
 use Rattle.covstore.specs.Adds.{IsIn}
-use Rattle.covstore.specs.Clash.{Agree, Checksum, checksum_of, checksum_of_row, checksums_in, differs}
+use Rattle.covstore.specs.Clash.{Agree, Checksum, checksum_of_row, checksums_in}
 use Rattle.covstore.specs.Counts.{is_above_at}
 use Rattle.covstore.specs.Marks.{MarksData, file_with}
 use Rattle.covstore.specs.Puts.{put, value_of}
-use Rattle.covstore.specs.State.{AreKept, FileData, IsStateOf, IsWholeFile, has_checksum, holders_at, holding, points_in, points_or_none, tests_in, text_in}
+use Rattle.covstore.specs.State.{AreKept, FileData, IsStateOf, IsWholeFile, has_checksum, holders_at, holding, points_in, tests_in, text_in}
 use Rattle.covstore.specs.Steps.{KeepsCounts}
 use Rattle.covstore.specs.Sums.{TestData, line_sum, test_of}
 use Rattle.covstore.specs.Value.{Key, checksum_said, first_of, items_at, key_of_row, has_key, line_checksum}
 use Rattle.covstore.proofs.AddsLists.{IsPlaceOf, place_of}
 use Rattle.covstore.proofs.ContentsChecksums.{line_checksum_held, line_of_said, own_row}
 use Rattle.covstore.proofs.ContentsLists.{In-filter, In-flat, In-unflat}
-use Rattle.covstore.proofs.ContentsPoints.{checksum_unsaid, nothing_said}
 use Rattle.covstore.proofs.CountsFound.{any_counted}
-use Rattle.covstore.proofs.Members.{In, In-from, Contains-from, All-in, In-map, In-unmap}
+use Rattle.covstore.proofs.Members.{In, Contains-from, All-in, In-map, In-unmap}
 use Rattle.covstore.proofs.Orders.{names_order}
 use Rattle.covstore.proofs.Puts.{ArePairs-put, pair_in, value_of_pair}
 use Rattle.covstore.proofs.StateSections.{points_none, points_there}
