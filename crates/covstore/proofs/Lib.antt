@@ -49,3 +49,9 @@ pub mod Opens
 pub mod StateMore
 pub mod StateFiles
 pub mod StateTotals
+pub mod AddsLists
+pub mod AddsPlace
+pub mod AddsItem
+pub mod AddsMore
+pub mod AddsFew
+pub mod AddsRoom
