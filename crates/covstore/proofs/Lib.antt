@@ -46,6 +46,7 @@ pub mod StateSections
 pub mod StateRows
 pub mod MapKeys
 pub mod Opens
+pub mod Keeps
 pub mod StateMore
 pub mod StateFiles
 pub mod StateTotals

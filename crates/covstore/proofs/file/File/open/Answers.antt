@@ -15,9 +15,9 @@ returns-then-contains_key-clause-coming g c =
 pub returns-clause-held : goal.returns-clause-held
 returns-clause-held g c =
     test_opened (λ (key : Vec ℕ g.row.A.Denot). key.items) test_held (file_held c.args.self.now) c.args.self.now.tests.entries refl c.args.test.now c.contains_key.result c.contains_key.ensures c.if-contains_key.false
-    c.in_ok-name.name c.in_ok-name.ensures.items c.new.result c.new.ensures.held c.insert.new.self.entries (c.in_ok-insert.ensures tt).entries
+    c.in_ok-name.name c.in_ok-name.ensures.items c.new.result c.new.ensures.held c.insert.new.self.entries c.in_ok-insert.ensures.entries
 
 pub returns-clause-coming : goal.returns-clause-coming
 returns-clause-coming g c =
     test_opened (λ (key : Vec ℕ g.row.A.Denot). key.items) test_coming (file_coming c.args.self.now) c.args.self.now.tests.entries refl c.args.test.now c.contains_key.result c.contains_key.ensures c.if-contains_key.false
-    c.in_ok-name.name c.in_ok-name.ensures.items c.new.result c.new.ensures.coming c.insert.new.self.entries (c.in_ok-insert.ensures tt).entries
+    c.in_ok-name.name c.in_ok-name.ensures.items c.new.result c.new.ensures.coming c.insert.new.self.entries c.in_ok-insert.ensures.entries
