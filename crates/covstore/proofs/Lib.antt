@@ -47,6 +47,7 @@ pub mod StateRows
 pub mod MapKeys
 pub mod Opens
 pub mod Keeps
+pub mod StoreKept
 pub mod StateMore
 pub mod StateFiles
 pub mod StateTotals

@@ -29,6 +29,7 @@ impl<A: Allocator + Copy> File<A> {
     pub(crate) fn new(alloc: A) -> File<A>
         ensures held { file_held result ≡ no_file }
         ensures coming { file_coming result ≡ no_file }
+        ensures settled { (tests : List (List ℕ)) → IsSettledBut tests result }
     {
         File {
             tests: BTreeMap::new(alloc),

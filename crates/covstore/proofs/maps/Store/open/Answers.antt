@@ -1,0 +1,41 @@
+use Rattle.std.proofs.Common.{◌≡◌, Vec, ℕ, refl, sym, ap, ◌∙◌}
+use Rattle.std.specs.Cmp.Lexicographic.{slice_cmp}
+use Rattle.std.specs.Ordering.{nat_cmp}
+use Rattle.covstore.specs.FileView.{file_coming, file_held}
+use Rattle.covstore.specs.MapsView.{files_held, touched_data}
+use Rattle.covstore.proofs.Opens.{file_there, file_opened}
+use Rattle.covstore.proofs.StoreKept.{settled_with, store_with_file}
+use Rattle.covstore.proofs.maps.Store.open.Goals as goal
+
+pub returns-then-contains_key-clause-held : goal.returns-then-contains_key-clause-held
+returns-then-contains_key-clause-held g c =
+    let name = λ (key : Vec ℕ g.row.A.Denot). key.items in
+    file_there name file_held c.args.self.now.held c.self.inside.files.entries (ap (λ s. s.held) c.self.view_is) c.args.file.now c.contains_key.result c.contains_key.ensures c.if-contains_key.true
+
+pub returns-then-contains_key-clause-coming : goal.returns-then-contains_key-clause-coming
+returns-then-contains_key-clause-coming g c =
+    let name = λ (key : Vec ℕ g.row.A.Denot). key.items in
+    file_there name file_coming c.args.self.now.coming c.self.inside.files.entries (ap (λ s. s.coming) c.self.view_is) c.args.file.now c.contains_key.result c.contains_key.ensures c.if-contains_key.true
+
+pub returns-clause-held : goal.returns-clause-held
+returns-clause-held g c =
+    let name = λ (key : Vec ℕ g.row.A.Denot). key.items in
+    file_opened name file_held c.args.self.now.held c.self.inside.files.entries (ap (λ s. s.held) c.self.view_is) c.args.file.now c.contains_key.result c.contains_key.ensures c.if-contains_key.false
+    c.in_ok-name.name c.in_ok-name.ensures.items c.new.result c.new.ensures.held c.insert.new.self.entries c.in_ok-insert.ensures.entries
+
+pub returns-clause-coming : goal.returns-clause-coming
+returns-clause-coming g c =
+    let name = λ (key : Vec ℕ g.row.A.Denot). key.items in
+    file_opened name file_coming c.args.self.now.coming c.self.inside.files.entries (ap (λ s. s.coming) c.self.view_is) c.args.file.now c.contains_key.result c.contains_key.ensures c.if-contains_key.false
+    c.in_ok-name.name c.in_ok-name.ensures.items c.new.result c.new.ensures.coming c.insert.new.self.entries c.in_ok-insert.ensures.entries
+
+pub invariant_of-self-2 : goal.invariant_of-self-2
+invariant_of-self-2 g c =
+    let name = λ (key : Vec ℕ g.row.A.Denot). key.items in
+    (
+      store_with_file c.self.inside.members c.self.inside.held c.args.file.now (files_held name c.self.inside.files.entries) (files_held name c.insert.new.self.entries)
+      (file_opened name file_held (files_held name c.self.inside.files.entries) c.self.inside.files.entries refl c.args.file.now c.contains_key.result c.contains_key.ensures c.if-contains_key.false
+      c.in_ok-name.name c.in_ok-name.ensures.items c.new.result c.new.ensures.held c.insert.new.self.entries c.in_ok-insert.ensures.entries)
+      c.self.invariant.0,
+      settled_with name (λ a b. slice_cmp nat_cmp (name a) (name b)) (touched_data c.self.inside.touched.items) c.in_ok-name.name c.new.result c.self.inside.files.entries c.insert.new.self.entries c.new.ensures.settled c.in_ok-insert.ensures.entries c.self.invariant.1,
+    )
