@@ -40,3 +40,4 @@ pub mod SumsMore
 pub mod SumsMembers
 pub mod SumsBounds
 pub mod SumsSections
+pub mod StepsTally
