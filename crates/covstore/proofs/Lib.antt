@@ -41,3 +41,4 @@ pub mod SumsMembers
 pub mod SumsBounds
 pub mod SumsSections
 pub mod StepsTally
+pub mod StepsTexts
