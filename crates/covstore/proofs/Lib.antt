@@ -42,3 +42,5 @@ pub mod SumsBounds
 pub mod SumsSections
 pub mod StepsTally
 pub mod StepsTexts
+pub mod StepsCounts
+pub mod StepsKept
