@@ -1,13 +1,13 @@
 -- The numbers that are kept of a file count its tests, also with one item more in one of them.
-use Rattle.std.proofs.Common.{◌≡◌, ℕ, ◌+◌, ◌<◌, ◌≤◌, Bool, true, false, cond, if◌then◌else◌, nat_lt, Option, Some, None, List, [], ◌∷◌, ◌++◌, map, refl, sym, ap, ◌∙◌, subst, ⊎_elim, arith}
+use Rattle.std.proofs.Common.{◌≡◌, ℕ, ◌+◌, ◌<◌, ◌≤◌, ◌^◌, Bool, true, false, cond, if◌then◌else◌, nat_lt, Option, Some, None, List, [], ◌∷◌, ◌++◌, length, map, refl, sym, ap, ◌∙◌, subst, ⊎_elim, arith}
 use Rattle.std.specs.Cmp.Lexicographic.{slice_cmp}
 use Rattle.std.specs.declared.cmp.Ordering.{Ordering}
 use Rattle.std.specs.declared.cmp.Ordering.TheVariants.{Less, Equal, Greater}
 use Rattle.std.specs.List.{count_by}
-use Rattle.std.specs.Option.{is_some}
+use Rattle.std.specs.Option.{IfSome}
 use Rattle.std.specs.Ordering.{is_eq, nat_cmp}
 use Rattle.std.proofs.lemmas.Bool.{cases_Bool, cond-true, lt-ltb, ltb-false}
-use Rattle.std.proofs.lemmas.List.{map-append}
+use Rattle.std.proofs.lemmas.List.{length-map, map-append}
 use Rattle.std.proofs.lemmas.Map.Views.{tells_apart}
 use Rattle.covline.specs.Points.{BranchPoint}
 use Rattle.covstore.specs.declared.sums.FunctionSum.{FunctionSum}
@@ -23,7 +23,7 @@ use Rattle.covstore.specs.Steps.{KeepsCounts}
 use Rattle.covstore.specs.Sums.{TestData}
 use Rattle.covstore.specs.Value.{branch_cmp}
 use Rattle.covstore.proofs.Ascend.{IsExactOrder}
-use Rattle.covstore.proofs.Counts.{count_by-between}
+use Rattle.covstore.proofs.Counts.{IsWithin, count_by-between, counts_within}
 use Rattle.covstore.proofs.CountsPut.{counts_put}
 use Rattle.covstore.proofs.Orders.{branches_order, lines_order, names_order}
 use Rattle.covstore.proofs.Puts.{value_of-put, value_of-put_apart}
@@ -170,3 +170,14 @@ module _ (before after : TestData) (marks more : MarksData) where
 
       pub keeps_line_bare : value.has_checksum ≡ is_holding line before → more.holders ≡ marks.holders → KeepsCounts before after marks more
       keeps_line_bare same stay front back are = with_holders front back are (holders_same front before after back marks.holders more.holders (all_holding same) stay are.holders)
+
+-- ---- how large the numbers of a point are
+
+within_few : (value : Option Tests) (tests : ℕ) → tests < 2 ^ 63 → ((held : Tests) → value ≡ Some held → IsWithin held tests) → IfSome value (λ held. (held.tests < 2 ^ 63) × (held.hit < 2 ^ 63))
+within_few None tests few within = tt
+within_few (Some held) tests few within = let is = within held refl in (omega (arith, is.all), omega (arith, is.all, is.hit))
+
+pub room_for : {K V : Type 0} {cmp : K → K → Ordering} {is_above : V → Bool} {X : Type 0} (points : X → List (K × V)) (tests : List X) (counts : List (K × Tests)) → length tests < 2 ^ 63
+    → AreCounts cmp is_above (map points tests) counts → (key : K) → IfSome (value_of cmp key counts) (λ held. (held.tests < 2 ^ 63) × (held.hit < 2 ^ 63))
+room_for {cmp = cmp} points tests counts few are key =
+    within_few (value_of cmp key counts) (length (map points tests)) (omega (arith, length-map tests points)) (counts_within are key)
