@@ -14,7 +14,7 @@ use Rattle.covstore.specs.declared.sums.Tests.{Tests}
 use Rattle.covstore.specs.Changes.{change_by, change_of, changed}
 use Rattle.covstore.specs.Counts.{counts_with, is_above_at, tests_more}
 use Rattle.covstore.specs.Puts.{put, value_of}
-use Rattle.covstore.specs.State.{branch_above, function_above, line_above}
+use Rattle.covstore.specs.State.{branch_above, function_above, has_checksum, line_above}
 use Rattle.covstore.specs.Sums.{branch_with, function_with, line_with, sum_taken}
 use Rattle.covstore.specs.Value.{is_taken}
 
@@ -61,6 +61,24 @@ taken_stays (Some held) (Some taken) e = more_above held taken e
 pub branch_stays : (taken : Option ℕ) (before : Option Taken) → is_above_at branch_above before ≡ true → branch_above (branch_with taken before) ≡ true
 branch_stays taken None e = absurd (false≢true e)
 branch_stays taken (Some held) e = taken_stays held.times taken e
+
+-- ---- a line's checksum
+
+either_true : (b : Bool) → (b || true) ≡ true
+either_true true = refl
+either_true false = refl
+
+either_false : (b : Bool) → (b || false) ≡ b
+either_false true = refl
+either_false false = refl
+
+pub line_checked : (count : ℕ) (before : Option LineSum) → (line_with count true before).has_checksum ≡ true
+line_checked count None = refl
+line_checked count (Some held) = either_true held.has_checksum
+
+pub line_bare : (count : ℕ) (before : Option LineSum) → (line_with count false before).has_checksum ≡ is_above_at has_checksum before
+line_bare count None = refl
+line_bare count (Some held) = either_false held.has_checksum
 
 -- ---- keys of the code, seen as other keys in the same order
 
