@@ -44,3 +44,4 @@ pub mod StepsTally
 pub mod StepsTexts
 pub mod StepsCounts
 pub mod StepsKept
+pub mod StepsMore

@@ -6,18 +6,9 @@ use Rattle.std.proofs.lemmas.Slice.Eq.{bytes_eq-Decides}
 use Rattle.covstore.proofs.checksums.Checksums.agrees.Goals as goal
 use Rattle.covstore.proofs.checksums.Checksums.agrees.Goals.{in-Some+else-ne, in_default}
 
-pub returns-then-ne-clause-clash : goal.returns-then-ne-clause-clash
-returns-then-ne-clause-clash g c =
-    let held = c.in-Some.held.now in
-    let given = c.args.text.now in (
-      refl,
-      c.in_ok-of-2.ensures,
-      record {
-        is_held = c.requires.held;
-        is_kept = sym c.in-Some.ensures ∙ ap Some (sym c.in_ok-of.ensures);
-        other = λ same. false≢true (sym (c.if-ne.ensures ∙ ap not ((bytes_eq-Decides held given).1 (sym c.in_ok-of.ensures ∙ same))));
-      },
-    )
+-- a copy of a text that differs is another one
+other_text : (copy held given : List ℕ) → true ≡ not (bytes_eq held given) → copy ≡ held → copy ≡ given → ⊥
+other_text copy held given e same other = false≢true (sym (e ∙ ap not ((bytes_eq-Decides held given).1 (sym same ∙ other))))
 
 -- texts that don't differ are the same
 same_text : (held given : List ℕ) → not (bytes_eq held given) ≡ not true → held ≡ given
@@ -26,6 +17,17 @@ same_text held given e = (bytes_eq-Decides held given).0 (sym (twice (bytes_eq h
     twice : (b : Bool) → not (not b) ≡ b
     twice true = refl
     twice false = refl
+
+pub returns-then-ne-clause-clash : goal.returns-then-ne-clause-clash
+returns-then-ne-clause-clash g c = (
+  refl,
+  c.in_ok-of-2.ensures,
+  record {
+    is_held = c.requires.held;
+    is_kept = sym c.in-Some.ensures ∙ ap Some (sym c.in_ok-of.ensures);
+    other = other_text c.in_ok-of.field-0 c.in-Some.held.now c.args.text.now c.if-ne.ensures c.in_ok-of.ensures;
+  },
+)
 
 pub returns-clause-ok : goal.returns-clause-ok
 returns-clause-ok g c =
