@@ -57,3 +57,8 @@ pub mod AddsItem
 pub mod AddsMore
 pub mod AddsFew
 pub mod AddsRoom
+pub mod StepsTally
+pub mod StepsTexts
+pub mod StepsCounts
+pub mod StepsKept
+pub mod StepsMore

@@ -97,7 +97,7 @@ put_pairs {K} {V} {cmp} t key value (pair ∷ pairs) s = put_pairs_at t key valu
 head_value : {K V : Type 0} {cmp : K → K → Ordering} → IsTotalOrder cmp → (key : K) (value : V) (pairs : List (K × V)) → value_of cmp key ((key, value) ∷ pairs) ≡ Some value
 head_value {K} {V} {cmp} t key value pairs = ap (λ (r : Ordering). cond (is_eq r) (Some value) (value_of cmp key pairs)) (tied_itself t key)
 
-no_value : {K V : Type 0} {cmp : K → K → Ordering} → IsTotalOrder cmp → (key : K) (pairs : List (K × V)) → IsBefore cmp key pairs → value_of cmp key pairs ≡ None
+pub no_value : {K V : Type 0} {cmp : K → K → Ordering} → IsTotalOrder cmp → (key : K) (pairs : List (K × V)) → IsBefore cmp key pairs → value_of cmp key pairs ≡ None
 no_value t key [] all = refl
 no_value {K} {V} {cmp} t key (pair ∷ pairs) all =
     let later : cmp pair.0 key ≡ Greater = t.antisymm pair.0 key ∙ ap ordering_reverse all.0 in

@@ -16,9 +16,10 @@ pub record ChecksumsData : Type 0 where
 abbrev pub HaveTexts : List (ℕ × ℕ) → List (ℕ × List ℕ) → Type 0
 HaveTexts holders texts = (line : ℕ) → is_some (value_of nat_cmp line holders) ≡ true → is_some (value_of nat_cmp line texts) ≡ true
 
--- the text of each line of which a checksum is held stays
-abbrev pub KeepsTexts : List (ℕ × ℕ) → List (ℕ × List ℕ) → List (ℕ × List ℕ) → Type 0
-KeepsTexts holders before after = (line : ℕ) → is_some (value_of nat_cmp line holders) ≡ true → value_of nat_cmp line after ≡ value_of nat_cmp line before
+-- each line of which a checksum is held stays one, and its text stays
+pub record KeepsTexts (holders : List (ℕ × ℕ)) (texts : List (ℕ × List ℕ)) (more_holders : List (ℕ × ℕ)) (more_texts : List (ℕ × List ℕ)) : Type 0 where
+  pub held : (line : ℕ) → is_some (value_of nat_cmp line holders) ≡ true → is_some (value_of nat_cmp line more_holders) ≡ true
+  pub texts_stay : (line : ℕ) → is_some (value_of nat_cmp line holders) ≡ true → value_of nat_cmp line more_texts ≡ value_of nat_cmp line texts
 
 -- one test more holds the checksum of the line, unless it held it before
 abbrev pub one_more : Option ℕ → ℕ
@@ -29,8 +30,9 @@ abbrev pub held_more : ℕ → Bool → List (ℕ × ℕ) → List (ℕ × ℕ)
 held_more line true holders = holders
 held_more line false holders = put nat_cmp line (one_more (value_of nat_cmp line holders)) holders
 
--- the line's text is this one; and it was, where one was held
+-- the line's checksum is held, and is this text; and it was, where one was held
 pub record IsHeldToo (line : ℕ) (text : List ℕ) (before after : ChecksumsData) : Type 0 where
+  pub is_held : is_some (value_of nat_cmp line after.coming) ≡ true
   pub is_kept : value_of nat_cmp line after.texts ≡ Some text
   pub agrees : is_some (value_of nat_cmp line before.coming) ≡ true → value_of nat_cmp line before.texts ≡ Some text
 

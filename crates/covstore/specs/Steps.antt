@@ -34,13 +34,18 @@ pub record HasRoom (test : TestData) (marks : MarksData) : Type 0 where
 abbrev pub KeepsCounts : TestData → TestData → MarksData → MarksData → Type 0
 KeepsCounts before after marks more = (front back : List TestData) → AreKept (front ++ before ∷ back) (file_with [] marks) → AreKept (front ++ after ∷ back) (file_with [] more)
 
--- the text of each line of which a checksum is held stays
+-- each line of which a checksum is held stays one, and its text stays
 abbrev pub KeepsTextsOf : MarksData → MarksData → Type 0
-KeepsTextsOf before after = KeepsTexts before.holders before.texts after.texts
+KeepsTextsOf before after = KeepsTexts before.holders before.texts after.holders after.texts
+
+-- the checksum of a line is held, and is this text
+pub record IsTextAt (line : ℕ) (text : List ℕ) (marks : MarksData) : Type 0 where
+  pub is_held : is_some (value_of nat_cmp line marks.holders) ≡ true
+  pub is_kept : value_of nat_cmp line marks.texts ≡ Some text
 
 -- an item's checksum is that of its line
 abbrev pub IsTextOf : ItemData → MarksData → Type 0
-IsTextOf (LineItem line count (Some checksum)) marks = value_of nat_cmp line marks.texts ≡ Some checksum
+IsTextOf (LineItem line count (Some checksum)) marks = IsTextAt line checksum marks
 IsTextOf (LineItem line count None) marks = Unit {0}
 IsTextOf (FuncItem name line count) marks = Unit {0}
 IsTextOf (BranchItem line block branch taken) marks = Unit {0}

@@ -1,6 +1,6 @@
 //! The checksums of a file's lines. A line has one, however many tests hold it.
 
-ghost use Rattle.std.specs.Prelude.{◌≡◌, ◌<◌, ◌^◌, [], true, is_some, option_map, IfErr, IfSome, OnOk};
+ghost use Rattle.std.specs.Prelude.{◌≡◌, ◌<◌, ◌^◌, [], true, Some, is_some, option_map, IfErr, IfSome, OnOk};
 ghost use Rattle.covstore.specs.Checksums.{IsToldOf, IsHeldToo, KeepsTexts, held_more};
 ghost use Rattle.covstore.specs.Puts.{value_of};
 ghost use Rattle.std.specs.Ordering.{nat_cmp};
@@ -50,7 +50,7 @@ impl<A: Allocator + Copy> Checksums<A> {
         ensures held { self.new.held ≡ self.old.held }
         ensures ok { OnOk result (self.new.coming ≡ held_more line is_held self.old.coming) }
         ensures text { OnOk result (IsHeldToo line text.now self.old self.new) }
-        ensures others { KeepsTexts self.old.coming self.old.texts self.new.texts }
+        ensures others { KeepsTexts self.old.coming self.old.texts self.new.coming self.new.texts }
         ensures clash { IfErr result (IsToldOf self.old line text.now) }
     {
         let Some(tests) = self.holders.coming_at(line) else {
@@ -58,17 +58,29 @@ impl<A: Allocator + Copy> Checksums<A> {
             self.holders.put(alloc, line, 1)?;
             return Ok(());
         };
-        if let Some(held) = self.texts.get(&line) {
-            if held.get() != text {
+        self.agrees(alloc, line, text)?;
+        if is_held {
+            return Ok(());
+        }
+        self.holders.put(alloc, line, tests + 1)?;
+        Ok(())
+    }
+
+    /// Tells the checksum that is held of a line, where it is another one than this.
+    fn agrees(&self, alloc: A, line: u64, text: &[u8]) -> Result<(), Stop<A>>
+        requires held { is_some (value_of nat_cmp line self.now.coming) ≡ true }
+        requires kept { is_some (value_of nat_cmp line self.now.texts) ≡ true }
+        ensures ok { OnOk result (value_of nat_cmp line self.now.texts ≡ Some text.now) }
+        ensures clash { IfErr result (IsToldOf self.now line text.now) }
+    {
+        if let Some(held) = self.text(line) {
+            if held != text {
                 return Err(Stop::Clash {
                     line,
-                    held: held.copy(alloc)?,
+                    held: Bytes::of(alloc, held)?,
                     given: Bytes::of(alloc, text)?,
                 });
             }
-        }
-        if !is_held {
-            self.holders.put(alloc, line, tests + 1)?;
         }
         Ok(())
     }

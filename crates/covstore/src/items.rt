@@ -86,11 +86,11 @@ fn add_line<A: Allocator + Copy>(
 {
     let before = test.lines.coming_at(line);
     if let Some(text) = checksum {
-        let is_held = before.is_some_and(|sum| sum.has_checksum);
+        let is_held = LineSum::is_checked(before);
         marks.checksums.hold(alloc, line, text, is_held)?;
     }
     let after = LineSum::with(before, count, checksum.is_some());
-    let was_above = before.is_some_and(|sum| sum.count > 0);
+    let was_above = LineSum::is_hit(before);
     let change = Change::of(before.is_some(), was_above, after.count > 0);
     marks.lines.add(alloc, line, change)?;
     test.lines.put(alloc, line, after)?;
@@ -117,7 +117,7 @@ fn add_function<A: Allocator + Copy>(
 {
     let before = test.functions.coming_at(name);
     let after = FunctionSum::with(before, line, count);
-    let was_above = before.is_some_and(|sum| sum.count > 0);
+    let was_above = FunctionSum::is_hit(before);
     let change = Change::of(before.is_some(), was_above, after.count > 0);
     marks.functions.add(alloc, name, change)?;
     test.functions.put(alloc, name, after)?;
@@ -143,7 +143,7 @@ fn add_branch<A: Allocator + Copy>(
 {
     let before = test.branches.coming_at(point);
     let after = Taken::with(before, taken);
-    let was_above = before.is_some_and(|sum| sum.is_above());
+    let was_above = Taken::is_hit(before);
     let change = Change::of(before.is_some(), was_above, after.is_above());
     marks.branches.add(alloc, point, change)?;
     test.branches.put(alloc, point, after)?;

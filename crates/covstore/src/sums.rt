@@ -1,6 +1,8 @@
 //! What the items of a file and a test add up to at a point, and in how many tests a file has a point.
 
 ghost use Rattle.std.specs.Prelude.{◌≡◌, ◌+◌, ◌^◌, ◌<◌, IfSome};
+ghost use Rattle.covstore.specs.Counts.{is_above_at};
+ghost use Rattle.covstore.specs.State.{branch_above, function_above, has_checksum, line_above};
 ghost use Rattle.covstore.specs.Sums.{branch_fits, branch_with, function_with, line_with};
 ghost use Rattle.covstore.specs.Value.{is_taken};
 
@@ -32,6 +34,20 @@ pub(crate) struct Tests {
 }
 
 impl LineSum {
+    /// Whether the line is there, with a count above 0.
+    pub(crate) fn is_hit(held: Option<LineSum>) -> bool
+        ensures { result ≡ is_above_at line_above held }
+    {
+        held.is_some_and(|sum| sum.count > 0)
+    }
+
+    /// Whether the line is there, with a checksum.
+    pub(crate) fn is_checked(held: Option<LineSum>) -> bool
+        ensures { result ≡ is_above_at has_checksum held }
+    {
+        held.is_some_and(|sum| sum.has_checksum)
+    }
+
     /// The sum with one count more.
     pub(crate) fn with(held: Option<LineSum>, count: u64, has_checksum: bool) -> LineSum
         requires { IfSome held (λ sum. sum.count + count < 2 ^ 128) }
@@ -51,6 +67,13 @@ impl LineSum {
 }
 
 impl FunctionSum {
+    /// Whether the function is there, with a count above 0.
+    pub(crate) fn is_hit(held: Option<FunctionSum>) -> bool
+        ensures { result ≡ is_above_at function_above held }
+    {
+        held.is_some_and(|sum| sum.count > 0)
+    }
+
     /// The sum with one count more.
     pub(crate) fn with(held: Option<FunctionSum>, line: u64, count: u64) -> FunctionSum
         requires { IfSome held (λ sum. sum.count + count < 2 ^ 128) }
@@ -70,6 +93,13 @@ impl FunctionSum {
 }
 
 impl Taken {
+    /// Whether the branch is there, and was taken.
+    pub(crate) fn is_hit(held: Option<Taken>) -> bool
+        ensures { result ≡ is_above_at branch_above held }
+    {
+        held.is_some_and(|sum| sum.is_above())
+    }
+
     /// The sum with one number more, which may be missing.
     pub(crate) fn with(held: Option<Taken>, times: Option<u64>) -> Taken
         requires { branch_fits times held }
