@@ -1,21 +1,15 @@
 -- What is known after several items: the numbers still count the tests, the texts stay, and there is room for the next.
-use Rattle.std.proofs.Common.{◌≡◌, ℕ, ◌+◌, ◌<◌, ◌≤◌, ◌^◌, Bool, Option, Some, None, List, [], ◌∷◌, ◌++◌, length, map, refl, sym, ap, ◌∙◌, arith}
-use Rattle.std.specs.Cmp.Lexicographic.{slice_cmp}
+use Rattle.std.proofs.Common.{◌≡◌, ℕ, ◌+◌, ◌<◌, ◌≤◌, ◌^◌, Bool, Some, None, List, [], ◌∷◌, ◌++◌, length, map, refl, sym, ◌∙◌, arith}
 use Rattle.std.specs.declared.cmp.Ordering.{Ordering}
 use Rattle.std.specs.List.{flat_map, sum_by}
-use Rattle.std.specs.Option.{is_some}
-use Rattle.std.specs.Ordering.{nat_cmp}
 use Rattle.std.proofs.lemmas.List.{length-append, length-map}
 use Rattle.std.proofs.lemmas.List.Sums.{sum_by-cons}
 use Rattle.covline.specs.Row.{ItemData, LineItem, FuncItem, BranchItem}
 use Rattle.covstore.specs.declared.marks.Marks.{Marks}
 use Rattle.covstore.specs.declared.sums.Tests.{Tests}
-use Rattle.covstore.specs.Ascending.{ascending}
-use Rattle.covstore.specs.Checksums.{KeepsTexts}
 use Rattle.covstore.specs.Counts.{AreCounts, found_of}
 use Rattle.covstore.specs.Marks.{MarksData, file_with}
 use Rattle.covstore.specs.MarksView.{KeepsHeld}
-use Rattle.covstore.specs.Puts.{value_of}
 use Rattle.covstore.specs.State.{AreKept}
 use Rattle.covstore.specs.Steps.{HasRoom, IsTextAt, IsTextOf, KeepsCounts, KeepsTextsOf}
 use Rattle.covstore.specs.Sums.{TestData}
@@ -71,8 +65,14 @@ pub counts_few : {X K V : Type 0} {cmp : K → K → Ordering} (o : IsExactOrder
     → AreCounts cmp is_above (map points tests) counts → found_of counts ≤ sum_by (λ test. length (points test)) tests
 counts_few {X} {K} {V} {cmp} o points tests counts are =
     let all = flat_map points_of (map points tests) in
-    omega (arith, found_is o (map points tests) counts are, length-ascending cmp all, length-joined points_of (map points tests), keys_length (map points tests),
-    sum_by-map (λ (test : List (K × V)). length test) points tests)
+    omega (
+      arith,
+      found_is o (map points tests) counts are,
+      length-ascending cmp all,
+      length-joined points_of (map points tests),
+      keys_length (map points tests),
+      sum_by-map (λ (test : List (K × V)). length test) points tests,
+    )
 
 -- there is room where the tests that are counted have few points
 pub room_from : (front : List TestData) (test : TestData) (back : List TestData) (marks : MarksData) → AreKept (front ++ test ∷ back) (file_with [] marks) → length (front ++ test ∷ back) < 2 ^ 63

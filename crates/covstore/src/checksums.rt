@@ -44,7 +44,13 @@ impl<A: Allocator + Copy> Checksums<A> {
     }
 
     /// Holds the checksum of a line in one test more, unless the test holds it, or tells the other one that is held.
-    pub(crate) fn hold(&mut self, alloc: A, line: u64, text: &[u8], is_held: bool) -> Result<(), Stop<A>>
+    pub(crate) fn hold(
+        &mut self,
+        alloc: A,
+        line: u64,
+        text: &[u8],
+        is_held: bool,
+    ) -> Result<(), Stop<A>>
         requires holds { is_held ≡ true → is_some (value_of nat_cmp line self.old.coming) ≡ true }
         requires room { IfSome (value_of nat_cmp line self.old.coming) (λ tests. tests < 2 ^ 63) }
         ensures held { self.new.held ≡ self.old.held }

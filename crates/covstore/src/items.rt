@@ -1,16 +1,16 @@
 //! One item more: of its test, and of what is kept of the file.
 
-ghost use Rattle.std.specs.Prelude.{◌≡◌, [], ◌∷◌, ◌++◌, List, option_map, IfErr, OnOk};
-ghost use Rattle.covline.specs.Row.{ItemData, LineItem, FuncItem, BranchItem, item_data};
+ghost use Rattle.std.specs.Prelude.{◌≡◌, option_map, IfErr, OnOk};
+ghost use Rattle.covline.specs.Row.{LineItem, FuncItem, BranchItem, item_data};
 ghost use Rattle.covstore.specs.MarksView.{marks_coming, marks_held};
 ghost use Rattle.covstore.specs.TestView.{test_coming, test_held};
-ghost use Rattle.covstore.specs.Sums.{TestData, with_item};
+ghost use Rattle.covstore.specs.Sums.{with_item};
 ghost use Rattle.covstore.specs.Steps.{CanTake, HasRoom, IsClashOf, IsTextOf, KeepsCounts, KeepsTextsOf};
 ghost use Rattle.covstore.specs.MarksView.{KeepsHeld};
 ghost use Rattle.covstore.specs.declared.stop.Stop.TheVariants as stops;
 
-use crate::marks::Marks;
 use crate::kept::Change;
+use crate::marks::Marks;
 use crate::stop::Stop;
 use crate::sums::{FunctionSum, LineSum, Taken};
 use crate::test::Test;

@@ -81,7 +81,12 @@ impl<K: Key + Drop, A: Allocator + Copy> Kept<K, A> {
     }
 
     /// Counts the change of a point in one test.
-    pub(crate) fn add<Q: Asked<K, A>>(&mut self, alloc: A, asked: Q, change: Change) -> Result<(), AllocError>
+    pub(crate) fn add<Q: Asked<K, A>>(
+        &mut self,
+        alloc: A,
+        asked: Q,
+        change: Change,
+    ) -> Result<(), AllocError>
         requires few { length self.old.coming < 2 ^ 63 }
         requires room { IfSome (value_of K.cmp (Q.named asked) self.old.coming) (λ held. (held.tests < 2 ^ 63) × (held.hit < 2 ^ 63)) }
         ensures held { self.new.held ≡ self.old.held }

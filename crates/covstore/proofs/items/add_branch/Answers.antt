@@ -1,4 +1,4 @@
-use Rattle.std.proofs.Common.{◌≡◌, ◌<◌, ◌^◌, ℕ, Option, List, refl, sym, ap, ◌∙◌, subst}
+use Rattle.std.proofs.Common.{◌<◌, ◌^◌, Option, List, refl, sym, ap, ◌∙◌, subst}
 use Rattle.std.specs.Option.{IfSome}
 use Rattle.covline.specs.Points.{BranchPoint}
 use Rattle.covline.specs.PointView.{branch_point_data}
@@ -9,7 +9,7 @@ use Rattle.covstore.specs.Changes.{change_of}
 use Rattle.covstore.specs.Counts.{is_above_at}
 use Rattle.covstore.specs.KeyOrders.{code_branch_cmp}
 use Rattle.covstore.specs.PointsData.{PointsData}
-use Rattle.covstore.specs.Puts.{put, value_of}
+use Rattle.covstore.specs.Puts.{put}
 use Rattle.covstore.specs.State.{branch_above}
 use Rattle.covstore.specs.Sums.{TestData, branch_fits, branch_with}
 use Rattle.covstore.specs.TestView.{branches_data}

@@ -32,6 +32,6 @@ returns-then-ne-clause-clash g c = (
 pub returns-clause-ok : goal.returns-clause-ok
 returns-clause-ok g c =
     elim c.match-text.branch [
-      in-Some+else-ne w ↦ sym w.in-Some.ensures ∙ ap Some (same_text w.in-Some.held.now c.args.text.now (sym w.if-ne.ensures))
-    | in_default w ↦ absurd (false≢true (ap is_some w.in_default.ensures ∙ c.requires.kept))
+      | in-Some+else-ne w ↦ sym w.in-Some.ensures ∙ ap Some (same_text w.in-Some.held.now c.args.text.now (sym w.if-ne.ensures))
+      | in_default w ↦ absurd (false≢true (ap is_some w.in_default.ensures ∙ c.requires.kept))
     ]

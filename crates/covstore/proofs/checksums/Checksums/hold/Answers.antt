@@ -1,8 +1,8 @@
-use Rattle.std.proofs.Common.{◌≡◌, true, Some, None, List, ℕ, ◌+◌, refl, sym, ap, ◌∙◌, subst}
+use Rattle.std.proofs.Common.{◌≡◌, true, Some, None, List, ℕ, ◌+◌, sym, ap, ◌∙◌, subst}
 use Rattle.std.specs.Option.{is_some}
 use Rattle.std.specs.Ordering.{nat_cmp}
 use Rattle.std.proofs.lemmas.Bool.{false≢true}
-use Rattle.covstore.specs.Checksums.{ChecksumsData, HaveTexts, IsHeldToo, KeepsTexts}
+use Rattle.covstore.specs.Checksums.{ChecksumsData, HaveTexts, KeepsTexts}
 use Rattle.covstore.specs.Puts.{put, value_of}
 use Rattle.covstore.specs.PointsData.{PointsData}
 use Rattle.covstore.proofs.StepsTexts.{have_held, have_inserted, held_is, inserted_is, keeps_first, keeps_held, keeps_inserted}
@@ -67,7 +67,7 @@ returns-in_default-clause-others g c =
     (keeps_first c.args.line text inside.holders.coming inside.texts.entries more c.in_ok-insert.ensures.entries c.put.new.self.coming none coming)
 
 pub invariant_of-self-3 : goal.invariant_of-self-3
-invariant_of-self-3 g c = 
+invariant_of-self-3 g c =
     let texts = c.self.inside.texts.entries in
     let held = c.put-2.ensures.now ∙ ap (λ (points : PointsData ℕ ℕ). points.held) c.coming_at.ensures.same in
     let coming = c.in_ok-put-2.ensures.ok ∙ ap (λ (points : PointsData ℕ ℕ). put nat_cmp c.args.line (c.in-Some.tests + 1) points.coming) c.coming_at.ensures.same in
