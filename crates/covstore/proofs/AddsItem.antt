@@ -23,7 +23,7 @@ use Rattle.covstore.proofs.SumsMore.{sums_more}
 
 -- the item's own checksum is the text of its line
 own_text : (file : List ℕ) (item : ItemData) (marks : MarksData) (c : Checksum) → IsTextOf item marks → In c (checksum_of file item) → value_of nat_cmp c.line marks.texts ≡ Some c.checksum
-own_text file (LineItem line count (Some checksum)) marks c own (inl same) = subst (λ (d : Checksum). value_of nat_cmp d.line marks.texts ≡ Some d.checksum) same own
+own_text file (LineItem line count (Some checksum)) marks c own (inl same) = subst (λ (d : Checksum). value_of nat_cmp d.line marks.texts ≡ Some d.checksum) same own.is_kept
 own_text file (LineItem line count (Some checksum)) marks c own (inr none) = absurd none
 own_text file (LineItem line count None) marks c own i = absurd i
 own_text file (FuncItem name line count) marks c own i = absurd i
@@ -41,7 +41,7 @@ module _ (item : ItemData) (test test_after : TestData) (marks marks_after : Mar
   texts_after : (c : Checksum) → Contains (checksums_in (rows ++ its_row ∷ [])) c → c.file ≡ file → value_of nat_cmp c.line marks_after.texts ≡ Some c.checksum
   texts_after c i same =
       ⊎_elim {C = value_of nat_cmp c.line marks_after.texts ≡ Some c.checksum}
-      (λ (before : In c (checksums_in rows)). texts c.line (checksum_held is c before (sym same)) ∙ text_kept is c before (sym same))
+      (λ (before : In c (checksums_in rows)). texts.texts_stay c.line (checksum_held is c before (sym same)) ∙ text_kept is c before (sym same))
       (λ (now : In c (checksums_in (its_row ∷ []))). let from = In-unflat checksum_of_row (its_row ∷ []) c now in by from.0 from.1 from.2)
       (In-parts (checksums_in rows) (checksums_in (its_row ∷ [])) c
       (subst (In c) (flat_map-append checksum_of_row rows (its_row ∷ [])) (In-from (checksums_in (rows ++ its_row ∷ [])) c i)))

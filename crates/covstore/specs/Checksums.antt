@@ -16,6 +16,14 @@ pub record ChecksumsData : Type 0 where
 abbrev pub HaveTexts : List (ℕ × ℕ) → List (ℕ × List ℕ) → Type 0
 HaveTexts holders texts = (line : ℕ) → is_some (value_of nat_cmp line holders) ≡ true → is_some (value_of nat_cmp line texts) ≡ true
 
+-- each line of which a checksum is held is among those that are to hold one
+abbrev pub AreAmong : List (ℕ × ℕ) → List (ℕ × ℕ) → Type 0
+AreAmong held coming = (line : ℕ) → is_some (value_of nat_cmp line held) ≡ true → is_some (value_of nat_cmp line coming) ≡ true
+
+-- the text of each line of which a checksum is held stays
+abbrev pub StayTexts : List (ℕ × ℕ) → List (ℕ × List ℕ) → List (ℕ × List ℕ) → Type 0
+StayTexts holders texts more = (line : ℕ) → is_some (value_of nat_cmp line holders) ≡ true → value_of nat_cmp line more ≡ value_of nat_cmp line texts
+
 -- each line of which a checksum is held stays one, and its text stays
 pub record KeepsTexts (holders : List (ℕ × ℕ)) (texts : List (ℕ × List ℕ)) (more_holders : List (ℕ × ℕ)) (more_texts : List (ℕ × List ℕ)) : Type 0 where
   pub held : (line : ℕ) → is_some (value_of nat_cmp line holders) ≡ true → is_some (value_of nat_cmp line more_holders) ≡ true

@@ -4,7 +4,6 @@ use Rattle.std.specs.Cmp.Lexicographic.{slice_cmp}
 use Rattle.std.specs.Option.{is_some}
 use Rattle.std.specs.Ordering.{nat_cmp}
 use Rattle.covstore.specs.declared.file.File.{File}
-use Rattle.covstore.specs.Checksums.{KeepsTexts}
 use Rattle.covstore.specs.Marks.{MarksData, file_with}
 use Rattle.covstore.specs.MarksView.{marks_coming, marks_held, no_marks}
 use Rattle.covstore.specs.Puts.{put, value_of}
@@ -47,4 +46,4 @@ pub record KeepsFile (before after : FileData) : Type 0 where
   pub functions : after.functions ≡ before.functions
   pub branches : after.branches ≡ before.branches
   pub holders : after.holders ≡ before.holders
-  pub texts : KeepsTexts before.holders before.texts after.texts
+  pub texts : (line : ℕ) → is_some (value_of nat_cmp line before.holders) ≡ true → value_of nat_cmp line after.texts ≡ value_of nat_cmp line before.texts

@@ -1,7 +1,10 @@
 -- What is kept of a file beside its tests, of the code, seen as plain data: as it is, and as it is to be.
-use Rattle.std.specs.Prelude.{◌≡◌, []}
+use Rattle.std.specs.Prelude.{◌≡◌, ℕ, true, []}
+use Rattle.std.specs.Option.{is_some}
+use Rattle.std.specs.Ordering.{nat_cmp}
 use Rattle.covstore.specs.declared.marks.Marks.{Marks}
 use Rattle.covstore.specs.Marks.{MarksData}
+use Rattle.covstore.specs.Puts.{value_of}
 use Rattle.covstore.specs.TestView.{branches_data}
 
 abbrev pub no_marks : MarksData
@@ -31,3 +34,4 @@ pub record KeepsHeld {A : Type 0} (before after : Marks A) : Type 0 where
   pub functions : after.functions.held ≡ before.functions.held
   pub branches : after.branches.held ≡ before.branches.held
   pub holders : after.checksums.held ≡ before.checksums.held
+  pub texts : (line : ℕ) → is_some (value_of nat_cmp line before.checksums.held) ≡ true → value_of nat_cmp line after.checksums.texts ≡ value_of nat_cmp line before.checksums.texts

@@ -1,8 +1,9 @@
 //! The checksums of a file's lines. A line has one, however many tests hold it.
 
 ghost use Rattle.std.specs.Prelude.{◌≡◌, ◌<◌, ◌^◌, [], true, Some, is_some, option_map, IfErr, IfSome, OnOk};
-ghost use Rattle.covstore.specs.Checksums.{IsToldOf, IsHeldToo, KeepsTexts, held_more};
-ghost use Rattle.covstore.specs.Puts.{value_of};
+ghost use Rattle.covstore.specs.Checksums.{IsToldOf, IsHeldToo, KeepsTexts, StayTexts, held_more};
+ghost use Rattle.covstore.specs.Puts.{put, value_of};
+ghost use Rattle.covstore.specs.declared.stop.Stop.TheVariants as stops;
 ghost use Rattle.std.specs.Ordering.{nat_cmp};
 
 use crate::points::Points;
@@ -21,13 +22,13 @@ pub(crate) struct Checksums<A: Allocator> {
 }
 
 impl<A: Allocator> Model for Checksums<A> {
-    ghost use Rattle.covstore.specs.Checksums.{ChecksumsData, HaveTexts};
+    ghost use Rattle.covstore.specs.Checksums.{AreAmong, ChecksumsData, HaveTexts};
 
     ghost Value = { ChecksumsData };
 
     ghost view = { λ c. record { held = c.holders.held; coming = c.holders.coming; texts = c.texts.entries } };
 
-    ghost invariant = { λ c. HaveTexts c.holders.held c.texts.entries × HaveTexts c.holders.coming c.texts.entries };
+    ghost invariant = { λ c. HaveTexts c.holders.held c.texts.entries × HaveTexts c.holders.coming c.texts.entries × AreAmong c.holders.held c.holders.coming };
 }
 
 impl<A: Allocator + Copy> Checksums<A> {
@@ -56,19 +57,33 @@ impl<A: Allocator + Copy> Checksums<A> {
         ensures held { self.new.held ≡ self.old.held }
         ensures ok { OnOk result (self.new.coming ≡ held_more line is_held self.old.coming) }
         ensures text { OnOk result (IsHeldToo line text.now self.old self.new) }
-        ensures others { KeepsTexts self.old.coming self.old.texts self.new.coming self.new.texts }
+        ensures others { OnOk result (KeepsTexts self.old.coming self.old.texts self.new.coming self.new.texts) }
+        ensures stay { StayTexts self.old.held self.old.texts self.new.texts }
         ensures clash { IfErr result (IsToldOf self.old line text.now) }
     {
         let Some(tests) = self.holders.coming_at(line) else {
             self.texts.insert(line, Bytes::of(alloc, text)?)?;
-            self.holders.put(alloc, line, 1)?;
-            return Ok(());
+            return self.count(alloc, line, 1);
         };
         self.agrees(alloc, line, text)?;
         if is_held {
             return Ok(());
         }
-        self.holders.put(alloc, line, tests + 1)?;
+        self.count(alloc, line, tests + 1)
+    }
+
+    /// So many tests hold the checksum of a line, which has its text. A refusal forgets what is to come.
+    fn count(&mut self, alloc: A, line: u64, tests: u64) -> Result<(), Stop<A>>
+        requires { is_some (value_of nat_cmp line self.old.texts) ≡ true }
+        ensures held { self.new.held ≡ self.old.held }
+        ensures texts { self.new.texts ≡ self.old.texts }
+        ensures ok { OnOk result (self.new.coming ≡ put nat_cmp line tests self.old.coming) }
+        ensures err { IfErr result (λ stop. stop ≡ stops.Memory) }
+    {
+        if self.holders.put(alloc, line, tests).is_err() {
+            self.holders.forget();
+            return Err(Stop::Memory);
+        }
         Ok(())
     }
 

@@ -31,7 +31,7 @@ pub(crate) fn add_item<A: Allocator + Copy>(
     ensures test { OnOk result (test_coming test.new ≡ with_item (item_data item.now) (test_coming test.old)) }
     ensures counts { OnOk result (KeepsCounts (test_coming test.old) (test_coming test.new) (marks_coming marks.old) (marks_coming marks.new)) }
     ensures text { OnOk result (IsTextOf (item_data item.now) (marks_coming marks.new)) }
-    ensures others { KeepsTextsOf (marks_coming marks.old) (marks_coming marks.new) }
+    ensures others { OnOk result (KeepsTextsOf (marks_coming marks.old) (marks_coming marks.new)) }
     ensures clash { IfErr result (IsClashOf (item_data item.now) (marks_coming marks.old)) }
 {
     match item {
@@ -81,7 +81,7 @@ fn add_line<A: Allocator + Copy>(
     ensures test { OnOk result (test_coming test.new ≡ with_item (LineItem line count (option_map (λ c. c.now) checksum.entry)) (test_coming test.old)) }
     ensures counts { OnOk result (KeepsCounts (test_coming test.old) (test_coming test.new) (marks_coming marks.old) (marks_coming marks.new)) }
     ensures text { OnOk result (IsTextOf (LineItem line count (option_map (λ c. c.now) checksum.entry)) (marks_coming marks.new)) }
-    ensures others { KeepsTextsOf (marks_coming marks.old) (marks_coming marks.new) }
+    ensures others { OnOk result (KeepsTextsOf (marks_coming marks.old) (marks_coming marks.new)) }
     ensures clash { IfErr result (IsClashOf (LineItem line count (option_map (λ c. c.now) checksum.entry)) (marks_coming marks.old)) }
 {
     let before = test.lines.coming_at(line);
@@ -112,7 +112,7 @@ fn add_function<A: Allocator + Copy>(
     ensures marks_held { KeepsHeld marks.old marks.new }
     ensures test { OnOk result (test_coming test.new ≡ with_item (FuncItem name.now line count) (test_coming test.old)) }
     ensures counts { OnOk result (KeepsCounts (test_coming test.old) (test_coming test.new) (marks_coming marks.old) (marks_coming marks.new)) }
-    ensures others { KeepsTextsOf (marks_coming marks.old) (marks_coming marks.new) }
+    ensures others { OnOk result (KeepsTextsOf (marks_coming marks.old) (marks_coming marks.new)) }
     ensures clash { IfErr result (λ stop. stop ≡ stops.Memory) }
 {
     let before = test.functions.coming_at(name);
@@ -138,7 +138,7 @@ fn add_branch<A: Allocator + Copy>(
     ensures marks_held { KeepsHeld marks.old marks.new }
     ensures test { OnOk result (test_coming test.new ≡ with_item (BranchItem point.line point.block point.branch taken) (test_coming test.old)) }
     ensures counts { OnOk result (KeepsCounts (test_coming test.old) (test_coming test.new) (marks_coming marks.old) (marks_coming marks.new)) }
-    ensures others { KeepsTextsOf (marks_coming marks.old) (marks_coming marks.new) }
+    ensures others { OnOk result (KeepsTextsOf (marks_coming marks.old) (marks_coming marks.new)) }
     ensures clash { IfErr result (λ stop. stop ≡ stops.Memory) }
 {
     let before = test.branches.coming_at(point);

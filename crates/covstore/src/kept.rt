@@ -104,7 +104,11 @@ impl<K: Key + Drop, A: Allocator + Copy> Kept<K, A> {
             tests: held.tests + found,
             hit: held.hit + hit,
         };
-        self.counts.put(alloc, asked, after)?;
+        if let Err(refused) = self.counts.put(alloc, asked, after) {
+            self.counts.forget();
+            self.coming = self.held;
+            return Err(refused);
+        }
         if before.is_none() {
             self.coming.found += 1;
         }

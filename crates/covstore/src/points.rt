@@ -1,6 +1,6 @@
 //! SKELETON of the points: its contracts, without their bodies.
 
-ghost use Rattle.std.specs.Prelude.{◌≡◌, ◌↔◌, [], IsTrue, OnErr, OnOk};
+ghost use Rattle.std.specs.Prelude.{◌≡◌, ◌↔◌, [], IsTrue, OnOk};
 ghost use Rattle.covstore.specs.Puts.{ArePairs, put, value_of};
 
 mod key;
@@ -52,7 +52,6 @@ impl<K: Key + Drop, V: Copy, A: Allocator + Copy> Points<K, V, A> {
     pub(crate) fn put<Q: Asked<K, A>>(&mut self, alloc: A, asked: Q, value: V) -> Result<(), AllocError>
         ensures now { self.new.held ≡ self.old.held }
         ensures ok { OnOk result (self.new.coming ≡ put K.cmp (Q.named asked) value self.old.coming) }
-        ensures err { OnErr result (self.new.coming ≡ self.old.coming) }
     {
         Ok(())
     }
