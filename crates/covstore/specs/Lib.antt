@@ -32,5 +32,6 @@ pub mod FileAdds
 pub mod Maps
 pub mod MapsView
 pub mod Exchanged
+pub mod SeenView
 pub mod ClashView
 pub mod ChecksumView

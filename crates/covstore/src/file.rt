@@ -14,8 +14,8 @@ use std::collections::BTreeMap;
 /// The tests of a file, each with its points, and what is kept of them.
 #[derive(Drop)]
 pub(crate) struct File<A: Allocator> {
-    tests: BTreeMap<Vec<u8, A>, Test<A>, A>,
-    marks: Marks<A>,
+    pub tests: BTreeMap<Vec<u8, A>, Test<A>, A>,
+    pub marks: Marks<A>,
 }
 
 impl<A: Allocator + Copy> File<A> {

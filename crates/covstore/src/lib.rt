@@ -46,6 +46,7 @@ mod next;
 mod plan;
 mod points;
 mod refuse;
+mod seen;
 mod rows;
 mod section;
 mod stop;

@@ -3,8 +3,10 @@
 ghost use Rattle.std.specs.Prelude.{◌≡◌, ◌↔◌, [], IsTrue, OnOk};
 ghost use Rattle.covstore.specs.Puts.{ArePairs, put, value_of};
 
+mod filled;
 mod key;
 
+pub(crate) use crate::points::filled::Filled;
 pub(crate) use crate::points::key::{Asked, Key};
 use std::alloc::{AllocError, Allocator};
 use std::marker::Model;
@@ -70,6 +72,13 @@ impl<K: Key + Drop, V: Copy, A: Allocator + Copy> Points<K, V, A> {
         ensures coming { self.new.coming ≡ self.old.held }
     {
         self.second.clear();
+    }
+
+    /// The points in order, each with its value.
+    pub(crate) fn filled(&self) -> Filled<'_, K, V, A>
+        ensures { result ≡ self.now.held }
+    {
+        Filled::of(self.first.as_slice())
     }
 
     /// Whether there is no point now.

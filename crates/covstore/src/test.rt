@@ -51,3 +51,15 @@ impl<A: Allocator + Copy> Test<A> {
         self.branches.forget();
     }
 }
+
+impl<A: Allocator + Copy> Test<A> {
+    ghost use Rattle.covstore.specs.State.{has_no_points};
+    ghost use Rattle.covstore.specs.TestView.{test_held};
+
+    /// Whether there are no points.
+    pub(crate) fn is_empty(&self) -> bool
+        ensures { result ≡ has_no_points (test_held self.now) }
+    {
+        self.lines.is_empty() && self.functions.is_empty() && self.branches.is_empty()
+    }
+}

@@ -1,0 +1,165 @@
+//! The functions, branches and lines of a section, each with its value.
+
+use crate::checksums::Checksums;
+use crate::points::Filled;
+use crate::sums::{FunctionSum, LineSum, Taken};
+use crate::values::{BranchValue, FunctionValue, LineValue};
+use covline::{BranchPoint, Bytes};
+use std::alloc::{Allocator, Global};
+use std::marker::Model;
+
+/// Goes over the functions of a section, ascending by the bytes of their names. Contracts see those that are left.
+#[derive(Drop)]
+pub struct Functions<'a, A: Allocator = Global> {
+    rest: Filled<'a, Bytes<A>, FunctionSum, A>,
+}
+
+impl<'a, A: Allocator> Model for Functions<'a, A> {
+    ghost use Rattle.std.specs.Prelude.{List, map};
+    ghost use Rattle.covstore.specs.Content.{FunctionValueData};
+    ghost use Rattle.covstore.specs.State.{function_seen};
+
+    ghost Value = { List FunctionValueData };
+
+    ghost view = { λ f. map function_seen f.rest };
+}
+
+impl<'a, A: Allocator> Functions<'a, A> {
+    ghost use Rattle.std.specs.Prelude.{◌≡◌, map};
+    ghost use Rattle.covstore.specs.State.{function_seen};
+
+    /// These functions.
+    pub(super) fn of(rest: Filled<'a, Bytes<A>, FunctionSum, A>) -> Functions<'a, A>
+        ensures { result ≡ map function_seen rest.entry }
+    {
+        Functions { rest }
+    }
+}
+
+impl<'a, A: Allocator> Iterator for Functions<'a, A> {
+    ghost use Rattle.std.specs.Iterator.{YieldsFirstBy, item_count};
+    ghost use Rattle.covstore.specs.ValueView.{function_data};
+
+    type Item = FunctionValue<'a>;
+
+    ghost next_gives = { YieldsFirstBy function_data (λ s. s) };
+
+    ghost remaining = { item_count (λ s. s) };
+
+    fn next(&mut self) -> Option<FunctionValue<'a>> {
+        let (name, sum) = self.rest.next()?;
+        Some(FunctionValue {
+            line: sum.line,
+            name: name.get(),
+            count: sum.count,
+        })
+    }
+}
+
+/// Goes over the branches of a section, ascending by line, block and number. Contracts see those that are left.
+#[derive(Drop)]
+pub struct Branches<'a, A: Allocator = Global> {
+    rest: Filled<'a, BranchPoint, Taken, A>,
+}
+
+impl<'a, A: Allocator> Model for Branches<'a, A> {
+    ghost use Rattle.std.specs.Prelude.{List, map};
+    ghost use Rattle.covstore.specs.Content.{BranchValueData};
+    ghost use Rattle.covstore.specs.State.{branch_seen};
+    ghost use Rattle.covstore.specs.TestView.{branches_data};
+
+    ghost Value = { List BranchValueData };
+
+    ghost view = { λ b. map branch_seen (branches_data b.rest) };
+}
+
+impl<'a, A: Allocator> Branches<'a, A> {
+    ghost use Rattle.std.specs.Prelude.{◌≡◌, map};
+    ghost use Rattle.covstore.specs.State.{branch_seen};
+    ghost use Rattle.covstore.specs.TestView.{branches_data};
+
+    /// These branches.
+    pub(super) fn of(rest: Filled<'a, BranchPoint, Taken, A>) -> Branches<'a, A>
+        ensures { result ≡ map branch_seen (branches_data rest.entry) }
+    {
+        Branches { rest }
+    }
+}
+
+impl<'a, A: Allocator> Iterator for Branches<'a, A> {
+    ghost use Rattle.std.specs.Iterator.{YieldsFirstBy, item_count};
+    ghost use Rattle.covstore.specs.ValueView.{branch_data};
+
+    type Item = BranchValue;
+
+    ghost next_gives = { YieldsFirstBy branch_data (λ s. s) };
+
+    ghost remaining = { item_count (λ s. s) };
+
+    fn next(&mut self) -> Option<BranchValue> {
+        let (point, sum) = self.rest.next()?;
+        Some(BranchValue {
+            line: point.line,
+            block: point.block,
+            branch: point.branch,
+            taken: sum.times,
+        })
+    }
+}
+
+/// Goes over the lines of a section, ascending by number. Contracts see those that are left.
+#[derive(Drop)]
+pub struct Lines<'a, A: Allocator = Global> {
+    rest: Filled<'a, u64, LineSum, A>,
+    checksums: &'a Checksums<A>,
+}
+
+impl<'a, A: Allocator> Model for Lines<'a, A> {
+    ghost use Rattle.std.specs.Prelude.{List, map};
+    ghost use Rattle.covstore.specs.Content.{LineValueData};
+    ghost use Rattle.covstore.specs.State.{line_seen};
+
+    ghost Value = { List LineValueData };
+
+    ghost view = { λ l. map (line_seen l.checksums.now.texts) l.rest };
+}
+
+impl<'a, A: Allocator> Lines<'a, A> {
+    ghost use Rattle.std.specs.Prelude.{◌≡◌, map};
+    ghost use Rattle.covstore.specs.State.{line_seen};
+
+    /// These lines, with their checksums.
+    pub(super) fn of(
+        rest: Filled<'a, u64, LineSum, A>,
+        checksums: &'a Checksums<A>,
+    ) -> Lines<'a, A>
+        ensures { result ≡ map (line_seen checksums.now.texts) rest.entry }
+    {
+        Lines { rest, checksums }
+    }
+}
+
+impl<'a, A: Allocator + Copy> Iterator for Lines<'a, A> {
+    ghost use Rattle.std.specs.Iterator.{YieldsFirstBy, item_count};
+    ghost use Rattle.covstore.specs.ValueView.{line_data};
+
+    type Item = LineValue<'a>;
+
+    ghost next_gives = { YieldsFirstBy line_data (λ s. s) };
+
+    ghost remaining = { item_count (λ s. s) };
+
+    fn next(&mut self) -> Option<LineValue<'a>> {
+        let (line, sum) = self.rest.next()?;
+        let checksum = if sum.has_checksum {
+            self.checksums.text(*line)
+        } else {
+            None
+        };
+        Some(LineValue {
+            line: *line,
+            count: sum.count,
+            checksum,
+        })
+    }
+}
