@@ -47,3 +47,5 @@ pub mod StateRows
 pub mod StateMore
 pub mod StateFiles
 pub mod StateTotals
+pub mod MapKeys
+pub mod Settled
