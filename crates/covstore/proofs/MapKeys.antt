@@ -51,19 +51,20 @@ module _ {K : Type 0} (name : K → List ℕ) (key : List ℕ) where
         (ap is_eq (ap (λ (n : List ℕ). slice_cmp nat_cmp n (name next.0)) (sym e) ∙ behind.0), none_behind k es e behind.1)
 
     -- what holds of all entries after a value was written
-    All-written_at : (P Q : K × X → Type 0) (w : X) (e : K × X) (es : List (K × X)) (here : Bool) → has_name e.0 ≡ here
-        → AllByRecursion (λ next. slice_cmp nat_cmp (name e.0) (name next) ≡ Less) (keys_of es)
-        → ((e : K × X) → P e → name e.0 ≡ key → Q (e.0, w)) → ((e : K × X) → P e → (name e.0 ≡ key → ⊥) → Q e) → AllByRecursion P (e ∷ es)
-        → AllByRecursion Q (set_value has_name es w) → AllByRecursion Q (cond here ((e.0, w) ∷ es) (e ∷ set_value has_name es w))
-    All-written_at P Q w e es true is behind own other all rest = (own e all.0 (named e.0 is), All-others P Q es (none_behind e.0 es (named e.0 is) behind) other all.1)
-    All-written_at P Q w e es false is behind own other all rest = (other e all.0 (not_named e.0 is), rest)
+    All-written_at : (P Q : K × X → Type 0) (v w : X) (e : K × X) (es : List (K × X)) (here : Bool) → has_name e.0 ≡ here
+        → AllByRecursion (λ next. slice_cmp nat_cmp (name e.0) (name next) ≡ Less) (keys_of es) → cond here (Some e.1) (lookup has_name es) ≡ Some v
+        → ((k : K) → P (k, v) → name k ≡ key → Q (k, w)) → ((e : K × X) → P e → (name e.0 ≡ key → ⊥) → Q e) → AllByRecursion P (e ∷ es)
+        → (lookup has_name es ≡ Some v → AllByRecursion Q (set_value has_name es w)) → AllByRecursion Q (cond here ((e.0, w) ∷ es) (e ∷ set_value has_name es w))
+    All-written_at P Q v w e es true is behind found own other all rest =
+        (own e.0 (subst (λ (x : X). P (e.0, x)) (same_Some e.1 v found) all.0) (named e.0 is), All-others P Q es (none_behind e.0 es (named e.0 is) behind) other all.1)
+    All-written_at P Q v w e es false is behind found own other all rest = (other e all.0 (not_named e.0 is), rest found)
 
-    pub All-written : (P Q : K × X → Type 0) (w : X) (es : List (K × X)) → IsStrictlySortedBy (λ (a b : K). slice_cmp nat_cmp (name a) (name b)) (keys_of es)
-        → ((e : K × X) → P e → name e.0 ≡ key → Q (e.0, w)) → ((e : K × X) → P e → (name e.0 ≡ key → ⊥) → Q e) → AllByRecursion P es → AllByRecursion Q (set_value has_name es w)
+    pub All-written : (P Q : K × X → Type 0) (v w : X) (es : List (K × X)) → IsStrictlySortedBy (λ (a b : K). slice_cmp nat_cmp (name a) (name b)) (keys_of es) → lookup has_name es ≡ Some v
+        → ((k : K) → P (k, v) → name k ≡ key → Q (k, w)) → ((e : K × X) → P e → (name e.0 ≡ key → ⊥) → Q e) → AllByRecursion P es → AllByRecursion Q (set_value has_name es w)
     unfolding IsStrictlySortedBy
-    All-written P Q w [] sorted own other all = tt
-    All-written P Q w (e ∷ es) sorted own other all =
-        All-written_at P Q w e es (has_name e.0) refl sorted.0 own other all (All-written P Q w es sorted.1 own other all.1)
+    All-written P Q v w [] sorted found own other all = tt
+    All-written P Q v w (e ∷ es) sorted found own other all =
+        All-written_at P Q v w e es (has_name e.0) refl sorted.0 found own other all (λ later. All-written P Q v w es sorted.1 later own other all.1)
 
     -- where only that is seen of the value that stays as it was
     map_written_at : {Y : Type 0} (f : X → Y) (v w : X) (e : K × X) (es : List (K × X)) (here : Bool) → f w ≡ f v → cond here (Some e.1) (lookup has_name es) ≡ Some v

@@ -32,7 +32,7 @@ returns-clause-settled g c = λ tests was.
     elim c.match-get_mut.branch [
       in-Some w ↦
         let written = ap (λ (f : File g.row.A.Denot). f.tests.entries) w.self-is ∙ (c.get_mut.follows.holds w.forget.new.self).0 in
-        settled_found tests c.args.test.now before after was marks w.forget.new.self c.get_mut.ensures.ordered written (w.forget.ensures.coming ∙ sym w.forget.ensures.held)
+        settled_found tests c.args.test.now before after was marks w.in-Some.points.now w.forget.new.self c.get_mut.ensures.ordered written (sym w.in-Some.ensures.value) (w.forget.ensures.coming ∙ sym w.forget.ensures.held)
     | in_default w ↦
         let same = ap (λ (f : File g.row.A.Denot). f.tests.entries) w.self-is
         ∙ ap (λ (m : BTreeMap (Vec ℕ g.row.A.Denot) (Test g.row.A.Denot)). m.entries) c.get_mut.follows.holds-at-none in

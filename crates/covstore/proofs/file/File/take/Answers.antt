@@ -32,7 +32,7 @@ returns-clause-settled g c = λ tests was.
     elim c.match-get_mut.branch [
       in-Some w ↦
         let written = ap (λ (f : File g.row.A.Denot). f.tests.entries) w.self-is ∙ (c.get_mut.follows.holds w.take.new.self).0 in
-        settled_found tests c.args.test.now before after was marks w.take.new.self c.get_mut.ensures.ordered written (w.take.ensures.coming ∙ sym w.take.ensures.held)
+        settled_found tests c.args.test.now before after was marks w.in-Some.points.now w.take.new.self c.get_mut.ensures.ordered written (sym w.in-Some.ensures.value) (w.take.ensures.coming ∙ sym w.take.ensures.held)
     | in_default w ↦
         let same = ap (λ (f : File g.row.A.Denot). f.tests.entries) w.self-is
         ∙ ap (λ (m : BTreeMap (Vec ℕ g.row.A.Denot) (Test g.row.A.Denot)). m.entries) c.get_mut.follows.holds-at-none in
