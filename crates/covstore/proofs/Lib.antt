@@ -49,3 +49,4 @@ pub mod StateFiles
 pub mod StateTotals
 pub mod MapKeys
 pub mod Settled
+pub mod Stores

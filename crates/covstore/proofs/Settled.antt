@@ -6,7 +6,7 @@ use Rattle.std.specs.List.Sorted.{IsStrictlySortedBy}
 use Rattle.std.specs.Map.{keys_of, lookup, set_value}
 use Rattle.std.specs.Ordering.{is_eq, nat_cmp}
 use Rattle.std.specs.Str.{bytes_eq}
-use Rattle.std.proofs.lemmas.List.{append-nil, length_push, map-append}
+use Rattle.std.proofs.lemmas.List.{append-nil, length_push, map-append, map_push}
 use Rattle.std.proofs.lemmas.List.Elements.{filter-append}
 use Rattle.std.proofs.lemmas.List.Folds.{list_any-append}
 use Rattle.std.proofs.lemmas.Slice.Eq.{bytes_eq-Decides}
@@ -98,6 +98,14 @@ pub record IsSettling {A : Type 0} (seen : File A → FileData) (touched : List 
   pub stays : names_with file_name seen now ≡ names_with file_name seen first
   pub settled : AreSettledBut file_name (touched_data touched) now
 
+-- the last one, seen as plain data
+pub touched_last : {A : Type 0} (touched more : List (Touched A)) (last : Touched A) → more ≡ touched ++ last ∷ [] → touched_data more ≡ touched_data touched ++ (last.file.items, last.test.items) ∷ []
+touched_last {A} touched more last same =
+    ap (λ (all : List (Touched A)). touched_data all) same ∙ map_push touched_names touched last
+  where
+    touched_names : Touched A → List ℕ × List ℕ
+    touched_names t = (t.file.items, t.test.items)
+
 module _ {A : Type 0} (seen : File A → FileData) (touched front : List (Touched A)) (file test : List ℕ) (popped : touched_data touched ≡ touched_data front ++ (file, test) ∷ [])
     (first before after : List (Vec ℕ A × File A)) (was : IsSettling seen touched first before) where
   abbrev IsSettledFile : List (List ℕ × List ℕ) → Vec ℕ A × File A → Type 0
@@ -184,3 +192,21 @@ files_with_more {A} front file test pairs all =
         subst (λ (tests : List (List ℕ)). IsSettledBut tests pair.1) (sym (tests_of_last pair.0.items front file test true e)) (file_with_more test (tests_of pair.0.items front) pair.1 settled)
     with_more pair false e settled =
         subst (λ (tests : List (List ℕ)). IsSettledBut tests pair.1) (sym (tests_of_last pair.0.items front file test false e ∙ append-nil (tests_of pair.0.items front))) settled
+
+pub touched_with_more : {A : Type 0} (touched more : List (Touched A)) (last : Touched A) (pairs : List (Vec ℕ A × File A)) → more ≡ touched ++ last ∷ []
+    → AreSettledBut file_name (touched_data touched) pairs → AreSettledBut file_name (touched_data more) pairs
+touched_with_more {A} touched more last pairs same settled =
+    subst (λ (all : List (List ℕ × List ℕ)). AreSettledBut file_name all pairs) (sym (touched_last touched more last same))
+    (files_with_more (touched_data touched) last.file.items last.test.items pairs settled)
+
+-- the last one was taken off
+pub popped_as : {A : Type 0} (touched front : List (Touched A)) (last : Touched A) (file test : List ℕ) → touched ≡ front ++ last ∷ [] → file ≡ last.file.items → test ≡ last.test.items
+    → touched_data touched ≡ touched_data front ++ (file, test) ∷ []
+popped_as touched front last file test same its_file its_test =
+    touched_last front touched last same
+    ∙ ap (λ (name : List ℕ). touched_data front ++ (name, last.test.items) ∷ []) (sym its_file)
+    ∙ ap (λ (name : List ℕ). touched_data front ++ (file, name) ∷ []) (sym its_test)
+
+pub still_settled : {A : Type 0} (touched : List (Touched A)) (pairs : List (Vec ℕ A × File A)) → length touched ≡ 0 → AreSettledBut file_name [] pairs → AreSettledBut file_name (touched_data touched) pairs
+still_settled [] pairs e all = all
+still_settled (t ∷ touched) pairs e all = absurd (omega (arith, e))
