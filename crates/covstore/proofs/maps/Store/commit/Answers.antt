@@ -46,8 +46,8 @@ invariant_of-self g c =
     let first = c.self.inside in
     let now = c.loop-touched.self-inside in
     let was = c.loop-touched.invariant in
-    let none : length now.touched.items ≡ 0 = c.in_default.ensures.cases.0 in
-    let left : length c.pop.new.self.items ≡ 0 = c.in_default.ensures.cases.1 in
+    let none : length now.touched.items ≡ 0 = sym now.touched.ok.0 ∙ c.in_default.ensures.cases.0 in
+    let left : length c.pop.new.self.items ≡ 0 = sym c.pop.new.self.ok.0 ∙ c.in_default.ensures.cases.1 in
     let p = subst (λ (store : StoreData). IsPlanOf store c.requires.0 c.args.plan) (sym c.self.view_is) c.requires.1 in
     (
       same_members (now.members + 1) (first.members + 1) (ap (λ (m : ℕ). m + 1) was.1) c.after-self-inside.ensures.value (now_held first.files.entries now.files.entries now.touched.items none was.0)
@@ -60,7 +60,7 @@ returns g c =
     let first = c.self.inside in
     let now = c.loop-touched.self-inside in
     let was = c.loop-touched.invariant in
-    let none : length now.touched.items ≡ 0 = c.in_default.ensures.cases.0 in
+    let none : length now.touched.items ≡ 0 = sym now.touched.ok.0 ∙ c.in_default.ensures.cases.0 in
     let coming = files_coming file_name first.files.entries in
     record {
       stands = λ s table plan stands.

@@ -1,8 +1,9 @@
-use Rattle.std.proofs.Common.{◌≡◌, ℕ, List, refl, sym, ap, ◌∙◌, subst, Vec, BTreeMap}
+use Rattle.std.proofs.Common.{◌≡◌, ℕ, List, length, refl, sym, ap, ◌∙◌, subst, Vec, BTreeMap}
 use Rattle.covstore.specs.declared.file.File.{File}
 use Rattle.covstore.specs.declared.maps.Store.TheInside.{Inside}
 use Rattle.covstore.specs.FileView.{file_held}
-use Rattle.covstore.proofs.Settled.{IsSettling, popped_as, settling_found, settling_unfound}
+use Rattle.covstore.specs.Maps.{StoreData}
+use Rattle.covstore.proofs.Settled.{IsSettling, all_settled, none_left, popped_as, settling_found, settling_unfound}
 use Rattle.covstore.proofs.maps.Store.forget.Goals as goal
 use Rattle.covstore.proofs.maps.Store.forget.Goals.{in-Some-get_mut, in_default-get_mut}
 
@@ -33,4 +34,8 @@ loop-touched-preserved g c =
     ]
 
 pub returns-clause-coming : goal.returns-clause-coming
-returns-clause-coming g c = ?
+returns-clause-coming g c =
+    let now = c.loop-touched.self-inside in
+    let none : length now.touched.items ≡ 0 = sym now.touched.ok.0 ∙ c.in_default.ensures.cases.0 in
+    all_settled now.files.entries (none_left now.touched.items now.files.entries none c.loop-touched.invariant.0.settled)
+    ∙ c.loop-touched.invariant.0.stays ∙ ap (λ (store : StoreData). store.held) c.self.view_is

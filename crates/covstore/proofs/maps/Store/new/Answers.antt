@@ -1,4 +1,4 @@
-use Rattle.std.proofs.Common.{ℕ, List, [], ◌∷◌, sym, ap, subst, Vec}
+use Rattle.std.proofs.Common.{ℕ, List, sym, subst, Vec}
 use Rattle.covstore.specs.declared.file.File.{File}
 use Rattle.covstore.specs.declared.totals.Totals.{Totals}
 use Rattle.covstore.specs.MapsView.{AreSettledBut, IsStore, files_held, touched_data}
