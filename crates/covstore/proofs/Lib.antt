@@ -50,3 +50,4 @@ pub mod StateTotals
 pub mod MapKeys
 pub mod Settled
 pub mod Stores
+pub mod HasTest

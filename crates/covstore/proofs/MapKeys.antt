@@ -1,12 +1,12 @@
 -- The entries of a map whose keys are names, before and after a value was written at one of them.
-use Rattle.std.proofs.Common.{◌≡◌, ℕ, Bool, true, false, cond, Some, None, List, [], ◌∷◌, map, refl, sym, ap, ◌∙◌, subst}
+use Rattle.std.proofs.Common.{◌≡◌, ℕ, Bool, true, false, cond, Option, Some, None, option_map, List, [], ◌∷◌, map, refl, sym, ap, ◌∙◌, subst}
 use Rattle.std.specs.Cmp.Lexicographic.{slice_cmp}
 use Rattle.std.specs.declared.cmp.Ordering.{Ordering}
 use Rattle.std.specs.declared.cmp.Ordering.TheVariants.{Less, Equal, Greater}
 use Rattle.std.specs.List.{AllByRecursion}
 use Rattle.std.specs.List.Sorted.{IsStrictlySortedBy}
 use Rattle.std.specs.Map.{keys_of, lookup, set_value}
-use Rattle.std.specs.Ordering.{is_eq, nat_cmp}
+use Rattle.std.specs.Ordering.{is_eq, nat_cmp, ordering_reverse}
 use Rattle.std.specs.Str.{bytes_eq}
 use Rattle.std.proofs.lemmas.Bool.{false_from_ne_true, false≢true}
 use Rattle.std.proofs.lemmas.Cmp.{nat_list_cmp_total, tied_itself}
@@ -14,6 +14,7 @@ use Rattle.std.proofs.lemmas.Map.{NonePasses, none_passes_from_lookup}
 use Rattle.std.proofs.lemmas.Map.Views.{tells_apart}
 use Rattle.std.proofs.lemmas.Option.{same_Some}
 use Rattle.std.proofs.lemmas.Slice.Eq.{bytes_eq-Decides}
+use Rattle.covstore.specs.Puts.{value_of}
 use Rattle.covstore.proofs.Orders.{names_order}
 
 -- names that differ, by `bytes_eq`
@@ -78,3 +79,22 @@ module _ {K : Type 0} (name : K → List ℕ) (key : List ℕ) where
         → names_with name f (set_value has_name es w) ≡ names_with name f es
     map_written f v w [] same found = refl
     map_written f v w (e ∷ es) same found = map_written_at f v w e es (has_name e.0) same found (map_written f v w es same)
+
+is_eq-flipped : (a b : List ℕ) → is_eq (slice_cmp nat_cmp a b) ≡ is_eq (slice_cmp nat_cmp b a)
+is_eq-flipped a b = ap is_eq (nat_list_cmp_total.antisymm a b) ∙ flipped (slice_cmp nat_cmp b a)
+  where
+    flipped : (order : Ordering) → is_eq (ordering_reverse order) ≡ is_eq order
+    flipped Less = refl
+    flipped Equal = refl
+    flipped Greater = refl
+
+-- what a look-up in the map finds, seen as plain data
+pub value_of_named : {K X Y : Type 0} (name : K → List ℕ) (f : X → Y) (key : List ℕ) (pairs : List (K × X)) → value_of (slice_cmp nat_cmp) key (names_with name f pairs) ≡ option_map f (lookup (has_name name key) pairs)
+value_of_named name f key [] = refl
+value_of_named {K} {X} {Y} name f key (pair ∷ pairs) =
+    ap (λ (b : Bool). cond b (Some (f pair.1)) (value_of (slice_cmp nat_cmp) key (names_with name f pairs))) (is_eq-flipped (name pair.0) key)
+    ∙ first_or (is_eq (slice_cmp nat_cmp key (name pair.0))) pair.1 (value_of (slice_cmp nat_cmp) key (names_with name f pairs)) (lookup (has_name name key) pairs) (value_of_named name f key pairs)
+  where
+    first_or : (b : Bool) (x : X) (later : Option Y) (found : Option X) → later ≡ option_map f found → cond b (Some (f x)) later ≡ option_map f (cond b (Some x) found)
+    first_or true x later found e = refl
+    first_or false x later found e = e

@@ -17,6 +17,7 @@ pub(crate) struct Test<A: Allocator> {
 
 impl<A: Allocator + Copy> Test<A> {
     ghost use Rattle.covstore.specs.TestView.{test_coming, test_held};
+    ghost use Rattle.covstore.specs.State.{has_no_points};
     ghost use Rattle.covstore.specs.Sums.{test_of};
 
     /// No points.
@@ -49,5 +50,12 @@ impl<A: Allocator + Copy> Test<A> {
         self.lines.forget();
         self.functions.forget();
         self.branches.forget();
+    }
+
+    /// Whether there are no points now.
+    pub(crate) fn is_empty(&self) -> bool
+        ensures { result ≡ has_no_points (test_held self.now) }
+    {
+        self.lines.is_empty() && self.functions.is_empty() && self.branches.is_empty()
     }
 }
