@@ -45,6 +45,7 @@ pub mod StateOrder
 pub mod StateSections
 pub mod StateRows
 pub mod MapKeys
+pub mod MapNames
 pub mod Opens
 pub mod Keeps
 pub mod StoreKept
@@ -62,3 +63,6 @@ pub mod StepsTexts
 pub mod StepsCounts
 pub mod StepsKept
 pub mod StepsMore
+pub mod Settled
+pub mod Stores
+pub mod HasTest
