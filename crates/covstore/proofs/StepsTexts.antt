@@ -56,15 +56,11 @@ module _ (line : ℕ) (text : List ℕ) (holders : List (ℕ × ℕ)) (texts mor
       ap (value_of nat_cmp other) is_put
       ∙ value_of-put_other lines_order line other text texts (λ same. false≢true (sym (ap is_some none) ∙ ap (λ (l : ℕ). is_some (value_of nat_cmp l holders)) same ∙ e))
 
-  -- a text comes in of a line of which no checksum is held
-  pub keeps_inserted : value_of nat_cmp line holders ≡ None → KeepsTexts holders texts holders more
-  keeps_inserted none = record { held = λ other e. e; texts_stay = other_text none }
-
-  -- and the texts of all lines of which one is held stay, where these are among those
+  -- a text comes in of a line of which no checksum is to be held: those of the lines of which one is held stay
   pub stay_inserted : (held : List (ℕ × ℕ)) → AreAmong held holders → value_of nat_cmp line holders ≡ None → StayTexts held texts more
   stay_inserted held among none other e = other_text none other (among other e)
 
-  -- and then it is held
+  -- and then its checksum is to be held
   pub keeps_first : (others : List (ℕ × ℕ)) → value_of nat_cmp line holders ≡ None → others ≡ put nat_cmp line 1 holders → KeepsTexts holders texts others more
   keeps_first others none puts = record {
     held = λ other e. ap (λ (pairs : List (ℕ × ℕ)). is_some (value_of nat_cmp other pairs)) puts ∙ some_after line other 1 holders e;

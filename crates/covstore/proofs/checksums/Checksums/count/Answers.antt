@@ -1,9 +1,8 @@
-use Rattle.std.proofs.Common.{◌≡◌, Bool, List, ℕ, sym, ap, ◌∙◌, subst}
+use Rattle.std.proofs.Common.{List, ℕ, sym, ap, ◌∙◌, subst}
 use Rattle.std.specs.Option.{is_some}
 use Rattle.std.specs.Ordering.{nat_cmp}
 use Rattle.covstore.specs.Checksums.{AreAmong, ChecksumsData, HaveTexts}
-use Rattle.covstore.specs.PointsData.{PointsData}
-use Rattle.covstore.specs.Puts.{put, value_of}
+use Rattle.covstore.specs.Puts.{value_of}
 use Rattle.covstore.proofs.StepsTexts.{among_held, have_held, ok_unless}
 use Rattle.covstore.proofs.checksums.Checksums.count.Goals as goal
 

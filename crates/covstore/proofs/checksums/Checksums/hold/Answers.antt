@@ -1,4 +1,4 @@
-use Rattle.std.proofs.Common.{◌≡◌, true, Some, None, List, ℕ, ◌+◌, sym, ap, ◌∙◌, subst}
+use Rattle.std.proofs.Common.{◌≡◌, true, Some, None, ℕ, ◌+◌, sym, ap, ◌∙◌, subst}
 use Rattle.std.specs.Option.{is_some}
 use Rattle.std.specs.Ordering.{nat_cmp}
 use Rattle.std.proofs.lemmas.Bool.{false≢true}
@@ -62,7 +62,6 @@ returns-in_default-clause-stay g c =
 
 pub returns-clause-text : goal.returns-clause-text
 returns-clause-text g c =
-    let inside = c.self.inside in
     let tests = c.in-Some.tests + 1 in
     on_ok_weaker c.count-2.result
     (λ (coming : c.count-2.new.self.coming ≡ put nat_cmp c.args.line tests c.coming_at.new.self.coming).
