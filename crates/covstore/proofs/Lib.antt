@@ -49,6 +49,7 @@ pub mod MapNames
 pub mod Opens
 pub mod Keeps
 pub mod StoreKept
+pub mod Prepares
 pub mod StateMore
 pub mod StateFiles
 pub mod StateTotals

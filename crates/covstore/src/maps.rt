@@ -53,7 +53,8 @@ impl<A: Allocator + Copy> Store<A> {
     ghost use Rattle.covstore.specs.Maps.{AddsRows, ClashesWith, HasRoomForRows, IsPlanOf, SameContent, SameHeld, StandsFor};
     ghost use Rattle.covstore.specs.Stored.{IsRefusedAt, most_members};
     ghost use Rattle.covstore.specs.RefuseView.{refuse_data};
-    ghost use Rattle.covstore.specs.State.{totals_in};
+    ghost use Rattle.covstore.specs.MapsView.{IsStore};
+    ghost use Rattle.covstore.specs.State.{sections_of, totals_in};
     ghost use Rattle.covstore.specs.FileView.{with_file};
     ghost use Rattle.covstore.specs.Table.{Table, all_rows, clash_at};
     ghost use Rattle.covstore.specs.Totals.{AreTotals, totals_of};
@@ -125,6 +126,8 @@ impl<A: Allocator + Copy> Store<A> {
         ensures held { self.new.held ≡ self.old.held }
         ensures coming { self.new.coming ≡ self.old.held }
         ensures after { self.new.after ≡ totals_in self.old.held }
+        ensures own { IsStore self.new.members self.new.after self.new.held }
+        ensures seen { self.new.sections ≡ sections_of self.new.held }
     {
         while let Some(touched) = self.touched.pop() {
             if let Some(file) = self.files.get_mut(touched.file.as_slice()) {
