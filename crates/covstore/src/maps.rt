@@ -5,6 +5,7 @@ ghost use Rattle.std.specs.Prelude.{◌≡◌, ◌+◌, ◌≤◌, OnOk};
 use crate::file::File;
 use crate::maps_plan::Plan;
 use crate::refuse::Refuse;
+use crate::seen::Sections;
 use crate::stop::Stop;
 use crate::totals::Totals;
 use covline::{Memory, Sect, Submission};
@@ -219,5 +220,20 @@ impl<A: Allocator + Copy> Store<A> {
         ensures bounds { AreTotals result }
     {
         self.held
+    }
+
+    /// Whether some section is of this test, and so some row: one look-up in each file. Takes no memory.
+    pub fn has_test(&self, test: &[u8]) -> bool
+        ensures value { result ≡ list_any (λ s. bytes_eq s.key.test test.now) self.now.sections }
+        ensures rows { (table : Table) → StandsFor self.now table → result ≡ list_any (λ row. bytes_eq row.test test.now) (all_rows table) }
+    {
+        self.files.values().any(|file| file.has_test(test))
+    }
+
+    /// The sections of the files and tests with a row, ascending by file and then by test. Takes no memory.
+    pub fn sections(&self) -> Sections<'_, A>
+        ensures { result ≡ self.now.sections }
+    {
+        Sections::of(self.files.iter())
     }
 }
