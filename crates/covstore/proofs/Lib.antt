@@ -63,3 +63,4 @@ pub mod StepsCounts
 pub mod StepsKept
 pub mod StepsMore
 pub mod SeenTests
+pub mod SeenStore
