@@ -1,5 +1,5 @@
--- What a store tells of its sections: each has few points, and which tests they are of.
-use Rattle.std.proofs.Common.{◌≡◌, ℕ, ◌+◌, ◌*◌, ◌^◌, ◌<◌, ◌≤◌, Bool, true, false, ◌&&◌, ◌||◌, not, cond, Option, Some, None, List, [], ◌∷◌, ◌++◌, length, map, refl, sym, ap, ◌∙◌, subst, arith}
+-- Each section of a store has few points.
+use Rattle.std.proofs.Common.{◌≡◌, ℕ, ◌*◌, ◌^◌, ◌<◌, ◌≤◌, List, [], ◌∷◌, length, map, sym, subst, arith}
 use Rattle.std.specs.Cmp.Lexicographic.{slice_cmp}
 use Rattle.std.specs.declared.cmp.Ordering.TheVariants.{Less}
 use Rattle.std.specs.List.{flat_map, list_any, AllByRecursion}
@@ -7,6 +7,7 @@ use Rattle.std.specs.Ordering.{is_eq, nat_cmp}
 use Rattle.std.specs.Str.{bytes_eq}
 use Rattle.std.proofs.lemmas.List.{length-append}
 use Rattle.std.proofs.lemmas.List.Folds.{list_any-append}
+use Rattle.std.proofs.lemmas.Slice.Eq.{bytes_eq-Decides}
 use Rattle.std.proofs.lemmas.Map.Text.{is_eq-slice_cmp}
 use Rattle.covline.specs.Lawful.{most_items}
 use Rattle.covline.specs.Row.{Row}
@@ -16,7 +17,7 @@ use Rattle.covstore.specs.Content.{SectionData, section_of, content_of}
 use Rattle.covstore.specs.MapsView.{IsStore}
 use Rattle.covstore.specs.Puts.{ArePairs, value_of}
 use Rattle.covstore.specs.SeenView.{IsFewOf}
-use Rattle.covstore.specs.State.{FileData, IsStateOf, IsWholeFile, has_no_points, has_points_of, points_or_none, section_seen, sections_of, sections_of_file}
+use Rattle.covstore.specs.State.{FileData, IsStateOf, IsWholeFile, has_no_points, has_points_of, points_or_none, section_seen, section_with_points, sections_of, sections_of_file}
 use Rattle.covstore.specs.Stored.{most_members}
 use Rattle.covstore.specs.Sums.{TestData, test_of}
 use Rattle.covstore.specs.Table.{Table, all_rows}
@@ -52,20 +53,3 @@ few_of_store members held files is =
     let members_few : length is.own ≤ 1048576 = is.few in
     let few : length (all_rows is.own) < 2 ^ 64 = omega (arith, members_few, rows_of_own is.own is.small) in
     subst (AllByRecursion IsFewOf) (sym (sections_are (all_rows is.own) files is.state is.agree)) (few_sections (all_rows is.own) few (keys_of (all_rows is.own)))
-
--- ---- of which tests they are
-
-module _ (test : List ℕ) (file : List ℕ) (texts : List (ℕ × List ℕ)) where
-  is_of : SectionData → Bool
-  is_of s = bytes_eq s.key.test test
-
-  abbrev seen_tests : List (List ℕ × TestData) → List SectionData
-  seen_tests tests = flat_map (λ (pair : List ℕ × TestData). section_seen file texts pair.0 pair.1) tests
-
-  abbrev has_one : List (List ℕ × TestData) → Bool
-  has_one tests = not (has_no_points (points_or_none (value_of (slice_cmp nat_cmp) test tests)))
-
-  -- one test's section, if it has one
-  one_seen_at : (name : List ℕ) (points : TestData) (none own : Bool) → has_no_points points ≡ none → bytes_eq name test ≡ own
-      → list_any (λ (s : SectionData). bytes_eq s.key.test test) (section_seen file texts name points) ≡ (not none && own)
-  one_seen_at name points none own = ?

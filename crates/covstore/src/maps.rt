@@ -222,14 +222,6 @@ impl<A: Allocator + Copy> Store<A> {
         self.held
     }
 
-    /// Whether some section is of this test, and so some row: one look-up in each file. Takes no memory.
-    pub fn has_test(&self, test: &[u8]) -> bool
-        ensures value { result ≡ list_any (λ s. bytes_eq s.key.test test.now) self.now.sections }
-        ensures rows { (table : Table) → StandsFor self.now table → result ≡ list_any (λ row. bytes_eq row.test test.now) (all_rows table) }
-    {
-        self.files.values().any(|file| file.has_test(test))
-    }
-
     /// The sections of the files and tests with a row, ascending by file and then by test. Takes no memory.
     pub fn sections(&self) -> Sections<'_, A>
         ensures { result ≡ self.now.sections }
