@@ -45,6 +45,7 @@ pub mod StateOrder
 pub mod StateSections
 pub mod StateRows
 pub mod MapKeys
+pub mod MapNames
 pub mod Opens
 pub mod Keeps
 pub mod StoreKept
@@ -64,3 +65,6 @@ pub mod StepsKept
 pub mod StepsMore
 pub mod SeenTests
 pub mod SeenStore
+pub mod Settled
+pub mod Stores
+pub mod HasTest

@@ -1,6 +1,5 @@
 -- The sections that are seen of a file's tests, one test after another.
-use Rattle.std.proofs.Common.{◌≡◌, ℕ, Bool, true, false, ◌&&◌, Option, List, [], ◌∷◌, ◌++◌, map, refl, sym, ap, ◌∙◌, subst}
-use Rattle.std.specs.Prelude.{◌↔◌, IsTrue}
+use Rattle.std.proofs.Common.{◌≡◌, ℕ, Option, List, [], ◌∷◌, ◌++◌, map, sym, ap, ◌∙◌, subst}
 use Rattle.std.specs.List.{flat_map, AllByRecursion}
 use Rattle.std.proofs.lemmas.List.Folds.{flat_map-map}
 use Rattle.covstore.specs.declared.file.File.{File}
@@ -10,28 +9,8 @@ use Rattle.covstore.specs.FileView.{file_held}
 use Rattle.covstore.specs.MapsView.{files_held}
 use Rattle.covstore.specs.SeenView.{or_none, sections_left, tests_seen}
 use Rattle.covstore.specs.Sums.{TestData}
-use Rattle.covstore.specs.State.{FileData, has_none, has_no_points, section_seen, sections_of, sections_of_file}
-use Rattle.covstore.specs.TestView.{branches_data, test_held}
-
--- ---- a test without points
-
-none_is : {X : Type 0} (b : Bool) (xs : List X) → IsTrue b ↔ (xs ≡ []) → has_none xs ≡ b
-none_is true [] same = refl
-none_is true (x ∷ xs) same = absurd cc (same.0 refl)
-none_is false [] same = sym (same.1 refl)
-none_is false (x ∷ xs) same = refl
-
-none_mapped : {X Y : Type 0} (f : X → Y) (xs : List X) → has_none (map f xs) ≡ has_none xs
-none_mapped f [] = refl
-none_mapped f (x ∷ xs) = refl
-
--- the first two kinds have no points, and a test tells the same of the third
-pub none_of_kinds : {X Y Z W : Type 0} (f : Z → W) (lines : List X) (functions : List Y) (branches : List Z) (a b c : Bool) → a ≡ true → b ≡ true
-    → IsTrue a ↔ (lines ≡ []) → IsTrue b ↔ (functions ≡ []) → IsTrue c ↔ (branches ≡ []) → c ≡ (has_none lines && has_none functions && has_none (map f branches))
-none_of_kinds f lines functions branches a b c is_a is_b la fb bc =
-    sym (none_mapped f branches ∙ none_is c branches bc)
-    ∙ ap (λ (t : Bool). t && has_none (map f branches)) (sym (none_is b functions fb ∙ is_b))
-    ∙ ap (λ (t : Bool). t && has_none functions && has_none (map f branches)) (sym (none_is a lines la ∙ is_a))
+use Rattle.covstore.specs.State.{FileData, section_seen, sections_of, sections_of_file}
+use Rattle.covstore.specs.TestView.{test_held}
 
 -- ---- the sections of a file
 

@@ -1,13 +1,14 @@
 -- The checksums' texts where one comes in, and the lines of which a checksum is held where one more test holds one.
 use Rattle.std.proofs.Common.{◌≡◌, ℕ, Bool, true, false, cond, Option, Some, None, List, [], ◌∷◌, refl, sym, ap, ◌∙◌, subst, inl, inr, ⊎_elim}
-use Rattle.std.specs.Prelude.{◌⊎◌}
+use Rattle.std.specs.Prelude.{◌⊎◌, Result, Ok, Err, OnOk}
 use Rattle.std.specs.BTreeMap.{insert_entry}
 use Rattle.std.specs.declared.cmp.Ordering.{Ordering}
 use Rattle.std.specs.declared.cmp.Ordering.TheVariants.{Less, Equal, Greater}
 use Rattle.std.specs.Option.{is_some}
+use Rattle.std.specs.Result.{is_err}
 use Rattle.std.specs.Ordering.{is_eq, match_ordering, nat_cmp, ordering_reverse}
 use Rattle.std.proofs.lemmas.Bool.{false≢true}
-use Rattle.covstore.specs.Checksums.{HaveTexts, KeepsTexts}
+use Rattle.covstore.specs.Checksums.{AreAmong, HaveTexts, KeepsTexts, StayTexts}
 use Rattle.covstore.specs.Puts.{put, value_of}
 use Rattle.covstore.proofs.Ascend.{IsExactOrder}
 use Rattle.covstore.proofs.Orders.{lines_order}
@@ -55,11 +56,11 @@ module _ (line : ℕ) (text : List ℕ) (holders : List (ℕ × ℕ)) (texts mor
       ap (value_of nat_cmp other) is_put
       ∙ value_of-put_other lines_order line other text texts (λ same. false≢true (sym (ap is_some none) ∙ ap (λ (l : ℕ). is_some (value_of nat_cmp l holders)) same ∙ e))
 
-  -- a text comes in of a line of which no checksum is held
-  pub keeps_inserted : value_of nat_cmp line holders ≡ None → KeepsTexts holders texts holders more
-  keeps_inserted none = record { held = λ other e. e; texts_stay = other_text none }
+  -- a text comes in of a line of which no checksum is to be held: those of the lines of which one is held stay
+  pub stay_inserted : (held : List (ℕ × ℕ)) → AreAmong held holders → value_of nat_cmp line holders ≡ None → StayTexts held texts more
+  stay_inserted held among none other e = other_text none other (among other e)
 
-  -- and then it is held
+  -- and then its checksum is to be held
   pub keeps_first : (others : List (ℕ × ℕ)) → value_of nat_cmp line holders ≡ None → others ≡ put nat_cmp line 1 holders → KeepsTexts holders texts others more
   keeps_first others none puts = record {
     held = λ other e. ap (λ (pairs : List (ℕ × ℕ)). is_some (value_of nat_cmp other pairs)) puts ∙ some_after line other 1 holders e;
@@ -84,6 +85,10 @@ module _ (line tests : ℕ) (holders others : List (ℕ × ℕ)) (puts : others 
   have_held texts there have other e =
       ⊎_elim (λ (same : nat_cmp line other ≡ Equal). subst (λ (l : ℕ). is_some (value_of nat_cmp l texts) ≡ true) (lines_order.exact line other same) there) (λ h. have other h) (held_at other e)
 
+  -- what was among the lines of which a checksum is held is so still
+  pub among_held : (held : List (ℕ × ℕ)) → AreAmong held holders → AreAmong held others
+  among_held held among other e = ap (λ (pairs : List (ℕ × ℕ)). is_some (value_of nat_cmp other pairs)) puts ∙ some_after line other tests holders (among other e)
+
   -- one test more holds a line's checksum
   pub keeps_held : (texts : List (ℕ × List ℕ)) → KeepsTexts holders texts others texts
   keeps_held texts = record {
@@ -100,3 +105,8 @@ keeps_both a b c s t u first second = record {
   held = λ line e. second.held line (first.held line e);
   texts_stay = λ line e. second.texts_stay line (first.held line e) ∙ first.texts_stay line e;
 }
+
+-- what holds of a value holds where there is no refusal
+pub ok_unless : {T E P : Type 0} (r : Result T E) {b : Bool} → b ≡ is_err r → b ≡ false → OnOk r P → P
+ok_unless (Ok x) is without h = h
+ok_unless (Err e) is without h = absurd (false≢true (sym without ∙ is))

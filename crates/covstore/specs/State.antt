@@ -1,6 +1,6 @@
 -- What a store keeps: for each file its tests, each with its points, and for each point in how many tests it is; and of which
 -- rows that is what they add up to.
-use Rattle.std.specs.Prelude.{◌≡◌, ℕ, ◌+◌, Bool, true, false, nat_lt, ◌&&◌, if◌then◌else◌, Option, Some, None, option_map, List, [], ◌∷◌, length, map, count_by, Contains}
+use Rattle.std.specs.Prelude.{◌≡◌, ℕ, ◌+◌, Bool, true, false, nat_lt, ◌&&◌, not, if◌then◌else◌, Option, Some, None, option_map, List, [], ◌∷◌, length, map, count_by, Contains}
 use Rattle.std.specs.Cmp.Lexicographic.{slice_cmp}
 use Rattle.std.specs.List.{flat_map, sum_by, AllByRecursion}
 use Rattle.std.specs.Ordering.{nat_cmp}
@@ -134,6 +134,10 @@ points_in (Some file) test = points_or_none (value_of (slice_cmp nat_cmp) test f
 
 abbrev pub points_at : Key → List (List ℕ × FileData) → TestData
 points_at key files = points_in (value_of (slice_cmp nat_cmp) key.file files) key.test
+
+-- whether a test of the file has points
+abbrev pub has_points_of : List ℕ → FileData → Bool
+has_points_of test file = not (has_no_points (points_in (Some file) test))
 
 -- the checksum's text that is kept for a line of a file
 abbrev pub text_in : Option FileData → ℕ → Option (List ℕ)

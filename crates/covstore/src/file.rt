@@ -23,7 +23,7 @@ impl<A: Allocator + Copy> File<A> {
     ghost use Rattle.covstore.specs.FileAdds.{AddsItems, ClashesIn, HasRoomIn};
     ghost use Rattle.covstore.specs.FileView.{KeepsFile, file_coming, file_held, no_file, with_test};
     ghost use Rattle.covstore.specs.MapsView.{IsSettledBut};
-    ghost use Rattle.covstore.specs.State.{file_totals};
+    ghost use Rattle.covstore.specs.State.{file_totals, has_points_of};
 
     /// No tests.
     pub(crate) fn new(alloc: A) -> File<A>
@@ -92,5 +92,15 @@ impl<A: Allocator + Copy> File<A> {
         ensures { result ≡ file_totals (file_coming self.now) }
     {
         self.marks.totals()
+    }
+
+    /// Whether the test has points now.
+    pub(crate) fn has_test(&self, test: &[u8]) -> bool
+        ensures { result ≡ has_points_of test.now (file_held self.now) }
+    {
+        match self.tests.get(test) {
+            Some(points) => !points.is_empty(),
+            None => false,
+        }
     }
 }

@@ -214,6 +214,14 @@ impl<A: Allocator + Copy> Store<A> {
         Ok(())
     }
 
+    /// Whether some section is of this test, and so some row: found by one look-up in each file. Takes no memory.
+    pub fn has_test(&self, test: &[u8]) -> bool
+        ensures value { result ≡ list_any (λ s. bytes_eq s.key.test test.now) self.now.sections }
+        ensures rows { (table : Table) → StandsFor self.now table → result ≡ list_any (λ row. bytes_eq row.test test.now) (all_rows table) }
+    {
+        self.files.values().any(|file| file.has_test(test))
+    }
+
     /// The totals over all files and tests. Takes no memory.
     pub fn totals(&self) -> Totals
         ensures value { result ≡ totals_of self.now.sections }

@@ -17,6 +17,7 @@ pub(crate) struct Test<A: Allocator> {
 
 impl<A: Allocator + Copy> Test<A> {
     ghost use Rattle.covstore.specs.TestView.{test_coming, test_held};
+    ghost use Rattle.covstore.specs.State.{has_no_points};
     ghost use Rattle.covstore.specs.Sums.{test_of};
 
     /// No points.
@@ -50,13 +51,8 @@ impl<A: Allocator + Copy> Test<A> {
         self.functions.forget();
         self.branches.forget();
     }
-}
 
-impl<A: Allocator + Copy> Test<A> {
-    ghost use Rattle.covstore.specs.State.{has_no_points};
-    ghost use Rattle.covstore.specs.TestView.{test_held};
-
-    /// Whether there are no points.
+    /// Whether there are no points now.
     pub(crate) fn is_empty(&self) -> bool
         ensures { result ≡ has_no_points (test_held self.now) }
     {

@@ -17,13 +17,13 @@ invariant_of-self-then-after-gt0 g c =
           let new : old.coming.found + 1 ≡ old.coming.found + one_if (is_new before) = omega (arith, new_as before c.is_none.result true c.is_none.ensures w.if-is_none.true) in
           rw w.self-inside-is
           (tallies_put g.K.Key.total (g.Q.Asked.named c.args.asked) after old.counts.coming c.coming_at-before.ensures.coming before old.counts c.coming_at-before.new.self c.put.new.self old.held old.coming
-          (record { found = old.coming.found + 1; hit = old.coming.hit + 1 }) c.self.invariant refl c.coming_at-before.ensures.same c.in_ok-put.ensures.now c.in_ok-put.ensures.ok
+          (record { found = old.coming.found + 1; hit = old.coming.hit + 1 }) c.self.invariant refl c.coming_at-before.ensures.same c.put.ensures.now c.in_default.ensures.ok
           c.coming_at-before.ensures.value new hit)
       | else-is_none w ↦
           let new : old.coming.found ≡ old.coming.found + one_if (is_new before) = omega (arith, new_as before c.is_none.result false c.is_none.ensures w.if-is_none.false) in
           rw w.self-inside-is
           (tallies_put g.K.Key.total (g.Q.Asked.named c.args.asked) after old.counts.coming c.coming_at-before.ensures.coming before old.counts c.coming_at-before.new.self c.put.new.self old.held old.coming
-          (record { found = old.coming.found; hit = old.coming.hit + 1 }) c.self.invariant refl c.coming_at-before.ensures.same c.in_ok-put.ensures.now c.in_ok-put.ensures.ok
+          (record { found = old.coming.found; hit = old.coming.hit + 1 }) c.self.invariant refl c.coming_at-before.ensures.same c.put.ensures.now c.in_default.ensures.ok
           c.coming_at-before.ensures.value new hit)
     ]
 
@@ -39,13 +39,13 @@ invariant_of-self-else-after-gt0 g c =
           let new : old.coming.found + 1 ≡ old.coming.found + one_if (is_new before) = omega (arith, new_as before c.is_none.result true c.is_none.ensures w.if-is_none.true) in
           rw w.self-inside-is
           (tallies_put g.K.Key.total (g.Q.Asked.named c.args.asked) after old.counts.coming c.coming_at-before.ensures.coming before old.counts c.coming_at-before.new.self c.put.new.self old.held old.coming
-          (record { found = old.coming.found + 1; hit = old.coming.hit }) c.self.invariant refl c.coming_at-before.ensures.same c.in_ok-put.ensures.now c.in_ok-put.ensures.ok
+          (record { found = old.coming.found + 1; hit = old.coming.hit }) c.self.invariant refl c.coming_at-before.ensures.same c.put.ensures.now c.in_default.ensures.ok
           c.coming_at-before.ensures.value new hit)
       | else-is_none w ↦
           let new : old.coming.found ≡ old.coming.found + one_if (is_new before) = omega (arith, new_as before c.is_none.result false c.is_none.ensures w.if-is_none.false) in
           rw w.self-inside-is
           (tallies_put g.K.Key.total (g.Q.Asked.named c.args.asked) after old.counts.coming c.coming_at-before.ensures.coming before old.counts c.coming_at-before.new.self c.put.new.self old.held old.coming
-          (record { found = old.coming.found; hit = old.coming.hit }) c.self.invariant refl c.coming_at-before.ensures.same c.in_ok-put.ensures.now c.in_ok-put.ensures.ok
+          (record { found = old.coming.found; hit = old.coming.hit }) c.self.invariant refl c.coming_at-before.ensures.same c.put.ensures.now c.in_default.ensures.ok
           c.coming_at-before.ensures.value new hit)
     ]
 
@@ -61,12 +61,12 @@ invariant_of-self-else-held-eq0 g c =
           let new : old.coming.found + 1 ≡ old.coming.found + one_if (is_new before) = omega (arith, new_as before c.is_none.result true c.is_none.ensures w.if-is_none.true) in
           rw w.self-inside-is
           (tallies_put g.K.Key.total (g.Q.Asked.named c.args.asked) after old.counts.coming c.coming_at-before.ensures.coming before old.counts c.coming_at-before.new.self c.put.new.self old.held old.coming
-          (record { found = old.coming.found + 1; hit = old.coming.hit }) c.self.invariant refl c.coming_at-before.ensures.same c.in_ok-put.ensures.now c.in_ok-put.ensures.ok
+          (record { found = old.coming.found + 1; hit = old.coming.hit }) c.self.invariant refl c.coming_at-before.ensures.same c.put.ensures.now c.in_default.ensures.ok
           c.coming_at-before.ensures.value new hit)
       | else-is_none w ↦
           let new : old.coming.found ≡ old.coming.found + one_if (is_new before) = omega (arith, new_as before c.is_none.result false c.is_none.ensures w.if-is_none.false) in
           rw w.self-inside-is
           (tallies_put g.K.Key.total (g.Q.Asked.named c.args.asked) after old.counts.coming c.coming_at-before.ensures.coming before old.counts c.coming_at-before.new.self c.put.new.self old.held old.coming
-          (record { found = old.coming.found; hit = old.coming.hit }) c.self.invariant refl c.coming_at-before.ensures.same c.in_ok-put.ensures.now c.in_ok-put.ensures.ok
+          (record { found = old.coming.found; hit = old.coming.hit }) c.self.invariant refl c.coming_at-before.ensures.same c.put.ensures.now c.in_default.ensures.ok
           c.coming_at-before.ensures.value new hit)
     ]

@@ -1,0 +1,34 @@
+use Rattle.std.proofs.Common.{◌≡◌, ℕ, List, rules, tests, refl, sym, ap, ◌∙◌, Vec}
+use Rattle.std.specs.Str.{bytes_eq}
+use Rattle.std.specs.List.{list_any}
+use Rattle.std.proofs.lemmas.Iterator.Consumers.{YieldsList-from_rest}
+use Rattle.std.proofs.lemmas.Iterator.Search.{any_from_yields_List}
+use Rattle.covstore.specs.declared.file.File.{File}
+use Rattle.covstore.specs.Content.{SectionData}
+use Rattle.covstore.specs.FileView.{file_held}
+use Rattle.covstore.specs.Maps.{StoreData}
+use Rattle.covstore.specs.MapsView.{files_held}
+use Rattle.covstore.specs.State.{FileData, has_points_of}
+use Rattle.covstore.specs.Table.{all_rows}
+use Rattle.covstore.proofs.Contents.{test_by_content}
+use Rattle.covstore.proofs.HasTest.{any_in_files, any_named}
+use Rattle.covstore.proofs.Settled.{file_name}
+use Rattle.covstore.proofs.maps.Store.has_test.Goals as goal
+
+pub returns-clause-value : goal.returns-clause-value
+returns-clause-value g c =
+    let test = c.args.test.now in
+    let pairs = c.self.inside.files.entries in
+    any_from_yields_List (λ (file : File g.row.A.Denot). has_points_of test (file_held file)) c.any.new.self _ c.any.result c.any.ensures.ran
+    (YieldsList-from_rest c.values.result refl)
+    (λ x b q k. search (rules, tests))
+    ∙ ap (list_any (λ (file : File g.row.A.Denot). has_points_of test (file_held file))) c.values.ensures.rest
+    ∙ any_named (has_points_of test) file_held file_name pairs
+    ∙ sym (any_in_files test (files_held file_name pairs) c.self.invariant.0.state.whole)
+    ∙ ap (λ (store : StoreData). list_any (λ (s : SectionData). bytes_eq s.key.test test) store.sections) c.self.view_is
+
+pub returns-clause-rows : goal.returns-clause-rows
+returns-clause-rows g c = λ table stands.
+    let test = c.args.test.now in
+    returns-clause-value g c ∙ ap (list_any (λ (s : SectionData). bytes_eq s.key.test test)) stands.content
+    ∙ test_by_content (all_rows table) test
