@@ -64,6 +64,8 @@ pub mod StepsTexts
 pub mod StepsCounts
 pub mod StepsKept
 pub mod StepsMore
+pub mod SeenTests
+pub mod SeenStore
 pub mod Settled
 pub mod Stores
 pub mod HasTest

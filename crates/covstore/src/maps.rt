@@ -5,6 +5,7 @@ ghost use Rattle.std.specs.Prelude.{◌≡◌, ◌+◌, ◌≤◌, OnOk};
 use crate::file::File;
 use crate::maps_plan::Plan;
 use crate::refuse::Refuse;
+use crate::seen::Sections;
 use crate::stop::Stop;
 use crate::totals::Totals;
 use covline::{Memory, Sect, Submission};
@@ -230,5 +231,12 @@ impl<A: Allocator + Copy> Store<A> {
         ensures bounds { AreTotals result }
     {
         self.held
+    }
+
+    /// The sections of the files and tests with a row, ascending by file and then by test. Takes no memory.
+    pub fn sections(&self) -> Sections<'_, A>
+        ensures { result ≡ self.now.sections }
+    {
+        Sections::of(self.files.iter())
     }
 }

@@ -1,5 +1,8 @@
 //! The sections of a store, one after another, and the points of a section. They take no memory.
 
+ghost use Rattle.std.specs.Iterator.{YieldsFirstBy};
+ghost use Rattle.covstore.specs.SeenView.{or_none};
+
 mod points;
 
 pub use self::points::{Branches, Functions, Lines};
@@ -178,6 +181,16 @@ impl<'a, A: Allocator> Sections<'a, A> {
     }
 }
 
+/// The next section of the file that is at hand.
+fn next_of_file<'a, A: Allocator + Copy>(current: &mut Option<FileSections<'a, A>>) -> Option<Section<'a, A>>
+    ensures { YieldsFirstBy (λ s. s) or_none current.old result current.new }
+{
+    match current {
+        Some(sections) => sections.next(),
+        None => None,
+    }
+}
+
 impl<'a, A: Allocator + Copy> Iterator for Sections<'a, A> {
     ghost use Rattle.std.specs.Iterator.{YieldsFirstBy, item_count};
 
@@ -189,10 +202,9 @@ impl<'a, A: Allocator + Copy> Iterator for Sections<'a, A> {
 
     fn next(&mut self) -> Option<Section<'a, A>> {
         loop {
-            if let Some(current) = &mut self.current {
-                if let Some(section) = current.next() {
-                    return Some(section);
-                }
+            let next = next_of_file(&mut self.current);
+            if next.is_some() {
+                return next;
             }
             let (name, file) = self.files.next()?;
             self.current = Some(FileSections::of(name.as_slice(), file));
