@@ -1,30 +1,17 @@
 -- Each section of a store has few points.
-use Rattle.std.proofs.Common.{◌≡◌, ℕ, ◌*◌, ◌^◌, ◌<◌, ◌≤◌, List, [], ◌∷◌, length, map, sym, subst, arith}
-use Rattle.std.specs.Cmp.Lexicographic.{slice_cmp}
-use Rattle.std.specs.declared.cmp.Ordering.TheVariants.{Less}
-use Rattle.std.specs.List.{flat_map, list_any, AllByRecursion}
-use Rattle.std.specs.Ordering.{is_eq, nat_cmp}
-use Rattle.std.specs.Str.{bytes_eq}
+use Rattle.std.proofs.Common.{ℕ, ◌*◌, ◌^◌, ◌<◌, ◌≤◌, List, [], ◌∷◌, length, map, sym, subst, arith}
+use Rattle.std.specs.List.{AllByRecursion}
 use Rattle.std.proofs.lemmas.List.{length-append}
-use Rattle.std.proofs.lemmas.List.Folds.{list_any-append}
-use Rattle.std.proofs.lemmas.Slice.Eq.{bytes_eq-Decides}
-use Rattle.std.proofs.lemmas.Map.Text.{is_eq-slice_cmp}
 use Rattle.covline.specs.Lawful.{most_items}
 use Rattle.covline.specs.Row.{Row}
 use Rattle.covstore.specs.declared.totals.Totals.{Totals}
-use Rattle.covstore.specs.Clash.{Agree, checksums_in}
-use Rattle.covstore.specs.Content.{SectionData, section_of, content_of}
+use Rattle.covstore.specs.Content.{section_of}
 use Rattle.covstore.specs.MapsView.{IsStore}
-use Rattle.covstore.specs.Puts.{ArePairs, value_of}
 use Rattle.covstore.specs.SeenView.{IsFewOf}
-use Rattle.covstore.specs.State.{FileData, IsStateOf, IsWholeFile, has_no_points, has_points_of, points_or_none, section_seen, section_with_points, sections_of, sections_of_file}
-use Rattle.covstore.specs.Stored.{most_members}
-use Rattle.covstore.specs.Sums.{TestData, test_of}
+use Rattle.covstore.specs.State.{FileData, sections_of}
 use Rattle.covstore.specs.Table.{Table, all_rows}
 use Rattle.covstore.specs.Value.{Key, keys_of}
 use Rattle.covstore.proofs.Contents.{points_few}
-use Rattle.covstore.proofs.Orders.{names_order}
-use Rattle.covstore.proofs.Puts.{value_of_before}
 use Rattle.covstore.proofs.StateSections.{sections_are}
 
 -- ---- each section has few points
@@ -38,8 +25,7 @@ rows_of_own (rows ∷ own) small =
 few_sections : (rows : List Row) → length rows < 2 ^ 64 → (keys : List Key) → AllByRecursion IsFewOf (map (section_of rows) keys)
 few_sections rows few [] = tt
 few_sections rows few (key ∷ keys) =
-    let points = points_few rows key in
-    (
+    let points = points_few rows key in (
       record {
         functions = omega (arith, few, points.0);
         branches = omega (arith, few, points.1);

@@ -182,7 +182,9 @@ impl<'a, A: Allocator> Sections<'a, A> {
 }
 
 /// The next section of the file that is at hand.
-fn next_of_file<'a, A: Allocator + Copy>(current: &mut Option<FileSections<'a, A>>) -> Option<Section<'a, A>>
+fn next_of_file<'a, A: Allocator + Copy>(
+    current: &mut Option<FileSections<'a, A>>,
+) -> Option<Section<'a, A>>
     ensures { YieldsFirstBy (λ s. s) or_none current.old result current.new }
 {
     match current {

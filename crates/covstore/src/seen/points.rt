@@ -129,10 +129,7 @@ impl<'a, A: Allocator> Lines<'a, A> {
     ghost use Rattle.covstore.specs.State.{line_seen};
 
     /// These lines, with their checksums.
-    pub(super) fn of(
-        rest: Filled<'a, u64, LineSum, A>,
-        checksums: &'a Checksums<A>,
-    ) -> Lines<'a, A>
+    pub(super) fn of(rest: Filled<'a, u64, LineSum, A>, checksums: &'a Checksums<A>) -> Lines<'a, A>
         ensures { result ≡ map (line_seen checksums.now.texts) rest.entry }
     {
         Lines { rest, checksums }
