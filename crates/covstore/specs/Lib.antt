@@ -35,3 +35,7 @@ pub mod Exchanged
 pub mod SeenView
 pub mod ClashView
 pub mod ChecksumView
+pub mod Asked
+pub mod Slots
+pub mod SlotPlace
+pub mod Coming

@@ -1,34 +1,33 @@
-//! SKELETON: the points in order.
+//! The filled slots in order. The walk takes no memory.
 
 use std::alloc::Allocator;
-use std::marker::{Model, PhantomData};
+use std::marker::Model;
 
-/// Goes over points. Contracts see the keys that are left, each with its value.
+/// Goes over the filled slots of pages. Contracts see the keys that are left, each with its value.
 #[derive(Drop)]
 pub(crate) struct Filled<'a, K, V, A: Allocator> {
-    rest: &'a [(K, V)],
-    alloc: PhantomData<A>,
+    pages: &'a [Vec<(K, Option<V>), A>],
+    page: &'a [(K, Option<V>)],
 }
 
 impl<'a, K, V, A: Allocator> Model for Filled<'a, K, V, A> {
-    ghost use Rattle.std.specs.Prelude.{List};
+    ghost use Rattle.std.specs.Prelude.{List, ◌++◌, flat_map};
+    ghost use Rattle.covstore.specs.Slots.{filled};
 
     ghost Value = { List (K × V) };
 
-    ghost view = { λ f. f.rest.now };
+    ghost view = { λ f. filled f.page.now ++ filled (flat_map (λ page. page.items) f.pages.now) };
 }
 
 impl<'a, K, V, A: Allocator> Filled<'a, K, V, A> {
-    ghost use Rattle.std.specs.Prelude.{◌≡◌};
+    ghost use Rattle.std.specs.Prelude.{◌≡◌, flat_map};
+    ghost use Rattle.covstore.specs.Slots.{filled};
 
-    /// All points.
-    pub(crate) fn of(rest: &'a [(K, V)]) -> Filled<'a, K, V, A>
-        ensures { result ≡ rest.now }
+    /// The filled slots of all pages.
+    pub(crate) fn of(pages: &'a [Vec<(K, Option<V>), A>]) -> Filled<'a, K, V, A>
+        ensures { result ≡ filled (flat_map (λ page. page.items) pages.now) }
     {
-        Filled {
-            rest,
-            alloc: PhantomData,
-        }
+        Filled { pages, page: &[] }
     }
 }
 
@@ -42,8 +41,17 @@ impl<'a, K, V, A: Allocator> Iterator for Filled<'a, K, V, A> {
     ghost remaining = { item_count (λ f. f) };
 
     fn next(&mut self) -> Option<(&'a K, &'a V)> {
-        let (first, rest) = self.rest.split_first()?;
-        self.rest = rest;
-        Some((&first.0, &first.1))
+        loop {
+            if let Some((slot, page)) = self.page.split_first() {
+                self.page = page;
+                if let Some(value) = &slot.1 {
+                    return Some((&slot.0, value));
+                }
+            } else {
+                let (page, pages) = self.pages.split_first()?;
+                self.pages = pages;
+                self.page = page;
+            }
+        }
     }
 }

@@ -1,33 +1,37 @@
-//! What points are looked up by.
+//! The keys of points, and what they are looked up by: a number, a branch, or for a name its bytes.
 
 ghost use Rattle.std.specs.Prelude.{◌≡◌, IfOk};
 ghost use Rattle.std.specs.declared.cmp.Ordering.{Ordering};
+ghost use Rattle.std.specs.declared.cmp.Ordering.TheVariants.{Equal};
 ghost use Rattle.std.specs.Cmp.{IsTotalOrder};
 ghost use Rattle.std.specs.Cmp.Lexicographic.{slice_cmp};
 ghost use Rattle.std.specs.Ordering.{nat_cmp};
-ghost use Rattle.std.proofs.lemmas.Cmp.{nat_list_cmp_total, nat_cmp_total};
-ghost use Rattle.covstore.specs.KeyOrders.{code_branch_cmp, code_branch_total};
+ghost use Rattle.std.proofs.lemmas.Cmp.{nat_cmp_total, nat_list_cmp_total};
+ghost use Rattle.std.proofs.lemmas.Map.Lookups.{exact_bytes, exact_unsigned};
+ghost use Rattle.covstore.specs.KeyOrders.{code_branch_cmp, code_branch_exact, code_branch_total};
 
 use covline::{BranchPoint, Bytes};
 use std::alloc::{AllocError, Allocator};
 use std::cmp::Ordering;
 
-/// A point of a kind, which stand in one order.
+/// What points are told apart by. Keys have an order, and only equal ones are alike in it.
 pub(crate) trait Key {
     ghost cmp: { Self → Self → Ordering };
 
     ghost total: { IsTotalOrder cmp };
+
+    ghost exact: { (x y : Self) → cmp x y ≡ Equal → x ≡ y };
 }
 
 /// What stands for a key in a look-up, and needs no memory.
 pub(crate) trait Asked<K: Key, A: Allocator>: Copy {
     ghost named: { Self → K };
 
-    /// How a key stands to the one that is asked for.
+    /// How a key stands to the one that is asked for: before it, at it or behind it.
     fn compare(&self, key: &K) -> Ordering
         ensures { result ≡ K.cmp key.now (named self.now) };
 
-    /// The key itself.
+    /// The key itself, in memory of its own.
     fn key(self, alloc: A) -> Result<K, AllocError>
         ensures { IfOk result (λ key. key ≡ named self) };
 }
@@ -36,18 +40,8 @@ impl Key for u64 {
     ghost cmp = { nat_cmp };
 
     ghost total = { nat_cmp_total };
-}
 
-impl<A: Allocator> Key for Bytes<A> {
-    ghost cmp = { slice_cmp nat_cmp };
-
-    ghost total = { nat_list_cmp_total };
-}
-
-impl Key for BranchPoint {
-    ghost cmp = { code_branch_cmp };
-
-    ghost total = { code_branch_total };
+    ghost exact = { exact_unsigned };
 }
 
 impl<A: Allocator> Asked<u64, A> for u64 {
@@ -62,6 +56,14 @@ impl<A: Allocator> Asked<u64, A> for u64 {
     }
 }
 
+impl Key for BranchPoint {
+    ghost cmp = { code_branch_cmp };
+
+    ghost total = { code_branch_total };
+
+    ghost exact = { code_branch_exact };
+}
+
 impl<A: Allocator> Asked<BranchPoint, A> for BranchPoint {
     ghost named = { λ asked. asked };
 
@@ -74,6 +76,14 @@ impl<A: Allocator> Asked<BranchPoint, A> for BranchPoint {
     }
 }
 
+impl<A: Allocator> Key for Bytes<A> {
+    ghost cmp = { slice_cmp nat_cmp };
+
+    ghost total = { nat_list_cmp_total };
+
+    ghost exact = { exact_bytes };
+}
+
 impl<A: Allocator> Asked<Bytes<A>, A> for &[u8] {
     ghost named = { λ asked. asked.now };
 
@@ -83,8 +93,8 @@ impl<A: Allocator> Asked<Bytes<A>, A> for &[u8] {
 
     fn key(self, alloc: A) -> Result<Bytes<A>, AllocError> {
         match Bytes::of(alloc, self) {
-            Ok(name) => Ok(name),
-            Err(_) => Err(AllocError),
+            Ok(key) => Ok(key),
+            Err(_refused) => Err(AllocError),
         }
     }
 }
