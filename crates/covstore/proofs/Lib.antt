@@ -52,10 +52,12 @@ pub mod StateMore
 pub mod StateFiles
 pub mod StateTotals
 pub mod AddsLists
+pub mod AddsLoop
 pub mod AddsPlace
 pub mod AddsItem
 pub mod AddsMore
 pub mod AddsFew
+pub mod AddsFile
 pub mod AddsRoom
 pub mod StepsTally
 pub mod StepsTexts

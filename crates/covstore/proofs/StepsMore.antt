@@ -1,7 +1,9 @@
 -- What is known after several items: the numbers still count the tests, the texts stay, and there is room for the next.
-use Rattle.std.proofs.Common.{◌≡◌, ℕ, ◌+◌, ◌<◌, ◌≤◌, ◌^◌, Bool, Some, None, List, [], ◌∷◌, ◌++◌, length, map, refl, sym, ◌∙◌, arith}
+use Rattle.std.proofs.Common.{◌≡◌, ℕ, ◌+◌, ◌<◌, ◌≤◌, ◌^◌, Bool, Some, None, List, [], ◌∷◌, ◌++◌, length, map, refl, sym, ap, ◌∙◌, arith}
 use Rattle.std.specs.declared.cmp.Ordering.{Ordering}
 use Rattle.std.specs.List.{flat_map, sum_by}
+use Rattle.std.specs.Option.{is_some}
+use Rattle.std.specs.Ordering.{nat_cmp}
 use Rattle.std.proofs.lemmas.List.{length-append, length-map}
 use Rattle.std.proofs.lemmas.List.Sums.{sum_by-cons}
 use Rattle.covline.specs.Row.{ItemData, LineItem, FuncItem, BranchItem}
@@ -10,6 +12,7 @@ use Rattle.covstore.specs.declared.sums.Tests.{Tests}
 use Rattle.covstore.specs.Counts.{AreCounts, found_of}
 use Rattle.covstore.specs.Marks.{MarksData, file_with}
 use Rattle.covstore.specs.MarksView.{KeepsHeld}
+use Rattle.covstore.specs.Puts.{value_of}
 use Rattle.covstore.specs.State.{AreKept}
 use Rattle.covstore.specs.Steps.{HasRoom, IsTextAt, IsTextOf, KeepsCounts, KeepsTextsOf}
 use Rattle.covstore.specs.Sums.{TestData}
@@ -32,6 +35,7 @@ held_both marks more most first second = record {
   functions = second.functions ∙ first.functions;
   branches = second.branches ∙ first.branches;
   holders = second.holders ∙ first.holders;
+  texts = λ line held. second.texts line (ap (λ (pairs : List (ℕ × ℕ)). is_some (value_of nat_cmp line pairs)) first.holders ∙ held) ∙ first.texts line held;
 }
 
 -- the checksum of an item that was taken stays
