@@ -59,7 +59,7 @@ module _ {A : Type 0} (taken : List ItemData) (item : ItemData) (left : List Ite
 
 -- ---- by places in a list
 
-module _ {D : Type 0} (f : D → ItemData) (items : List D) (i : ℕ) (d : D) (within : i < length items) (is : d ≡ get_or items i d) where
+module _ {D E : Type 0} (f : D → E) (items : List D) (i : ℕ) (d : D) (within : i < length items) (is : d ≡ get_or items i d) where
   pub left_at : map f (drop i items) ≡ f d ∷ map f (drop (i + 1) items)
   left_at = ap (map f) (drop_more items i d within) ∙ ap (λ (x : D). f x ∷ map f (drop (i + 1) items)) (sym is)
 
@@ -69,4 +69,4 @@ module _ {D : Type 0} (f : D → ItemData) (items : List D) (i : ℕ) (d : D) (w
   pub all_at : map f items ≡ map f (take i items) ++ f d ∷ map f (drop (i + 1) items)
   all_at =
       ap (map f) (sym (take-append-drop i items)) ∙ map-append f (take i items) (drop i items)
-      ∙ ap (λ (xs : List ItemData). map f (take i items) ++ xs) left_at
+      ∙ ap (λ (xs : List E). map f (take i items) ++ xs) left_at

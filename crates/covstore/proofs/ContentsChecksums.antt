@@ -103,7 +103,7 @@ unfolding checksum_with
 one_checksum file line a b e =
     (bytes_eq-Decides a b).0 (last_same (bytes_eq file file) (eqb line line) (bytes_eq a b) ((bytes_eq-Decides file file).1 refl) (eq-eqb line line refl) e)
 
-checksums_there : (rows others : List Row) → Agree (checksums_in rows) → content_of rows ≡ content_of others → (c : Checksum) → In c (checksums_in rows) → In c (checksums_in others)
+pub checksums_there : (rows others : List Row) → Agree (checksums_in rows) → content_of rows ≡ content_of others → (c : Checksum) → In c (checksums_in rows) → In c (checksums_in others)
 unfolding checksum_with said_at
 checksums_there rows others agree same c i =
     let said = among_said rows c i in

@@ -40,6 +40,7 @@ pub mod SumsMore
 pub mod SumsMembers
 pub mod SumsBounds
 pub mod SumsSections
+pub mod StateSame
 pub mod StateSeen
 pub mod StateOrder
 pub mod StateSections
@@ -48,6 +49,9 @@ pub mod MapKeys
 pub mod Opens
 pub mod Keeps
 pub mod StoreKept
+pub mod KeepsMore
+pub mod Stores
+pub mod Prepares
 pub mod StateMore
 pub mod StateFiles
 pub mod StateTotals
@@ -59,6 +63,7 @@ pub mod AddsMore
 pub mod AddsFew
 pub mod AddsFile
 pub mod AddsRoom
+pub mod AddsStore
 pub mod StepsTally
 pub mod StepsTexts
 pub mod StepsCounts

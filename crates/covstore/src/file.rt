@@ -59,6 +59,8 @@ impl<A: Allocator + Copy> File<A> {
         ensures ok { OnOk result (AddsItems (map item_data items.now) test.now (file_coming self.old) (file_coming self.new)) }
         ensures clash { IfErr result (ClashesIn (map item_data items.now) test.now (file_coming self.old)) }
     {
+        // Tells that a map has fewer than 2^63 entries.
+        self.tests.len();
         match self.tests.get_mut(test) {
             Some(points) => add_items(points, &mut self.marks, alloc, items),
             None => Ok(()),
