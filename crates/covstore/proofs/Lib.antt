@@ -50,6 +50,7 @@ pub mod Opens
 pub mod Keeps
 pub mod StoreKept
 pub mod KeepsMore
+pub mod ExchangedFiles
 pub mod Stores
 pub mod Prepares
 pub mod StateMore
@@ -63,6 +64,7 @@ pub mod AddsMore
 pub mod AddsFew
 pub mod AddsFile
 pub mod AddsRoom
+pub mod AddsSettled
 pub mod AddsStore
 pub mod StepsTally
 pub mod StepsTexts
