@@ -77,7 +77,7 @@ found_few {X} kind one rows =
     omega (
       arith,
       distinct_count-le (is_same kind) (points_of kind rows),
-      few_parts (λ (row : Row). map (in_file row.file) (kind.point row.item)) (λ row. omega (arith, length-map (kind.point row.item) (in_file {X} row.file), one row.item)) rows,
+      few_parts (λ (row : Row). map (in_file row.file) (kind.point row.item)) (λ row. omega (arith, length-map (kind.point row.item) (in_file {X = X} row.file), one row.item)) rows,
     )
 
 content_few : (rows : List Row) → IsAtMost (length rows) (totals_of (content_of rows))

@@ -11,6 +11,7 @@ use Rattle.covstore.specs.State.{FileData}
 use Rattle.covstore.specs.Sums.{TestData}
 use Rattle.covstore.specs.TestView.{branches_data, test_coming, test_held}
 use Rattle.covstore.proofs.AddsFile.{adds_in, clashes_in, no_test, room_for, test_kept, test_value, test_written}
+use Rattle.covstore.proofs.AddsSettled.{test_settled}
 use Rattle.covstore.proofs.MapKeys.{seen}
 use Rattle.covstore.proofs.Orders.{names_order}
 use Rattle.covstore.proofs.file.File.add.Goals as goal
@@ -70,5 +71,16 @@ returns-in-Some-clause-clash g c =
 
 pub returns-in-None-clause-ok : goal.returns-in-None-clause-ok
 returns-in-None-clause-ok g c =
+    let name = λ (key : Vec ℕ g.row.A.Denot). key.items in
+    absurd (no_test name test_coming c.args.test.now c.args.self.now.tests.entries c.requires.room.points (sym c.in-None.ensures.value) c.requires.room.its_test)
+
+pub returns-in-Some-clause-settled : goal.returns-in-Some-clause-settled
+returns-in-Some-clause-settled g c = λ tests among settled.
+    let name = λ (key : Vec ℕ g.row.A.Denot). key.items in
+    let after = c.add_items.new.test in
+    test_settled tests c.args.test.now among c.args.self.now (record { tests = c.get_mut.follows.lender after; marks = c.add_items.new.marks }) after (c.get_mut.follows.holds after).0 settled
+
+pub returns-in-None-clause-settled : goal.returns-in-None-clause-settled
+returns-in-None-clause-settled g c = λ tests among settled.
     let name = λ (key : Vec ℕ g.row.A.Denot). key.items in
     absurd (no_test name test_coming c.args.test.now c.args.self.now.tests.entries c.requires.room.points (sym c.in-None.ensures.value) c.requires.room.its_test)
