@@ -1,4 +1,4 @@
-use Rattle.std.proofs.Common.{◌≡◌, Vec, ℕ, refl, sym, ap, ◌∙◌}
+use Rattle.std.proofs.Common.{Vec, ℕ, refl, ap}
 use Rattle.std.specs.Cmp.Lexicographic.{slice_cmp}
 use Rattle.std.specs.Ordering.{nat_cmp}
 use Rattle.covstore.specs.FileView.{file_coming, file_held}
