@@ -64,6 +64,7 @@ pub mod AddsMore
 pub mod AddsFew
 pub mod AddsFile
 pub mod AddsRoom
+pub mod AddsSection
 pub mod AddsSettled
 pub mod AddsStore
 pub mod StepsTally
