@@ -1,101 +1,104 @@
--- What `prepare` of a store gives: room for a lawful submission, and from what is to come a plan, totals and clashes of whatever
--- table the store stands for.
-use Rattle.std.proofs.Common.{◌≡◌, ℕ, ◌+◌, ◌*◌, ◌≤◌, ◌<◌, ◌^◌, Option, Some, None, List, [], ◌∷◌, ◌++◌, length, refl, sym, ap, ◌∙◌, subst, arith}
-use Rattle.std.specs.Cmp.Lexicographic.{slice_cmp}
+-- What is made ready to hold: from what is held, with the rows of a submission.
+use Rattle.std.proofs.Common.{◌≡◌, ℕ, ◌+◌, ◌*◌, ◌<◌, ◌≤◌, ◌^◌, None, List, [], ◌∷◌, ◌++◌, length, refl, sym, ap, ◌∙◌, subst, arith}
 use Rattle.std.specs.List.{AllByRecursion}
-use Rattle.std.specs.Ordering.{nat_cmp}
-use Rattle.std.specs.Prelude.{Contains}
 use Rattle.std.proofs.lemmas.List.{length-append}
-use Rattle.covline.specs.Lawful.{IsLawful, most_items}
 use Rattle.covline.specs.Row.{Row, SubmissionData, rows_of}
+use Rattle.covline.specs.Lawful.{IsLawful, most_items}
 use Rattle.covstore.specs.declared.totals.Totals.{Totals}
-use Rattle.covstore.specs.Clash.{Agree, Checksum, checksums_in, clash_of}
-use Rattle.covstore.specs.Content.{SectionData, content_at, content_of}
-use Rattle.covstore.specs.Maps.{AddsRows, AddsTo, ClashesWith, HasRoomForRows, IsPlanOf, PlanData, SameHeld, StandsFor, StoreData}
-use Rattle.covstore.specs.MapsView.{IsStore}
-use Rattle.covstore.specs.Puts.{value_of}
-use Rattle.covstore.specs.State.{FileData, IsStateOf, points_at, sections_of, text_in, totals_in}
-use Rattle.covstore.specs.Stored.{RefuseData, ClashRefuse, MemoryRefuse, IsRefusedAt, most_members}
-use Rattle.covstore.specs.Sums.{test_of}
+use Rattle.covstore.specs.Adds.{SmallRow}
+use Rattle.covstore.specs.Clash.{Agree, checksums_in, clash_of}
+use Rattle.covstore.specs.Content.{content_at, content_of}
+use Rattle.covstore.specs.Maps.{AddsRows, AddsTo, ClashesWith, HasRoomForRows, IsPlanOf, PlanData, SameContent, SameHeld, StandsFor, StoreData}
+use Rattle.covstore.specs.State.{FileData, IsStateOf, sections_of, totals_in}
+use Rattle.covstore.specs.StoreHeld.{IsKept}
+use Rattle.covstore.specs.Stored.{IsRefusedAt, RefuseData, ClashRefuse, MemoryRefuse, most_members}
 use Rattle.covstore.specs.Table.{Table, all_rows, clash_at}
-use Rattle.covstore.specs.Totals.{totals_of}
-use Rattle.covstore.specs.Value.{items_at}
+use Rattle.covstore.specs.Totals.{AreTotals, totals_of}
 use Rattle.covstore.proofs.Contents.{clash_by_content, content-append}
-use Rattle.covstore.proofs.ContentsChecksums.{checksums_there}
-use Rattle.covstore.proofs.Members.{In-from, Contains-from}
-use Rattle.covstore.proofs.StateSections.{sections_as}
-use Rattle.covstore.proofs.StateTotals.{totals_as}
+use Rattle.covstore.proofs.StateSame.{same_clash, same_state}
+use Rattle.covstore.proofs.AddsPlace.{state_agrees}
+use Rattle.covstore.proofs.StateSections.{sections_are}
+use Rattle.covstore.proofs.StateTotals.{totals_are}
 use Rattle.covstore.proofs.Stores.{few_rows, rows_accepted, small_rows}
+use Rattle.covstore.proofs.TotalsDifferent.{are_totals}
 
--- rows that add up to the same as others are of the same files
-pub state_alike : (rows own : List Row) (files others : List (List ℕ × FileData)) → Agree (checksums_in rows) → IsStateOf own files → IsStateOf own others → IsStateOf rows others → IsStateOf rows files
-state_alike rows own files others agree here there is =
-    let same : content_of rows ≡ content_of own = sym (sections_as rows others is) ∙ sections_as own others there in record {
-      ascending = here.ascending;
-      points = λ key. here.points key ∙ sym (there.points key) ∙ is.points key;
-      texts = λ held i. here.texts held (Contains-from (checksums_in own) held (checksums_there rows own agree same held (In-from (checksums_in rows) held i)));
-      whole = here.whole;
+-- ---- how many rows there are
+
+rows_in_table : (table : Table) → AllByRecursion (λ rows. length rows ≤ most_items) table → length (all_rows table) ≤ length table * most_items
+rows_in_table [] small = omega arith
+rows_in_table (rows ∷ table) small = omega (arith, length-append rows (all_rows table), small.0, rows_in_table table small.1)
+
+module _ (before : StoreData) (held : Totals) (kept : IsKept before held) (few : before.members < most_members) (s : SubmissionData) (lawful : IsLawful s) where
+  abbrev own : Table
+  own = kept.is.own
+
+  few_in_all : length (all_rows own) + length (rows_of s) ≤ 2 ^ 46
+  few_in_all = omega (arith, rows_in_table kept.is.own kept.is.small, kept.is.counted, few, few_rows s lawful)
+
+  module _ (settled : StoreData) (same_sections : settled.sections ≡ before.sections) (same_members : settled.members ≡ before.members) (same_kept : settled.held ≡ before.held)
+      (coming : settled.coming ≡ before.held) (after : settled.after ≡ totals_in before.held) where
+    its_state : IsStateOf (all_rows own) settled.coming
+    its_state = subst (IsStateOf (all_rows kept.is.own)) (sym coming) kept.is.state
+
+    pub room_for_submission : HasRoomForRows (rows_of s) settled
+    room_for_submission = record {
+      rows = all_rows own;
+      state = its_state;
+      agree = state_agrees (all_rows own) settled.coming its_state;
+      small = kept.is.small_rows;
+      small_added = small_rows s lawful;
+      few = few_in_all;
+      totals = after ∙ ap totals_in (sym coming);
     }
 
--- a table has at most so many rows for each member
-length-rows : (table : Table) → AllByRecursion (λ rows. length rows ≤ most_items) table → length (all_rows table) ≤ length table * 67108864
-length-rows [] small = omega arith
-length-rows (rows ∷ table) small = omega (arith, length-append rows (all_rows table), small.0, length-rows table small.1)
+    module _ (later : StoreData) (same : SameHeld settled later) where
+      pub content_stays : SameContent before later
+      content_stays = record { sections = same.sections ∙ same_sections; members = same.members ∙ same_members }
 
-module _ (first : StoreData) (is : IsStore first.members first.after first.held) (settled : first.coming ≡ first.held) (s : SubmissionData) (lawful : IsLawful s) (few : first.members < most_members) where
-  abbrev own : List Row
-  own = all_rows is.own
+      same_rows : (table : Table) → StandsFor before table → content_of (all_rows own) ≡ content_of (all_rows table)
+      same_rows table stands = sym (sections_are (all_rows kept.is.own) before.held kept.is.state kept.is.agree) ∙ sym kept.seen ∙ stands.content
 
-  own_coming : IsStateOf own first.coming
-  own_coming = subst (IsStateOf own) (sym settled) is.state
+      own_agrees : Agree (checksums_in (all_rows own))
+      own_agrees = kept.is.agree
 
-  totals_first : first.after ≡ totals_in first.coming
-  totals_first = is.totals ∙ ap totals_in (sym settled)
+      module _ (added : AddsRows (rows_of s) settled later) where
+        ready : (clash_of (all_rows own) (rows_of s) ≡ None) × IsStateOf (all_rows own ++ rows_of s) later.coming × Agree (checksums_in (all_rows own ++ rows_of s))
+        ready = added.adds (all_rows own) its_state own_agrees
 
-  pub room : HasRoomForRows (rows_of s) first
-  room = record {
-    rows = own;
-    state = own_coming;
-    agree = is.agree;
-    small = is.small_rows;
-    small_added = small_rows s lawful;
-    few = omega (arith, length-rows is.own is.small, few_rows s lawful, is.counted, few);
-    totals = totals_first;
-  }
+        still_held : IsStateOf (all_rows own) later.held
+        still_held = same.held.states (all_rows kept.is.own) (subst (IsStateOf (all_rows kept.is.own)) (sym same_kept) kept.is.state)
 
-  -- a table that the store stands for has the content of the store's own
-  module _ (before : StoreData) (sections : first.sections ≡ before.sections) (seen : first.sections ≡ sections_of first.held) (table : Table) (stands : StandsFor before table) where
-    same_content : content_of own ≡ content_of (all_rows table)
-    same_content = sym (sections_as own first.held is.state) ∙ sym seen ∙ sections ∙ stands.content
+        later_totals : later.after ≡ totals_in later.coming
+        later_totals = added.totals (after ∙ ap totals_in (sym coming))
 
-    same_clash : clash_of own (rows_of s) ≡ clash_at table s
-    same_clash = clash_by_content own (all_rows table) (rows_of s) is.agree stands.agree same_content
+        seen_totals : later.after ≡ totals_of (sections_of later.coming)
+        seen_totals = later_totals ∙ sym (totals_are (all_rows own ++ rows_of s) later.coming ready.1 ready.2)
 
-    pub refused_at : (refusal : RefuseData) → ClashesWith (rows_of s) first refusal → IsRefusedAt table s refusal
-    refused_at (ClashRefuse clash) told = sym same_clash ∙ told own own_coming is.agree
-    refused_at MemoryRefuse told = tt
+        pub later_bounds : AreTotals later.after
+        later_bounds = subst AreTotals (sym seen_totals) (are_totals (sections_of later.coming))
 
-    module _ (more : StoreData) (adds : AddsRows (rows_of s) first more) where
-      pub agrees_at : clash_at table s ≡ None
-      agrees_at = sym same_clash ∙ (adds.adds own own_coming is.agree).0
+        pub is_planned : (plan : PlanData) → plan.after ≡ later.after → IsPlanOf later s plan
+        is_planned plan planned = record {
+          lawful = lawful;
+          adds = λ rows state agree.
+              let more = same_state (all_rows own) rows later.held still_held state (rows_of s) later.coming ready.1 in
+              (sym (same_clash (all_rows own) rows later.held still_held state (rows_of s)) ∙ ready.0, more, state_agrees (rows ++ rows_of s) later.coming more);
+          planned = planned;
+          totals = later_totals;
+          few = omega (arith, few, same.members, same_members);
+        }
 
-      pub after_at : more.after ≡ totals_of (content_at (table ++ rows_of s ∷ []))
-      after_at =
-          let state : IsStateOf (own ++ rows_of s) more.coming = (adds.adds own own_coming is.agree).1 in
-          adds.totals totals_first
-          ∙ sym (totals_as (own ++ rows_of s) more.coming state)
-          ∙ ap totals_of (sections_as (own ++ rows_of s) more.coming state ∙ content-append own (all_rows table) (rows_of s) same_content ∙ ap content_of (sym (rows_accepted table (rows_of s))))
+        pub planned_totals : (table : Table) → StandsFor before table → later.after ≡ totals_of (content_at (table ++ rows_of s ∷ []))
+        planned_totals table stands =
+            seen_totals
+            ∙ ap totals_of (sections_are (all_rows own ++ rows_of s) later.coming ready.1 ready.2
+            ∙ content-append (all_rows own) (all_rows table) (rows_of s) (same_rows table stands)
+            ∙ ap content_of (sym (rows_accepted table (rows_of s))))
 
-  -- what is to come is a plan
-  module _ (more : StoreData) (adds : AddsRows (rows_of s) first more) (same : SameHeld first more) (plan : PlanData) (planned : plan.after ≡ more.after) where
-    added : AddsTo (rows_of s) more.held more.coming
-    added rows state agree = adds.adds rows (subst (IsStateOf rows) (sym settled) (state_alike rows own first.held more.held agree is.state (same.held.states own is.state) state)) agree
+        pub planned_agrees : (table : Table) → StandsFor before table → clash_at table s ≡ None
+        planned_agrees table stands = sym (clash_by_content (all_rows own) (all_rows table) (rows_of s) own_agrees stands.agree (same_rows table stands)) ∙ ready.0
 
-    pub planned_by : IsPlanOf more s plan
-    planned_by = record {
-      lawful = lawful;
-      adds = added;
-      planned = planned;
-      totals = adds.totals totals_first;
-      few = subst (λ (n : ℕ). n < most_members) (sym same.members) few;
-    }
+      pub refused_too : (refusal : RefuseData) → ClashesWith (rows_of s) settled refusal → (table : Table) → StandsFor before table → IsRefusedAt table s refusal
+      refused_too MemoryRefuse clash table stands = tt
+      refused_too (ClashRefuse clash) told table stands =
+          sym (clash_by_content (all_rows own) (all_rows table) (rows_of s) own_agrees stands.agree (same_rows table stands)) ∙ told (all_rows own) its_state own_agrees

@@ -7,6 +7,7 @@ pub mod Content
 pub mod Totals
 pub mod TotalsSteps
 pub mod Counted
+pub mod StoreHeld
 pub mod Stored
 pub mod Held
 pub mod RefuseView

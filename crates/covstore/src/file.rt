@@ -19,6 +19,9 @@ pub(crate) struct File<A: Allocator> {
 }
 
 impl<A: Allocator + Copy> File<A> {
+    ghost use Rattle.std.specs.Prelude.{true};
+    ghost use Rattle.std.specs.List.{list_any};
+    ghost use Rattle.std.specs.Str.{bytes_eq};
     ghost use Rattle.covline.specs.Row.{item_data};
     ghost use Rattle.covstore.specs.FileAdds.{AddsItems, ClashesIn, HasRoomIn};
     ghost use Rattle.covstore.specs.FileView.{KeepsFile, file_coming, file_held, no_file, with_test};
@@ -43,6 +46,7 @@ impl<A: Allocator + Copy> File<A> {
         ensures coming { OnOk result (file_coming self.new ≡ with_test test.now (file_coming self.old)) }
         ensures err_held { OnErr result (file_held self.new ≡ file_held self.old) }
         ensures err_coming { OnErr result (file_coming self.new ≡ file_coming self.old) }
+        ensures settled { (tests : List (List ℕ)) → IsSettledBut tests self.old → IsSettledBut tests self.new }
     {
         if self.tests.contains_key(test) {
             return Ok(());
@@ -58,7 +62,10 @@ impl<A: Allocator + Copy> File<A> {
         ensures held { KeepsFile (file_held self.old) (file_held self.new) }
         ensures ok { OnOk result (AddsItems (map item_data items.now) test.now (file_coming self.old) (file_coming self.new)) }
         ensures clash { IfErr result (ClashesIn (map item_data items.now) test.now (file_coming self.old)) }
+        ensures settled { (tests : List (List ℕ)) → list_any (λ name. bytes_eq name test.now) tests ≡ true → IsSettledBut tests self.old → IsSettledBut tests self.new }
     {
+        // Tells that a map has fewer than 2^63 entries.
+        self.tests.len();
         match self.tests.get_mut(test) {
             Some(points) => add_items(points, &mut self.marks, alloc, items),
             None => Ok(()),

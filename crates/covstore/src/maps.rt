@@ -45,14 +45,15 @@ impl<A: Allocator> Model for Store<A> {
 }
 
 impl<A: Allocator + Copy> Store<A> {
-    ghost use Rattle.std.specs.Prelude.{◌≡◌, ◌<◌, ◌++◌, [], ◌∷◌, IfOk, IfErr, None, OnErr, OnOk};
+    ghost use Rattle.std.specs.Prelude.{◌≡◌, ◌<◌, ◌++◌, [], ◌∷◌, map, IfOk, IfErr, None, OnErr, OnOk};
     ghost use Rattle.std.specs.Str.{bytes_eq};
-    ghost use Rattle.std.specs.List.{list_any};
+    ghost use Rattle.std.specs.List.{flat_map, list_any};
     ghost use Rattle.covline.specs.Row.{SubmissionData, rows_of, rows_of_sect};
     ghost use Rattle.covline.specs.SectView.{sect_data};
     ghost use Rattle.covstore.specs.Content.{content_at};
     ghost use Rattle.covstore.specs.Maps.{AddsRows, ClashesWith, HasRoomForRows, IsPlanOf, SameContent, SameHeld, StandsFor};
     ghost use Rattle.covstore.specs.Stored.{IsRefusedAt, most_members};
+    ghost use Rattle.covstore.specs.StoreHeld.{IsKept};
     ghost use Rattle.covstore.specs.RefuseView.{refuse_data};
     ghost use Rattle.covstore.specs.MapsView.{IsStore};
     ghost use Rattle.covstore.specs.State.{sections_of, totals_in};
@@ -93,11 +94,13 @@ impl<A: Allocator + Copy> Store<A> {
         ensures agrees { IfOk result (λ _. (table : Table) → StandsFor self.old table → clash_at table submission.now ≡ None) }
         ensures refused { IfErr result (λ e. (table : Table) → StandsFor self.old table → IsRefusedAt table submission.now (refuse_data e)) }
     {
+        // Tells that few enough rows are held.
+        self.kept();
         // What a plan left that was dropped.
         self.forget();
-        let added = self.add_all(alloc, submission);
+        let added = self.add_all(alloc, submission.sects());
         match added {
-            Ok(()) => Ok(Plan::new(self.coming)),
+            Ok(()) => Ok(Plan::new(self.after())),
             Err(refusal) => {
                 self.forget();
                 Err(refusal)
@@ -120,6 +123,20 @@ impl<A: Allocator + Copy> Store<A> {
         self.members += 1;
     }
 
+    /// The totals of what is held, which is the state of the rows of a table.
+    fn kept(&self) -> Totals
+        ensures { IsKept self.now result }
+    {
+        self.held
+    }
+
+    /// The totals as they are to be.
+    fn after(&self) -> Totals
+        ensures { result ≡ self.now.after }
+    {
+        self.coming
+    }
+
     /// Nothing is to come.
     fn forget(&mut self)
         ensures sections { self.new.sections ≡ self.old.sections }
@@ -127,8 +144,6 @@ impl<A: Allocator + Copy> Store<A> {
         ensures held { self.new.held ≡ self.old.held }
         ensures coming { self.new.coming ≡ self.old.held }
         ensures after { self.new.after ≡ totals_in self.old.held }
-        ensures own { IsStore self.new.members self.new.after self.new.held }
-        ensures seen { self.new.sections ≡ sections_of self.new.held }
     {
         while let Some(touched) = self.touched.pop() {
             if let Some(file) = self.files.get_mut(touched.file.as_slice()) {
@@ -139,13 +154,13 @@ impl<A: Allocator + Copy> Store<A> {
     }
 
     /// Takes the sections into what is to come, in order, up to the first that clashes.
-    fn add_all(&mut self, alloc: A, submission: &Submission<A>) -> Result<(), Refuse<A>>
-        requires { HasRoomForRows (rows_of submission.now) self.old }
+    fn add_all(&mut self, alloc: A, sects: &[Sect<A>]) -> Result<(), Refuse<A>>
+        requires { HasRoomForRows (flat_map rows_of_sect (map sect_data sects.now)) self.old }
         ensures held { SameHeld self.old self.new }
-        ensures ok { OnOk result (AddsRows (rows_of submission.now) self.old self.new) }
-        ensures clash { IfErr result (λ e. ClashesWith (rows_of submission.now) self.old (refuse_data e)) }
+        ensures ok { OnOk result (AddsRows (flat_map rows_of_sect (map sect_data sects.now)) self.old self.new) }
+        ensures clash { IfErr result (λ e. ClashesWith (flat_map rows_of_sect (map sect_data sects.now)) self.old (refuse_data e)) }
     {
-        for sect in submission.sects() {
+        for sect in sects {
             self.add_section(alloc, sect)?;
         }
         Ok(())

@@ -1,4 +1,4 @@
-use Rattle.std.proofs.Common.{◌≡◌, Vec, ℕ, refl, sym, ap, ◌∙◌}
+use Rattle.std.proofs.Common.{Vec, ℕ, refl, ap}
 use Rattle.std.specs.Cmp.Lexicographic.{slice_cmp}
 use Rattle.std.specs.Ordering.{nat_cmp}
 use Rattle.covstore.specs.FileView.{file_coming, file_held}
@@ -31,11 +31,10 @@ returns-clause-coming g c =
 
 pub invariant_of-self-2 : goal.invariant_of-self-2
 invariant_of-self-2 g c =
-    let name = λ (key : Vec ℕ g.row.A.Denot). key.items in
-    (
+    let name = λ (key : Vec ℕ g.row.A.Denot). key.items in (
       store_with_file c.self.inside.members c.self.inside.held c.args.file.now (files_held name c.self.inside.files.entries) (files_held name c.insert.new.self.entries)
-      (file_opened name file_held (files_held name c.self.inside.files.entries) c.self.inside.files.entries refl c.args.file.now c.contains_key.result c.contains_key.ensures c.if-contains_key.false
-      c.in_ok-name.name c.in_ok-name.ensures.items c.new.result c.new.ensures.held c.insert.new.self.entries c.in_ok-insert.ensures.entries)
-      c.self.invariant.0,
+          (file_opened name file_held (files_held name c.self.inside.files.entries) c.self.inside.files.entries refl c.args.file.now c.contains_key.result c.contains_key.ensures c.if-contains_key.false
+          c.in_ok-name.name c.in_ok-name.ensures.items c.new.result c.new.ensures.held c.insert.new.self.entries c.in_ok-insert.ensures.entries)
+          c.self.invariant.0,
       settled_with name (λ a b. slice_cmp nat_cmp (name a) (name b)) (touched_data c.self.inside.touched.items) c.in_ok-name.name c.new.result c.self.inside.files.entries c.insert.new.self.entries c.new.ensures.settled c.in_ok-insert.ensures.entries c.self.invariant.1,
     )
