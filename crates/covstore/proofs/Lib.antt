@@ -68,6 +68,8 @@ pub mod AddsRoom
 pub mod AddsSection
 pub mod AddsSettled
 pub mod AddsStore
+pub mod AddsMaps
+pub mod AddsReady
 pub mod StepsTally
 pub mod StepsTexts
 pub mod StepsCounts

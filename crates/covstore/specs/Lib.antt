@@ -30,6 +30,7 @@ pub mod Steps
 pub mod Adds
 pub mod FileView
 pub mod FileAdds
+pub mod SectionAdds
 pub mod Maps
 pub mod MapsView
 pub mod Exchanged

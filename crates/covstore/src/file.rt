@@ -1,13 +1,14 @@
 //! A file of the store: its tests, and what is kept of them.
 
-ghost use Rattle.std.specs.Prelude.{◌≡◌, ℕ, List, [], ◌∷◌, ◌++◌, map, IfErr, IsTrue, OnErr, OnOk};
+ghost use Rattle.std.specs.Prelude.{◌≡◌, ℕ, List, [], ◌∷◌, ◌++◌, map, IfErr, IfOk, IsTrue, OnErr, OnOk};
 
 use crate::marks::Marks;
+use crate::refuse::Refuse;
 use crate::section::add_items;
 use crate::stop::Stop;
 use crate::test::Test;
 use crate::totals::Totals;
-use covline::{Item, Memory};
+use covline::{Bytes, Item, Memory};
 use std::alloc::Allocator;
 use std::collections::BTreeMap;
 
@@ -26,6 +27,8 @@ impl<A: Allocator + Copy> File<A> {
     ghost use Rattle.covstore.specs.FileAdds.{AddsItems, ClashesIn, HasRoomIn};
     ghost use Rattle.covstore.specs.FileView.{KeepsFile, file_coming, file_held, no_file, with_test};
     ghost use Rattle.covstore.specs.MapsView.{IsSettledBut};
+    ghost use Rattle.covstore.specs.RefuseView.{refuse_data};
+    ghost use Rattle.covstore.specs.SectionAdds.{RefusedIn};
     ghost use Rattle.covstore.specs.State.{file_totals, has_points_of};
 
     /// No tests.
@@ -69,6 +72,34 @@ impl<A: Allocator + Copy> File<A> {
         match self.tests.get_mut(test) {
             Some(points) => add_items(points, &mut self.marks, alloc, items),
             None => Ok(()),
+        }
+    }
+
+    /// Takes the items of a test of this file, and tells the file's totals as they were to be and as they are to be now.
+    pub(crate) fn exchange(
+        &mut self,
+        alloc: A,
+        file: &[u8],
+        test: &[u8],
+        items: &[Item<A>],
+    ) -> Result<(Totals, Totals), Refuse<A>>
+        requires { HasRoomIn (map item_data items.now) test.now (file_coming self.old) }
+        ensures held { KeepsFile (file_held self.old) (file_held self.new) }
+        ensures ok { OnOk result (AddsItems (map item_data items.now) test.now (file_coming self.old) (file_coming self.new)) }
+        ensures totals { IfOk result (λ t. (t.0 ≡ file_totals (file_coming self.old)) × (t.1 ≡ file_totals (file_coming self.new))) }
+        ensures clash { IfErr result (λ e. RefusedIn (map item_data items.now) file.now test.now (file_coming self.old) (refuse_data e)) }
+        ensures settled { (tests : List (List ℕ)) → list_any (λ name. bytes_eq name test.now) tests ≡ true → IsSettledBut tests self.old → IsSettledBut tests self.new }
+    {
+        let before = self.totals();
+        match self.add(alloc, test, items) {
+            Ok(()) => Ok((before, self.totals())),
+            Err(Stop::Memory) => Err(Refuse::Memory),
+            Err(Stop::Clash { line, held, given }) => Err(Refuse::Clash {
+                file: Bytes::of(alloc, file)?,
+                line,
+                held,
+                given,
+            }),
         }
     }
 

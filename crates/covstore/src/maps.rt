@@ -6,9 +6,8 @@ use crate::file::File;
 use crate::maps_plan::Plan;
 use crate::refuse::Refuse;
 use crate::seen::Sections;
-use crate::stop::Stop;
 use crate::totals::Totals;
-use covline::{Memory, Sect, Submission};
+use covline::{Item, Memory, Sect, Submission};
 use std::alloc::{Allocator, Global};
 use std::collections::BTreeMap;
 use std::marker::Model;
@@ -18,6 +17,29 @@ use std::marker::Model;
 pub(crate) struct Touched<A: Allocator> {
     file: Vec<u8, A>,
     test: Vec<u8, A>,
+}
+
+impl<A: Allocator + Copy> Touched<A> {
+    ghost use Rattle.std.specs.Prelude.{◌≡◌, ◌++◌, [], ◌∷◌, OnErr, OnOk};
+    ghost use Rattle.covstore.specs.MapsView.{touched_data};
+
+    /// Something is to come of this test too.
+    fn push(
+        touched: &mut Vec<Touched<A>, A>,
+        alloc: A,
+        file: &[u8],
+        test: &[u8],
+    ) -> Result<(), Memory>
+        ensures ok { OnOk result (touched_data touched.new.items ≡ touched_data touched.old.items ++ (file.now, test.now) ∷ []) }
+        ensures err { OnErr result (touched.new.items ≡ touched.old.items) }
+    {
+        let last = Touched {
+            file: Vec::from_slice(alloc, file)?,
+            test: Vec::from_slice(alloc, test)?,
+        };
+        touched.push(last)?;
+        Ok(())
+    }
 }
 
 /// The value of every line, function and branch at its file and test, over all submissions that are held, of which there
@@ -45,13 +67,18 @@ impl<A: Allocator> Model for Store<A> {
 }
 
 impl<A: Allocator + Copy> Store<A> {
-    ghost use Rattle.std.specs.Prelude.{◌≡◌, ◌<◌, ◌++◌, [], ◌∷◌, map, IfOk, IfErr, None, OnErr, OnOk};
+    ghost use Rattle.std.specs.Prelude.{◌≡◌, ◌<◌, ◌++◌, [], ◌∷◌, map, true, IfOk, IfErr, None, OnOk};
+    ghost use Rattle.std.specs.Cmp.Lexicographic.{slice_cmp};
+    ghost use Rattle.std.specs.Option.{is_some};
+    ghost use Rattle.std.specs.Ordering.{nat_cmp};
     ghost use Rattle.std.specs.Str.{bytes_eq};
     ghost use Rattle.std.specs.List.{flat_map, list_any};
-    ghost use Rattle.covline.specs.Row.{SubmissionData, rows_of, rows_of_sect};
+    ghost use Rattle.covline.specs.Row.{SubmissionData, item_data, rows_of, rows_of_sect};
     ghost use Rattle.covline.specs.SectView.{sect_data};
     ghost use Rattle.covstore.specs.Content.{content_at};
-    ghost use Rattle.covstore.specs.Maps.{AddsRows, ClashesWith, HasRoomForRows, IsPlanOf, SameContent, SameHeld, StandsFor};
+    ghost use Rattle.covstore.specs.Maps.{AddsRows, ClashesWith, HasRoomForRows, IsPlanOf, KeepsState, SameContent, SameHeld, StandsFor};
+    ghost use Rattle.covstore.specs.Puts.{value_of};
+    ghost use Rattle.covstore.specs.SectionAdds.{HasPlace, rows_of_items};
     ghost use Rattle.covstore.specs.Stored.{IsRefusedAt, most_members};
     ghost use Rattle.covstore.specs.StoreHeld.{IsKept};
     ghost use Rattle.covstore.specs.RefuseView.{refuse_data};
@@ -173,62 +200,59 @@ impl<A: Allocator + Copy> Store<A> {
         ensures ok { OnOk result (AddsRows (rows_of_sect (sect_data sect.now)) self.old self.new) }
         ensures clash { IfErr result (λ e. ClashesWith (rows_of_sect (sect_data sect.now)) self.old (refuse_data e)) }
     {
-        if sect.items.get().is_empty() {
+        let items = sect.items.get();
+        if items.is_empty() {
             return Ok(());
         }
-        self.touch(alloc, sect)?;
-        self.open(alloc, sect.file.get())?;
-        let Some(file) = self.files.get_mut(sect.file.get()) else {
-            return Ok(());
-        };
-        file.open(alloc, sect.test.get())?;
-        let before = file.totals();
-        let added = file.add(alloc, sect.test.get(), sect.items.get());
-        let after = file.totals();
-        match added {
-            Ok(()) => {
-                self.coming = self.coming.exchanged(before, after);
-                Ok(())
-            }
-            Err(Stop::Memory) => Err(Refuse::Memory),
-            Err(Stop::Clash { line, held, given }) => Err(Refuse::Clash {
-                file: sect.file.copy(alloc)?,
-                line,
-                held,
-                given,
-            }),
-        }
-    }
-
-    /// Something is to come of this section's test.
-    fn touch(&mut self, alloc: A, sect: &Sect<A>) -> Result<(), Memory>
-        ensures sections { self.new.sections ≡ self.old.sections }
-        ensures members { self.new.members ≡ self.old.members }
-        ensures held { self.new.held ≡ self.old.held }
-        ensures coming { self.new.coming ≡ self.old.coming }
-        ensures after { self.new.after ≡ self.old.after }
-    {
-        let touched = Touched {
-            file: Vec::from_slice(alloc, sect.file.get())?,
-            test: Vec::from_slice(alloc, sect.test.get())?,
-        };
-        self.touched.push(touched)?;
-        Ok(())
+        let file = sect.file.get();
+        let test = sect.test.get();
+        self.open(alloc, file)?;
+        self.open_test(alloc, file, test)?;
+        self.add_items(alloc, file, test, items)
     }
 
     /// Sees to it that the file is there.
     fn open(&mut self, alloc: A, file: &[u8]) -> Result<(), Memory>
-        ensures members { self.new.members ≡ self.old.members }
-        ensures held { OnOk result (self.new.held ≡ with_file file.now self.old.held) }
+        ensures held { SameHeld self.old self.new }
         ensures coming { OnOk result (self.new.coming ≡ with_file file.now self.old.coming) }
-        ensures after { self.new.after ≡ self.old.after }
-        ensures err { OnErr result (self.new ≡ self.old) }
+        ensures after { OnOk result (self.new.after ≡ self.old.after) }
     {
         if self.files.contains_key(file) {
             return Ok(());
         }
         let name = Vec::from_slice(alloc, file)?;
         self.files.insert(name, File::new(alloc))?;
+        Ok(())
+    }
+
+    /// Sees to it that the test of a file is there.
+    fn open_test(&mut self, alloc: A, file: &[u8], test: &[u8]) -> Result<(), Memory>
+        requires { is_some (value_of (slice_cmp nat_cmp) file.now self.old.coming) ≡ true }
+        ensures held { SameHeld self.old self.new }
+        ensures coming { OnOk result (KeepsState self.old.coming self.new.coming) }
+        ensures place { OnOk result (HasPlace file.now test.now self.new.coming) }
+        ensures after { OnOk result (self.new.after ≡ self.old.after) }
+    {
+        match self.files.get_mut(file) {
+            Some(opened) => opened.open(alloc, test),
+            None => Ok(()),
+        }
+    }
+
+    /// Takes the items of a test that is there. Of this test something is to come then.
+    fn add_items(&mut self, alloc: A, file: &[u8], test: &[u8], items: &[Item<A>]) -> Result<(), Refuse<A>>
+        requires room { HasRoomForRows (rows_of_items file.now test.now (map item_data items.now)) self.old }
+        requires place { HasPlace file.now test.now self.old.coming }
+        ensures held { SameHeld self.old self.new }
+        ensures ok { OnOk result (AddsRows (rows_of_items file.now test.now (map item_data items.now)) self.old self.new) }
+        ensures clash { IfErr result (λ e. ClashesWith (rows_of_items file.now test.now (map item_data items.now)) self.old (refuse_data e)) }
+    {
+        Touched::push(&mut self.touched, alloc, file, test)?;
+        let Some(opened) = self.files.get_mut(file) else {
+            return Ok(());
+        };
+        let totals = opened.exchange(alloc, file, test, items)?;
+        self.coming = self.coming.exchanged(totals.0, totals.1);
         Ok(())
     }
 
