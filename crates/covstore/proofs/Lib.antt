@@ -70,6 +70,7 @@ pub mod AddsSettled
 pub mod AddsStore
 pub mod AddsMaps
 pub mod AddsReady
+pub mod AddsWritten
 pub mod StepsTally
 pub mod StepsTexts
 pub mod StepsCounts
