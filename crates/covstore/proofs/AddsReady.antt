@@ -1,7 +1,9 @@
 -- The items of a section in a store that was made ready for them: what is held stays, and what is to come is more.
-use Rattle.std.proofs.Common.{◌≡◌, ℕ, Some, List, [], ◌∷◌, refl, sym, ap, ◌∙◌, subst}
+use Rattle.std.proofs.Common.{◌≡◌, ℕ, Bool, true, Some, List, [], ◌∷◌, length, refl, sym, ap, ◌∙◌, subst, arith}
 use Rattle.std.specs.Cmp.Lexicographic.{slice_cmp}
 use Rattle.std.specs.Ordering.{nat_cmp}
+use Rattle.std.specs.Prelude.{◌==◌}
+use Rattle.std.proofs.lemmas.Bool.{eqb-true}
 use Rattle.std.proofs.lemmas.Option.{same_Some}
 use Rattle.covline.specs.Row.{ItemData, Row, SectData, rows_of_sect}
 use Rattle.covstore.specs.declared.totals.Totals.{Totals}
@@ -70,6 +72,10 @@ module _ (added : List Row) (before now : StoreData) (keeps : KeepsState before.
 pub same_rows : (file test name other : List ℕ) (items more : List ItemData) → file ≡ name → test ≡ other → items ≡ more → rows_of_items file test items ≡ rows_of_items name other more
 same_rows file test name other items more its_file its_test its_items =
     ap (λ (f : List ℕ). rows_of_items f test items) its_file ∙ ap (λ (t : List ℕ). rows_of_items name t items) its_test ∙ ap (rows_of_items name other) its_items
+
+pub no_items : {X : Type 0} (xs : List X) (b : Bool) → b ≡ (length xs == 0) → b ≡ true → xs ≡ []
+no_items [] b is empty = refl
+no_items (x ∷ xs) b is empty = let none : length (x ∷ xs) ≡ 0 = eqb-true (length (x ∷ xs)) 0 (sym is ∙ empty) in absurd (omega (arith, none))
 
 pub nothing_added : (file test : List ℕ) (items : List ItemData) (store : StoreData) → items ≡ [] → AddsRows (rows_of_items file test items) store store
 nothing_added file test items store none = subst (λ (all : List ItemData). AddsRows (rows_of_items file test all) store store) (sym none) (no_rows_added store)

@@ -1,6 +1,9 @@
 -- The sections that are seen of a file's tests, one test after another.
-use Rattle.std.proofs.Common.{◌≡◌, ℕ, Option, List, [], ◌∷◌, ◌++◌, map, sym, ap, ◌∙◌, subst}
+use Rattle.std.proofs.Common.{◌≡◌, ℕ, Bool, true, false, Option, Some, None, List, [], ◌∷◌, ◌++◌, map, sym, ap, ◌∙◌, subst}
+use Rattle.std.specs.Iterator.{YieldsFirstBy}
 use Rattle.std.specs.List.{flat_map, AllByRecursion}
+use Rattle.std.specs.Option.{is_some}
+use Rattle.std.proofs.lemmas.Bool.{false≢true}
 use Rattle.std.proofs.lemmas.List.Folds.{flat_map-map}
 use Rattle.covstore.specs.declared.file.File.{File}
 use Rattle.covstore.specs.declared.test.Test.{Test}
@@ -37,3 +40,17 @@ all_of_next {K = K} {A = A} P name current files all key file rest is left holds
     let files_in : AllByRecursion P (sections_of (files_held name files)) = all_last P (or_none current) (sections_of (files_held name files)) (subst (AllByRecursion P) (sym left) holds) in
     all_first P (sections_of_file (name key, file_held file)) (sections_of (files_held name rest))
     (subst (λ (fs : List (K × File A)). AllByRecursion P (sections_of (files_held name fs))) is files_in)
+
+-- ---- the next file is at hand
+
+pub none_at_hand : (next : Option SectionData) (before after : Option (List SectionData)) (b : Bool) → b ≡ is_some next → b ≡ false → YieldsFirstBy (λ s. s) or_none before next after → or_none before ≡ []
+none_at_hand None before after b is none ends = ends.0
+none_at_hand (Some s) before after b is none ends = absurd (false≢true (sym none ∙ is))
+
+pub next_at_hand : {K A : Type 0} (name : K → List ℕ) (current : Option (List SectionData)) (files : List (K × File A)) (all : List SectionData) (key : K) (file : File A) (rest : List (K × File A)) (sections : List SectionData)
+    → or_none current ≡ [] → files ≡ (key, file) ∷ rest → sections_left name current files ≡ all → sections ≡ sections_of_file (name key, file_held file) → sections_left name (Some sections) rest ≡ all
+next_at_hand {K = K} {A = A} name current files all key file rest sections none is left its =
+    ap (λ (own : List SectionData). own ++ sections_of (files_held name rest)) its
+    ∙ sym (ap (λ (fs : List (K × File A)). sections_of (files_held name fs)) is)
+    ∙ sym (ap (λ (own : List SectionData). own ++ sections_of (files_held name files)) none)
+    ∙ left

@@ -1,14 +1,16 @@
-use Rattle.std.proofs.Common.{Vec, ℕ, refl, sym, ap, subst}
+use Rattle.std.proofs.Common.{Vec, ℕ, List, refl, sym, ap, subst}
 use Rattle.std.specs.Cmp.Lexicographic.{slice_cmp}
 use Rattle.std.specs.Ordering.{nat_cmp}
+use Rattle.covstore.specs.declared.file.File.{File}
 use Rattle.covstore.specs.FileView.{file_coming, file_held}
-use Rattle.covstore.specs.Maps.{KeepsState}
+use Rattle.covstore.specs.Maps.{KeepsState, SameHeld}
 use Rattle.covstore.specs.MapsView.{files_coming, files_held, touched_data}
 use Rattle.covstore.proofs.AddsReady.{held_kept}
 use Rattle.covstore.proofs.AddsStore.{same_held}
 use Rattle.covstore.proofs.Keeps.{with_file_keeps}
 use Rattle.covstore.proofs.Opens.{file_there, file_opened}
 use Rattle.covstore.proofs.StoreKept.{settled_with, store_with_file}
+use Rattle.covstore.proofs.Stores.{store_of}
 use Rattle.covstore.proofs.maps.Store.open.Goals as goal
 
 pub returns-then-contains_key-clause-held : goal.returns-then-contains_key-clause-held
@@ -18,7 +20,11 @@ pub returns-in_err-name-clause-held : goal.returns-in_err-name-clause-held
 returns-in_err-name-clause-held g c = same_held c.args.self.now
 
 pub returns-in_err-insert-clause-held : goal.returns-in_err-insert-clause-held
-returns-in_err-insert-clause-held g c = ?
+returns-in_err-insert-clause-held g c =
+    let name = λ (key : Vec ℕ g.row.A.Denot). key.items in
+    let first = c.self.inside in
+    let seen = λ (entries : List (Vec ℕ g.row.A.Denot × File g.row.A.Denot)). store_of first.members (files_held name entries) (files_coming name entries) first.coming in
+    subst (λ entries. SameHeld c.args.self.now (seen entries)) (sym c.in_err-insert.ensures.err) (subst (SameHeld c.args.self.now) (sym c.self.view_is) (same_held c.args.self.now))
 
 pub returns-then-contains_key-clause-coming : goal.returns-then-contains_key-clause-coming
 returns-then-contains_key-clause-coming g c =
