@@ -5,9 +5,8 @@ use Rattle.std.specs.Ordering.{nat_cmp}
 use Rattle.std.specs.Prelude.{◌==◌}
 use Rattle.std.proofs.lemmas.Bool.{eqb-true}
 use Rattle.std.proofs.lemmas.Option.{same_Some}
-use Rattle.covline.specs.Row.{ItemData, Row, SectData, rows_of_sect}
+use Rattle.covline.specs.Row.{ItemData, Row}
 use Rattle.covstore.specs.declared.totals.Totals.{Totals}
-use Rattle.covstore.specs.Adds.{section_of_items}
 use Rattle.covstore.specs.Exchanged.{FitTogether, IsAmong, exchanged}
 use Rattle.covstore.specs.FileAdds.{AddsItems, HasRoomIn}
 use Rattle.covstore.specs.FileView.{with_file}
@@ -17,7 +16,6 @@ use Rattle.covstore.specs.Puts.{put, value_of}
 use Rattle.covstore.specs.SectionAdds.{HasPlace, RefusedIn, rows_of_items}
 use Rattle.covstore.specs.State.{FileData, file_totals, totals_in}
 use Rattle.covstore.specs.Stored.{RefuseData, ClashRefuse, MemoryRefuse}
-use Rattle.covstore.specs.Sums.{TestData}
 use Rattle.covstore.specs.Table.{all_rows}
 use Rattle.covstore.proofs.AddsSection.{room_in, section_adds, section_fits, section_totals}
 use Rattle.covstore.proofs.AddsStore.{no_rows_added}

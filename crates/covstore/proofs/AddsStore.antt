@@ -1,12 +1,12 @@
 -- Rows that come into a store one section after the other.
-use Rattle.std.proofs.Common.{◌≡◌, ℕ, ◌+◌, ◌≤◌, ◌^◌, Some, None, List, [], ◌∷◌, ◌++◌, length, refl, sym, ap, ◌∙◌, subst, append_assoc, arith}
+use Rattle.std.proofs.Common.{◌≡◌, None, List, [], ◌∷◌, ◌++◌, refl, sym, ap, ◌∙◌, subst, append_assoc, arith}
 use Rattle.std.specs.List.{AllByRecursion, flat_map}
 use Rattle.std.proofs.lemmas.List.{append-nil, length-append}
 use Rattle.std.proofs.lemmas.List.Concat.{flat_map-append}
 use Rattle.covline.specs.Row.{Row, SectData, rows_of_sect}
 use Rattle.covstore.specs.Adds.{SmallRow}
 use Rattle.covstore.specs.Clash.{Agree, Checksum, checksum_of_row, checksums_in, clash_of, first_clash}
-use Rattle.covstore.specs.Maps.{AddsRows, ClashesWith, HasRoomForRows, KeepsState, SameHeld, StoreData}
+use Rattle.covstore.specs.Maps.{AddsRows, ClashesWith, HasRoomForRows, SameHeld, StoreData}
 use Rattle.covstore.specs.State.{IsStateOf}
 use Rattle.covstore.specs.Stored.{RefuseData, ClashRefuse, MemoryRefuse}
 use Rattle.covstore.proofs.AddsLists.{clash_before, clash_behind}

@@ -1,5 +1,5 @@
 -- The totals of all files where one of them is exchanged: they fit, and are those of the files afterwards.
-use Rattle.std.proofs.Common.{◌≡◌, ℕ, ◌+◌, ◌-◌, ◌<◌, ◌≤◌, ◌^◌, Some, List, [], ◌∷◌, length, map, filter, refl, sym, ap, ◌∙◌, subst, arith, inl, inr}
+use Rattle.std.proofs.Common.{◌≡◌, ℕ, ◌+◌, ◌-◌, ◌≤◌, ◌^◌, Some, List, [], ◌∷◌, length, map, sym, ap, ◌∙◌, subst, arith, inl, inr}
 use Rattle.std.specs.Cmp.Lexicographic.{slice_cmp}
 use Rattle.std.specs.List.{sum_by}
 use Rattle.std.specs.Ordering.{nat_cmp}
@@ -13,13 +13,13 @@ use Rattle.covstore.specs.Counted.{Kind, branches, found, functions, in_file, is
 use Rattle.covstore.specs.Counts.{found_of, hit_of}
 use Rattle.covstore.specs.Exchanged.{FitTogether, IsAmong, exchanged}
 use Rattle.covstore.specs.Puts.{ArePairs, put, value_of}
-use Rattle.covstore.specs.State.{FileData, IsStateOf, file_totals, sections_of, totals_in}
-use Rattle.covstore.specs.Totals.{AreTotals, totals_of}
+use Rattle.covstore.specs.State.{FileData, IsStateOf, file_totals, totals_in}
+use Rattle.covstore.specs.Totals.{totals_of}
 use Rattle.covstore.proofs.AddsPlace.{state_agrees}
 use Rattle.covstore.proofs.Few.{few_parts, one_branch, one_function, one_line}
 use Rattle.covstore.proofs.Members.{In}
 use Rattle.covstore.proofs.Orders.{names_order}
-use Rattle.covstore.proofs.Puts.{at_before, pair_in, sum_by-put, value_of-put}
+use Rattle.covstore.proofs.Puts.{at_before, pair_in, sum_by-put}
 use Rattle.covstore.proofs.StateSections.{sections_are}
 use Rattle.covstore.proofs.StateTotals.{totals_are}
 use Rattle.covstore.proofs.TotalsDifferent.{are_totals, branches_counted, functions_counted, lines_counted}

@@ -1,19 +1,17 @@
 -- Changes of what is kept that leave the state as it is: a file or a test that is made ready, and texts that nobody holds.
-use Rattle.std.proofs.Common.{◌≡◌, ℕ, ◌+◌, Bool, true, false, cond, Option, Some, None, List, [], ◌∷◌, map, refl, sym, ap, ◌∙◌, subst, arith}
+use Rattle.std.proofs.Common.{◌≡◌, ℕ, ◌+◌, true, false, Option, Some, None, List, refl, sym, ap, ◌∙◌, subst, arith}
 use Rattle.std.specs.Cmp.Lexicographic.{slice_cmp}
 use Rattle.std.specs.List.{sum_by}
 use Rattle.std.specs.Option.{is_some}
 use Rattle.std.specs.Ordering.{nat_cmp}
 use Rattle.std.proofs.lemmas.Bool.{cases_Bool, cond-true, cond-false, false≢true}
-use Rattle.std.specs.Prelude.{◌⊎◌}
-use Rattle.std.proofs.Common.{inl, inr, ⊎_elim}
-use Rattle.covline.specs.Row.{Row}
+use Rattle.std.proofs.Common.{⊎_elim}
 use Rattle.covstore.specs.declared.totals.Totals.{Totals}
 use Rattle.covstore.specs.Counts.{found_of, hit_of}
-use Rattle.covstore.specs.FileView.{no_file, with_file, with_test, tests_with}
+use Rattle.covstore.specs.FileView.{no_file, with_file}
 use Rattle.covstore.specs.Maps.{KeepsState}
 use Rattle.covstore.specs.Puts.{ArePairs, put, value_of}
-use Rattle.covstore.specs.State.{FileData, IsStateOf, totals_in}
+use Rattle.covstore.specs.State.{FileData}
 use Rattle.covstore.proofs.Orders.{names_order}
 use Rattle.covstore.proofs.Puts.{at_before, sum_by-put}
 use Rattle.covstore.proofs.StateMore.{file_more}

@@ -1,18 +1,17 @@
 -- Changes of one file that leave the state as it is: a test that is made ready, and texts of lines that nobody holds.
-use Rattle.std.proofs.Common.{◌≡◌, ℕ, ◌+◌, Bool, true, false, cond, Option, Some, None, List, [], ◌∷◌, map, refl, sym, ap, ◌∙◌, subst, arith, ⊎_elim}
+use Rattle.std.proofs.Common.{◌≡◌, ℕ, true, false, Option, Some, None, List, [], map, refl, sym, ap, ◌∙◌, subst, arith, ⊎_elim}
 use Rattle.std.specs.Cmp.Lexicographic.{slice_cmp}
 use Rattle.std.specs.List.{sum_by}
 use Rattle.std.specs.Option.{is_some}
 use Rattle.std.specs.Ordering.{nat_cmp}
-use Rattle.std.specs.Prelude.{Contains}
 use Rattle.std.proofs.lemmas.Bool.{cases_Bool, cond-true, cond-false, false≢true}
 use Rattle.covline.specs.Row.{Row}
 use Rattle.covstore.specs.Adds.{IsIn}
-use Rattle.covstore.specs.Clash.{Checksum, checksums_in}
+use Rattle.covstore.specs.Clash.{checksums_in}
 use Rattle.covstore.specs.Counts.{AreCounts, found_of, hit_of}
 use Rattle.covstore.specs.FileView.{KeepsFile, with_test}
 use Rattle.covstore.specs.Maps.{KeepsState}
-use Rattle.covstore.specs.Marks.{MarksData, file_with}
+use Rattle.covstore.specs.Marks.{MarksData}
 use Rattle.covstore.specs.Puts.{ArePairs, put, value_of}
 use Rattle.covstore.specs.State.{AreKept, FileData, IsStateOf, IsWholeFile, branch_above, function_above, line_above, points_in, tests_in, totals_in}
 use Rattle.covstore.specs.Sums.{TestData, test_of}

@@ -1,5 +1,5 @@
 -- The entries of a map, seen by their names: what is found at a name, and what comes of an entry that is put in or set.
-use Rattle.std.proofs.Common.{◌≡◌, Bool, true, false, cond, Option, Some, None, List, [], ◌∷◌, map, option_map, refl, sym, ap, ◌∙◌, subst}
+use Rattle.std.proofs.Common.{◌≡◌, Bool, true, false, cond, Option, Some, None, List, [], ◌∷◌, map, option_map, refl, sym, ap, ◌∙◌}
 use Rattle.std.specs.BTreeMap.{insert_entry, is_at}
 use Rattle.std.specs.declared.cmp.Ordering.{Ordering}
 use Rattle.std.specs.declared.cmp.Ordering.TheVariants.{Less, Equal, Greater}
@@ -10,7 +10,7 @@ use Rattle.std.specs.Option.{is_some}
 use Rattle.std.specs.Ordering.{is_eq, match_ordering, ordering_reverse}
 use Rattle.std.proofs.lemmas.Bool.{false≢true}
 use Rattle.covstore.specs.Puts.{value_of, put, ArePairs}
-use Rattle.covstore.proofs.Ascend.{IsExactOrder, All-weaker, flips}
+use Rattle.covstore.proofs.Ascend.{IsExactOrder, All-weaker}
 use Rattle.covstore.proofs.Puts.{value_of_before}
 
 reverse_eq : (order : Ordering) → is_eq (ordering_reverse order) ≡ is_eq order

@@ -1,12 +1,12 @@
 -- A test, and a file, that are seen to be there.
-use Rattle.std.proofs.Common.{◌≡◌, ℕ, Bool, true, false, cond, List, [], ◌∷◌, map, refl, sym, ap, ◌∙◌}
+use Rattle.std.proofs.Common.{◌≡◌, ℕ, Bool, true, false, List, [], sym, ap, ◌∙◌}
 use Rattle.std.specs.BTreeMap.{insert_entry, is_at}
 use Rattle.std.specs.Cmp.Lexicographic.{slice_cmp}
 use Rattle.std.specs.Map.{lookup}
 use Rattle.std.specs.Option.{is_some}
 use Rattle.std.specs.Ordering.{nat_cmp}
 use Rattle.std.proofs.lemmas.Bool.{cond-true, cond-false}
-use Rattle.covstore.specs.FileView.{no_file, tests_with, with_file, with_test}
+use Rattle.covstore.specs.FileView.{no_file, with_file, with_test}
 use Rattle.covstore.specs.Puts.{put, value_of}
 use Rattle.covstore.specs.State.{FileData}
 use Rattle.covstore.specs.Sums.{TestData, test_of}

@@ -1,15 +1,14 @@
 -- What is made ready to hold: from what is held, with the rows of a submission.
-use Rattle.std.proofs.Common.{◌≡◌, ℕ, ◌+◌, ◌*◌, ◌<◌, ◌≤◌, ◌^◌, None, List, [], ◌∷◌, ◌++◌, length, refl, sym, ap, ◌∙◌, subst, arith}
+use Rattle.std.proofs.Common.{◌≡◌, ◌+◌, ◌*◌, ◌<◌, ◌≤◌, ◌^◌, None, [], ◌∷◌, ◌++◌, length, sym, ap, ◌∙◌, subst, arith}
 use Rattle.std.specs.List.{AllByRecursion}
 use Rattle.std.proofs.lemmas.List.{length-append}
-use Rattle.covline.specs.Row.{Row, SubmissionData, rows_of}
+use Rattle.covline.specs.Row.{SubmissionData, rows_of}
 use Rattle.covline.specs.Lawful.{IsLawful, most_items}
 use Rattle.covstore.specs.declared.totals.Totals.{Totals}
-use Rattle.covstore.specs.Adds.{SmallRow}
 use Rattle.covstore.specs.Clash.{Agree, checksums_in, clash_of}
 use Rattle.covstore.specs.Content.{content_at, content_of}
-use Rattle.covstore.specs.Maps.{AddsRows, AddsTo, ClashesWith, HasRoomForRows, IsPlanOf, PlanData, SameContent, SameHeld, StandsFor, StoreData}
-use Rattle.covstore.specs.State.{FileData, IsStateOf, sections_of, totals_in}
+use Rattle.covstore.specs.Maps.{AddsRows, ClashesWith, HasRoomForRows, IsPlanOf, PlanData, SameContent, SameHeld, StandsFor, StoreData}
+use Rattle.covstore.specs.State.{IsStateOf, sections_of, totals_in}
 use Rattle.covstore.specs.StoreHeld.{IsKept}
 use Rattle.covstore.specs.Stored.{IsRefusedAt, RefuseData, ClashRefuse, MemoryRefuse, most_members}
 use Rattle.covstore.specs.Table.{Table, all_rows, clash_at}

@@ -1,5 +1,5 @@
 -- Nothing is to come of a file but for some tests, and of files but for some tests of them.
-use Rattle.std.proofs.Common.{◌≡◌, ℕ, Bool, true, false, cond, ◌||◌, length, arith, Some, None, List, [], ◌∷◌, ◌++◌, map, filter, refl, sym, ap, ◌∙◌, subst, Vec, BTreeMap}
+use Rattle.std.proofs.Common.{◌≡◌, ℕ, Bool, true, false, cond, ◌||◌, length, arith, Some, None, List, [], ◌∷◌, ◌++◌, map, filter, refl, sym, ap, ◌∙◌, subst, Vec}
 use Rattle.std.specs.Cmp.Lexicographic.{slice_cmp}
 use Rattle.std.specs.List.{AllByRecursion, list_any}
 use Rattle.std.specs.List.Sorted.{IsStrictlySortedBy}
@@ -51,15 +51,15 @@ module _ {A : Type 0} (tests : List (List ℕ)) (test : List ℕ) (before after 
   settled_found v w sorted written found settled = record {
     marks = λ e. marks;
     points = subst (AllByRecursion (IsSettledTest tests)) (sym written)
-    (All-written (λ (k : Vec ℕ A). k.items) test (IsSettledTest (tests ++ test ∷ [])) (IsSettledTest tests) v w before.tests.entries sorted found
-    (λ k old same. λ e. settled) others_stay was.points);
+        (All-written (λ (k : Vec ℕ A). k.items) test (IsSettledTest (tests ++ test ∷ [])) (IsSettledTest tests) v w before.tests.entries sorted found
+        (λ k old same. λ e. settled) others_stay was.points);
   }
 
   pub settled_unfound : lookup (λ (k : Vec ℕ A). is_eq (slice_cmp nat_cmp test k.items)) before.tests.entries ≡ None → after.tests.entries ≡ before.tests.entries → IsSettledBut tests after
   settled_unfound none same = record {
     marks = λ e. marks;
     points = subst (AllByRecursion (IsSettledTest tests)) (sym same)
-    (All-unfound (λ (k : Vec ℕ A). k.items) test (IsSettledTest (tests ++ test ∷ [])) (IsSettledTest tests) before.tests.entries none others_stay was.points);
+        (All-unfound (λ (k : Vec ℕ A). k.items) test (IsSettledTest (tests ++ test ∷ [])) (IsSettledTest tests) before.tests.entries none others_stay was.points);
   }
 
 -- what is seen of a file: its tests, and what is kept of it
@@ -125,7 +125,7 @@ module _ {A : Type 0} (seen : File A → FileData) (touched front : List (Touche
   settling_found v w sorted written found same step = record {
     stays = ap (λ (pairs : List (Vec ℕ A × File A)). names_with file_name seen pairs) written ∙ map_written file_name file seen v w before same found ∙ was.stays;
     settled = subst (AllByRecursion (IsSettledFile (touched_data front))) (sym written)
-    (All-written file_name file (IsSettledFile (touched_data front ++ (file, test) ∷ [])) (IsSettledFile (touched_data front)) v w before sorted found own others_settled settled_before);
+        (All-written file_name file (IsSettledFile (touched_data front ++ (file, test) ∷ [])) (IsSettledFile (touched_data front)) v w before sorted found own others_settled settled_before);
   }
     where
       own : (k : Vec ℕ A) → IsSettledFile (touched_data front ++ (file, test) ∷ []) (k, v) → k.items ≡ file → IsSettledFile (touched_data front) (k, w)
@@ -136,7 +136,7 @@ module _ {A : Type 0} (seen : File A → FileData) (touched front : List (Touche
   settling_unfound none same = record {
     stays = ap (λ (pairs : List (Vec ℕ A × File A)). names_with file_name seen pairs) same ∙ was.stays;
     settled = subst (AllByRecursion (IsSettledFile (touched_data front))) (sym same)
-    (All-unfound file_name file (IsSettledFile (touched_data front ++ (file, test) ∷ [])) (IsSettledFile (touched_data front)) before none others_settled settled_before);
+        (All-unfound file_name file (IsSettledFile (touched_data front ++ (file, test) ∷ [])) (IsSettledFile (touched_data front)) before none others_settled settled_before);
   }
 
 -- ---- nothing is left

@@ -1,14 +1,13 @@
 -- Two lists of rows with one state: with the same rows more they have one state again.
-use Rattle.std.proofs.Common.{◌≡◌, ℕ, List, [], ◌∷◌, ◌++◌, filter, map, refl, sym, ap, ◌∙◌, subst, append_assoc, inl, inr, ⊎_elim}
-use Rattle.std.specs.Prelude.{Contains}
+use Rattle.std.proofs.Common.{◌≡◌, ℕ, List, [], ◌∷◌, ◌++◌, filter, map, sym, ap, ◌∙◌, subst, append_assoc, inl, inr, ⊎_elim}
 use Rattle.std.proofs.lemmas.List.{append-nil, map-append}
 use Rattle.std.proofs.lemmas.List.Concat.{flat_map-append}
 use Rattle.std.proofs.lemmas.List.Elements.{filter-append}
 use Rattle.covline.specs.Row.{ItemData, Row}
-use Rattle.covstore.specs.Clash.{Agree, Checksum, checksum_of_row, checksums_in, clash_of}
+use Rattle.covstore.specs.Clash.{checksum_of_row, checksums_in, clash_of}
 use Rattle.covstore.specs.Content.{content_of}
 use Rattle.covstore.specs.State.{FileData, IsStateOf}
-use Rattle.covstore.specs.Sums.{TestData, test_of, with_item}
+use Rattle.covstore.specs.Sums.{test_of, with_item}
 use Rattle.covstore.specs.Value.{Key, has_key, items_at}
 use Rattle.covstore.proofs.AddsPlace.{state_agrees}
 use Rattle.covstore.proofs.Contents.{clash_by_content}

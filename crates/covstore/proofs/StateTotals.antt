@@ -1,6 +1,5 @@
 -- The totals of what is seen of a state are the numbers that are kept.
-use Rattle.std.proofs.Common.{◌≡◌, ℕ, ◌+◌, Bool, nat_lt, List, [], ◌∷◌, ◌++◌, length, map, refl, sym, ap, subst, ⊎_elim, append_assoc}
-use Rattle.std.specs.Prelude.{◌⊎◌}
+use Rattle.std.proofs.Common.{◌≡◌, ℕ, Bool, nat_lt, List, [], ◌∷◌, ◌++◌, length, map, refl, sym, ap, subst, ⊎_elim, append_assoc}
 use Rattle.std.specs.Cmp.Lexicographic.{slice_cmp}
 use Rattle.std.specs.declared.cmp.Ordering.{Ordering}
 use Rattle.std.specs.List.{AllByRecursion, count_by, flat_map}
@@ -11,7 +10,6 @@ use Rattle.covstore.specs.declared.sums.FunctionSum.{FunctionSum}
 use Rattle.covstore.specs.declared.sums.LineSum.{LineSum}
 use Rattle.covstore.specs.declared.sums.Taken.{Taken}
 use Rattle.covstore.specs.declared.sums.Tests.{Tests}
-use Rattle.covstore.specs.Ascending.{ascending}
 use Rattle.covstore.specs.Clash.{Agree, checksums_in}
 use Rattle.covstore.specs.Content.{BranchValueData, FunctionValueData, LineValueData, SectionData, content_of}
 use Rattle.covstore.specs.Counts.{AreCounts, found_of, hit_of}

@@ -1,17 +1,15 @@
 -- What holds of the store where its maps change in a way that keeps the state.
-use Rattle.std.proofs.Common.{◌≡◌, ℕ, Bool, true, false, cond, List, [], ◌∷◌, refl, sym, ap, ◌∙◌, subst}
+use Rattle.std.proofs.Common.{◌≡◌, ℕ, List, [], ◌∷◌, sym, ◌∙◌, subst}
 use Rattle.std.specs.BTreeMap.{insert_entry}
-use Rattle.std.specs.Cmp.Lexicographic.{slice_cmp}
 use Rattle.std.specs.declared.cmp.Ordering.{Ordering}
 use Rattle.std.specs.declared.cmp.Ordering.TheVariants.{Less, Equal, Greater}
 use Rattle.std.specs.List.{AllByRecursion}
-use Rattle.std.specs.Ordering.{match_ordering, nat_cmp}
+use Rattle.std.specs.Ordering.{match_ordering}
 use Rattle.covstore.specs.declared.file.File.{File}
 use Rattle.covstore.specs.declared.totals.Totals.{Totals}
 use Rattle.covstore.specs.FileView.{with_file}
 use Rattle.covstore.specs.Maps.{KeepsState}
 use Rattle.covstore.specs.MapsView.{AreSettledBut, IsSettledBut, IsStore, tests_of}
-use Rattle.covstore.specs.Puts.{ArePairs}
 use Rattle.covstore.specs.State.{FileData}
 use Rattle.covstore.specs.Table.{all_rows}
 use Rattle.covstore.proofs.Keeps.{with_file_keeps}

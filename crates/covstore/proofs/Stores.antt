@@ -1,5 +1,5 @@
 -- A store over maps: what it stands for, also with a submission more.
-use Rattle.std.proofs.Common.{◌≡◌, ℕ, ◌+◌, ◌<◌, ◌≤◌, List, [], ◌∷◌, ◌++◌, length, map, refl, sym, ap, ◌∙◌, subst, arith}
+use Rattle.std.proofs.Common.{◌≡◌, ℕ, ◌+◌, ◌≤◌, List, [], ◌∷◌, ◌++◌, length, refl, sym, ap, ◌∙◌, subst, arith}
 use Rattle.std.specs.Prelude.{None}
 use Rattle.std.specs.List.{AllByRecursion, flat_map}
 use Rattle.std.proofs.lemmas.List.{append-nil, length_push}
@@ -9,11 +9,10 @@ use Rattle.covline.specs.Lawful.{AllFit64, IsLawful, most_items}
 use Rattle.covstore.specs.declared.totals.Totals.{Totals}
 use Rattle.covstore.specs.Adds.{SmallRow}
 use Rattle.covstore.specs.Clash.{Agree, checksums_in, clash_of}
-use Rattle.covstore.specs.Content.{content_at, content_of}
+use Rattle.covstore.specs.Content.{content_of}
 use Rattle.covstore.specs.Maps.{IsPlanOf, PlanData, StandsFor, StoreData}
 use Rattle.covstore.specs.MapsView.{IsStore}
-use Rattle.covstore.specs.State.{FileData, IsStateOf, sections_of, totals_in}
-use Rattle.covstore.specs.Stored.{most_members}
+use Rattle.covstore.specs.State.{FileData, IsStateOf, sections_of}
 use Rattle.covstore.specs.Table.{Table, all_rows, clash_at}
 use Rattle.covstore.specs.Totals.{AreTotals, totals_of}
 use Rattle.covstore.proofs.Bounds.{length-rows_of_sects}
@@ -107,9 +106,9 @@ module _ (members : ℕ) (totals : Totals) (held coming : List (List ℕ × File
     pub stands_more : StandsFor (store_of (members + 1) coming coming plan.after) (table ++ rows_of s ∷ [])
     stands_more = record {
       content =
-        sections_are (all_rows is.own ++ rows_of s) coming more.1 more.2
-        ∙ content-append (all_rows is.own) (all_rows table) (rows_of s) same_content
-        ∙ ap content_of (sym (rows_accepted table (rows_of s)));
+          sections_are (all_rows is.own ++ rows_of s) coming more.1 more.2
+          ∙ content-append (all_rows is.own) (all_rows table) (rows_of s) same_content
+          ∙ ap content_of (sym (rows_accepted table (rows_of s)));
       members = omega (arith, stands.members, length_push table (rows_of s));
       agree = agree_submitted table s no_clash stands.agree;
       few = omega (arith, stands.members, p.few, length_push table (rows_of s));

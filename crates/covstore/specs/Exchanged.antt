@@ -1,5 +1,5 @@
 -- Totals of which a part is exchanged.
-use Rattle.std.specs.Prelude.{ℕ, ◌+◌, ◌-◌, ◌≤◌, ◌<◌, ◌^◌}
+use Rattle.std.specs.Prelude.{◌+◌, ◌-◌, ◌≤◌, ◌<◌, ◌^◌}
 use Rattle.covstore.specs.declared.totals.Totals.{Totals}
 
 -- the part is no larger than the whole

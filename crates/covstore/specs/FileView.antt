@@ -1,10 +1,10 @@
 -- A file of the code, seen as plain data: as it is, and as it is to be.
-use Rattle.std.specs.Prelude.{◌≡◌, ℕ, Bool, true, false, if◌then◌else◌, Option, Some, None, List, [], map}
+use Rattle.std.specs.Prelude.{◌≡◌, ℕ, true, if◌then◌else◌, List, [], map}
 use Rattle.std.specs.Cmp.Lexicographic.{slice_cmp}
 use Rattle.std.specs.Option.{is_some}
 use Rattle.std.specs.Ordering.{nat_cmp}
 use Rattle.covstore.specs.declared.file.File.{File}
-use Rattle.covstore.specs.Marks.{MarksData, file_with}
+use Rattle.covstore.specs.Marks.{file_with}
 use Rattle.covstore.specs.MarksView.{marks_coming, marks_held, no_marks}
 use Rattle.covstore.specs.Puts.{put, value_of}
 use Rattle.covstore.specs.State.{FileData}

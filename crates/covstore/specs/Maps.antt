@@ -1,15 +1,15 @@
 -- What a store is to its callers: its content, and the tables that it stands for; and what is to come of it.
-use Rattle.std.specs.Prelude.{◌≡◌, ℕ, ◌+◌, ◌<◌, ◌≤◌, ◌^◌, List, [], ◌∷◌, ◌++◌, Some, None, length}
+use Rattle.std.specs.Prelude.{◌≡◌, ℕ, ◌+◌, ◌<◌, ◌≤◌, ◌^◌, List, ◌++◌, Some, None, length}
 use Rattle.std.specs.List.{AllByRecursion}
 use Rattle.covline.specs.Row.{Row, SubmissionData, rows_of}
 use Rattle.covline.specs.Lawful.{IsLawful, most_items}
 use Rattle.covstore.specs.declared.totals.Totals.{Totals}
 use Rattle.covstore.specs.Adds.{SmallRow}
-use Rattle.covstore.specs.Clash.{ClashData, Agree, checksums_in, clash_of}
+use Rattle.covstore.specs.Clash.{Agree, checksums_in, clash_of}
 use Rattle.covstore.specs.Content.{SectionData, content_at}
 use Rattle.covstore.specs.State.{FileData, IsStateOf, totals_in}
 use Rattle.covstore.specs.Stored.{RefuseData, ClashRefuse, MemoryRefuse, most_members}
-use Rattle.covstore.specs.Table.{Table, all_rows, clash_at}
+use Rattle.covstore.specs.Table.{Table, all_rows}
 
 -- the sections, and how many submissions there are; what is kept of the files, as they are and as they are to be, and the totals
 -- that are to be

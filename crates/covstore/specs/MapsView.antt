@@ -1,11 +1,10 @@
 -- The store's maps, seen as plain data; what holds of them; and of which tests something is to come.
-use Rattle.std.specs.Prelude.{◌≡◌, ℕ, ◌≤◌, Bool, false, List, [], ◌∷◌, length, map, filter}
+use Rattle.std.specs.Prelude.{◌≡◌, ℕ, ◌≤◌, false, List, [], length, map, filter}
 use Rattle.std.specs.List.{AllByRecursion, list_any}
 use Rattle.std.specs.Str.{bytes_eq}
 use Rattle.covline.specs.Lawful.{most_items}
 use Rattle.covstore.specs.declared.file.File.{File}
 use Rattle.covstore.specs.declared.maps.Touched.{Touched}
-use Rattle.covstore.specs.declared.test.Test.{Test}
 use Rattle.covstore.specs.declared.totals.Totals.{Totals}
 use Rattle.covstore.specs.Adds.{SmallRow}
 use Rattle.covstore.specs.Clash.{Agree, checksums_in}

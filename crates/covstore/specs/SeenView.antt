@@ -1,9 +1,8 @@
 -- The sections that are left of a store.
-use Rattle.std.specs.Prelude.{ℕ, ◌<◌, ◌^◌, Option, Some, None, List, [], ◌++◌, length, map}
+use Rattle.std.specs.Prelude.{ℕ, ◌<◌, ◌^◌, Option, Some, None, List, [], ◌++◌, length}
 use Rattle.std.specs.List.{flat_map}
 use Rattle.covstore.specs.declared.test.Test.{Test}
 use Rattle.covstore.specs.Content.{SectionData}
-use Rattle.covstore.specs.Sums.{TestData}
 use Rattle.covstore.specs.declared.file.File.{File}
 use Rattle.covstore.specs.MapsView.{files_held}
 use Rattle.covstore.specs.State.{section_seen, sections_of}

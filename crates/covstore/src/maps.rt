@@ -240,7 +240,13 @@ impl<A: Allocator + Copy> Store<A> {
     }
 
     /// Takes the items of a test that is there. Of this test something is to come then.
-    fn add_items(&mut self, alloc: A, file: &[u8], test: &[u8], items: &[Item<A>]) -> Result<(), Refuse<A>>
+    fn add_items(
+        &mut self,
+        alloc: A,
+        file: &[u8],
+        test: &[u8],
+        items: &[Item<A>],
+    ) -> Result<(), Refuse<A>>
         requires room { HasRoomForRows (rows_of_items file.now test.now (map item_data items.now)) self.old }
         requires place { HasPlace file.now test.now self.old.coming }
         ensures held { SameHeld self.old self.new }

@@ -1,13 +1,11 @@
-use Rattle.std.proofs.Common.{◌≡◌, ℕ, ◌<◌, ◌^◌, Vec, List, length, map, sym, ap, ◌∙◌, subst, arith}
+use Rattle.std.proofs.Common.{ℕ, ◌<◌, ◌^◌, Vec, List, length, map, sym, ap, subst, arith}
 use Rattle.std.proofs.lemmas.List.{length-map}
 use Rattle.std.proofs.lemmas.Result.{IfErr-weaker, on_ok_weaker}
 use Rattle.covline.specs.Row.{item_data}
 use Rattle.covstore.specs.Adds.{Clashes}
 use Rattle.covstore.specs.FileAdds.{AddsItems, ClashesIn}
-use Rattle.covstore.specs.FileView.{file_coming}
 use Rattle.covstore.specs.Marks.{file_with}
 use Rattle.covstore.specs.MarksView.{marks_coming}
-use Rattle.covstore.specs.State.{FileData}
 use Rattle.covstore.specs.Sums.{TestData}
 use Rattle.covstore.specs.TestView.{branches_data, test_coming, test_held}
 use Rattle.covstore.proofs.AddsFile.{adds_in, clashes_in, no_test, room_for, test_kept, test_value, test_written}

@@ -1,4 +1,4 @@
-use Rattle.std.proofs.Common.{◌≡◌, not, Option, option_map, sym, ap, ◌∙◌, Vec}
+use Rattle.std.proofs.Common.{not, Option, option_map, sym, ap, ◌∙◌}
 use Rattle.covstore.specs.State.{has_no_points, points_or_none}
 use Rattle.covstore.specs.Sums.{TestData}
 use Rattle.covstore.specs.TestView.{test_held}

@@ -20,21 +20,21 @@ loop-touched-preserved g c =
     let front = c.pop.new.self.items in
     let file = c.as_slice.result.now in
     elim c.match-get_mut.branch [
-      in-Some-get_mut w ↦
-        let test = w.as_slice-in-Some-get_mut.result.now in
-        let popped = popped_as now.touched.items front last file test c.in-Some.ensures.items c.as_slice.ensures.value w.as_slice-in-Some-get_mut.ensures.value in
-        let after = w.take.new.self in
-        let settling = settling_found file_coming now.touched.items front file test popped first.files.entries now.files.entries (c.get_mut.follows.lender after).entries was.0
-        w.in-Some-get_mut.file.now after c.get_mut.ensures.ordered (c.get_mut.follows.holds after).0 (sym w.in-Some-get_mut.ensures.value) w.take.ensures.coming w.take.ensures.settled in
-        subst (λ (i : Inside g.row.A.Denot). IsSettling file_coming i.touched.items first.files.entries i.files.entries × (i.members ≡ first.members) × (i.held ≡ first.held))
-        (sym w.self-inside-is) (settling, was.1, was.2)
-    | in_default-get_mut w ↦
-        let popped = popped_as now.touched.items front last file last.test.items c.in-Some.ensures.items c.as_slice.ensures.value refl in
-        let same = ap (λ (m : BTreeMap (Vec ℕ g.row.A.Denot) (File g.row.A.Denot)). m.entries) c.get_mut.follows.holds-at-none in
-        let settling = settling_unfound file_coming now.touched.items front file last.test.items popped first.files.entries now.files.entries c.get_mut.follows.lender-at-none.entries was.0
-        (sym w.in_default-get_mut.ensures.value) same in
-        subst (λ (i : Inside g.row.A.Denot). IsSettling file_coming i.touched.items first.files.entries i.files.entries × (i.members ≡ first.members) × (i.held ≡ first.held))
-        (sym w.self-inside-is) (settling, was.1, was.2)
+      | in-Some-get_mut w ↦
+          let test = w.as_slice-in-Some-get_mut.result.now in
+          let popped = popped_as now.touched.items front last file test c.in-Some.ensures.items c.as_slice.ensures.value w.as_slice-in-Some-get_mut.ensures.value in
+          let after = w.take.new.self in
+          let settling = settling_found file_coming now.touched.items front file test popped first.files.entries now.files.entries (c.get_mut.follows.lender after).entries was.0
+          w.in-Some-get_mut.file.now after c.get_mut.ensures.ordered (c.get_mut.follows.holds after).0 (sym w.in-Some-get_mut.ensures.value) w.take.ensures.coming w.take.ensures.settled in
+          subst (λ (i : Inside g.row.A.Denot). IsSettling file_coming i.touched.items first.files.entries i.files.entries × (i.members ≡ first.members) × (i.held ≡ first.held))
+          (sym w.self-inside-is) (settling, was.1, was.2)
+      | in_default-get_mut w ↦
+          let popped = popped_as now.touched.items front last file last.test.items c.in-Some.ensures.items c.as_slice.ensures.value refl in
+          let same = ap (λ (m : BTreeMap (Vec ℕ g.row.A.Denot) (File g.row.A.Denot)). m.entries) c.get_mut.follows.holds-at-none in
+          let settling = settling_unfound file_coming now.touched.items front file last.test.items popped first.files.entries now.files.entries c.get_mut.follows.lender-at-none.entries was.0
+          (sym w.in_default-get_mut.ensures.value) same in
+          subst (λ (i : Inside g.row.A.Denot). IsSettling file_coming i.touched.items first.files.entries i.files.entries × (i.members ≡ first.members) × (i.held ≡ first.held))
+          (sym w.self-inside-is) (settling, was.1, was.2)
     ]
 
 -- what was to come is there
@@ -48,10 +48,9 @@ invariant_of-self g c =
     let was = c.loop-touched.invariant in
     let none : length now.touched.items ≡ 0 = sym now.touched.ok.0 ∙ c.in_default.ensures.cases.0 in
     let left : length c.pop.new.self.items ≡ 0 = sym c.pop.new.self.ok.0 ∙ c.in_default.ensures.cases.1 in
-    let p = subst (λ (store : StoreData). IsPlanOf store c.requires.0 c.args.plan) (sym c.self.view_is) c.requires.1 in
-    (
+    let p = subst (λ (store : StoreData). IsPlanOf store c.requires.0 c.args.plan) (sym c.self.view_is) c.requires.1 in (
       same_members (now.members + 1) (first.members + 1) (ap (λ (m : ℕ). m + 1) was.1) c.after-self-inside.ensures.value (now_held first.files.entries now.files.entries now.touched.items none was.0)
-      (store_more first.members first.held (files_held file_name first.files.entries) (files_coming file_name first.files.entries) first.coming c.self.invariant.0 c.requires.0 c.args.plan p),
+          (store_more first.members first.held (files_held file_name first.files.entries) (files_coming file_name first.files.entries) first.coming c.self.invariant.0 c.requires.0 c.args.plan p),
       still_settled c.pop.new.self.items now.files.entries left (none_left now.touched.items now.files.entries none was.0.settled),
     )
 

@@ -1,4 +1,4 @@
-use Rattle.std.proofs.Common.{◌≡◌, ℕ, List, rules, tests, refl, sym, ap, ◌∙◌, Vec}
+use Rattle.std.proofs.Common.{rules, tests, refl, sym, ap, ◌∙◌}
 use Rattle.std.specs.Str.{bytes_eq}
 use Rattle.std.specs.List.{list_any}
 use Rattle.std.proofs.lemmas.Iterator.Consumers.{YieldsList-from_rest}
@@ -8,7 +8,7 @@ use Rattle.covstore.specs.Content.{SectionData}
 use Rattle.covstore.specs.FileView.{file_held}
 use Rattle.covstore.specs.Maps.{StoreData}
 use Rattle.covstore.specs.MapsView.{files_held}
-use Rattle.covstore.specs.State.{FileData, has_points_of}
+use Rattle.covstore.specs.State.{has_points_of}
 use Rattle.covstore.specs.Table.{all_rows}
 use Rattle.covstore.proofs.Contents.{test_by_content}
 use Rattle.covstore.proofs.HasTest.{any_in_files, any_named}

@@ -1,6 +1,6 @@
-use Rattle.std.proofs.Common.{◌≡◌, List, sym, ap, ◌∙◌, subst}
+use Rattle.std.proofs.Common.{List, sym, ◌∙◌, subst}
 use Rattle.std.specs.List.{flat_map}
-use Rattle.covline.specs.Row.{Row, SectData, rows_of_sect}
+use Rattle.covline.specs.Row.{SectData, rows_of_sect}
 use Rattle.covstore.specs.Maps.{AddsRows, ClashesWith, HasRoomForRows}
 use Rattle.covstore.specs.RefuseView.{refuse_data}
 use Rattle.covstore.specs.Totals.{AreTotals}
