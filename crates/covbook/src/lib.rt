@@ -18,11 +18,14 @@
 
 mod book;
 mod entry;
+mod history;
 pub mod laws;
 mod op;
+mod ready;
 mod shared;
 
 pub use book::{Book, BookFault};
 pub use entry::{Entries, Entry, MOST_ENTRIES, Receipt, Receipts};
 pub use op::{Answer, Op};
+pub use ready::Ready;
 pub use shared::{SubRef, TextRef};
