@@ -6,7 +6,8 @@ use std::alloc::{Allocator, Global};
 use std::marker::Model;
 
 /// A step that its book can take without further memory. Contracts see its entry with its place, the plan where a
-/// submission is accepted, and the totals that stand when it is taken. Dropped, it leaves the book's history as it is.
+/// submission is accepted, and the totals that stand when it is taken. Dropped, it leaves the book's history and content
+/// as they are.
 #[derive(Drop)]
 pub struct Ready<A: Allocator = Global> {
     entry: Entry<A>,
