@@ -1,3 +1,4 @@
+pub mod Copied
 pub mod CountedLines
 pub mod GoodTexts
 pub mod Cut

@@ -90,3 +90,13 @@ lawful_from all sects items odd e counted fit texts small =
 
 pub unlawful_from : (all sects : List SectData) (k odd : ℕ) → all ≡ sects → IsFirstUnlawful all k → ¬ IsLawful (submission sects odd)
 unlawful_from all sects k odd e first lawful = unlawful_among all k first (All-same IsLawfulSect all sects e lawful.texts)
+
+pub too_many : (all sects : List SectData) (odd : ℕ) → all ≡ sects → most_items < items_in all → ¬ IsLawful (submission sects odd)
+too_many all sects odd e many lawful =
+    let few : items_in sects ≤ most_items = lawful.few in
+    omega (arith, ap items_in e)
+
+pub refused_from : (all sects : List SectData) (items k : ℕ) → all ≡ sects → (items ≡ items_in all) × (items ≤ most_items) → IsFirstUnlawful all k → (items_in sects ≤ most_items) × IsFirstUnlawful sects k
+refused_from all sects items k e counted first =
+    let few : items_in all ≤ most_items = omega arith in
+    subst (λ (s : List SectData). (items_in s ≤ most_items) × IsFirstUnlawful s k) e (few, first)

@@ -155,7 +155,8 @@ impl<A: Allocator> Model for Items<A> {
 }
 
 impl<A: Allocator + Copy> Items<A> {
-    ghost use Rattle.std.specs.Prelude.{◌≡◌, IfOk};
+    ghost use Rattle.std.specs.Prelude.{◌≡◌, ◌++◌, [], ◌∷◌, IfOk, OnOk};
+    ghost use Rattle.covline.specs.Row.{item_data};
 
     /// An equal list, in memory of its own.
     pub fn copy(&self, alloc: A) -> Result<Items<A>, Memory>
@@ -165,9 +166,16 @@ impl<A: Allocator + Copy> Items<A> {
             items: Vec::with_capacity(alloc, self.items.len())?,
         };
         for item in self.get() {
-            copy.push(item.copy(alloc)?)?;
+            copy.push_copy(item, alloc)?;
         }
         Ok(copy)
+    }
+
+    /// Appends an equal item, in memory of its own.
+    fn push_copy(&mut self, item: &Item<A>, alloc: A) -> Result<(), Memory>
+        ensures { OnOk result (self.new ≡ self.old ++ item_data item.now ∷ []) }
+    {
+        self.push(item.copy(alloc)?)
     }
 }
 

@@ -102,11 +102,20 @@ fn append_branch<A: Allocator>(
     ensures err { OnErr result ((more : List ℕ) × (text.new ≡ text.old ++ more)) }
 {
     text.append(b"BRDA:")?;
-    append_field(u128::from(branch.line), text)?;
-    append_field(u128::from(branch.block), text)?;
-    append_field(u128::from(branch.branch), text)?;
+    append_place(branch, text)?;
     append_taken(taken, text)?;
     text.append(b"\n")
+}
+
+/// Appends a branch's three numbers, each with a comma.
+fn append_place<A: Allocator>(branch: BranchPoint, text: &mut Bytes<A>) -> Result<(), Memory>
+    ensures ok { OnOk result
+        (text.new ≡ text.old ++ (decimal branch.line ++ comma ∷ decimal branch.block ++ comma ∷ decimal branch.branch ++ comma ∷ [])) }
+    ensures err { OnErr result ((more : List ℕ) × (text.new ≡ text.old ++ more)) }
+{
+    append_field(u128::from(branch.line), text)?;
+    append_field(u128::from(branch.block), text)?;
+    append_field(u128::from(branch.branch), text)
 }
 
 /// Appends how often a branch was taken.

@@ -278,31 +278,41 @@ fn path_record(path: &[u8]) -> Result<TraceLine<'_>, LineFault>
     Ok(TraceLine::Path(path))
 }
 
-/// A line that begins with `BR`, behind that: a key of branches, or no key.
+/// A line that begins with `B`, behind that: a key of branches, or no key.
 #[tactic(auto, unfolding(crate::specs::Reading::read_of))]
 fn branch_key(rest: &[u8]) -> Result<TraceLine<'_>, LineFault>
-    ensures { Gives result (read_of (codes "BR" ++ rest.now)) }
+    ensures { Gives result (read_of (codes "B" ++ rest.now)) }
 {
-    match rest {
-        [b'D', b'A', b':', fields @ ..] => branch_record(fields),
-        [b'F', b':', found @ ..] => total_record(TotalKind::BranchFound, found),
-        [b'H', b':', hit @ ..] => total_record(TotalKind::BranchHit, hit),
-        _ => Ok(TraceLine::Skip),
+    if let Some(fields) = behind(rest, b"RDA:") {
+        return branch_record(fields);
     }
+    if let Some(found) = behind(rest, b"RF:") {
+        return total_record(TotalKind::BranchFound, found);
+    }
+    if let Some(hit) = behind(rest, b"RH:") {
+        return total_record(TotalKind::BranchHit, hit);
+    }
+    Ok(TraceLine::Skip)
 }
 
-/// A line that begins with `FN`, behind that: a key of functions, or no key.
+/// A line that begins with `F`, behind that: a key of functions, or no key.
 #[tactic(auto, unfolding(crate::specs::Reading::read_of))]
 fn function_key(rest: &[u8]) -> Result<TraceLine<'_>, LineFault>
-    ensures { Gives result (read_of (codes "FN" ++ rest.now)) }
+    ensures { Gives result (read_of (codes "F" ++ rest.now)) }
 {
-    match rest {
-        [b'D', b'A', b':', fields @ ..] => calls_record(fields),
-        [b':', fields @ ..] => start_record(fields),
-        [b'F', b':', found @ ..] => total_record(TotalKind::FuncFound, found),
-        [b'H', b':', hit @ ..] => total_record(TotalKind::FuncHit, hit),
-        _ => Ok(TraceLine::Skip),
+    if let Some(fields) = behind(rest, b"N:") {
+        return start_record(fields);
     }
+    if let Some(fields) = behind(rest, b"NDA:") {
+        return calls_record(fields);
+    }
+    if let Some(found) = behind(rest, b"NF:") {
+        return total_record(TotalKind::FuncFound, found);
+    }
+    if let Some(hit) = behind(rest, b"NH:") {
+        return total_record(TotalKind::FuncHit, hit);
+    }
+    Ok(TraceLine::Skip)
 }
 
 /// A line that begins with `L`, behind that: a total of lines, or no key.
@@ -310,11 +320,13 @@ fn function_key(rest: &[u8]) -> Result<TraceLine<'_>, LineFault>
 fn line_total(rest: &[u8]) -> Result<TraceLine<'_>, LineFault>
     ensures { Gives result (read_of (codes "L" ++ rest.now)) }
 {
-    match rest {
-        [b'F', b':', found @ ..] => total_record(TotalKind::LineFound, found),
-        [b'H', b':', hit @ ..] => total_record(TotalKind::LineHit, hit),
-        _ => Ok(TraceLine::Skip),
+    if let Some(found) = behind(rest, b"F:") {
+        return total_record(TotalKind::LineFound, found);
     }
+    if let Some(hit) = behind(rest, b"H:") {
+        return total_record(TotalKind::LineHit, hit);
+    }
+    Ok(TraceLine::Skip)
 }
 
 /// What follows the key, where the text begins with it.
@@ -335,20 +347,64 @@ fn end_key(rest: &[u8]) -> TraceLine<'_>
     }
 }
 
-/// What the line says: its key by its first bytes, then the key's fields.
+/// A line that begins with `D`, behind that: the key of a counted line, or no key.
+#[tactic(auto, unfolding(crate::specs::Reading::read_of))]
+fn line_key(rest: &[u8]) -> Result<TraceLine<'_>, LineFault>
+    ensures { Gives result (read_of (codes "D" ++ rest.now)) }
+{
+    if let Some(fields) = behind(rest, b"A:") {
+        return line_record(fields);
+    }
+    Ok(TraceLine::Skip)
+}
+
+/// A line that begins with `S`, behind that: the key of a path, or no key.
+#[tactic(auto, unfolding(crate::specs::Reading::read_of))]
+fn path_key(rest: &[u8]) -> Result<TraceLine<'_>, LineFault>
+    ensures { Gives result (read_of (codes "S" ++ rest.now)) }
+{
+    if let Some(path) = behind(rest, b"F:") {
+        return path_record(path);
+    }
+    Ok(TraceLine::Skip)
+}
+
+/// A line that begins with `T`, behind that: the key of a test, or no key.
+#[tactic(auto, unfolding(crate::specs::Reading::read_of))]
+fn test_key(rest: &[u8]) -> TraceLine<'_>
+    ensures { read_of (codes "T" ++ rest.now) ≡ Ok (line_data result) }
+{
+    match behind(rest, b"N:") {
+        Some(name) => TraceLine::Test(name),
+        None => TraceLine::Skip,
+    }
+}
+
+/// A line by its first byte, and what stands behind that.
+#[tactic(auto, unfolding(crate::specs::Reading::read_of))]
+fn read_behind(first: u8, rest: &[u8]) -> Result<TraceLine<'_>, LineFault>
+    ensures { Gives result (read_of (first ∷ rest.now)) }
+{
+    match first {
+        b'D' => line_key(rest),
+        b'B' => branch_key(rest),
+        b'F' => function_key(rest),
+        b'L' => line_total(rest),
+        b'S' => path_key(rest),
+        b'T' => Ok(test_key(rest)),
+        b'e' => Ok(end_key(rest)),
+        _ => Ok(TraceLine::Skip),
+    }
+}
+
+/// What the line says: its key by its first byte, then the key's fields.
 #[tactic(auto, unfolding(crate::specs::Reading::read_of))]
 fn read_any(line: &[u8]) -> Result<TraceLine<'_>, LineFault>
     ensures { Gives result (read_of line.now) }
 {
     match line {
-        [b'D', b'A', b':', fields @ ..] => line_record(fields),
-        [b'B', b'R', rest @ ..] => branch_key(rest),
-        [b'F', b'N', rest @ ..] => function_key(rest),
-        [b'L', rest @ ..] => line_total(rest),
-        [b'S', b'F', b':', path @ ..] => path_record(path),
-        [b'T', b'N', b':', name @ ..] => Ok(TraceLine::Test(name)),
-        [b'e', rest @ ..] => Ok(end_key(rest)),
-        _ => Ok(TraceLine::Skip),
+        [first, rest @ ..] => read_behind(*first, rest),
+        [] => Ok(TraceLine::Skip),
     }
 }
 

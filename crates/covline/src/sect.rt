@@ -50,7 +50,8 @@ impl<A: Allocator> Model for Sects<A> {
 }
 
 impl<A: Allocator + Copy> Sects<A> {
-    ghost use Rattle.std.specs.Prelude.{◌≡◌, IfOk};
+    ghost use Rattle.std.specs.Prelude.{◌≡◌, ◌++◌, [], ◌∷◌, IfOk, OnOk};
+    ghost use Rattle.covline.specs.SectView.{sect_data};
 
     /// An equal list, in memory of its own.
     pub fn copy(&self, alloc: A) -> Result<Sects<A>, Memory>
@@ -60,9 +61,16 @@ impl<A: Allocator + Copy> Sects<A> {
             sects: Vec::with_capacity(alloc, self.sects.len())?,
         };
         for sect in self.get() {
-            copy.push(sect.copy(alloc)?)?;
+            copy.push_copy(sect, alloc)?;
         }
         Ok(copy)
+    }
+
+    /// Appends an equal section, in memory of its own.
+    fn push_copy(&mut self, sect: &Sect<A>, alloc: A) -> Result<(), Memory>
+        ensures { OnOk result (self.new ≡ self.old ++ sect_data sect.now ∷ []) }
+    {
+        self.push(sect.copy(alloc)?)
     }
 }
 

@@ -97,7 +97,7 @@ impl<A: Allocator> Submission<A> {
         requires { IsLawful (record { sects = sects; odd = odd }) }
         ensures { result ≡ record { sects = sects; odd = odd } }
     {
-        let items = sects.get().iter().map(|sect| sect.items.len() as u64).sum();
+        let items = count_items(sects.get()).unwrap_or(0);
         Submission { sects, items, odd }
     }
 

@@ -1,6 +1,7 @@
-use Rattle.std.proofs.Common.{◌≡◌, ◌≤◌, map, length, ap, arith}
-use Rattle.std.proofs.lemmas.List.{length-map}
-use Rattle.covline.specs.Row.{item_data}
+use Rattle.std.proofs.Common.{◌≡◌, ◌≤◌, ◌∙◌, map, length, ap, arith}
+use Rattle.std.proofs.lemmas.Bool.{false≢true}
+use Rattle.std.proofs.lemmas.List.{length-map, take_all}
+use Rattle.covline.specs.Row.{item_data, items_in}
 use Rattle.covline.specs.SectView.{sect_data}
 use Rattle.covline.specs.Lawful.{AllFit64}
 use Rattle.covline.proofs.SectLaws.{IsAt, items_more, items_within, All-one_more, All-taken}
@@ -27,3 +28,12 @@ returns-clause-fit g c some =
     let all = map sect_data c.args.sects.now in
     let long : length all ≤ c.loop-sect.sect-index = omega (arith, length-map c.args.sects.now sect_data) in
     All-taken (λ s. AllFit64 s.items) all c.loop-sect.sect-index long c.loop-sect.invariant.fit
+
+pub returns-then-more-items-clause-fit : goal.returns-then-more-items-clause-fit
+returns-then-more-items-clause-fit g c some = absurd (false≢true some)
+
+pub returns-clause-count : goal.returns-clause-count
+returns-clause-count g c =
+    let all = map sect_data c.args.sects.now in
+    let long : length all ≤ c.loop-sect.sect-index = omega (arith, length-map c.args.sects.now sect_data) in
+    (c.loop-sect.invariant.counted ∙ ap items_in (take_all c.loop-sect.sect-index all long), c.loop-sect.invariant.few)

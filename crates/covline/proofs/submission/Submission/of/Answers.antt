@@ -1,8 +1,16 @@
 use Rattle.std.proofs.Common.{map, refl}
 use Rattle.std.proofs.lemmas.Bool.{false≢true}
 use Rattle.covline.specs.SectView.{sect_data}
-use Rattle.covline.proofs.SectLaws.{lawful_from, unlawful_from}
+use Rattle.covline.proofs.SectLaws.{lawful_from, refused_from, too_many, unlawful_from}
 use Rattle.covline.proofs.submission.Submission.of.Goals as goal
+
+pub returns-in_default-clause-lawful : goal.returns-in_default-clause-lawful
+returns-in_default-clause-lawful g c =
+    (λ e. absurd (false≢true e), λ lawful. absurd (too_many (map sect_data c.get-all.result.now) c.args.sects c.args.odd c.get-all.ensures c.in_default.ensures.count lawful))
+
+pub returns-in-Some-first_unlawful-clause-refused : goal.returns-in-Some-first_unlawful-clause-refused
+returns-in-Some-first_unlawful-clause-refused g c =
+    (refl, refused_from (map sect_data c.get-all.result.now) c.args.sects c.in-Some.items c.in-Some-first_unlawful.sect c.get-all.ensures c.in-Some.ensures.count c.in-Some-first_unlawful.ensures)
 
 pub returns-in-Some-first_unlawful-clause-lawful : goal.returns-in-Some-first_unlawful-clause-lawful
 returns-in-Some-first_unlawful-clause-lawful g c =
