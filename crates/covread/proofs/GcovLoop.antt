@@ -1,5 +1,6 @@
 -- The loop over the lines of a text, and what the reader's lists hold.
-use Rattle.std.proofs.Common.{◌≡◌, ℕ, ◌+◌, ◌<◌, ◌≤◌, ◌⊎◌, inl, inr, true, false, eqb, get_or, take, List, [], ◌∷◌, ◌++◌, length, map, Option, None, Result, Ok, Err, refl, sym, ap, subst, ◌∙◌, append_assoc, arith}
+use Rattle.std.proofs.Common.{◌≡◌, ◌≢◌, ℕ, ◌+◌, ◌<◌, ◌≤◌, ◌⊎◌, inl, inr, true, false, eqb, get_or, take, List, [], ◌∷◌, ◌++◌, length, map, Option, None, Result, Ok, Err, refl, sym, ap, subst, ◌∙◌, append_assoc, arith}
+use Rattle.std.proofs.lemmas.Bool.{ne_eqb}
 use Rattle.std.specs.Prelude.{is_ok, is_some}
 use Rattle.std.proofs.lemmas.List.{length-append, take_more, map_push}
 use Rattle.covline.specs.Lines.{lines_of}
@@ -9,11 +10,11 @@ use Rattle.covline.proofs.LineLaws.{few_lines}
 use Rattle.covread.specs.declared.fault.ReadFault.{ReadFault}
 use Rattle.covread.specs.declared.fault.ReadFault.TheVariants as faults
 use Rattle.covread.specs.declared.gcov.reader.Function.{Function}
-use Rattle.covread.specs.GcovItems.{func_item, place_fault}
+use Rattle.covread.specs.GcovItems.{func_item, place_fault, is_empty}
 use Rattle.covread.specs.Gcov.{GcovLine, Says, LineSays}
 use Rattle.covread.specs.Outcome.{most_bytes}
 use Rattle.covread.specs.GcovOutcome.{HasBegun, IsOutcome, Answers}
-use Rattle.covread.specs.GcovSteps.{line_grows, SectionData, HeldData, func_data, empty, Stepped, line_step, run_on, run, submission_held, ends, EndsTo}
+use Rattle.covread.specs.GcovSteps.{line_grows, step_path, begun, SectionData, HeldData, func_data, empty, Stepped, line_step, run_on, run, submission_held, ends, EndsTo}
 use Rattle.covread.proofs.GcovRuns.{stands_at_first, goes, Stands}
 use Rattle.covread.proofs.GcovText.{read, some_says, Above, above_more, line_more, whole_run, then_ends, whole_outcome}
 use Rattle.covread.proofs.GcovBegun.{err_isnt_ok, line_begun, ok_same}
@@ -144,3 +145,22 @@ pub lost_end : (test : List ℕ) (funcs : List Function) (section : Option Secti
     → Err faults.LostFunction ≡ ends test (record { waiting = map func_data funcs; section = section; sects = sects })
 lost_end test [] section sects e = absurd cc
 lost_end test (f ∷ fs) section sects e = refl
+
+-- a path that isn't taken, and one that is
+pub no_path : (test : List ℕ) (at : ℕ) (held : HeldData) (path : List ℕ) → true ≡ eqb (length path) 0 → step_path test at held path ≡ Err (faults.NoSource at)
+no_path test at held [] e = refl
+no_path test at held (b ∷ bs) e = let ne : length (b ∷ bs) ≢ 0 = omega arith in let d = ne_eqb (length (b ∷ bs)) 0 ne in absurd cc
+
+pub lost_path : (test : List ℕ) (at : ℕ) (held : HeldData) (path : List ℕ) → false ≡ eqb (length path) 0 → false ≡ is_empty held.waiting
+    → step_path test at held path ≡ Err faults.LostFunction
+lost_path test at held [] e lost = absurd cc
+lost_path test at held (b ∷ bs) e lost = rw (← lost) refl
+
+pub taken_path : (test : List ℕ) (at : ℕ) (held : HeldData) (path : List ℕ) → false ≡ eqb (length path) 0 → true ≡ is_empty held.waiting
+    → step_path test at held path ≡ Ok (begun test path held)
+taken_path test at held [] e none = absurd cc
+taken_path test at held (b ∷ bs) e none = rw (← none) refl
+
+pub none_wait : (funcs : List Function) → eqb (length funcs) 0 ≡ is_empty (map func_data funcs)
+none_wait [] = refl
+none_wait (f ∷ fs) = let ne : length (f ∷ fs) ≢ 0 = omega arith in ne_eqb (length (f ∷ fs)) 0 ne

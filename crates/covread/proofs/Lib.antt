@@ -3,6 +3,7 @@ pub mod TraceGrammar
 pub mod TraceStands
 pub mod TraceOutcome
 pub mod TraceLaw
+pub mod TraceBetween
 pub mod TraceKept
 pub mod TraceEnd
 pub mod TraceRun

@@ -148,11 +148,15 @@ branch_says branch word =
 abbrev pub star : ℕ
 star = 42
 
+-- a source line without code
+abbrev pub bare_says : List ℕ → Says
+bare_says line = with_number line (λ l. Ok (SourceLine l None))
+
 -- the mark of a source line: `-` without code; `#####` and `=====` not executed; a count, with a `*` where the line has
 -- a block that wasn't executed
 abbrev pub source_says : List ℕ → List ℕ → Says
 source_says mark line =
-    if bytes_eq mark (codes "-") then with_number line (λ l. Ok (SourceLine l None))
+    if bytes_eq mark (codes "-") then bare_says line
     else (if bytes_eq mark (codes "#####") || bytes_eq mark (codes "=====") then with_number line (λ l. Ok (SourceLine l (Some 0)))
     else (if are_digits (without_last star mark) then with_number line (λ l. with_number (without_last star mark) (λ n. Ok (SourceLine l (Some n))))
     else Err own.BadMark))

@@ -1,7 +1,7 @@
 //! What one line says.
 
 ghost use Rattle.std.specs.Prelude.{◌≡◌};
-ghost use Rattle.covread.specs.Gcov.{Numbered, fit, branch_says, source_says, says_of};
+ghost use Rattle.covread.specs.Gcov.{Numbered, bare_says, fit, branch_says, source_says, says_of};
 ghost use Rattle.covread.specs.GcovReading.{shape_of};
 ghost use Rattle.covread.specs.GcovView.{Gives, shape_data};
 
@@ -105,13 +105,20 @@ fn read_numbered<'a>(mark: &[u8], line: &[u8], text: &'a [u8]) -> Result<GcovLin
     }
 }
 
+/// A line of the source file that has no code.
+fn read_bare<'a>(line: &[u8]) -> Result<GcovLine<'a>, OwnFault>
+    ensures { Gives result (bare_says line.now) }
+{
+    let line = fit(line)?;
+    Ok(GcovLine::Source { line, count: None })
+}
+
 /// A line of the source file. A mark of no known form is told before a number that is too large.
 fn read_source<'a>(mark: &[u8], line: &[u8]) -> Result<GcovLine<'a>, OwnFault>
     ensures { Gives result (source_says mark.now line.now) }
 {
     if mark == b"-".as_slice() {
-        let line = fit(line)?;
-        return Ok(GcovLine::Source { line, count: None });
+        return read_bare(line);
     }
     if mark == b"#####".as_slice() || mark == b"=====".as_slice() {
         let line = fit(line)?;

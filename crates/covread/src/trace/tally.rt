@@ -128,6 +128,13 @@ impl Own {
             TotalKind::LineHit => self.lines.hit,
         }
     }
+
+    /// Whether the stated total differs from the section's own.
+    fn differs(&self, stated: Stated) -> bool
+        ensures { result ≡ differs self.now (stated_record stated) }
+    {
+        stated.value != self.total(stated.kind)
+    }
 }
 
 /// How many of the totals differ from these.
@@ -136,7 +143,7 @@ fn count_odd(totals: &[Stated], own: &Own) -> u64
 {
     let mut odd: u64 = 0;
     for stated in totals {
-        if stated.value != own.total(stated.kind) {
+        if own.differs(*stated) {
             odd += 1;
         }
     }

@@ -1,3 +1,5 @@
+use Rattle.std.proofs.Common.{refl, inl, inr, sym, ◌∙◌, Err}
+use Rattle.covread.specs.declared.fault.ReadFault.TheVariants as faults
 use Rattle.std.proofs.lemmas.Result.{err_from_is_err_and}
 use Rattle.covread.specs.GcovSteps.{held_data}
 use Rattle.covread.proofs.GcovText.{answer_is}
@@ -37,3 +39,25 @@ returns-in_err-read_lines-clause-memory g c =
 pub returns-clause-memory : goal.returns-clause-memory
 returns-clause-memory g c =
     late_own c.args.test.now c.in_ok-read_lines.field-0.test.now c.args.text.now (held_data c.in_ok-read_lines.field-0) c.finish.result c.in_ok-read_lines.ensures.1 c.in_ok-read_lines.ensures.0 c.finish.ensures
+
+pub returns-then-text-gt-MOST_BYTES-clause-answers : goal.returns-then-text-gt-MOST_BYTES-clause-answers
+returns-then-text-gt-MOST_BYTES-clause-answers g c = inr (inl (c.if-text-gt-MOST_BYTES.true, refl))
+
+pub returns-then-text-gt-MOST_BYTES-clause-only : goal.returns-then-text-gt-MOST_BYTES-clause-only
+returns-then-text-gt-MOST_BYTES-clause-only g c = λ outcome k. answer_is c.args.test.now c.args.text.now (Err faults.TooLong) outcome (inr (inl (c.if-text-gt-MOST_BYTES.true, refl))) k
+
+pub returns-then-text-gt-MOST_BYTES-clause-memory : goal.returns-then-text-gt-MOST_BYTES-clause-memory
+returns-then-text-gt-MOST_BYTES-clause-memory g c = λ e. absurd cc
+
+pub returns-then-not-good_test-clause-answers : goal.returns-then-not-good_test-clause-answers
+returns-then-not-good_test-clause-answers g c = inr (inr (inl (c.if-text-gt-MOST_BYTES.false, (λ good. let e = sym (c.good_test.ensures.1 good) ∙ c.if-not-good_test.true in absurd cc), refl)))
+
+pub returns-then-not-good_test-clause-only : goal.returns-then-not-good_test-clause-only
+returns-then-not-good_test-clause-only g c = λ outcome k.
+    answer_is c.args.test.now c.args.text.now (Err faults.BadTest) outcome (inr (inr (inl (c.if-text-gt-MOST_BYTES.false, (λ good. let e = sym (c.good_test.ensures.1 good) ∙ c.if-not-good_test.true in absurd cc), refl)))) k
+
+pub returns-then-not-good_test-clause-memory : goal.returns-then-not-good_test-clause-memory
+returns-then-not-good_test-clause-memory g c = λ e. absurd cc
+
+pub read_lines-requires : goal.read_lines-requires
+read_lines-requires g c = c.if-text-gt-MOST_BYTES.false
