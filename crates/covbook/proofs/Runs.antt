@@ -1,13 +1,13 @@
 -- A run with one operation more, and a history with one entry more.
-use Rattle.std.proofs.Common.{◌≡◌, ℕ, ◌+◌, ◌<◌, ◌≤◌, List, [], ◌∷◌, ◌++◌, length, None, refl, sym, ap, ◌∙◌, subst, arith}
+use Rattle.std.proofs.Common.{◌≡◌, ℕ, ◌+◌, ◌<◌, ◌≤◌, List, [], ◌∷◌, ◌++◌, length, Some, None, refl, sym, ap, ◌∙◌, subst, arith}
 use Rattle.std.proofs.lemmas.List.{map_push, length_push}
-use Rattle.covline.specs.Row.{SubmissionData, rows_of, items_in}
-use Rattle.covstore.specs.Content.{content_at}
-use Rattle.covstore.specs.Stored.{StoreData, StandsFor, SameContent}
+use Rattle.covline.specs.Row.{SubmissionData, rows_of}
+use Rattle.covstore.specs.Stored.{StoreData, PlanData, IsPlanOf, StandsFor}
 use Rattle.covstore.specs.Table.{Table, clash_at}
 use Rattle.covbook.specs.Held.{BookData, IsBook}
-use Rattle.covbook.specs.Op.{OpData, SubmitOp, AnswerData, AcceptedAnswer, EntryData}
-use Rattle.covbook.specs.Step.{answer_to_submit, table_after_submit, answer_of, table_after, answers_from, table_from, answers_to, table_of, ops_in, next_entry, IsLegal, most_entries}
+use Rattle.covbook.specs.Op.{OpData, SubmitOp, AnswerData, EntryData}
+use Rattle.covbook.specs.Ready.{HasRoom, IsNextOf, IsPlanned}
+use Rattle.covbook.specs.Step.{table_after_submit, answer_of, table_after, answers_from, table_from, answers_to, table_of, ops_in, next_entry, IsLegal, most_entries}
 
 pub answers_from-push : (table : Table) (ops : List OpData) (op : OpData) → answers_from table (ops ++ op ∷ []) ≡ answers_from table ops ++ answer_of (table_from table ops) op ∷ []
 answers_from-push table [] op = refl
@@ -26,34 +26,14 @@ legal-next entries job op legal =
     ∙ sym (answers_from-push [] (ops_in entries) op)
     ∙ ap answers_to (sym (map_push (λ (x : EntryData). x.op) entries e))
 
-pub legal_after : (old new : List EntryData) (job : ℕ) (op : OpData) → IsLegal old → new ≡ old ++ next_entry old job op ∷ [] → IsLegal new
-legal_after old new job op legal is = subst IsLegal (sym is) (legal-next old job op legal)
-
 table-next : (entries : List EntryData) (job : ℕ) (op : OpData) → table_of (ops_in (entries ++ next_entry entries job op ∷ [])) ≡ table_after (table_of (ops_in entries)) op
 table-next entries job op = ap table_of (map_push (λ (x : EntryData). x.op) entries (next_entry entries job op)) ∙ table_from-push [] (ops_in entries) op
 
--- ---- stores
-
--- a table that a store stands for is that of each store of the same content
-stands_still : (before after : StoreData) (table : Table) → SameContent before after → StandsFor before table → StandsFor after table
-stands_still before after table same stands =
-    let content : after.sections ≡ content_at table = same.sections ∙ stands.content in
-    let members : after.members ≡ length table = same.members ∙ stands.members in
-    assumption (content, members, stands)
-
--- a book whose store's content and history are the same
-pub book_still : (before after : StoreData) (accepted : ℕ) (entries new : List EntryData) → IsBook before accepted entries → SameContent before after → new ≡ entries → IsBook after accepted new
-book_still before after accepted entries new b same is =
-    let made : IsBook after accepted entries = record {
-      legal = b.legal;
-      stands = stands_still before after (table_of (ops_in entries)) same b.stands;
-      number = b.number;
-      few = b.few;
-      fewer = b.fewer;
-    } in
-    subst (IsBook after accepted) (sym is) made
-
 -- ---- a book with the next entry
+
+-- what a book shows
+abbrev pub shown : StoreData → ℕ → List EntryData → BookData
+shown store room entries = record { entries = entries; room = room; store = store }
 
 -- the store stands for the table that the operation leaves, and so many submissions are accepted then
 next_book : (store : StoreData) (accepted : ℕ) (entries : List EntryData) (job : ℕ) (op : OpData) → IsLegal entries → length entries < most_entries
@@ -79,39 +59,36 @@ book_noted store accepted entries new e b room is next still =
     subst (IsBook store accepted) (ap (λ (x : EntryData). entries ++ x ∷ []) (sym next) ∙ sym is) made
 
 -- the same, of what is known of the book that shows the entries
-pub noted_book : (store : StoreData) (accepted : ℕ) (entries : List EntryData) (book : BookData) (new : List EntryData) (e : EntryData) → IsBook store accepted entries → record { entries = entries } ≡ book
-    → length book.entries < most_entries → new ≡ entries ++ e ∷ [] → e ≡ next_entry book.entries e.job e.op → table_after (table_of (ops_in book.entries)) e.op ≡ table_of (ops_in book.entries) → IsBook store accepted new
-noted_book store accepted entries book new e b view room is next still =
-    let same : entries ≡ book.entries = ap (λ (x : BookData). x.entries) view in
-    book_noted store accepted book.entries new e (subst (IsBook store accepted) same b) room (is ∙ ap (λ (xs : List EntryData). xs ++ e ∷ []) same) next still
+pub noted_book : (store : StoreData) (accepted room : ℕ) (entries : List EntryData) (book : BookData) (new : List EntryData) (e : EntryData) → IsBook store accepted entries
+    → shown store room entries ≡ book → HasRoom book → IsNextOf book e → table_after (table_of (ops_in book.entries)) e.op ≡ table_of (ops_in book.entries) → new ≡ entries ++ e ∷ [] → IsBook store accepted new
+noted_book store accepted room entries book new e b view has next still is =
+    let back = sym view in
+    let few = (subst HasRoom back has).few in
+    let next_here = subst (λ (x : BookData). IsNextOf x e) back next in
+    let still_here = subst (λ (x : BookData). table_after (table_of (ops_in x.entries)) e.op ≡ table_of (ops_in x.entries)) back still in
+    book_noted store accepted entries new e b few is next_here still_here
 
 -- ---- a submission
 
--- the entry of one that doesn't clash
-pub accepted-next : (store : StoreData) (accepted : ℕ) (entries : List EntryData) (job : ℕ) (s own given : SubmissionData) (items odd : ℕ) → IsBook store accepted entries
-    → ((table : Table) → StandsFor store table → clash_at table given ≡ None) → given ≡ s → own ≡ s → items ≡ items_in given.sects → odd ≡ given.odd
-    → record { job = job; op = SubmitOp own; answer = AcceptedAnswer (accepted + 1) items odd } ≡ next_entry entries job (SubmitOp s)
-accepted-next store accepted entries job s own given items odd b agrees is_given is_own count lines =
-    let table = table_of (ops_in entries) in
-    let made : SubmissionData → AnswerData → EntryData = λ submission answer. record { job = job; op = SubmitOp submission; answer = answer } in
-    let told : AcceptedAnswer (accepted + 1) items odd ≡ answer_of table (SubmitOp given) =
-    ap (λ (n : ℕ). AcceptedAnswer (accepted + 1) n odd) count
-    ∙ ap (λ (n : ℕ). AcceptedAnswer (accepted + 1) (items_in given.sects) n) lines
-    ∙ ap (λ (n : ℕ). AcceptedAnswer (n + 1) (items_in given.sects) given.odd) b.number
-    ∙ ap (answer_to_submit table given) (sym (agrees table b.stands)) in
-    ap (made own) told ∙ ap (λ (x : SubmissionData). made x (answer_of table (SubmitOp given))) (is_own ∙ sym is_given) ∙ ap (λ (x : SubmissionData). next_entry entries job (SubmitOp x)) is_given
+-- the table that it leaves
+pub table_with : (store : StoreData) (table : Table) (own given : SubmissionData) → StandsFor store table → ((t : Table) → StandsFor store t → clash_at t given ≡ None) → given ≡ own → table_after table (SubmitOp own) ≡ table ++ rows_of given ∷ []
+table_with store table own given stands agrees is =
+    ap (λ (x : SubmissionData). table_after table (SubmitOp x)) (sym is) ∙ ap (table_after_submit table given) (agrees table stands)
 
 -- the book that holds it too
-pub submitted_book : (store prepared committed : StoreData) (accepted : ℕ) (entries new : List EntryData) (book : BookData) (job : ℕ) (s given : SubmissionData) (e : EntryData) → IsBook store accepted entries
-    → record { entries = entries } ≡ book → length book.entries < most_entries → ((table : Table) → StandsFor store table → clash_at table given ≡ None) → SameContent store prepared
-    → ((table : Table) → StandsFor prepared table → StandsFor committed (table ++ rows_of given ∷ [])) → given ≡ s → new ≡ entries ++ e ∷ [] → e ≡ next_entry entries job (SubmitOp s) → IsBook committed (accepted + 1) new
-submitted_book store prepared committed accepted entries new book job s given e b view room agrees same holds is_given is next =
+pub held_book : (store committed : StoreData) (accepted room : ℕ) (entries : List EntryData) (book : BookData) (new : List EntryData) (e : EntryData) (plan : PlanData) → IsBook store accepted entries
+    → shown store room entries ≡ book → HasRoom book → IsNextOf book e → IsPlanned book.store (table_of (ops_in book.entries)) e.op (Some plan)
+    → ((s : SubmissionData) (table : Table) → IsPlanOf store s plan → StandsFor store table → StandsFor committed (table ++ rows_of s ∷ [])) → new ≡ entries ++ e ∷ [] → IsBook committed (accepted + 1) new
+held_book store committed accepted room entries book new e plan b view has next planned commit is =
+    let back = sym view in
+    let few = (subst HasRoom back has).few in
+    let next_here = subst (λ (x : BookData). IsNextOf x e) back next in
+    let planned_here = subst (λ (x : BookData). IsPlanned x.store (table_of (ops_in x.entries)) e.op (Some plan)) back planned in
     let table = table_of (ops_in entries) in
-    let table_is : table ++ rows_of given ∷ [] ≡ table_after table (SubmitOp s) =
-    ap (table_after_submit table given) (sym (agrees table b.stands)) ∙ ap (λ (x : SubmissionData). table_after table (SubmitOp x)) is_given in
-    let number : accepted + 1 ≡ length (table_after table (SubmitOp s)) = ap (λ (n : ℕ). n + 1) b.number ∙ sym (length_push table (rows_of given)) ∙ ap length table_is in
-    let stands : StandsFor committed (table_after table (SubmitOp s)) = subst (StandsFor committed) table_is (holds table (stands_still store prepared table same b.stands)) in
-    let room_here : length entries < most_entries = subst (λ (x : BookData). length x.entries < most_entries) (sym view) room in
+    let s = planned_here.0 in
+    let leaves : table ++ rows_of s ∷ [] ≡ table_after table e.op = sym planned_here.2 in
+    let stands : StandsFor committed (table_after table e.op) = subst (StandsFor committed) leaves (commit s table planned_here.1 b.stands) in
+    let number : accepted + 1 ≡ length (table_after table e.op) = ap (λ (n : ℕ). n + 1) b.number ∙ sym (length_push table (rows_of s)) ∙ ap length leaves in
     let fewer : accepted + 1 ≤ length entries + 1 = omega (arith, b.fewer) in
-    let made = next_book committed (accepted + 1) entries job (SubmitOp s) b.legal room_here stands number fewer in
-    subst (IsBook committed (accepted + 1)) (ap (λ (x : EntryData). entries ++ x ∷ []) (sym next) ∙ sym is) made
+    let made = next_book committed (accepted + 1) entries e.job e.op b.legal few stands number fewer in
+    subst (IsBook committed (accepted + 1)) (ap (λ (x : EntryData). entries ++ x ∷ []) (sym next_here) ∙ sym is) made

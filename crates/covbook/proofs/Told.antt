@@ -19,8 +19,8 @@ pub summary_is : (totals : Totals) (store : StoreData) (table : Table) → total
 summary_is totals store table is stands = ap (λ (t : Totals). TextAnswer (summary_of t)) (is ∙ ap totals_of stands.content)
 
 -- a text is the answer to an operation at a book, where it is that to an equal operation at the book's entries
-pub told : {E : Type 0} (result : Result (List ℕ) E) (text : List ℕ) (entries : List EntryData) (book : BookData) (own op : OpData) → record { entries = entries } ≡ book → op ≡ own
+pub told : {E : Type 0} (result : Result (List ℕ) E) (text : List ℕ) (entries : List EntryData) (book : BookData) (own op : OpData) → entries ≡ book.entries → op ≡ own
     → TextAnswer text ≡ answer_of (table_of (ops_in entries)) own → IfOk result (λ t. t ≡ text) → IfOk result (λ t. TextAnswer t ≡ answer_of (table_of (ops_in book.entries)) op)
 told (Ok t) text entries book own op view equal is said =
-    ap TextAnswer said ∙ is ∙ ap (λ (b : BookData). answer_of (table_of (ops_in b.entries)) own) view ∙ ap (answer_of (table_of (ops_in book.entries))) (sym equal)
+    ap TextAnswer said ∙ is ∙ ap (λ (es : List EntryData). answer_of (table_of (ops_in es)) own) view ∙ ap (answer_of (table_of (ops_in book.entries))) (sym equal)
 told (Err refused) text entries book own op view equal is said = tt

@@ -1,12 +1,25 @@
 -- What a book is to its callers, and its history with the store of what it holds.
 use Rattle.std.specs.Prelude.{◌≡◌, ℕ, ◌≤◌, List, length}
-use Rattle.covstore.specs.Stored.{StoreData, StandsFor}
+use Rattle.covstore.specs.Stored.{StoreData, StandsFor, SameContent}
 use Rattle.covbook.specs.Op.{EntryData}
 use Rattle.covbook.specs.Step.{IsLegal, table_of, ops_in, most_entries}
 
--- the history; contracts see no more of a book
+-- entries, and for how many of them there is room without a growth
+pub record HistoryData : Type 0 where
+  pub entries : List EntryData
+  pub room : ℕ
+
+-- the history. Beside it stands what a step that was made ready rests on: for how many entries there is room, and what the
+-- store shows
 pub record BookData : Type 0 where
   pub entries : List EntryData
+  pub room : ℕ
+  pub store : StoreData
+
+-- the same history, and the same content of the store; room and what else the store shows may differ
+pub record SameBook (before after : BookData) : Type 0 where
+  pub entries : after.entries ≡ before.entries
+  pub content : SameContent before.store after.store
 
 -- the history is legal, the store stands for the last table of its run, and so many submissions were accepted
 pub record IsBook (store : StoreData) (accepted : ℕ) (entries : List EntryData) : Type 0 where

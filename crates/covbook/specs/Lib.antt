@@ -3,6 +3,7 @@ pub mod Step
 pub mod View
 pub mod EntryView
 pub mod Held
+pub mod Ready
 pub mod Fault
 pub mod Texts
 pub mod Refusal

@@ -1,11 +1,13 @@
 //! The book: what a table of counts was asked, in order, and what it answered.
 
-use crate::entry::{Entries, Entry, Receipt};
+use crate::entry::{Entry, Receipt};
+use crate::history::History;
 use crate::op::{Answer, Op};
+use crate::ready::Ready;
 use crate::shared::{SubRef, TextRef};
 use covline::{Bytes, Memory};
 use covreport::{Choice, summary_text, trace_text};
-use covstore::{Refuse, Store};
+use covstore::{Plan, Refuse, Store};
 use std::alloc::{Allocator, Global};
 use std::marker::Model;
 use thiserror::Error;
@@ -45,12 +47,12 @@ impl From<Memory> for BookFault {
 }
 
 /// A table of counts with its history. Contracts see the history, which is legal at every moment; the table is
-/// the last one of its run.
+/// the last one of its run. Beside it they see what `finish` rests on: room, and what the store shows.
 #[derive(Drop)]
 pub struct Book<A: Allocator = Global> {
     store: Store<A>,
     accepted: u64,
-    entries: Entries<A>,
+    history: History<A>,
 }
 
 impl<A: Allocator> Model for Book<A> {
@@ -58,18 +60,21 @@ impl<A: Allocator> Model for Book<A> {
 
     ghost Value = { BookData };
 
-    ghost view = { λ a. record { entries = a.entries } };
+    ghost view = { λ a. record { entries = a.history.entries; room = a.history.room; store = a.store } };
 
-    ghost invariant = { λ a. IsBook a.store a.accepted a.entries };
+    ghost invariant = { λ a. IsBook a.store a.accepted a.history.entries };
 }
 
 impl<A: Allocator + Copy> Book<A> {
-    ghost use Rattle.std.specs.Prelude.{◌≡◌, ◌↔◌, ◌<◌, ◌++◌, [], ◌∷◌, length, IfOk, OnOk, OnErr, Err, map};
+    ghost use Rattle.std.specs.Prelude.{◌≡◌, ◌↔◌, ◌<◌, ◌++◌, [], ◌∷◌, length, Some, IfOk, OnOk, OnErr, Err, map};
+    ghost use Rattle.covstore.specs.Stored.{SameContent};
     ghost use Rattle.covbook.specs.Op.{SubmitOp, TextAnswer};
     ghost use Rattle.covbook.specs.Step.{IsLegal, answer_of, next_entry, receipt_of, table_after, table_of, ops_in, most_entries};
     ghost use Rattle.covbook.specs.Texts.{IsText};
     ghost use Rattle.covbook.specs.View.{op_data, answer_data};
     ghost use Rattle.covbook.specs.EntryView.{entry_data, receipt_data};
+    ghost use Rattle.covbook.specs.Held.{SameBook};
+    ghost use Rattle.covbook.specs.Ready.{HasRoom, IsNextOf, IsPlanned, IsAfter, IsReadyOf, IsReadyFor};
 
     /// A book without entries. Takes no memory.
     pub fn new(alloc: A) -> Book<A>
@@ -78,7 +83,7 @@ impl<A: Allocator + Copy> Book<A> {
         Book {
             store: Store::new(alloc),
             accepted: 0,
-            entries: Entries::new(alloc),
+            history: History::new(alloc),
         }
     }
 
@@ -87,45 +92,90 @@ impl<A: Allocator + Copy> Book<A> {
         ensures entries { map entry_data result.now ≡ self.now.entries }
         ensures legal { IsLegal self.now.entries }
     {
-        self.entries.get()
+        self.history.get()
     }
 
-    /// One step of the table: the operation is answered, and its entry appended. A refusal leaves the book as it
-    /// was.
+    /// One step of the table: the operation is answered, and its entry appended. A refusal leaves history and content
+    /// as they were. This is `ready` and then `finish`.
     pub fn step(&mut self, alloc: A, job: u32, op: &Op<A>) -> Result<Receipt<A>, BookFault>
         ensures answer { IfOk result (λ r. answer_data r.answer ≡ answer_of (table_of (ops_in self.old.entries)) (op_data op.now)) }
         ensures place { IfOk result (λ r. r.place ≡ length self.old.entries) }
         ensures asked { IfOk result (λ r. op_data r.op ≡ op_data op.now) }
         ensures entry { OnOk result (self.new.entries ≡ self.old.entries ++ next_entry self.old.entries job (op_data op.now) ∷ []) }
         ensures legal { IsLegal self.new.entries }
-        ensures refused { OnErr result (self.new ≡ self.old) }
+        ensures refused { OnErr result (SameBook self.old self.new) }
         ensures full { (result ≡ Err BookFault.Full) ↔ (length self.old.entries ≡ most_entries) }
     {
-        if self.entries.is_full() {
+        let ready = self.ready(alloc, job, op)?;
+        Ok(self.finish(ready))
+    }
+
+    /// The first half of a step: all that can be refused. The operation is answered and its entry made, with room for it
+    /// and, for a submission, a plan of the store; the history and the table stay as they are, whatever is answered.
+    /// `finish` does the rest, where the book is as it is left here; a step that is dropped is none.
+    pub fn ready(&mut self, alloc: A, job: u32, op: &Op<A>) -> Result<Ready<A>, BookFault>
+        ensures same { SameBook self.old self.new }
+        ensures ready { IfOk result (λ r. IsReadyFor self.new job (op_data op.now) r) }
+        ensures after { IfOk result (λ r. IsAfter self.old (op_data op.now) r.after) }
+        ensures legal { IsLegal self.new.entries }
+        ensures full { (result ≡ Err BookFault.Full) ↔ (length self.old.entries ≡ most_entries) }
+    {
+        if self.history.is_full() {
             return Err(BookFault::Full);
         }
-        Ok(self.answered(alloc, job, op)?)
+        Ok(self.made_ready(alloc, job, op)?)
     }
 
-    /// A step where there is room for it.
-    fn answered(&mut self, alloc: A, job: u32, op: &Op<A>) -> Result<Receipt<A>, Memory>
-        requires { length self.old.entries < most_entries }
-        ensures receipt { IfOk result (λ r. receipt_data r ≡ receipt_of (length self.old.entries) (next_entry self.old.entries job (op_data op.now))) }
-        ensures entry { OnOk result (self.new.entries ≡ self.old.entries ++ next_entry self.old.entries job (op_data op.now) ∷ []) }
-        ensures refused { OnErr result (self.new ≡ self.old) }
+    /// The second half of a step: its entry is appended, and what is planned is held. Takes no memory.
+    pub fn finish(&mut self, ready: Ready<A>) -> Receipt<A>
+        requires { IsReadyOf self.old ready }
+        ensures receipt { receipt_data result ≡ receipt_of (length self.old.entries) (next_entry self.old.entries ready.entry.job ready.entry.op) }
+        ensures entry { self.new.entries ≡ self.old.entries ++ next_entry self.old.entries ready.entry.job ready.entry.op ∷ [] }
+        ensures legal { IsLegal self.new.entries }
     {
+        let (entry, receipt, plan) = ready.into_parts();
+        match plan {
+            Some(plan) => self.hold(plan, entry),
+            None => self.note(entry),
+        }
+        receipt
+    }
+
+    /// A step made ready where the history isn't full: first room for its entry, then the rest.
+    fn made_ready(&mut self, alloc: A, job: u32, op: &Op<A>) -> Result<Ready<A>, Memory>
+        requires { length self.old.entries < most_entries }
+        ensures same { SameBook self.old self.new }
+        ensures ready { IfOk result (λ r. IsReadyFor self.new job (op_data op.now) r) }
+    {
+        self.make_room()?;
         match op {
-            Op::Submit(submission) => self.submit(alloc, job, submission),
-            Op::Report | Op::Extract(_) | Op::Remove(_) | Op::Summary => self.tell(alloc, job, op),
+            Op::Submit(submission) => self.submission_ready(alloc, job, submission),
+            Op::Report | Op::Extract(_) | Op::Remove(_) | Op::Summary => {
+                self.text_ready(alloc, job, op)
+            }
         }
     }
 
-    /// The submission is held too, unless it clashes. All growths come before the first change.
-    fn submit(&mut self, alloc: A, job: u32, submission: &SubRef<A>) -> Result<Receipt<A>, Memory>
+    /// Makes room for one more entry.
+    fn make_room(&mut self) -> Result<(), Memory>
         requires { length self.old.entries < most_entries }
-        ensures receipt { IfOk result (λ r. receipt_data r ≡ receipt_of (length self.old.entries) (next_entry self.old.entries job (SubmitOp submission.now))) }
-        ensures entry { OnOk result (self.new.entries ≡ self.old.entries ++ next_entry self.old.entries job (SubmitOp submission.now) ∷ []) }
-        ensures refused { OnErr result (self.new ≡ self.old) }
+        ensures same { SameBook self.old self.new }
+        ensures room { OnOk result (HasRoom self.new) }
+    {
+        self.history.make_room()?;
+        Ok(())
+    }
+
+    /// A submission made ready: it is planned, unless it clashes.
+    fn submission_ready(
+        &mut self,
+        alloc: A,
+        job: u32,
+        submission: &SubRef<A>,
+    ) -> Result<Ready<A>, Memory>
+        requires { HasRoom self.old }
+        ensures same { SameBook self.old self.new }
+        ensures ready { IfOk result (λ r. IsReadyFor self.new job (SubmitOp submission.now) r) }
     {
         let op = Op::Submit(submission.copy()?);
         let given = submission.get();
@@ -137,30 +187,74 @@ impl<A: Allocator + Copy> Book<A> {
                     items: given.items(),
                     odd: given.odd(),
                 };
-                let receipt = self.entries.append(alloc, Entry { job, op, answer })?;
-                self.store.commit(plan);
-                self.accepted = number;
-                Ok(receipt)
+                self.holding(alloc, Entry { job, op, answer }, plan)
             }
             Err(refuse) => {
                 let answer = clash_of(refuse)?;
-                self.note(alloc, Entry { job, op, answer })
+                self.noting(alloc, Entry { job, op, answer })
             }
         }
     }
 
-    /// A text is printed, and shared between the entry and the receipt.
-    fn tell(&mut self, alloc: A, job: u32, op: &Op<A>) -> Result<Receipt<A>, Memory>
-        requires room { length self.old.entries < most_entries }
+    /// A text made ready: it is printed, and shared between the entry and the receipt.
+    fn text_ready(&self, alloc: A, job: u32, op: &Op<A>) -> Result<Ready<A>, Memory>
+        requires room { HasRoom self.now }
         requires text { IsText (op_data op.now) }
-        ensures receipt { IfOk result (λ r. receipt_data r ≡ receipt_of (length self.old.entries) (next_entry self.old.entries job (op_data op.now))) }
-        ensures entry { OnOk result (self.new.entries ≡ self.old.entries ++ next_entry self.old.entries job (op_data op.now) ∷ []) }
-        ensures refused { OnErr result (self.new ≡ self.old) }
+        ensures { IfOk result (λ r. IsReadyFor self.now job (op_data op.now) r) }
     {
         let text = TextRef::of(alloc, self.text_of(alloc, op)?)?;
         let op = op.copy(alloc)?;
         let answer = Answer::Text(text);
-        self.note(alloc, Entry { job, op, answer })
+        self.noting(alloc, Entry { job, op, answer })
+    }
+
+    /// The step that appends this entry and holds what is planned.
+    fn holding(&self, alloc: A, entry: Entry<A>, plan: Plan) -> Result<Ready<A>, Memory>
+        requires room { HasRoom self.now }
+        requires next { IsNextOf self.now (entry_data entry) }
+        requires planned { IsPlanned self.now.store (table_of (ops_in self.now.entries)) (op_data entry.op) (Some plan) }
+        requires after { IsAfter self.now (op_data entry.op) plan.after }
+        ensures { IfOk result (λ r. IsReadyFor self.now entry.job (op_data entry.op) r) }
+    {
+        let receipt = self.history.receipt(alloc, &entry)?;
+        let after = plan.after();
+        Ok(Ready::new(entry, receipt, Some(plan), after))
+    }
+
+    /// The step that appends this entry and leaves the table as it is.
+    fn noting(&self, alloc: A, entry: Entry<A>) -> Result<Ready<A>, Memory>
+        requires room { HasRoom self.now }
+        requires next { IsNextOf self.now (entry_data entry) }
+        requires still { table_after (table_of (ops_in self.now.entries)) (op_data entry.op) ≡ table_of (ops_in self.now.entries) }
+        ensures { IfOk result (λ r. IsReadyFor self.now entry.job (op_data entry.op) r) }
+    {
+        let receipt = self.history.receipt(alloc, &entry)?;
+        let after = self.store.totals();
+        Ok(Ready::new(entry, receipt, None, after))
+    }
+
+    /// Holds what is planned, and appends its entry.
+    fn hold(&mut self, plan: Plan, entry: Entry<A>)
+        requires room { HasRoom self.old }
+        requires next { IsNextOf self.old (entry_data entry) }
+        requires planned { IsPlanned self.old.store (table_of (ops_in self.old.entries)) (op_data entry.op) (Some plan) }
+        ensures entry { self.new.entries ≡ self.old.entries ++ entry_data entry ∷ [] }
+        ensures legal { IsLegal self.new.entries }
+    {
+        self.store.commit(plan);
+        self.accepted += 1;
+        self.history.append(entry);
+    }
+
+    /// Appends the entry of an operation that leaves the table as it is.
+    fn note(&mut self, entry: Entry<A>)
+        requires room { HasRoom self.old }
+        requires next { IsNextOf self.old (entry_data entry) }
+        requires still { table_after (table_of (ops_in self.old.entries)) (op_data entry.op) ≡ table_of (ops_in self.old.entries) }
+        ensures entry { self.new.entries ≡ self.old.entries ++ entry_data entry ∷ [] }
+        ensures legal { IsLegal self.new.entries }
+    {
+        self.history.append(entry);
     }
 
     /// The text that an operation asks for.
@@ -179,19 +273,6 @@ impl<A: Allocator + Copy> Book<A> {
             }
             Op::Summary => summary_text(alloc, &self.store.totals()),
         }
-    }
-
-    /// Appends the entry of an operation that leaves the table as it is.
-    fn note(&mut self, alloc: A, entry: Entry<A>) -> Result<Receipt<A>, Memory>
-        requires room { length self.old.entries < most_entries }
-        requires next { entry_data entry ≡ next_entry self.old.entries entry.job (op_data entry.op) }
-        requires still { table_after (table_of (ops_in self.old.entries)) (op_data entry.op) ≡ table_of (ops_in self.old.entries) }
-        ensures receipt { IfOk result (λ r. receipt_data r ≡ receipt_of (length self.old.entries) (entry_data entry)) }
-        ensures entry { OnOk result (self.new.entries ≡ self.old.entries ++ entry_data entry ∷ []) }
-        ensures refused { OnErr result (self.new ≡ self.old) }
-    {
-        let receipt = self.entries.append(alloc, entry)?;
-        Ok(receipt)
     }
 }
 

@@ -1,4 +1,4 @@
-//! The history of a book.
+//! Entries and receipts, and their lists.
 
 use crate::op::{Answer, Op};
 use covline::Memory;
@@ -22,7 +22,7 @@ impl<A: Allocator + Copy> Entry<A> {
     ghost use Rattle.covbook.specs.Step.{receipt_of};
 
     /// The receipt of the entry at this place, with copies of the operation and the answer.
-    fn receipt(&self, alloc: A, place: u64) -> Result<Receipt<A>, Memory>
+    pub(crate) fn receipt(&self, alloc: A, place: u64) -> Result<Receipt<A>, Memory>
         ensures { IfOk result (λ r. receipt_data r ≡ receipt_of place (entry_data self.now)) }
     {
         Ok(Receipt {
@@ -84,30 +84,6 @@ impl<A: Allocator> Entries<A> {
         ensures { map entry_data result.now ≡ self.now }
     {
         self.entries.as_slice()
-    }
-}
-
-impl<A: Allocator + Copy> Entries<A> {
-    ghost use Rattle.std.specs.Prelude.{◌≡◌, ◌↔◌, ◌++◌, [], ◌∷◌, length, IsTrue, IfOk, OnOk, OnErr};
-    ghost use Rattle.covbook.specs.EntryView.{entry_data, receipt_data};
-    ghost use Rattle.covbook.specs.Step.{most_entries, receipt_of};
-
-    /// Whether a history with these entries takes no more.
-    pub(crate) fn is_full(&self) -> bool
-        ensures { IsTrue result ↔ (length self.now ≡ most_entries) }
-    {
-        self.get().len() as u64 == MOST_ENTRIES
-    }
-
-    /// Appends an entry, and gives its receipt. A refusal gives the entry up and leaves the list as it was.
-    pub(crate) fn append(&mut self, alloc: A, entry: Entry<A>) -> Result<Receipt<A>, Memory>
-        ensures receipt { IfOk result (λ r. receipt_data r ≡ receipt_of (length self.old) (entry_data entry)) }
-        ensures entry { OnOk result (self.new ≡ self.old ++ entry_data entry ∷ []) }
-        ensures refused { OnErr result (self.new ≡ self.old) }
-    {
-        let receipt = entry.receipt(alloc, self.get().len() as u64)?;
-        self.push(entry)?;
-        Ok(receipt)
     }
 }
 

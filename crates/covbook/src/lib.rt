@@ -4,6 +4,9 @@
 //! appends its entry; the job that asked gets a `Receipt` with the entry's place and answer. The history is legal at every
 //! moment: its answers are those of a run over its operations that begins with nothing.
 //!
+//! A caller with something to do in between takes a step in two halves: `Book::ready` makes all that can be refused, and what
+//! it makes tells the totals behind the step (`Ready::after`); `Book::finish` takes the step, and no memory.
+//!
 //! A sketch, which no test runs:
 //!
 //! ```text
@@ -18,11 +21,14 @@
 
 mod book;
 mod entry;
+mod history;
 pub mod laws;
 mod op;
+mod ready;
 mod shared;
 
 pub use book::{Book, BookFault};
 pub use entry::{Entries, Entry, MOST_ENTRIES, Receipt, Receipts};
 pub use op::{Answer, Op};
+pub use ready::Ready;
 pub use shared::{SubRef, TextRef};

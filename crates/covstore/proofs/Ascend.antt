@@ -19,7 +19,7 @@ pub record IsExactOrder {X : Type 0} (cmp : X → X → Ordering) : Type 0 where
 
 -- ---- a member put at its place
 
-All-match : {X : Type 0} (P : X → Type 0) (o : Ordering) (a b c : List X) → AllByRecursion P a → AllByRecursion P b → AllByRecursion P c → AllByRecursion P (match_ordering o a b c)
+pub All-match : {X : Type 0} (P : X → Type 0) (o : Ordering) (a b c : List X) → AllByRecursion P a → AllByRecursion P b → AllByRecursion P c → AllByRecursion P (match_ordering o a b c)
 All-match P Less a b c x y z = x
 All-match P Equal a b c x y z = y
 All-match P Greater a b c x y z = z
@@ -29,11 +29,11 @@ All-placed cmp P x [] h all = (h, tt)
 All-placed cmp P x (y ∷ ys) h all =
     All-match P (cmp x y) (x ∷ y ∷ ys) (y ∷ ys) (y ∷ placed cmp x ys) (h, all) all (all.0, All-placed cmp P x ys h all.1)
 
-All-weaker : {X : Type 0} (P Q : X → Type 0) (ys : List X) → ((y : X) → P y → Q y) → AllByRecursion P ys → AllByRecursion Q ys
+pub All-weaker : {X : Type 0} (P Q : X → Type 0) (ys : List X) → ((y : X) → P y → Q y) → AllByRecursion P ys → AllByRecursion Q ys
 All-weaker P Q [] f all = tt
 All-weaker P Q (y ∷ ys) f all = (f y all.0, All-weaker P Q ys f all.1)
 
-flips : {X : Type 0} {cmp : X → X → Ordering} → IsTotalOrder cmp → (x y : X) → cmp x y ≡ Greater → cmp y x ≡ Less
+pub flips : {X : Type 0} {cmp : X → X → Ordering} → IsTotalOrder cmp → (x y : X) → cmp x y ≡ Greater → cmp y x ≡ Less
 flips o x y e = o.antisymm y x ∙ ap ordering_reverse e
 
 placed_sorted_at : {X : Type 0} {cmp : X → X → Ordering} → IsTotalOrder cmp → (x y : X) (ys zs : List X) (o : Ordering) → cmp x y ≡ o → IsStrictlySortedBy cmp (y ∷ ys)
@@ -111,7 +111,7 @@ not_head : {X : Type 0} {cmp : X → X → Ordering} → IsTotalOrder cmp → (x
 not_head {X} {cmp} t x z xs ys a i (inl e) = absurd (not_itself t x (subst (λ (w : X). cmp x w ≡ Less) (sym e) (All-in (λ z. cmp x z ≡ Less) xs z a i)))
 not_head t x z xs ys a i (inr h) = h
 
-one_sorted : {X : Type 0} {cmp : X → X → Ordering} → IsTotalOrder cmp → (xs ys : List X) → IsStrictlySortedBy cmp xs → IsStrictlySortedBy cmp ys → ((z : X) → In z xs → In z ys) → ((z : X) → In z ys → In z xs) → xs ≡ ys
+pub one_sorted : {X : Type 0} {cmp : X → X → Ordering} → IsTotalOrder cmp → (xs ys : List X) → IsStrictlySortedBy cmp xs → IsStrictlySortedBy cmp ys → ((z : X) → In z xs → In z ys) → ((z : X) → In z ys → In z xs) → xs ≡ ys
 unfolding IsStrictlySortedBy
 one_sorted t [] [] s r f g = refl
 one_sorted t [] (y ∷ ys) s r f g = absurd (g y (inl refl))

@@ -11,8 +11,7 @@ use Rattle.covline.specs.Points.{line_point, func_point, branch_point}
 use Rattle.covline.specs.Row.{ItemData, LineItem, FuncItem, BranchItem, Row, SectData, SubmissionData, rows_of, rows_of_sect}
 use Rattle.covstore.specs.Ascending.{ascending}
 use Rattle.covstore.specs.Clash.{Agree, checksums_in, clash_of}
-use Rattle.covstore.specs.Content.{SectionData, section_of, content_at, content_of, function_at, branch_at, line_at}
-use Rattle.covstore.specs.Table.{all_rows}
+use Rattle.covstore.specs.Content.{SectionData, section_of, content_of, function_at, branch_at, line_at}
 use Rattle.covstore.specs.Value.{Key, key_cmp, key_of_row, keys_of, has_key, items_at}
 use Rattle.covstore.proofs.Ascend.{In-ascending, In-to_ascending, length-ascending}
 use Rattle.covstore.proofs.ContentsChecksums.{same_checksums_clash}
@@ -20,8 +19,6 @@ use Rattle.covstore.proofs.ContentsKinds.{same_with_more}
 use Rattle.covstore.proofs.ContentsLists.{any_members, any-map, few_parts}
 use Rattle.covstore.proofs.ContentsSections.{sections_kind}
 use Rattle.covstore.proofs.Orders.{keys_order}
-use Rattle.covstore.proofs.Walks.{rows_of_table}
-use Rattle.covstore.specs.Walk.{sects_of, is_if_any, has_row_of_test}
 
 -- ---- tests
 
@@ -33,37 +30,6 @@ test_by_content rows test =
     (λ key i. In-ascending keys_order.exact key (map key_of_row rows) i)
     (λ key i. In-to_ascending keys_order.exact key (map key_of_row rows) i)
     ∙ any-map is_test key_of_row rows
-
-tests_of_sect : (test : List ℕ) (s : SectData) → has_row_of_test test s ≡ list_any (λ row. bytes_eq row.test test) (rows_of_sect s)
-tests_of_sect test s = by s.items
-  where
-    never : (items : List ItemData) → is_if_any false items ≡ false
-    never [] = refl
-    never (item ∷ items) = refl
-
-    -- each row has the section's test
-    of_items : (b : Bool) (items : List ItemData) → bytes_eq s.test test ≡ b → list_any (λ row. bytes_eq row.test test) (rows_of_sect (record { test = s.test; file = s.file; items = items })) ≡ is_if_any b items
-    of_items b [] e = refl
-    of_items true (item ∷ items) e = or_left (bytes_eq s.test test) _ e
-    of_items false (item ∷ items) e =
-        ap (λ (b : Bool). b || list_any (λ row. bytes_eq row.test test) (rows_of_sect (record { test = s.test; file = s.file; items = items }))) e
-        ∙ of_items false items e ∙ never items
-
-    by : (items : List ItemData) → is_if_any (bytes_eq s.test test) items ≡ list_any (λ row. bytes_eq row.test test) (rows_of_sect (record { test = s.test; file = s.file; items = items }))
-    by items = sym (of_items (bytes_eq s.test test) items refl)
-
-any_in_sects : (test : List ℕ) (sects : List SectData) → list_any (has_row_of_test test) sects ≡ list_any (λ row. bytes_eq row.test test) (flat_map rows_of_sect sects)
-any_in_sects test [] = refl
-any_in_sects test (s ∷ sects) =
-    ap (λ (b : Bool). b || list_any (has_row_of_test test) sects) (tests_of_sect test s)
-    ∙ ap (λ (b : Bool). list_any (λ row. bytes_eq row.test test) (rows_of_sect s) || b) (any_in_sects test sects)
-    ∙ sym (list_any-append (λ row. bytes_eq row.test test) (rows_of_sect s) (flat_map rows_of_sect sects))
-
--- the tests of the sections that are held are those of their content
-pub test_by_sects : (held : List SubmissionData) (test : List ℕ) → list_any (has_row_of_test test) (sects_of held) ≡ list_any (λ s. bytes_eq s.key.test test) (content_at (map rows_of held))
-test_by_sects held test =
-    any_in_sects test (sects_of held) ∙ ap (list_any (λ (row : Row). bytes_eq row.test test)) (sym (rows_of_table held))
-    ∙ sym (test_by_content (all_rows (map rows_of held)) test)
 
 -- ---- sizes
 

@@ -9,7 +9,7 @@ use Rattle.std.proofs.lemmas.Slice.Eq.{bytes_eq-Decides}
 use Rattle.covline.specs.Row.{ItemData, LineItem, FuncItem, BranchItem, Row}
 use Rattle.covstore.specs.Clash.{Checksum, ClashData, Agree, IsFirstClash, differs, first_clash, checksum_of, checksum_of_row, checksums_in}
 use Rattle.covstore.specs.Content.{LineValueData, content_of}
-use Rattle.covstore.specs.Value.{Key, key_of_row, has_key, items_at, checksum_said, first_of}
+use Rattle.covstore.specs.Value.{Key, key_of_row, has_key, items_at, checksum_said, first_of, line_checksum}
 use Rattle.covstore.proofs.Clashes.{first_told, told_first, none_told, agree_none}
 use Rattle.covstore.proofs.ContentsLists.{In-flat, In-unflat, In-filter, In-unfilter}
 use Rattle.covstore.proofs.ContentsSections.{own_key, lines_same}
@@ -37,7 +37,7 @@ said_of_line file line said (FuncItem name start count) i = absurd i
 said_of_line file line said (BranchItem at block branch taken) i = absurd i
 
 -- and the other way
-line_of_said : (file : List ℕ) (c : Checksum) (item : ItemData) → In c (checksum_of file item) → (file ≡ c.file) × In c.checksum (checksum_said c.line item)
+pub line_of_said : (file : List ℕ) (c : Checksum) (item : ItemData) → In c (checksum_of file item) → (file ≡ c.file) × In c.checksum (checksum_said c.line item)
 line_of_said file c (LineItem at count (Some checksum)) (inl is) = (
   ap (λ (d : Checksum). d.file) is,
   subst (In c.checksum) (sym (cond-true (eqb at c.line) (checksum ∷ []) [] (eq-eqb at c.line (ap (λ (d : Checksum). d.line) is)))) (inl (ap (λ (d : Checksum). d.checksum) is)),
@@ -62,7 +62,7 @@ said_among rows key line said i =
     subst (λ (k : Key). In (checksum_with k.file line said) (checksums_in rows)) (own_key key row.0 own.1)
     (In-flat checksum_of_row rows row.0 (checksum_with row.0.file line said) own.0 here)
 
-own_row : (row : Row) → has_key (key_of_row row) row ≡ true
+pub own_row : (row : Row) → has_key (key_of_row row) row ≡ true
 own_row row =
     ap (λ (b : Bool). b && bytes_eq row.test row.test) ((bytes_eq-Decides row.file row.file).1 refl) ∙ (bytes_eq-Decides row.test row.test).1 refl
 
@@ -86,6 +86,12 @@ first_in : {X : Type 0} (xs : List X) (x : X) → first_of xs ≡ Some x → In 
 first_in [] x e = absurd (none-some x e)
 first_in (y ∷ ys) x e = inl (same_Some y x e)
 
+-- what the items of a file and a test give as the checksum of a line is among the checksums
+pub line_checksum_held : (rows : List Row) (key : Key) (line : ℕ) (said : List ℕ) → line_checksum line (items_at key rows) ≡ Some said
+    → In (record { file = key.file; line = line; checksum = said }) (checksums_in rows)
+unfolding checksum_with said_at
+line_checksum_held rows key line said e = said_among rows key line said (first_in (said_at key line rows) said e)
+
 last_same : (x y z : Bool) → x ≡ true → y ≡ true → (x && y && not z) ≡ false → z ≡ true
 last_same true true true first second e = refl
 last_same true true false first second e = absurd (false≢true (sym e))
@@ -97,7 +103,7 @@ unfolding checksum_with
 one_checksum file line a b e =
     (bytes_eq-Decides a b).0 (last_same (bytes_eq file file) (eqb line line) (bytes_eq a b) ((bytes_eq-Decides file file).1 refl) (eq-eqb line line refl) e)
 
-checksums_there : (rows others : List Row) → Agree (checksums_in rows) → content_of rows ≡ content_of others → (c : Checksum) → In c (checksums_in rows) → In c (checksums_in others)
+pub checksums_there : (rows others : List Row) → Agree (checksums_in rows) → content_of rows ≡ content_of others → (c : Checksum) → In c (checksums_in rows) → In c (checksums_in others)
 unfolding checksum_with said_at
 checksums_there rows others agree same c i =
     let said = among_said rows c i in

@@ -50,7 +50,7 @@ In-unfilter {X} p (y ∷ ys) x i = by (p y) refl (λ j. In-unfilter p ys x j)
 
 -- an order that tells all things apart tells whether one is a member
 module _ {X : Type 0} (cmp : X → X → Ordering) (order : IsExactOrder cmp) where
-  same_or_not : (x y : X) (o : Ordering) → cmp x y ≡ o → (x ≡ y) ⊎ (x ≡ y → ⊥)
+  pub same_or_not : (x y : X) (o : Ordering) → cmp x y ≡ o → (x ≡ y) ⊎ (x ≡ y → ⊥)
   same_or_not x y Less e = inr (λ (is : x ≡ y). let tied = tied_itself order.total x in let less : cmp x x ≡ Less = subst (λ (z : X). cmp x z ≡ Less) (sym is) e in cc)
   same_or_not x y Equal e = inl (order.exact x y e)
   same_or_not x y Greater e = inr (λ (is : x ≡ y). let tied = tied_itself order.total x in let greater : cmp x x ≡ Greater = subst (λ (z : X). cmp x z ≡ Greater) (sym is) e in cc)

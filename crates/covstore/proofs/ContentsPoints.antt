@@ -21,7 +21,7 @@ use Rattle.covstore.proofs.Orders.{lines_order, names_order, branches_order}
 
 -- ---- items that don't speak of a point say nothing of it
 
-nothing_said : {P X : Type 0} (point : ItemData → List P) (said : ItemData → List X) (p : P) → ((item : ItemData) → (In p (point item) → ⊥) → said item ≡ [])
+pub nothing_said : {P X : Type 0} (point : ItemData → List P) (said : ItemData → List X) (p : P) → ((item : ItemData) → (In p (point item) → ⊥) → said item ≡ [])
     → (items : List ItemData) → (In p (flat_map point items) → ⊥) → flat_map said items ≡ []
 nothing_said point said p one [] none = refl
 nothing_said {P} {X} point said p one (item ∷ items) none =
@@ -29,7 +29,7 @@ nothing_said {P} {X} point said p one (item ∷ items) none =
     let others : flat_map said items ≡ [] = nothing_said point said p one items (λ i. none (In-joined (point item) (flat_map point items) p (inr i))) in
     ap (λ (xs : List X). xs ++ flat_map said items) here ∙ others
 
-nothing_added : {P : Type 0} (point : ItemData → List P) (added : ItemData → ℕ) (p : P) → ((item : ItemData) → (In p (point item) → ⊥) → added item ≡ 0)
+pub nothing_added : {P : Type 0} (point : ItemData → List P) (added : ItemData → ℕ) (p : P) → ((item : ItemData) → (In p (point item) → ⊥) → added item ≡ 0)
     → (items : List ItemData) → (In p (flat_map point items) → ⊥) → sum_by added items ≡ 0
 nothing_added point added p one [] none = refl
 nothing_added point added p one (item ∷ items) none =
@@ -69,12 +69,12 @@ other_branch point line block branch none =
 
 -- ---- lines
 
-line_unadded : (line : ℕ) (item : ItemData) → (In line (line_point item) → ⊥) → line_added line item ≡ 0
+pub line_unadded : (line : ℕ) (item : ItemData) → (In line (line_point item) → ⊥) → line_added line item ≡ 0
 line_unadded line (LineItem at count checksum) none = cond-false (eqb at line) count 0 (other_line at line none)
 line_unadded line (FuncItem name start count) none = refl
 line_unadded line (BranchItem at block branch taken) none = refl
 
-checksum_unsaid : (line : ℕ) (item : ItemData) → (In line (line_point item) → ⊥) → checksum_said line item ≡ []
+pub checksum_unsaid : (line : ℕ) (item : ItemData) → (In line (line_point item) → ⊥) → checksum_said line item ≡ []
 checksum_unsaid line (LineItem at count (Some checksum)) none = cond-false (eqb at line) (checksum ∷ []) [] (other_line at line none)
 checksum_unsaid line (LineItem at count None) none = refl
 checksum_unsaid line (FuncItem name start count) none = refl
@@ -117,12 +117,12 @@ lines_kind = record {
 
 -- ---- functions
 
-count_unadded : (name : List ℕ) (item : ItemData) → (In name (func_point item) → ⊥) → function_added name item ≡ 0
+pub count_unadded : (name : List ℕ) (item : ItemData) → (In name (func_point item) → ⊥) → function_added name item ≡ 0
 count_unadded name (FuncItem other line count) none = cond-false (bytes_eq other name) count 0 (other_name other name none)
 count_unadded name (LineItem line count checksum) none = refl
 count_unadded name (BranchItem line block branch taken) none = refl
 
-start_unsaid : (name : List ℕ) (item : ItemData) → (In name (func_point item) → ⊥) → start_said name item ≡ []
+pub start_unsaid : (name : List ℕ) (item : ItemData) → (In name (func_point item) → ⊥) → start_said name item ≡ []
 start_unsaid name (FuncItem other line count) none = cond-false (bytes_eq other name) (line ∷ []) [] (other_name other name none)
 start_unsaid name (LineItem line count checksum) none = refl
 start_unsaid name (BranchItem line block branch taken) none = refl
@@ -137,7 +137,7 @@ some_least : (ns : List ℕ) (n : ℕ) → In n ns → is_some (least ns) ≡ tr
 some_least [] n i = absurd i
 some_least (m ∷ ns) n i = refl
 
-has_start : (name : List ℕ) (items : List ItemData) → In name (func_points items) → is_some (least (flat_map (start_said name) items)) ≡ true
+pub has_start : (name : List ℕ) (items : List ItemData) → In name (func_points items) → is_some (least (flat_map (start_said name) items)) ≡ true
 has_start name items i =
     let item = In-unflat func_point items name i in
     let start = start_of_item name item.0 item.2 in
@@ -193,7 +193,7 @@ functions_kind = record {
 
 -- ---- branches
 
-taken_unsaid : (point : BranchPoint) (item : ItemData) → (In point (branch_point item) → ⊥) → taken_said point item ≡ []
+pub taken_unsaid : (point : BranchPoint) (item : ItemData) → (In point (branch_point item) → ⊥) → taken_said point item ≡ []
 unfolding branch_with
 taken_unsaid point (BranchItem line block branch (Some taken)) none = cond-false (is_branch point line block branch) (taken ∷ []) [] (other_branch point line block branch none)
 taken_unsaid point (BranchItem line block branch None) none = refl

@@ -16,7 +16,7 @@ use Rattle.covstore.proofs.ContentsPoints.{lines_kind, functions_kind, branches_
 use Rattle.covstore.proofs.Members.{In}
 use Rattle.covstore.proofs.Orders.{keys_order}
 
-items_at-append : (key : Key) (xs ys : List Row) → items_at key (xs ++ ys) ≡ items_at key xs ++ items_at key ys
+pub items_at-append : (key : Key) (xs ys : List Row) → items_at key (xs ++ ys) ≡ items_at key xs ++ items_at key ys
 items_at-append key xs ys = ap (map (λ (row : Row). row.item)) (filter-append (has_key key) xs ys) ∙ map-append (λ (row : Row). row.item) (filter (has_key key) xs) (filter (has_key key) ys)
 
 -- ---- the section of a key that no row has
@@ -24,7 +24,7 @@ items_at-append key xs ys = ap (map (λ (row : Row). row.item)) (filter-append (
 key_with : List ℕ → List ℕ → Key
 key_with file test = record { file = file; test = test }
 
-both : (x y : Bool) → (x && y) ≡ true → (x ≡ true) × (y ≡ true)
+pub both : (x y : Bool) → (x && y) ≡ true → (x ≡ true) × (y ≡ true)
 both true true e = (refl, refl)
 both true false e = absurd (false≢true e)
 both false y e = absurd (false≢true e)

@@ -5,12 +5,6 @@ use Rattle.std.specs.List.{flat_map}
 use Rattle.std.proofs.lemmas.List.{length-append}
 use Rattle.covline.specs.Points.{line_point, func_point, branch_point}
 use Rattle.covline.specs.Row.{ItemData, LineItem, FuncItem, BranchItem, SubmissionData, rows_of}
-use Rattle.covstore.specs.Ascending.{ascending}
-use Rattle.covstore.specs.Held.{IsHeld}
-use Rattle.covstore.specs.Table.{all_rows}
-use Rattle.covstore.specs.Value.{Key, items_at}
-use Rattle.covstore.proofs.Ascend.{length-ascending}
-use Rattle.covstore.proofs.Bounds.{items_fit}
 
 pub one_line : (item : ItemData) → length (line_point item) ≤ 1
 one_line (LineItem line count checksum) = omega arith
@@ -30,9 +24,3 @@ one_branch (BranchItem line block branch taken) = omega arith
 pub few_parts : {X Y : Type 0} (f : X → List Y) → ((x : X) → length (f x) ≤ 1) → (xs : List X) → length (flat_map f xs) ≤ length xs
 few_parts f one [] = omega arith
 few_parts f one (x ∷ xs) = omega (arith, length-append (f x) (flat_map f xs), one x, few_parts f one xs)
-
-pub points_fit : {X : Type 0} (cmp : X → X → Ordering) (point : ItemData → List X) → ((item : ItemData) → length (point item) ≤ 1) → (key : Key) (held : List SubmissionData) → IsHeld held
-    → length (ascending cmp (flat_map point (items_at key (all_rows (map rows_of held))))) < 2 ^ 64
-points_fit cmp point one key held h =
-    let items = items_at key (all_rows (map rows_of held)) in
-    omega (arith, length-ascending cmp (flat_map point items), few_parts point one items, items_fit key held h)

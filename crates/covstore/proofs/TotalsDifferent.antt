@@ -48,11 +48,11 @@ are_totals sections = record {
 
 -- ---- lists without doubles
 
-All-from : {X : Type 0} (P : X → Type 0) (xs : List X) → ((x : X) → In x xs → P x) → AllByRecursion P xs
+pub All-from : {X : Type 0} (P : X → Type 0) (xs : List X) → ((x : X) → In x xs → P x) → AllByRecursion P xs
 All-from P [] each = tt
 All-from P (x ∷ xs) each = (each x (inl refl), All-from P xs (λ y i. each y (inr i)))
 
-All-joined : {X : Type 0} (P : X → Type 0) (xs ys : List X) → AllByRecursion P xs → AllByRecursion P ys → AllByRecursion P (xs ++ ys)
+pub All-joined : {X : Type 0} (P : X → Type 0) (xs ys : List X) → AllByRecursion P xs → AllByRecursion P ys → AllByRecursion P (xs ++ ys)
 All-joined P [] ys left right = right
 All-joined P (x ∷ xs) ys left right = (left.0, All-joined P xs ys left.1 right)
 
@@ -86,7 +86,7 @@ same_filtered p xs ys same = (
 not_true : (b : Bool) → (b ≡ true → ⊥) → b ≡ false
 not_true b never = ⊎_elim (λ (e : b ≡ true). absurd (never e)) (λ (e : b ≡ false). e) (cases_Bool b)
 
-not_less : {X : Type 0} {cmp : X → X → Ordering} → IsTotalOrder cmp → (x y : X) → cmp x y ≡ Less → x ≡ y → ⊥
+pub not_less : {X : Type 0} {cmp : X → X → Ordering} → IsTotalOrder cmp → (x y : X) → cmp x y ≡ Less → x ≡ y → ⊥
 not_less {X} {cmp} t x y less is = let i = tied_itself t x in let own : cmp x x ≡ Less = subst (λ (z : X). cmp x z ≡ Less) (sym is) less in cc
 
 -- ---- counting along lists

@@ -1,28 +1,43 @@
--- What a store is to its callers: its content, and the tables that it stands for.
-use Rattle.std.specs.Prelude.{◌≡◌, ℕ, ◌<◌, ◌≤◌, List, [], ◌∷◌, ◌++◌, Some, None, length}
+-- What a store is to its callers: its content, and the tables that it stands for; and what is to come of it.
+use Rattle.std.specs.Prelude.{◌≡◌, ℕ, ◌+◌, ◌<◌, ◌≤◌, ◌^◌, List, ◌++◌, Some, None, length}
 use Rattle.std.specs.List.{AllByRecursion}
-use Rattle.covline.specs.Row.{SubmissionData, rows_of}
+use Rattle.covline.specs.Row.{Row, SubmissionData, rows_of}
 use Rattle.covline.specs.Lawful.{IsLawful, most_items}
 use Rattle.covstore.specs.declared.totals.Totals.{Totals}
-use Rattle.covstore.specs.Clash.{ClashData, Agree, checksums_in}
+use Rattle.covstore.specs.Adds.{SmallRow}
+use Rattle.covstore.specs.Clash.{ClashData, Agree, checksums_in, clash_of}
 use Rattle.covstore.specs.Content.{SectionData, content_at}
+use Rattle.covstore.specs.State.{FileData, IsStateOf, totals_in}
 use Rattle.covstore.specs.Table.{Table, all_rows, clash_at}
-use Rattle.covstore.specs.Totals.{totals_of}
 
 -- how many submissions a store holds at the most
 abbrev pub most_members : ℕ
 most_members = 1048576
 
--- the sections, how many submissions there are, and for how many of them there is room without a growth
+-- the sections, and how many submissions there are; what is kept of the files, as they are and as they are to be, and the totals
+-- that are to be
 pub record StoreData : Type 0 where
   pub sections : List SectionData
   pub members : ℕ
-  pub room : ℕ
+  pub held : List (List ℕ × FileData)
+  pub coming : List (List ℕ × FileData)
+  pub after : Totals
 
--- the same content; the room may differ
+-- the same content; what is to come may differ
 pub record SameContent (before after : StoreData) : Type 0 where
   pub sections : after.sections ≡ before.sections
   pub members : after.members ≡ before.members
+
+-- files that are the state of rows still are, and their totals are the same: places may be made ready in them
+pub record KeepsState (before after : List (List ℕ × FileData)) : Type 0 where
+  pub states : (rows : List Row) → IsStateOf rows before → IsStateOf rows after
+  pub totals : totals_in after ≡ totals_in before
+
+-- the content and the state that is kept are the same; what is to come may differ
+pub record SameHeld (before after : StoreData) : Type 0 where
+  pub sections : after.sections ≡ before.sections
+  pub members : after.members ≡ before.members
+  pub held : KeepsState before.held after.held
 
 -- the store's content is the value of all rows of the table, which has no two different checksums of one line of a file
 pub record StandsFor (store : StoreData) (table : Table) : Type 0 where
@@ -32,21 +47,25 @@ pub record StandsFor (store : StoreData) (table : Table) : Type 0 where
   pub few : length table ≤ most_members
   pub small : AllByRecursion (λ rows. length rows ≤ most_items) table
 
--- what is planned: a submission, and the totals with it. It is the store's own, and so is what makes it a plan of a store
+-- what is planned: the totals with it. It is the store's own, and so is what makes it a plan of a store
 pub record PlanData : Type 0 where
-  pub given : SubmissionData
   pub after : Totals
 
--- the store is as `prepare` left it when it made this plan for this submission: the submission is lawful and clashes with no
--- table that the store stands for, the totals are those that stand with it, and there is room for one more, among as many
--- as may be held. Callers hand it from `prepare` to `commit` and look at none of its parts
+-- files that are the state of rows are, with these added, the state of both, and the added rows clash with nothing
+abbrev pub AddsTo : List Row → List (List ℕ × FileData) → List (List ℕ × FileData) → Type 0
+AddsTo added before after =
+    (rows : List Row) → IsStateOf rows before → Agree (checksums_in rows)
+    → (clash_of rows added ≡ None) × IsStateOf (rows ++ added) after × Agree (checksums_in (rows ++ added))
+
+-- the store is as `prepare` left it when it made this plan for this submission: what is to come is what is kept with the
+-- submission, which is lawful and clashes with nothing, and the totals are those of what is to come. Callers hand it from
+-- `prepare` to `commit` and look at none of its parts
 pub record IsPlanOf (store : StoreData) (submission : SubmissionData) (plan : PlanData) : Type 0 where
-  pub given : plan.given ≡ submission
   pub lawful : IsLawful submission
-  pub agrees : (table : Table) → StandsFor store table → clash_at table submission ≡ None
-  pub after : (table : Table) → StandsFor store table → plan.after ≡ totals_of (content_at (table ++ rows_of submission ∷ []))
+  pub adds : AddsTo (rows_of submission) store.held store.coming
+  pub planned : plan.after ≡ store.after
+  pub totals : store.after ≡ totals_in store.coming
   pub few : store.members < most_members
-  pub room : store.members < store.room
 
 -- why no plan is made
 pub data RefuseData : Type 0 where
@@ -57,3 +76,25 @@ pub data RefuseData : Type 0 where
 abbrev pub IsRefusedAt : Table → SubmissionData → RefuseData → Type 0
 IsRefusedAt table submission (ClashRefuse clash) = clash_at table submission ≡ Some clash
 IsRefusedAt table submission MemoryRefuse = Unit {0}
+
+-- ---- rows that come in
+
+-- rows are taken into what is to come, and the totals with them
+pub record AddsRows (added : List Row) (before after : StoreData) : Type 0 where
+  pub adds : AddsTo added before.coming after.coming
+  pub totals : before.after ≡ totals_in before.coming → after.after ≡ totals_in after.coming
+
+-- a clash is told only where the rows clash with what is to come, and then the first
+abbrev pub ClashesWith : List Row → StoreData → RefuseData → Type 0
+ClashesWith added store MemoryRefuse = Unit {0}
+ClashesWith added store (ClashRefuse clash) = (rows : List Row) → IsStateOf rows store.coming → Agree (checksums_in rows) → clash_of rows added ≡ Some clash
+
+-- what is to come is the state of rows of small numbers, not too many with those that are added
+pub record HasRoomForRows (added : List Row) (store : StoreData) : Type 0 where
+  pub rows : List Row
+  pub state : IsStateOf rows store.coming
+  pub agree : Agree (checksums_in rows)
+  pub small : AllByRecursion SmallRow rows
+  pub small_added : AllByRecursion SmallRow added
+  pub few : length rows + length added ≤ 2 ^ 46
+  pub totals : store.after ≡ totals_in store.coming

@@ -23,23 +23,6 @@ has_file file row = bytes_eq row.file file
 abbrev pub items_of_file : List ℕ → List Row → List ItemData
 items_of_file file rows = map (λ row. row.item) (filter (has_file file) rows)
 
--- ---- the walk over sections
-
--- the items of a section of this file, and none of another's
-abbrev pub items_if_file : List ℕ → SectData → List ItemData
-items_if_file file sect = if bytes_eq sect.file file then sect.items else []
-
-abbrev pub items_of_file_sects : List ℕ → List SectData → List ItemData
-items_of_file_sects file sects = flat_map (items_if_file file) sects
-
--- the file of a section, where that has an item
-abbrev pub file_if_any : List ℕ → List ItemData → List (List ℕ)
-file_if_any file [] = []
-file_if_any file (item ∷ items) = file ∷ []
-
-abbrev pub file_point : SectData → List (List ℕ)
-file_point sect = file_if_any sect.file sect.items
-
 -- ---- points that are hit
 
 -- the item has this line with a count above 0

@@ -1,49 +1,195 @@
 //! The sections of a store, one after another, and the points of a section. They take no memory.
 
+ghost use Rattle.std.specs.Iterator.{YieldsFirstBy};
+ghost use Rattle.covstore.specs.SeenView.{or_none};
+
 mod points;
 
 pub use self::points::{Branches, Functions, Lines};
-use crate::keys::{SectKey, next_key};
-use covline::Submission;
+use crate::file::File;
+use crate::marks::Marks;
+use crate::test::Test;
 use std::alloc::{Allocator, Global};
+use std::collections::btree_map::Iter;
 use std::marker::Model;
+
+/// The tests of a file that are left. Contracts see their sections.
+#[derive(Drop)]
+pub(crate) struct FileSections<'a, A: Allocator> {
+    file: &'a [u8],
+    marks: &'a Marks<A>,
+    tests: Iter<'a, Vec<u8, A>, Test<A>>,
+}
+
+impl<'a, A: Allocator> Model for FileSections<'a, A> {
+    ghost use Rattle.std.specs.Prelude.{List};
+    ghost use Rattle.std.specs.List.{AllByRecursion};
+    ghost use Rattle.covstore.specs.Content.{SectionData};
+    ghost use Rattle.covstore.specs.SeenView.{IsFewOf, tests_seen};
+
+    ghost Value = { List SectionData };
+
+    ghost view = { λ s. tests_seen (λ name. name.items) s.file.now s.marks.now.checksums.texts s.tests };
+
+    ghost invariant = { λ s. AllByRecursion IsFewOf (tests_seen (λ name. name.items) s.file.now s.marks.now.checksums.texts s.tests) };
+}
+
+impl<'a, A: Allocator> Iterator for FileSections<'a, A> {
+    ghost use Rattle.std.specs.Iterator.{YieldsFirstBy, item_count};
+
+    type Item = Section<'a, A>;
+
+    ghost next_gives = { YieldsFirstBy (λ s. s) (λ s. s) };
+
+    ghost remaining = { item_count (λ s. s) };
+
+    fn next(&mut self) -> Option<Section<'a, A>> {
+        loop {
+            let (test, points) = self.tests.next()?;
+            if !points.is_empty() {
+                return Some(Section {
+                    file: self.file,
+                    test: test.as_slice(),
+                    marks: self.marks,
+                    points,
+                });
+            }
+        }
+    }
+}
+
+/// The points of a file and a test. Contracts see them with their values.
+#[derive(Drop)]
+pub struct Section<'a, A: Allocator = Global> {
+    file: &'a [u8],
+    test: &'a [u8],
+    marks: &'a Marks<A>,
+    points: &'a Test<A>,
+}
+
+impl<'a, A: Allocator> Model for Section<'a, A> {
+    ghost use Rattle.covstore.specs.Content.{SectionData};
+    ghost use Rattle.covstore.specs.SeenView.{IsFewOf};
+    ghost use Rattle.covstore.specs.State.{section_with_points};
+    ghost use Rattle.covstore.specs.TestView.{test_held};
+
+    ghost Value = { SectionData };
+
+    ghost view = { λ s. section_with_points s.file.now s.marks.now.checksums.texts s.test.now (test_held s.points.now) };
+
+    ghost invariant = { λ s. IsFewOf (section_with_points s.file.now s.marks.now.checksums.texts s.test.now (test_held s.points.now)) };
+}
+
+impl<'a, A: Allocator> Section<'a, A> {
+    ghost use Rattle.std.specs.Prelude.{◌≡◌, ◌<◌, ◌^◌, length};
+
+    /// The source file's path.
+    pub fn file(&self) -> &'a [u8]
+        ensures { result.now ≡ self.now.key.file }
+    {
+        self.file
+    }
+
+    /// The test's name.
+    pub fn test(&self) -> &'a [u8]
+        ensures { result.now ≡ self.now.key.test }
+    {
+        self.test
+    }
+
+    /// The functions, ascending by the bytes of their names. There are fewer than 2^64, as of branches and lines.
+    pub fn functions(&self) -> Functions<'a, A>
+        ensures value { result ≡ self.now.functions }
+        ensures few { length result < 2 ^ 64 }
+    {
+        Functions::of(self.points.functions.filled())
+    }
+
+    /// The branches, ascending by line, block and number.
+    pub fn branches(&self) -> Branches<'a, A>
+        ensures value { result ≡ self.now.branches }
+        ensures few { length result < 2 ^ 64 }
+    {
+        Branches::of(self.points.branches.filled())
+    }
+
+    /// The lines, ascending by number.
+    pub fn lines(&self) -> Lines<'a, A>
+        ensures value { result ≡ self.now.lines }
+        ensures few { length result < 2 ^ 64 }
+    {
+        Lines::of(self.points.lines.filled(), &self.marks.checksums)
+    }
+}
+
+impl<'a, A: Allocator> FileSections<'a, A> {
+    ghost use Rattle.std.specs.Prelude.{◌≡◌};
+    ghost use Rattle.std.specs.List.{AllByRecursion};
+    ghost use Rattle.covstore.specs.FileView.{file_held};
+    ghost use Rattle.covstore.specs.SeenView.{IsFewOf};
+    ghost use Rattle.covstore.specs.State.{sections_of_file};
+
+    /// The sections of a file.
+    fn of(name: &'a [u8], file: &'a File<A>) -> FileSections<'a, A>
+        requires { AllByRecursion IsFewOf (sections_of_file (name.now, file_held file.now)) }
+        ensures { result ≡ sections_of_file (name.now, file_held file.now) }
+    {
+        FileSections {
+            file: name,
+            marks: &file.marks,
+            tests: file.tests.iter(),
+        }
+    }
+}
 
 /// Goes over the sections of a store, ascending by file and then by test. Contracts see the sections that are left.
 #[derive(Drop)]
 pub struct Sections<'a, A: Allocator = Global> {
-    held: &'a [Submission<A>],
-    last: Option<SectKey<'a>>,
+    current: Option<FileSections<'a, A>>,
+    files: Iter<'a, Vec<u8, A>, File<A>>,
 }
 
 impl<'a, A: Allocator> Model for Sections<'a, A> {
-    ghost use Rattle.std.specs.Prelude.{List, map, option_map};
-    ghost use Rattle.covline.specs.Row.{rows_of};
-    ghost use Rattle.covstore.specs.Content.{SectionData, section_of};
-    ghost use Rattle.covstore.specs.Held.{IsHeld};
-    ghost use Rattle.covstore.specs.KeyView.{key_data};
-    ghost use Rattle.covstore.specs.Next.{rest_after};
-    ghost use Rattle.covstore.specs.Table.{all_rows};
-    ghost use Rattle.covstore.specs.Value.{key_cmp, keys_of};
+    ghost use Rattle.std.specs.Prelude.{List};
+    ghost use Rattle.std.specs.List.{AllByRecursion};
+    ghost use Rattle.covstore.specs.Content.{SectionData};
+    ghost use Rattle.covstore.specs.SeenView.{IsFewOf, sections_left};
 
     ghost Value = { List SectionData };
 
-    ghost view = { λ s. map (section_of (all_rows (map rows_of s.held.now))) (rest_after key_cmp (option_map key_data s.last) (keys_of (all_rows (map rows_of s.held.now)))) };
+    ghost view = { λ s. sections_left (λ name. name.items) s.current s.files };
 
-    ghost invariant = { λ s. IsHeld s.held.now };
+    ghost invariant = { λ s. AllByRecursion IsFewOf (sections_left (λ name. name.items) s.current s.files) };
 }
 
 impl<'a, A: Allocator> Sections<'a, A> {
-    ghost use Rattle.std.specs.Prelude.{◌≡◌, map};
-    ghost use Rattle.covline.specs.Row.{rows_of};
-    ghost use Rattle.covstore.specs.Content.{content_at};
-    ghost use Rattle.covstore.specs.Held.{IsHeld};
+    ghost use Rattle.std.specs.Prelude.{◌≡◌};
+    ghost use Rattle.std.specs.List.{AllByRecursion};
+    ghost use Rattle.covstore.specs.MapsView.{files_held};
+    ghost use Rattle.covstore.specs.SeenView.{IsFewOf};
+    ghost use Rattle.covstore.specs.State.{sections_of};
 
-    /// The sections of these submissions.
-    pub(crate) fn of(held: &'a [Submission<A>]) -> Sections<'a, A>
-        requires { IsHeld held.now }
-        ensures { result ≡ content_at (map rows_of held.now) }
+    /// The sections of these files.
+    pub(crate) fn of(files: Iter<'a, Vec<u8, A>, File<A>>) -> Sections<'a, A>
+        requires { AllByRecursion IsFewOf (sections_of (files_held (λ name. name.items) files)) }
+        ensures { result ≡ sections_of (files_held (λ name. name.items) files.entry) }
     {
-        Sections { held, last: None }
+        Sections {
+            current: None,
+            files,
+        }
+    }
+}
+
+/// The next section of the file that is at hand.
+fn next_of_file<'a, A: Allocator>(
+    current: &mut Option<FileSections<'a, A>>,
+) -> Option<Section<'a, A>>
+    ensures { YieldsFirstBy (λ s. s) or_none current.old result current.new }
+{
+    match current {
+        Some(sections) => sections.next(),
+        None => None,
     }
 }
 
@@ -57,75 +203,13 @@ impl<'a, A: Allocator> Iterator for Sections<'a, A> {
     ghost remaining = { item_count (λ s. s) };
 
     fn next(&mut self) -> Option<Section<'a, A>> {
-        let key = next_key(self.held, self.last)?;
-        self.last = Some(key);
-        Some(Section {
-            held: self.held,
-            key,
-        })
-    }
-}
-
-/// The points of a file and a test. Contracts see them with their values.
-#[derive(Drop)]
-pub struct Section<'a, A: Allocator = Global> {
-    held: &'a [Submission<A>],
-    key: SectKey<'a>,
-}
-
-impl<'a, A: Allocator> Model for Section<'a, A> {
-    ghost use Rattle.std.specs.Prelude.{map};
-    ghost use Rattle.covline.specs.Row.{rows_of};
-    ghost use Rattle.covstore.specs.Content.{SectionData, section_of};
-    ghost use Rattle.covstore.specs.Held.{IsHeld};
-    ghost use Rattle.covstore.specs.KeyView.{key_data};
-    ghost use Rattle.covstore.specs.Table.{all_rows};
-
-    ghost Value = { SectionData };
-
-    ghost view = { λ s. section_of (all_rows (map rows_of s.held.now)) (key_data s.key) };
-
-    ghost invariant = { λ s. IsHeld s.held.now };
-}
-
-impl<'a, A: Allocator> Section<'a, A> {
-    ghost use Rattle.std.specs.Prelude.{◌≡◌, ◌<◌, ◌^◌, length};
-
-    /// The source file's path.
-    pub fn file(&self) -> &'a [u8]
-        ensures { result.now ≡ self.now.key.file }
-    {
-        self.key.file
-    }
-
-    /// The test's name.
-    pub fn test(&self) -> &'a [u8]
-        ensures { result.now ≡ self.now.key.test }
-    {
-        self.key.test
-    }
-
-    /// The functions, ascending by the bytes of their names. There are fewer than 2^64, as of branches and lines.
-    pub fn functions(&self) -> Functions<'a, A>
-        ensures value { result ≡ self.now.functions }
-        ensures few { length result < 2 ^ 64 }
-    {
-        Functions::of(self.held, self.key)
-    }
-
-    /// The branches, ascending by line, block and number.
-    pub fn branches(&self) -> Branches<'a, A>
-        ensures value { result ≡ self.now.branches }
-        ensures few { length result < 2 ^ 64 }
-    {
-        Branches::of(self.held, self.key)
-    }
-
-    /// The lines, ascending by number.
-    pub fn lines(&self) -> Lines<'a, A>
-        ensures value { result ≡ self.now.lines }
-        ensures few { length result < 2 ^ 64 }
-    {
-        Lines::of(self.held, self.key)
+        loop {
+            let next = next_of_file(&mut self.current);
+            if next.is_some() {
+                return next;
+            }
+            let (name, file) = self.files.next()?;
+            self.current = Some(FileSections::of(name.as_slice(), file));
+        }
     }
 }

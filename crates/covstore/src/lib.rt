@@ -5,8 +5,9 @@
 //! holds it, and needs no memory. Between the two the caller can make its own growths, and drop the plan where one is
 //! refused.
 //!
-//! This is the plain program: the store keeps the submissions in a list, and finds what is asked by passing over their
-//! rows.
+//! A store is nested ordered maps: for each file its tests, for each test its points, and for each point of a file how
+//! many tests have it and how many have it above 0; totals run along. `prepare` puts what is to come beside what is held,
+//! at the same places, and `commit` exchanges it.
 //!
 //! A sketch: a submission is held, and the counts of all lines are passed over.
 //!
@@ -26,19 +27,22 @@
 //! ```
 #![tactic(auto)]
 
-mod branches;
-mod clash;
+mod checksums;
 mod content;
-mod file_rows;
-mod functions;
-mod keys;
+mod file;
+mod items;
+mod kept;
 pub mod laws;
-mod lines;
-mod next;
+mod marks;
 mod plan;
+mod points;
 mod refuse;
-mod rows;
+mod section;
+mod slots;
+mod stop;
 mod store;
+mod sums;
+mod test;
 mod totals;
 mod values;
 

@@ -1,40 +1,36 @@
 //! What a store has made ready to hold.
 
 use crate::totals::Totals;
-use covline::Submission;
-use std::alloc::{Allocator, Global};
 use std::marker::Model;
 
-/// A submission that a store can take without further memory. Contracts see it, and the totals that stand when it is
-/// taken.
+/// The totals that stand when what a store has made ready is taken; the values themselves wait at their places in the store.
+/// Contracts see the totals.
 #[derive(Drop)]
-pub struct Plan<A: Allocator = Global> {
-    given: Submission<A>,
+pub struct Plan {
     after: Totals,
 }
 
-impl<A: Allocator> Model for Plan<A> {
+impl Model for Plan {
     ghost use Rattle.covstore.specs.Stored.{PlanData};
     ghost use Rattle.covstore.specs.Totals.{AreTotals};
 
     ghost Value = { PlanData };
 
-    ghost view = { λ a. record { given = a.given; after = a.after } };
+    ghost view = { λ p. record { after = p.after } };
 
-    ghost invariant = { λ a. AreTotals a.after };
+    ghost invariant = { λ p. AreTotals p.after };
 }
 
-impl<A: Allocator> Plan<A> {
+impl Plan {
     ghost use Rattle.std.specs.Prelude.{◌≡◌};
     ghost use Rattle.covstore.specs.Totals.{AreTotals};
 
-    /// The plan to hold this submission, after which these totals stand.
-    pub(crate) fn new(given: Submission<A>, after: Totals) -> Plan<A>
+    /// The plan after which these totals stand.
+    pub(crate) fn new(after: Totals) -> Plan
         requires { AreTotals after }
-        ensures given { result.given ≡ given }
-        ensures after { result.after ≡ after }
+        ensures { result.after ≡ after }
     {
-        Plan { given, after }
+        Plan { after }
     }
 
     /// The totals that stand after the commit. Takes no memory.
@@ -43,12 +39,5 @@ impl<A: Allocator> Plan<A> {
         ensures bounds { AreTotals result }
     {
         self.after
-    }
-
-    /// The submission.
-    pub(crate) fn submission(self) -> Submission<A>
-        ensures { result ≡ self.given }
-    {
-        self.given
     }
 }

@@ -1,46 +1,89 @@
 //! The store.
 
-use crate::clash::first_clash;
+ghost use Rattle.std.specs.Prelude.{◌≡◌, ◌+◌, ◌≤◌, OnOk};
+
 use crate::content::Sections;
+use crate::file::File;
 use crate::plan::Plan;
 use crate::refuse::Refuse;
-use crate::rows::{Sects, has_row_of_test};
-use crate::totals::{Totals, totals_of};
-use covline::{Memory, Submission};
+use crate::totals::Totals;
+use covline::{Item, Memory, Sect, Submission};
 use std::alloc::{Allocator, Global};
+use std::collections::BTreeMap;
 use std::marker::Model;
 
+/// A test of a file of which something is to come.
+#[derive(Drop)]
+pub(crate) struct Touched<A: Allocator> {
+    file: Vec<u8, A>,
+    test: Vec<u8, A>,
+}
+
+impl<A: Allocator + Copy> Touched<A> {
+    ghost use Rattle.std.specs.Prelude.{◌≡◌, ◌++◌, [], ◌∷◌, OnErr, OnOk};
+    ghost use Rattle.covstore.specs.MapsView.{touched_data};
+
+    /// Something is to come of this test too.
+    fn push(
+        touched: &mut Vec<Touched<A>, A>,
+        alloc: A,
+        file: &[u8],
+        test: &[u8],
+    ) -> Result<(), Memory>
+        ensures ok { OnOk result (touched_data touched.new.items ≡ touched_data touched.old.items ++ (file.now, test.now) ∷ []) }
+        ensures err { OnErr result (touched.new.items ≡ touched.old.items) }
+    {
+        let last = Touched {
+            file: Vec::from_slice(alloc, file)?,
+            test: Vec::from_slice(alloc, test)?,
+        };
+        touched.push(last)?;
+        Ok(())
+    }
+}
+
 /// The value of every line, function and branch at its file and test, over all submissions that are held, of which there
-/// are at most 1,048,576. Contracts see these values as sections, how many submissions there are, and for how many there
-/// is room.
+/// are at most 1,048,576. Contracts see these values as sections, how many submissions there are, and what the store keeps
+/// of the files, as they are and as they are to be.
 #[derive(Drop)]
 pub struct Store<A: Allocator = Global> {
-    held: Vec<Submission<A>, A>,
+    files: BTreeMap<Vec<u8, A>, File<A>, A>,
+    touched: Vec<Touched<A>, A>,
+    held: Totals,
+    coming: Totals,
+    members: u64,
 }
 
 impl<A: Allocator> Model for Store<A> {
-    ghost use Rattle.std.specs.Prelude.{length, map, vec_capacity};
-    ghost use Rattle.covline.specs.Row.{rows_of};
-    ghost use Rattle.covstore.specs.Content.{content_at};
-    ghost use Rattle.covstore.specs.Held.{IsHeld};
     ghost use Rattle.covstore.specs.Stored.{StoreData};
+    ghost use Rattle.covstore.specs.MapsView.{AreSettledBut, IsStore, files_coming, files_held, touched_data};
+    ghost use Rattle.covstore.specs.State.{sections_of};
 
     ghost Value = { StoreData };
 
-    ghost view = { λ a. record { sections = content_at (map rows_of a.held.items); members = length a.held.items; room = vec_capacity a.held } };
+    ghost view = { λ s. record { sections = sections_of (files_held (λ name. name.items) s.files.entries); members = s.members; held = files_held (λ name. name.items) s.files.entries; coming = files_coming (λ name. name.items) s.files.entries; after = s.coming } };
 
-    ghost invariant = { λ a. IsHeld a.held.items };
+    ghost invariant = { λ s. IsStore s.members s.held (files_held (λ name. name.items) s.files.entries) × AreSettledBut (λ name. name.items) (touched_data s.touched.items) s.files.entries };
 }
 
 impl<A: Allocator + Copy> Store<A> {
-    ghost use Rattle.std.specs.Prelude.{◌≡◌, ◌<◌, ◌++◌, [], ◌∷◌, IfOk, IfErr, None};
+    ghost use Rattle.std.specs.Prelude.{◌≡◌, ◌<◌, ◌++◌, [], ◌∷◌, map, true, IfOk, IfErr, None, OnOk};
+    ghost use Rattle.std.specs.Cmp.Lexicographic.{slice_cmp};
+    ghost use Rattle.std.specs.Option.{is_some};
+    ghost use Rattle.std.specs.Ordering.{nat_cmp};
     ghost use Rattle.std.specs.Str.{bytes_eq};
-    ghost use Rattle.std.specs.List.{list_any};
-    ghost use Rattle.covline.specs.Lawful.{IsLawful};
-    ghost use Rattle.covline.specs.Row.{SubmissionData, rows_of};
+    ghost use Rattle.std.specs.List.{flat_map, list_any};
+    ghost use Rattle.covline.specs.Row.{SubmissionData, item_data, rows_of, rows_of_sect};
+    ghost use Rattle.covline.specs.SectView.{sect_data};
     ghost use Rattle.covstore.specs.Content.{content_at};
+    ghost use Rattle.covstore.specs.Stored.{AddsRows, ClashesWith, HasRoomForRows, IsPlanOf, KeepsState, SameContent, SameHeld, StandsFor, IsRefusedAt, most_members};
+    ghost use Rattle.covstore.specs.Puts.{value_of};
+    ghost use Rattle.covstore.specs.SectionAdds.{HasPlace, rows_of_items};
+    ghost use Rattle.covstore.specs.StoreHeld.{IsKept};
     ghost use Rattle.covstore.specs.RefuseView.{refuse_data};
-    ghost use Rattle.covstore.specs.Stored.{SameContent, StandsFor, IsPlanOf, IsRefusedAt, most_members};
+    ghost use Rattle.covstore.specs.MapsView.{IsStore};
+    ghost use Rattle.covstore.specs.State.{sections_of, totals_in};
+    ghost use Rattle.covstore.specs.FileView.{with_file};
     ghost use Rattle.covstore.specs.Table.{Table, all_rows, clash_at};
     ghost use Rattle.covstore.specs.Totals.{AreTotals, totals_of};
 
@@ -48,8 +91,20 @@ impl<A: Allocator + Copy> Store<A> {
     pub fn new(alloc: A) -> Store<A>
         ensures { StandsFor result [] }
     {
+        let none = Totals {
+            lf: 0,
+            lh: 0,
+            ff: 0,
+            fh: 0,
+            bf: 0,
+            bh: 0,
+        };
         Store {
-            held: Vec::new(alloc),
+            files: BTreeMap::new(alloc),
+            touched: Vec::new(alloc),
+            held: none,
+            coming: none,
+            members: 0,
         }
     }
 
@@ -57,7 +112,7 @@ impl<A: Allocator + Copy> Store<A> {
     /// was refused. The content stays as it is. What a plan holds is the store's own business: callers know of it that the
     /// submission clashes with no table that the store stands for, and the totals behind it, and that it is a plan of this
     /// store as it is left here, which `commit` asks for.
-    pub fn prepare(&mut self, alloc: A, submission: &Submission<A>) -> Result<Plan<A>, Refuse<A>>
+    pub fn prepare(&mut self, alloc: A, submission: &Submission<A>) -> Result<Plan, Refuse<A>>
         requires { self.old.members < most_members }
         ensures content { SameContent self.old self.new }
         ensures planned { IfOk result (λ plan. IsPlanOf self.new submission.now plan) }
@@ -65,58 +120,153 @@ impl<A: Allocator + Copy> Store<A> {
         ensures agrees { IfOk result (λ _. (table : Table) → StandsFor self.old table → clash_at table submission.now ≡ None) }
         ensures refused { IfErr result (λ e. (table : Table) → StandsFor self.old table → IsRefusedAt table submission.now (refuse_data e)) }
     {
-        if let Some(clash) = first_clash(self.held.as_slice(), submission) {
-            let refusal = clash.told(alloc)?;
-            return Err(refusal);
+        // Tells that few enough rows are held.
+        self.kept();
+        // What a plan left that was dropped.
+        self.forget();
+        let added = self.add_all(alloc, submission.sects());
+        match added {
+            Ok(()) => Ok(Plan::new(self.after())),
+            Err(refusal) => {
+                self.forget();
+                Err(refusal)
+            }
         }
-        let given = self.make_room(alloc, submission)?;
-        Ok(self.plan_of(given))
-    }
-
-    /// A copy of the submission, and room for it.
-    fn make_room(&mut self, alloc: A, submission: &Submission<A>) -> Result<Submission<A>, Memory>
-        ensures copy { IfOk result (λ s. s ≡ submission.now) }
-        ensures room { IfOk result (λ _. self.new.members < self.new.room) }
-        ensures content { SameContent self.old self.new }
-    {
-        let given = submission.copy(alloc)?;
-        self.held.reserve(1)?;
-        Ok(given)
-    }
-
-    /// The plan to hold this submission, for which there is room and which doesn't clash: held for as long as the totals
-    /// are counted.
-    fn plan_of(&mut self, given: Submission<A>) -> Plan<A>
-        requires room { self.old.members < self.old.room }
-        requires few { self.old.members < most_members }
-        requires lawful { IsLawful given }
-        requires agrees { (table : Table) → StandsFor self.old table → clash_at table given ≡ None }
-        ensures same { self.new ≡ self.old }
-        ensures given { result.given ≡ given }
-        ensures after { (table : Table) → StandsFor self.old table → result.after ≡ totals_of (content_at (table ++ rows_of given ∷ [])) }
-    {
-        self.held.push_reserved(given);
-        let after = totals_of(self.held.as_slice());
-        let Some(given) = self.held.pop() else {
-            unreachable!()
-        };
-        Plan::new(given, after)
     }
 
     /// Holds the planned submission too, where the store is as `prepare` left it. Takes no memory.
-    pub fn commit(&mut self, plan: Plan<A>)
+    pub fn commit(&mut self, plan: Plan)
         requires { (s : SubmissionData) × IsPlanOf self.old s plan }
         ensures stands { (s : SubmissionData) (table : Table) → IsPlanOf self.old s plan → StandsFor self.old table → StandsFor self.new (table ++ rows_of s ∷ []) }
     {
-        self.held.push_reserved(plan.submission());
+        while let Some(touched) = self.touched.pop() {
+            if let Some(file) = self.files.get_mut(touched.file.as_slice()) {
+                file.take(touched.test.as_slice());
+            }
+        }
+        self.coming = plan.after();
+        self.held = self.coming;
+        self.members += 1;
     }
 
-    /// Whether some section is of this test, and so some row: found by one pass over what is held. Takes no memory.
+    /// The totals of what is held, which is the state of the rows of a table.
+    fn kept(&self) -> Totals
+        ensures { IsKept self.now result }
+    {
+        self.held
+    }
+
+    /// The totals as they are to be.
+    fn after(&self) -> Totals
+        ensures { result ≡ self.now.after }
+    {
+        self.coming
+    }
+
+    /// Nothing is to come.
+    fn forget(&mut self)
+        ensures sections { self.new.sections ≡ self.old.sections }
+        ensures members { self.new.members ≡ self.old.members }
+        ensures held { self.new.held ≡ self.old.held }
+        ensures coming { self.new.coming ≡ self.old.held }
+        ensures after { self.new.after ≡ totals_in self.old.held }
+    {
+        while let Some(touched) = self.touched.pop() {
+            if let Some(file) = self.files.get_mut(touched.file.as_slice()) {
+                file.forget(touched.test.as_slice());
+            }
+        }
+        self.coming = self.held;
+    }
+
+    /// Takes the sections into what is to come, in order, up to the first that clashes.
+    fn add_all(&mut self, alloc: A, sects: &[Sect<A>]) -> Result<(), Refuse<A>>
+        requires { HasRoomForRows (flat_map rows_of_sect (map sect_data sects.now)) self.old }
+        ensures held { SameHeld self.old self.new }
+        ensures ok { OnOk result (AddsRows (flat_map rows_of_sect (map sect_data sects.now)) self.old self.new) }
+        ensures clash { IfErr result (λ e. ClashesWith (flat_map rows_of_sect (map sect_data sects.now)) self.old (refuse_data e)) }
+    {
+        for sect in sects {
+            self.add_section(alloc, sect)?;
+        }
+        Ok(())
+    }
+
+    /// Takes the items of a section.
+    fn add_section(&mut self, alloc: A, sect: &Sect<A>) -> Result<(), Refuse<A>>
+        requires { HasRoomForRows (rows_of_sect (sect_data sect.now)) self.old }
+        ensures held { SameHeld self.old self.new }
+        ensures ok { OnOk result (AddsRows (rows_of_sect (sect_data sect.now)) self.old self.new) }
+        ensures clash { IfErr result (λ e. ClashesWith (rows_of_sect (sect_data sect.now)) self.old (refuse_data e)) }
+    {
+        let items = sect.items.get();
+        if items.is_empty() {
+            return Ok(());
+        }
+        let file = sect.file.get();
+        let test = sect.test.get();
+        self.open(alloc, file)?;
+        self.open_test(alloc, file, test)?;
+        self.add_items(alloc, file, test, items)
+    }
+
+    /// Sees to it that the file is there.
+    fn open(&mut self, alloc: A, file: &[u8]) -> Result<(), Memory>
+        ensures held { SameHeld self.old self.new }
+        ensures coming { OnOk result (self.new.coming ≡ with_file file.now self.old.coming) }
+        ensures after { OnOk result (self.new.after ≡ self.old.after) }
+    {
+        if self.files.contains_key(file) {
+            return Ok(());
+        }
+        let name = Vec::from_slice(alloc, file)?;
+        self.files.insert(name, File::new(alloc))?;
+        Ok(())
+    }
+
+    /// Sees to it that the test of a file is there.
+    fn open_test(&mut self, alloc: A, file: &[u8], test: &[u8]) -> Result<(), Memory>
+        requires { is_some (value_of (slice_cmp nat_cmp) file.now self.old.coming) ≡ true }
+        ensures held { SameHeld self.old self.new }
+        ensures coming { OnOk result (KeepsState self.old.coming self.new.coming) }
+        ensures place { OnOk result (HasPlace file.now test.now self.new.coming) }
+        ensures after { OnOk result (self.new.after ≡ self.old.after) }
+    {
+        match self.files.get_mut(file) {
+            Some(opened) => opened.open(alloc, test),
+            None => Ok(()),
+        }
+    }
+
+    /// Takes the items of a test that is there. Of this test something is to come then.
+    fn add_items(
+        &mut self,
+        alloc: A,
+        file: &[u8],
+        test: &[u8],
+        items: &[Item<A>],
+    ) -> Result<(), Refuse<A>>
+        requires room { HasRoomForRows (rows_of_items file.now test.now (map item_data items.now)) self.old }
+        requires place { HasPlace file.now test.now self.old.coming }
+        ensures held { SameHeld self.old self.new }
+        ensures ok { OnOk result (AddsRows (rows_of_items file.now test.now (map item_data items.now)) self.old self.new) }
+        ensures clash { IfErr result (λ e. ClashesWith (rows_of_items file.now test.now (map item_data items.now)) self.old (refuse_data e)) }
+    {
+        Touched::push(&mut self.touched, alloc, file, test)?;
+        let Some(opened) = self.files.get_mut(file) else {
+            return Ok(());
+        };
+        let totals = opened.exchange(alloc, file, test, items)?;
+        self.coming = self.coming.exchanged(totals.0, totals.1);
+        Ok(())
+    }
+
+    /// Whether some section is of this test, and so some row: found by one look-up in each file. Takes no memory.
     pub fn has_test(&self, test: &[u8]) -> bool
         ensures value { result ≡ list_any (λ s. bytes_eq s.key.test test.now) self.now.sections }
         ensures rows { (table : Table) → StandsFor self.now table → result ≡ list_any (λ row. bytes_eq row.test test.now) (all_rows table) }
     {
-        Sects::of(self.held.as_slice()).any(|sect| has_row_of_test(sect, test))
+        self.files.values().any(|file| file.has_test(test))
     }
 
     /// The totals over all files and tests. Takes no memory.
@@ -124,13 +274,13 @@ impl<A: Allocator + Copy> Store<A> {
         ensures value { result ≡ totals_of self.now.sections }
         ensures bounds { AreTotals result }
     {
-        totals_of(self.held.as_slice())
+        self.held
     }
 
     /// The sections of the files and tests with a row, ascending by file and then by test. Takes no memory.
     pub fn sections(&self) -> Sections<'_, A>
         ensures { result ≡ self.now.sections }
     {
-        Sections::of(self.held.as_slice())
+        Sections::of(self.files.iter())
     }
 }

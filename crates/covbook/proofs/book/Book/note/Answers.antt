@@ -1,6 +1,11 @@
 use Rattle.covbook.proofs.Runs.{noted_book}
 use Rattle.covbook.proofs.book.Book.note.Goals as goal
 
-pub invariant_of-self-2 : goal.invariant_of-self-2
-invariant_of-self-2 g c =
-    noted_book c.self.inside.store c.self.inside.accepted c.self.inside.entries c.args.self.now c.append.new.self _ c.self.invariant c.self.view_is c.requires.room c.in_ok-receipt.ensures.entry c.requires.next c.requires.still
+pub invariant_of-self : goal.invariant_of-self
+invariant_of-self g c =
+    let book = c.self.inside in
+    noted_book book.store book.accepted book.history.room book.history.entries c.args.self.now c.append.new.self.entries _ c.self.invariant c.self.view_is c.requires.room c.requires.next c.requires.still
+    c.append.ensures
+
+pub returns-clause-legal : goal.returns-clause-legal
+returns-clause-legal g c = (invariant_of-self g c).legal

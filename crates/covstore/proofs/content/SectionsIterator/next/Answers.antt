@@ -1,23 +1,24 @@
-use Rattle.std.proofs.Common.{◌≡◌, [], map, option_map, refl, sym, ◌∙◌}
-use Rattle.covline.specs.Row.{rows_of}
-use Rattle.covstore.specs.Content.{section_of}
-use Rattle.covstore.specs.KeyView.{key_data}
-use Rattle.covstore.specs.Table.{all_rows}
-use Rattle.covstore.specs.Value.{key_of_row}
-use Rattle.covstore.proofs.Left.{left_more, left_none, goes_on}
-use Rattle.covstore.proofs.Orders.{keys_order}
+use Rattle.std.proofs.Common.{Vec, ℕ, List, sym, ap, ◌∙◌, subst}
+use Rattle.std.specs.List.{AllByRecursion}
+use Rattle.covstore.specs.FileView.{file_held}
+use Rattle.covstore.specs.State.{sections_of_file}
+use Rattle.covstore.specs.SeenView.{IsFewOf, sections_left}
+use Rattle.covstore.proofs.SeenTests.{all_of_next, next_at_hand, none_at_hand}
 use Rattle.covstore.proofs.content.SectionsIterator.next.Goals as goal
 
-pub returns-in_err-key-clause-steps : goal.returns-in_err-key-clause-steps
-returns-in_err-key-clause-steps g c =
-    let rows = all_rows (map rows_of c.self.inside.held.now) in
-    let none : c.args.self.now ≡ [] = sym c.self.view_is ∙ left_none keys_order (section_of rows) (option_map key_data c.self.inside.last) (map key_of_row rows) c.in_err-key.ensures in
-    rw (c.from_residual.ensures, none) (refl, refl)
+pub of-requires : goal.of-requires
+of-requires g c =
+    let name = λ (key : Vec ℕ g.row.A.Denot). key.items in
+    subst (λ (n : List ℕ). AllByRecursion IsFewOf (sections_of_file (n, file_held c.in_ok-name.file.now))) (sym c.as_slice.ensures.value)
+    (all_of_next IsFewOf name c.loop-next.self-inside.current c.loop-next.self-inside.files (sections_left name c.self.inside.current c.self.inside.files) c.in_ok-name.name.now c.in_ok-name.file.now c.next.new.self
+    c.in_ok-name.ensures.steps c.loop-next.invariant c.self.invariant)
 
-pub returns-clause-steps : goal.returns-clause-steps
-returns-clause-steps g c =
-    let rows = all_rows (map rows_of c.self.inside.held.now) in
-    sym c.self.view_is ∙ left_more keys_order (section_of rows) (option_map key_data c.self.inside.last) (map key_of_row rows) (key_data c.in_ok-key.key) c.in_ok-key.ensures
-
-pub returns-clause-goes : goal.returns-clause-goes
-returns-clause-goes g c = goes_on _ c.args.self.now _ _ _ (λ s. tt) (returns-clause-steps g c)
+pub loop-next-preserved : goal.loop-next-preserved
+loop-next-preserved g c =
+    let name = λ (key : Vec ℕ g.row.A.Denot). key.items in
+    let now = c.loop-next.self-inside in
+    let file = c.in_ok-name.file.now in
+    next_at_hand name now.current now.files (sections_left name c.self.inside.current c.self.inside.files) c.in_ok-name.name.now file c.next.new.self c.of.result
+    (none_at_hand c.next_of_file-next.result now.current c.next_of_file-next.new.current c.is_some.result c.is_some.ensures c.if-is_some.false c.next_of_file-next.ensures)
+    c.in_ok-name.ensures.steps c.loop-next.invariant
+    (c.of.ensures ∙ ap (λ (n : List ℕ). sections_of_file (n, file_held file)) c.as_slice.ensures.value)

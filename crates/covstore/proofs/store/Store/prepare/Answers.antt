@@ -1,47 +1,55 @@
-use Rattle.std.proofs.Common.{[], ◌∷◌, ◌++◌, sym, ap, ◌∙◌, subst, arith}
-use Rattle.std.specs.Prelude.{Some, None, vec_capacity}
-use Rattle.covline.specs.Row.{SubmissionData, rows_of}
-use Rattle.covstore.specs.ClashView.{clash_data}
-use Rattle.covstore.specs.Content.{content_at}
-use Rattle.covstore.specs.Stored.{StoreData, IsPlanOf, IsRefusedAt}
-use Rattle.covstore.specs.Table.{clash_at}
-use Rattle.covstore.specs.Totals.{totals_of}
-use Rattle.covstore.proofs.Stands.{told_too, stands_before, stands_after}
+use Rattle.std.proofs.Common.{List, sym, ◌∙◌, subst}
+use Rattle.std.specs.List.{flat_map}
+use Rattle.covline.specs.Row.{SectData, rows_of_sect}
+use Rattle.covstore.specs.Stored.{AddsRows, ClashesWith, HasRoomForRows}
+use Rattle.covstore.specs.RefuseView.{refuse_data}
+use Rattle.covstore.specs.Totals.{AreTotals}
+use Rattle.covstore.proofs.Prepares.{is_planned, later_bounds, planned_agrees, planned_totals, refused_too, room_for_submission}
 use Rattle.covstore.proofs.store.Store.prepare.Goals as goal
 
-pub returns-in-Some-clause-refused : goal.returns-in-Some-clause-refused
-returns-in-Some-clause-refused g c = λ table stands.
-    let s = c.args.submission.now in
-    let clash = clash_data c.in-Some.clash in
-    subst (IsRefusedAt table s) (sym c.in_ok-refusal.ensures)
-    (told_too c.self.inside.held.items (vec_capacity c.self.inside.held) c.args.self.now c.self.view_is c.self.invariant s c.as_slice.result.now c.as_slice.ensures.value (Some clash) c.in-Some.ensures.told table stands)
+pub add_all-added-requires : goal.add_all-added-requires
+add_all-added-requires g c =
+    let settled = c.forget.ensures in
+    subst (λ (sects : List SectData). HasRoomForRows (flat_map rows_of_sect sects) c.forget.new.self) (sym c.sects.ensures.sects)
+    (room_for_submission c.args.self.now c.kept.result c.kept.ensures c.requires c.args.submission.now c.sects.ensures.lawful c.forget.new.self settled.sections settled.members settled.held settled.coming settled.after)
 
-pub plan_of-requires-clause-agrees : goal.plan_of-requires-clause-agrees
-plan_of-requires-clause-agrees g c = λ table stands.
-    let s = c.args.submission.now in
-    ap (clash_at table) c.in_ok-given.ensures.copy
-    ∙ told_too c.self.inside.held.items (vec_capacity c.self.inside.held) c.args.self.now c.self.view_is c.self.invariant s c.as_slice.result.now c.as_slice.ensures.value None c.in_default.ensures.told table
-    (stands_before c.args.self.now c.make_room.new.self table c.make_room.ensures.content stands)
+pub new-requires : goal.new-requires
+new-requires g c =
+    let settled = c.forget.ensures in
+    let later = c.add_all-added.new.self in
+    let added = subst (λ (sects : List SectData). AddsRows (flat_map rows_of_sect sects) c.forget.new.self later) c.sects.ensures.sects c.in-Ok.ensures.ok in
+    subst AreTotals (sym c.after.ensures)
+    (later_bounds c.args.self.now c.kept.result c.kept.ensures c.requires c.args.submission.now c.sects.ensures.lawful c.forget.new.self settled.sections settled.members settled.held settled.coming settled.after later c.add_all-added.ensures.held added)
 
-pub returns-clause-agrees : goal.returns-clause-agrees
-returns-clause-agrees g c = λ table stands.
-    told_too c.self.inside.held.items (vec_capacity c.self.inside.held) c.args.self.now c.self.view_is c.self.invariant c.args.submission.now c.as_slice.result.now c.as_slice.ensures.value None c.in_default.ensures.told table stands
+pub returns-in-Ok-clause-planned : goal.returns-in-Ok-clause-planned
+returns-in-Ok-clause-planned g c =
+    let settled = c.forget.ensures in
+    let later = c.add_all-added.new.self in
+    let added = subst (λ (sects : List SectData). AddsRows (flat_map rows_of_sect sects) c.forget.new.self later) c.sects.ensures.sects c.in-Ok.ensures.ok in
+    is_planned c.args.self.now c.kept.result c.kept.ensures c.requires c.args.submission.now c.sects.ensures.lawful c.forget.new.self settled.sections settled.members settled.held settled.coming settled.after later c.add_all-added.ensures.held added
+    c.new.result (c.new.ensures ∙ c.after.ensures)
 
-pub returns-clause-planned : goal.returns-clause-planned
-returns-clause-planned g c =
-    let s = c.args.submission.now in
-    let same = c.make_room.ensures.content in
-    let is : IsPlanOf c.make_room.new.self s c.plan_of.result = record {
-      given = c.plan_of.ensures.given ∙ c.in_ok-given.ensures.copy;
-      lawful = c.first_clash.ensures.lawful;
-      agrees = λ table stands. returns-clause-agrees g c table (stands_before c.args.self.now c.make_room.new.self table same stands);
-      after = λ table stands. c.plan_of.ensures.after table stands ∙ ap (λ (x : SubmissionData). totals_of (content_at (table ++ rows_of x ∷ []))) c.in_ok-given.ensures.copy;
-      few = omega (arith, same.members, c.requires);
-      room = c.in_ok-given.ensures.room;
-    } in
-    subst (λ (store : StoreData). IsPlanOf store s c.plan_of.result) (sym c.plan_of.ensures.same) is
+pub returns-in-Ok-clause-after : goal.returns-in-Ok-clause-after
+returns-in-Ok-clause-after g c = λ table stands.
+    let settled = c.forget.ensures in
+    let later = c.add_all-added.new.self in
+    let added = subst (λ (sects : List SectData). AddsRows (flat_map rows_of_sect sects) c.forget.new.self later) c.sects.ensures.sects c.in-Ok.ensures.ok in
+    c.new.ensures ∙ c.after.ensures
+    ∙ planned_totals c.args.self.now c.kept.result c.kept.ensures c.requires c.args.submission.now c.sects.ensures.lawful c.forget.new.self settled.sections settled.members settled.held settled.coming settled.after later c.add_all-added.ensures.held added
+    table stands
 
-pub returns-clause-after : goal.returns-clause-after
-returns-clause-after g c = λ table stands.
-    c.plan_of.ensures.after table (stands_after c.args.self.now c.make_room.new.self table c.make_room.ensures.content stands)
-    ∙ ap (λ (s : SubmissionData). totals_of (content_at (table ++ rows_of s ∷ []))) c.in_ok-given.ensures.copy
+pub returns-in-Ok-clause-agrees : goal.returns-in-Ok-clause-agrees
+returns-in-Ok-clause-agrees g c = λ table stands.
+    let settled = c.forget.ensures in
+    let later = c.add_all-added.new.self in
+    let added = subst (λ (sects : List SectData). AddsRows (flat_map rows_of_sect sects) c.forget.new.self later) c.sects.ensures.sects c.in-Ok.ensures.ok in
+    planned_agrees c.args.self.now c.kept.result c.kept.ensures c.requires c.args.submission.now c.sects.ensures.lawful c.forget.new.self settled.sections settled.members settled.held settled.coming settled.after later c.add_all-added.ensures.held added
+    table stands
+
+pub returns-in-Err-clause-refused : goal.returns-in-Err-clause-refused
+returns-in-Err-clause-refused g c = λ table stands.
+    let settled = c.forget.ensures in
+    let later = c.add_all-added.new.self in
+    let clash = subst (λ (sects : List SectData). ClashesWith (flat_map rows_of_sect sects) c.forget.new.self (refuse_data c.in-Err.refusal)) c.sects.ensures.sects c.in-Err.ensures.clash in
+    refused_too c.args.self.now c.kept.result c.kept.ensures c.requires c.args.submission.now c.sects.ensures.lawful c.forget.new.self settled.sections settled.members settled.held settled.coming settled.after later c.add_all-added.ensures.held
+    (refuse_data c.in-Err.refusal) clash table stands

@@ -1,0 +1,88 @@
+//! The history of a book, and the room that it has.
+
+use crate::entry::{Entry, MOST_ENTRIES, Receipt};
+use covline::Memory;
+use std::alloc::Allocator;
+use std::marker::Model;
+
+/// The entries of a book. Contracts see what they say, and for how many of them there is room.
+#[derive(Drop)]
+pub(crate) struct History<A: Allocator> {
+    entries: Vec<Entry<A>, A>,
+}
+
+impl<A: Allocator> Model for History<A> {
+    ghost use Rattle.std.specs.Prelude.{map, vec_capacity};
+    ghost use Rattle.covbook.specs.EntryView.{entry_data};
+    ghost use Rattle.covbook.specs.Held.{HistoryData};
+
+    ghost Value = { HistoryData };
+
+    ghost view = { λ a. record { entries = map entry_data a.entries.items; room = vec_capacity a.entries } };
+}
+
+impl<A: Allocator> History<A> {
+    ghost use Rattle.std.specs.Prelude.{◌≡◌, ◌↔◌, ◌<◌, ◌++◌, [], ◌∷◌, length, IsTrue, OnOk, map};
+    ghost use Rattle.covbook.specs.EntryView.{entry_data};
+    ghost use Rattle.covbook.specs.Step.{most_entries};
+
+    /// A history without entries. Takes no memory.
+    pub(crate) fn new(alloc: A) -> History<A>
+        ensures { result.entries ≡ [] }
+    {
+        History {
+            entries: Vec::new(alloc),
+        }
+    }
+
+    /// The entries in order.
+    pub(crate) fn get(&self) -> &[Entry<A>]
+        ensures { map entry_data result.now ≡ self.now.entries }
+    {
+        self.entries.as_slice()
+    }
+
+    /// How many entries there are, which is the place of the next one.
+    fn place(&self) -> u64
+        ensures { result ≡ length self.now.entries }
+    {
+        self.get().len() as u64
+    }
+
+    /// Whether it takes no more.
+    pub(crate) fn is_full(&self) -> bool
+        ensures { IsTrue result ↔ (length self.now.entries ≡ most_entries) }
+    {
+        self.place() == MOST_ENTRIES
+    }
+
+    /// Makes room for one more entry.
+    pub(crate) fn make_room(&mut self) -> Result<(), Memory>
+        ensures entries { self.new.entries ≡ self.old.entries }
+        ensures room { OnOk result (length self.new.entries < self.new.room) }
+    {
+        self.entries.reserve(1)?;
+        Ok(())
+    }
+
+    /// Appends an entry, for which there is room. Takes no memory.
+    pub(crate) fn append(&mut self, entry: Entry<A>)
+        requires { length self.old.entries < self.old.room }
+        ensures { self.new.entries ≡ self.old.entries ++ entry_data entry ∷ [] }
+    {
+        self.entries.push_reserved(entry);
+    }
+}
+
+impl<A: Allocator + Copy> History<A> {
+    ghost use Rattle.std.specs.Prelude.{◌≡◌, length, IfOk};
+    ghost use Rattle.covbook.specs.EntryView.{entry_data, receipt_data};
+    ghost use Rattle.covbook.specs.Step.{receipt_of};
+
+    /// The receipt of an entry that comes next.
+    pub(crate) fn receipt(&self, alloc: A, entry: &Entry<A>) -> Result<Receipt<A>, Memory>
+        ensures { IfOk result (λ r. receipt_data r ≡ receipt_of (length self.now.entries) (entry_data entry.now)) }
+    {
+        entry.receipt(alloc, self.place())
+    }
+}

@@ -1,0 +1,142 @@
+-- What is kept for a file has no more points than there are rows: each is the point of some row, and stands once.
+use Rattle.std.proofs.Common.{◌≡◌, ℕ, ◌≤◌, Bool, Option, Some, List, [], ◌∷◌, length, filter, map, refl, sym, ap, ◌∙◌, subst, inl, inr, ⊎_elim, arith}
+use Rattle.std.specs.Cmp.{IsTotalOrder}
+use Rattle.std.specs.Cmp.Lexicographic.{slice_cmp}
+use Rattle.std.specs.declared.cmp.Ordering.{Ordering}
+use Rattle.std.specs.declared.cmp.Ordering.TheVariants.{Less}
+use Rattle.std.specs.List.{flat_map}
+use Rattle.std.specs.List.Sorted.{IsStrictlySortedBy}
+use Rattle.std.specs.Ordering.{nat_cmp}
+use Rattle.std.proofs.lemmas.Cmp.{tied_itself}
+use Rattle.std.proofs.lemmas.List.{length-map}
+use Rattle.covline.specs.Points.{BranchPoint, line_point, func_point, branch_point}
+use Rattle.covline.specs.Row.{ItemData, Row}
+use Rattle.covstore.specs.declared.sums.FunctionSum.{FunctionSum}
+use Rattle.covstore.specs.declared.sums.LineSum.{LineSum}
+use Rattle.covstore.specs.declared.sums.Taken.{Taken}
+use Rattle.covstore.specs.declared.sums.Tests.{Tests}
+use Rattle.covstore.specs.Ascending.{ascending}
+use Rattle.covstore.specs.Counts.{AreCounts}
+use Rattle.covstore.specs.Puts.{value_of}
+use Rattle.covstore.specs.State.{FileData, IsStateOf, IsWholeFile, points_in, tests_in}
+use Rattle.covstore.specs.Sums.{TestData, branch_sum, function_sum, line_sum, test_of}
+use Rattle.covstore.specs.Value.{Key, branches_in, has_key, items_at, lines_in, names_in}
+use Rattle.covstore.proofs.Ascend.{IsExactOrder, In-ascending, In-to_ascending, ascending_sorted, length-ascending}
+use Rattle.covstore.proofs.ContentsLists.{In-flat, In-unfilter, In-unflat}
+use Rattle.covstore.proofs.CountsFound.{points_kept, points_of, sorted_keys}
+use Rattle.covstore.proofs.Few.{few_parts, one_branch, one_function, one_line}
+use Rattle.covstore.proofs.Members.{In, All-in, In-unmap}
+use Rattle.covstore.proofs.Orders.{branches_order, lines_order, names_order}
+use Rattle.covstore.proofs.Puts.{pair_in, value_of_pair}
+use Rattle.covstore.proofs.StateSections.{points_there}
+
+-- ---- ascending lists, one within the other
+
+not_itself : {X : Type 0} {cmp : X → X → Ordering} → IsTotalOrder cmp → (x : X) → cmp x x ≡ Less → ⊥
+not_itself {X} {cmp} t x e = let i = tied_itself t x in cc
+
+-- a member behind the first isn't the first
+not_first : {X : Type 0} {cmp : X → X → Ordering} → IsTotalOrder cmp → (y z : X) (ys : List X) → cmp y z ≡ Less → In z (y ∷ ys) → In z ys
+not_first {X} {cmp} t y z ys less (inl same) = absurd (not_itself t y (subst (λ (w : X). cmp y w ≡ Less) (sym same) less))
+not_first t y z ys less (inr i) = i
+
+pub length-within : {X : Type 0} {cmp : X → X → Ordering} → IsTotalOrder cmp → (xs ys : List X) → IsStrictlySortedBy cmp xs → IsStrictlySortedBy cmp ys → ((z : X) → In z xs → In z ys)
+    → length xs ≤ length ys
+unfolding IsStrictlySortedBy
+length-within t [] ys sorted ordered within = omega arith
+length-within t (x ∷ xs) [] sorted ordered within = absurd (within x (inl refl))
+length-within {X} {cmp} t (x ∷ xs) (y ∷ ys) sorted ordered within =
+    ⊎_elim {C = length (x ∷ xs) ≤ length (y ∷ ys)}
+    (λ (same : y ≡ x).
+    let later : (z : X) → In z xs → In z ys =
+    λ z i. not_first t y z ys (subst (λ (w : X). cmp w z ≡ Less) (sym same) (All-in (λ (w : X). cmp x w ≡ Less) xs z sorted.0 i)) (within z (inr i)) in
+    omega (arith, length-within t xs ys sorted.1 ordered.1 later))
+    (λ (there : In x ys).
+    let before : cmp y x ≡ Less = All-in (λ (w : X). cmp y w ≡ Less) ys x ordered.0 there in
+    let later : (z : X) → In z (x ∷ xs) → In z ys =
+    λ z i. not_first t y z ys
+    (⊎_elim {C = cmp y z ≡ Less} (λ (same : x ≡ z). subst (λ (w : X). cmp y w ≡ Less) same before)
+    (λ (behind : In z xs). t.trans y x z before (All-in (λ (w : X). cmp x w ≡ Less) xs z sorted.0 behind)) i) (within z i) in
+    omega (arith, length-within t (x ∷ xs) ys sorted ordered.1 later))
+    (within x (inl refl))
+
+-- ---- the points of one kind
+
+-- numbers kept for points that are all among others are no more than these
+kept_within : {K V : Type 0} {cmp : K → K → Ordering} (o : IsExactOrder cmp) {is_above : V → Bool} (tests : List (List (K × V))) (counts : List (K × Tests)) → AreCounts cmp is_above tests counts → (all : List K)
+    → ((key : K) → In key (flat_map points_of tests) → In key all) → length counts ≤ length all
+kept_within {K} {V} {cmp} o tests counts are all within =
+    let own : (key : K) → In key (points_of counts) → In key (ascending cmp all) =
+    λ key i. In-to_ascending o.exact key all
+    (within key (In-ascending o.exact key (flat_map points_of tests) (subst (λ (keys : List K). In key keys) (points_kept o tests counts are) i))) in
+    omega (
+      arith,
+      length-map counts (λ (pair : K × Tests). pair.0),
+      length-ascending cmp all,
+      length-within o.total (points_of counts) (ascending cmp all) (sorted_keys cmp counts are.ascending) (ascending_sorted o.total all) own,
+    )
+
+module _ (rows : List Row) (files : List (List ℕ × FileData)) (state : IsStateOf rows files) (name : List ℕ) (file : FileData) (there : value_of (slice_cmp nat_cmp) name files ≡ Some file) where
+  its_whole : IsWholeFile file
+  its_whole = All-in (λ (pair : List ℕ × FileData). IsWholeFile pair.1) files (name, file) state.whole (pair_in names_order name file files there)
+
+  -- a test of the file is what the items of some key add up to
+  test_sums : (test : TestData) → In test (tests_in file) → (key : Key) × (test ≡ test_of (items_at key rows))
+  test_sums test i =
+      let pair = In-unmap (λ (pair : List ℕ × TestData). pair.1) file.tests test i in
+      let key : Key = record { file = name; test = pair.0.0 } in (
+        key,
+        sym pair.2 ∙ sym (points_there file pair.0.0 pair.0.1 (value_of_pair names_order pair.0.0 pair.0.1 file.tests its_whole.ascending pair.1))
+            ∙ ap (λ (kept : Option FileData). points_in kept pair.0.0) (sym there) ∙ state.points key,
+      )
+
+  -- an item of a key is that of a row
+  row_of : {K : Type 0} (point : ItemData → List K) (key : Key) (k : K) → In k (flat_map point (items_at key rows)) → In k (flat_map (λ row. point row.item) rows)
+  row_of {K} point key k i =
+      let item = In-unflat point (items_at key rows) k i in
+      let row = In-unmap (λ (r : Row). r.item) (filter (has_key key) rows) item.0 item.1 in
+      let own = In-unfilter (has_key key) rows row.0 row.1 in
+      In-flat (λ (r : Row). point r.item) rows row.0 k own.0 (subst (λ (it : ItemData). In k (point it)) (sym row.2) item.2)
+
+  few_kept : {K V : Type 0} {cmp : K → K → Ordering} (o : IsExactOrder cmp) {is_above : V → Bool} (part : TestData → List (K × V)) (point : ItemData → List K) (counts : List (K × Tests))
+      → ((items : List ItemData) (k : K) → In k (points_of (part (test_of items))) → In k (flat_map point items)) → ((item : ItemData) → length (point item) ≤ 1)
+      → AreCounts cmp is_above (map part (tests_in file)) counts → length counts ≤ length rows
+  few_kept {K} {V} o part point counts known one are =
+      let all = flat_map (λ (row : Row). point row.item) rows in
+      let within : (k : K) → In k (flat_map points_of (map part (tests_in file))) → In k all =
+      λ k i. let list = In-unflat points_of (map part (tests_in file)) k i in
+      let test = In-unmap part (tests_in file) list.0 list.1 in
+      let sums = test_sums test.0 test.1 in
+      row_of point sums.0 k
+      (known (items_at sums.0 rows) k (subst (λ (pairs : List (K × V)). In k (points_of pairs)) (sym test.2 ∙ ap part sums.1) list.2)) in
+      omega (arith, kept_within o (map part (tests_in file)) counts are all within, few_parts (λ (row : Row). point row.item) (λ row. one row.item) rows)
+
+-- ---- the three kinds
+
+line_spoken : (items : List ItemData) (line : ℕ) → In line (points_of (test_of items).lines) → In line (flat_map line_point items)
+line_spoken items line i =
+    let pair = In-unmap (λ (pair : ℕ × LineSum). pair.0) (test_of items).lines line i in
+    let own = In-unmap (line_sum items) (lines_in items) pair.0 pair.1 in
+    In-ascending lines_order.exact line (flat_map line_point items) (subst (λ (n : ℕ). In n (lines_in items)) (ap (λ (p : ℕ × LineSum). p.0) own.2 ∙ pair.2) own.1)
+
+function_spoken : (items : List ItemData) (name : List ℕ) → In name (points_of (test_of items).functions) → In name (flat_map func_point items)
+function_spoken items name i =
+    let pair = In-unmap (λ (pair : List ℕ × FunctionSum). pair.0) (test_of items).functions name i in
+    let own = In-unmap (function_sum items) (names_in items) pair.0 pair.1 in
+    In-ascending names_order.exact name (flat_map func_point items) (subst (λ (n : List ℕ). In n (names_in items)) (ap (λ (p : List ℕ × FunctionSum). p.0) own.2 ∙ pair.2) own.1)
+
+branch_spoken : (items : List ItemData) (point : BranchPoint) → In point (points_of (test_of items).branches) → In point (flat_map branch_point items)
+branch_spoken items point i =
+    let pair = In-unmap (λ (pair : BranchPoint × Taken). pair.0) (test_of items).branches point i in
+    let own = In-unmap (branch_sum items) (branches_in items) pair.0 pair.1 in
+    In-ascending branches_order.exact point (flat_map branch_point items) (subst (λ (p : BranchPoint). In p (branches_in items)) (ap (λ (p : BranchPoint × Taken). p.0) own.2 ∙ pair.2) own.1)
+
+-- a file of a state has no more points of a kind than there are rows
+pub kept_few : (rows : List Row) (files : List (List ℕ × FileData)) → IsStateOf rows files → (name : List ℕ) (file : FileData) → value_of (slice_cmp nat_cmp) name files ≡ Some file
+    → (length file.lines ≤ length rows) × (length file.functions ≤ length rows) × (length file.branches ≤ length rows)
+kept_few rows files state name file there =
+    let kept = (its_whole rows files state name file there).kept in (
+      few_kept rows files state name file there lines_order (λ (t : TestData). t.lines) line_point file.lines line_spoken one_line kept.lines,
+      few_kept rows files state name file there names_order (λ (t : TestData). t.functions) func_point file.functions function_spoken one_function kept.functions,
+      few_kept rows files state name file there branches_order (λ (t : TestData). t.branches) branch_point file.branches branch_spoken one_branch kept.branches,
+    )

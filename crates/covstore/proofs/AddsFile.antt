@@ -1,0 +1,73 @@
+-- Items of a test, seen in the file that has the test.
+use Rattle.std.proofs.Common.{◌≡◌, ℕ, ◌<◌, ◌^◌, Some, None, List, length, option_map, sym, ap, ◌∙◌}
+use Rattle.std.specs.BTreeMap.{is_at}
+use Rattle.std.specs.Cmp.Lexicographic.{slice_cmp}
+use Rattle.std.specs.List.Sorted.{IsStrictlySortedBy}
+use Rattle.std.specs.Map.{keys_of, lookup, set_value}
+use Rattle.std.specs.Option.{is_some}
+use Rattle.std.specs.Ordering.{nat_cmp}
+use Rattle.std.proofs.lemmas.Option.{none-some}
+use Rattle.covline.specs.Row.{ItemData, Row}
+use Rattle.covstore.specs.declared.stop.Stop.{Stop}
+use Rattle.covstore.specs.declared.stop.Stop.TheVariants.{Clash, Memory}
+use Rattle.covstore.specs.Adds.{Adds, Clashes, HasRoomFor, IsIn}
+use Rattle.covstore.specs.FileAdds.{AddsItems, ClashesIn, HasFile, HasRoomIn}
+use Rattle.covstore.specs.Marks.{MarksData, file_with}
+use Rattle.covstore.specs.Puts.{put, value_of}
+use Rattle.covstore.specs.State.{FileData}
+use Rattle.covstore.specs.Sums.{TestData}
+use Rattle.covstore.proofs.AddsLists.{put_there}
+use Rattle.covstore.proofs.MapKeys.{seen, seen_ascend, seen_set, seen_value}
+use Rattle.covstore.proofs.Orders.{names_order}
+
+-- ---- a test of a file
+
+module _ (items : List ItemData) (test : List ℕ) (tests : List (List ℕ × TestData)) (points : TestData) (marks : MarksData) (found : value_of (slice_cmp nat_cmp) test tests ≡ Some points) where
+  its_place : (rows : List Row) (files : List (List ℕ × FileData)) (name : List ℕ) → HasFile rows files name (file_with tests marks) → IsIn rows files name test tests points marks
+  its_place rows files name has = record { state = has.state; agree = has.agree; its_file = has.there; its_test = found }
+
+  pub room_for : HasRoomIn items test (file_with tests marks) → length tests < 2 ^ 63 → HasRoomFor items points marks
+  room_for room few = record {
+    rows = room.rows;
+    files = room.files;
+    file = room.name;
+    name = test;
+    tests = tests;
+    stands = its_place room.rows room.files room.name room.stands;
+    small_rows = room.small_rows;
+    small_items = room.small_items;
+    few = room.few;
+    few_tests = few;
+  }
+
+  pub adds_in : (points_after : TestData) (marks_after : MarksData) → Adds items points marks points_after marks_after
+      → AddsItems items test (file_with tests marks) (file_with (put (slice_cmp nat_cmp) test points_after tests) marks_after)
+  adds_in points_after marks_after adds rows files name has =
+      let added = adds rows files name test tests (its_place rows files name has) in
+      (added.0, record { state = added.1.state; agree = added.1.agree; there = added.1.its_file })
+
+  pub clashes_in : {A : Type 0} (stop : Stop A) → Clashes items points marks stop → ClashesIn items test (file_with tests marks) stop
+  clashes_in Memory clash = tt
+  clashes_in (Clash line held given) clash = λ rows files name has. clash rows files name test tests (its_place rows files name has)
+
+-- ---- the entries of a map
+
+module _ {K V : Type 0} (name : K → List ℕ) (f : V → TestData) (test : List ℕ) (pairs : List (K × V)) where
+  pub test_value : (v : V) → lookup (is_at (λ other. slice_cmp nat_cmp test (name other))) pairs ≡ Some v → value_of (slice_cmp nat_cmp) test (seen names_order name f pairs) ≡ Some (f v)
+  test_value v found = seen_value names_order name f test pairs ∙ ap (option_map f) found
+
+  pub no_test : (points : TestData) → lookup (is_at (λ other. slice_cmp nat_cmp test (name other))) pairs ≡ None → value_of (slice_cmp nat_cmp) test (seen names_order name f pairs) ≡ Some points → ⊥
+  no_test points none found = none-some points (sym (seen_value names_order name f test pairs ∙ ap (option_map f) none) ∙ found)
+
+  module _ (v w : V) (after : List (K × V)) (sorted : IsStrictlySortedBy (λ (a b : K). slice_cmp nat_cmp (name a) (name b)) (keys_of pairs))
+      (found : lookup (is_at (λ other. slice_cmp nat_cmp test (name other))) pairs ≡ Some v)
+      (written : after ≡ set_value (is_at (λ other. slice_cmp nat_cmp test (name other))) pairs w) where
+    pub test_written : seen names_order name f after ≡ put (slice_cmp nat_cmp) test (f w) (seen names_order name f pairs)
+    test_written =
+        ap (seen names_order name f) written
+        ∙ seen_set names_order name f test w pairs (seen_ascend names_order name f pairs sorted) (ap is_some (test_value v found))
+
+    pub test_kept : f w ≡ f v → seen names_order name f after ≡ seen names_order name f pairs
+    test_kept same =
+        test_written ∙ ap (λ (t : TestData). put (slice_cmp nat_cmp) test t (seen names_order name f pairs)) same
+        ∙ put_there names_order test (f v) (seen names_order name f pairs) (seen_ascend names_order name f pairs sorted) (test_value v found)

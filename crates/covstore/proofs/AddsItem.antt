@@ -1,0 +1,75 @@
+-- What one item does where its test and the marks of its file stand.
+use Rattle.std.proofs.Common.{◌≡◌, ℕ, Some, None, List, [], ◌∷◌, ◌++◌, sym, ap, ◌∙◌, subst, inl, inr, ⊎_elim}
+use Rattle.std.specs.Prelude.{Contains}
+use Rattle.std.specs.Cmp.Lexicographic.{slice_cmp}
+use Rattle.std.specs.Ordering.{nat_cmp}
+use Rattle.std.proofs.lemmas.List.Concat.{flat_map-append}
+use Rattle.covline.specs.Row.{ItemData, LineItem, FuncItem, BranchItem, Row}
+use Rattle.covstore.specs.Adds.{Adds, IsIn}
+use Rattle.covstore.specs.Clash.{Agree, Checksum, checksum_of, checksum_of_row, checksums_in, first_clash}
+use Rattle.covstore.specs.Marks.{MarksData, file_with}
+use Rattle.covstore.specs.Puts.{put, value_of}
+use Rattle.covstore.specs.State.{FileData, IsStateOf}
+use Rattle.covstore.specs.Steps.{IsTextOf, KeepsCounts, KeepsTextsOf}
+use Rattle.covstore.specs.Sums.{TestData, with_item}
+use Rattle.covstore.proofs.AddsPlace.{checksum_held, state_agrees, text_kept, whole_after}
+use Rattle.covstore.proofs.Clashes.{agree_none}
+use Rattle.covstore.proofs.ContentsLists.{In-unflat}
+use Rattle.covstore.proofs.Members.{In, In-from, In-parts}
+use Rattle.covstore.proofs.Orders.{names_order}
+use Rattle.covstore.proofs.Puts.{value_of-put}
+use Rattle.covstore.proofs.StateRows.{row_more}
+use Rattle.covstore.proofs.SumsMore.{sums_more}
+
+-- the item's own checksum is the text of its line
+own_text : (file : List ℕ) (item : ItemData) (marks : MarksData) (c : Checksum) → IsTextOf item marks → In c (checksum_of file item) → value_of nat_cmp c.line marks.texts ≡ Some c.checksum
+own_text file (LineItem line count (Some checksum)) marks c own (inl same) = subst (λ (d : Checksum). value_of nat_cmp d.line marks.texts ≡ Some d.checksum) same own.is_kept
+own_text file (LineItem line count (Some checksum)) marks c own (inr none) = absurd none
+own_text file (LineItem line count None) marks c own i = absurd i
+own_text file (FuncItem name line count) marks c own i = absurd i
+own_text file (BranchItem line block branch taken) marks c own i = absurd i
+
+module _ (item : ItemData) (test test_after : TestData) (marks marks_after : MarksData) (more : test_after ≡ with_item item test) (counts : KeepsCounts test test_after marks marks_after)
+    (own : IsTextOf item marks_after) (texts : KeepsTextsOf marks marks_after) (rows : List Row) (files : List (List ℕ × FileData)) (file name : List ℕ) (tests : List (List ℕ × TestData))
+    (is : IsIn rows files file name tests test marks) where
+  abbrev its_row : Row
+  its_row = record { test = name; file = file; item = item }
+
+  abbrev file_after : FileData
+  file_after = file_with (put (slice_cmp nat_cmp) name test_after tests) marks_after
+
+  texts_after : (c : Checksum) → Contains (checksums_in (rows ++ its_row ∷ [])) c → c.file ≡ file → value_of nat_cmp c.line marks_after.texts ≡ Some c.checksum
+  texts_after c i same =
+      ⊎_elim {C = value_of nat_cmp c.line marks_after.texts ≡ Some c.checksum}
+      (λ (before : In c (checksums_in rows)). texts.texts_stay c.line (checksum_held is c before (sym same)) ∙ text_kept is c before (sym same))
+      (λ (now : In c (checksums_in (its_row ∷ []))). let from = In-unflat checksum_of_row (its_row ∷ []) c now in by from.0 from.1 from.2)
+      (In-parts (checksums_in rows) (checksums_in (its_row ∷ [])) c
+      (subst (In c) (flat_map-append checksum_of_row rows (its_row ∷ [])) (In-from (checksums_in (rows ++ its_row ∷ [])) c i)))
+    where
+      by : (row : Row) → In row (its_row ∷ []) → In c (checksum_of_row row) → value_of nat_cmp c.line marks_after.texts ≡ Some c.checksum
+      by row (inl is_it) j = own_text file item marks_after c own (subst (λ (r : Row). In c (checksum_of_row r)) (sym is_it) j)
+      by row (inr none) j = absurd none
+
+  state_after : IsStateOf (rows ++ its_row ∷ []) (put (slice_cmp nat_cmp) file file_after files)
+  state_after =
+      row_more sums_more rows its_row files (file_with tests marks) file_after test is.state is.its_file is.its_test
+      (ap (λ (t : TestData). put (slice_cmp nat_cmp) name t tests) more) (whole_after is test_after marks_after counts) texts_after
+
+  item_adds_at : (first_clash (checksums_in rows) (checksums_in (its_row ∷ [])) ≡ None)
+      × IsIn (rows ++ its_row ∷ []) (put (slice_cmp nat_cmp) file file_after files) file name (put (slice_cmp nat_cmp) name test_after tests) test_after marks_after
+  item_adds_at =
+      let agree = state_agrees (rows ++ its_row ∷ []) (put (slice_cmp nat_cmp) file file_after files) state_after in (
+        agree_none (checksums_in rows) (checksums_in (its_row ∷ [])) is.agree (subst Agree (flat_map-append checksum_of_row rows (its_row ∷ [])) agree),
+        record {
+          state = state_after;
+          agree = agree;
+          its_file = value_of-put names_order file file_after files;
+          its_test = value_of-put names_order name test_after tests;
+        },
+      )
+
+-- where the numbers of the file count the test with the item, and the texts have its checksum, the item is added
+pub item_adds : (item : ItemData) (test test_after : TestData) (marks marks_after : MarksData) → test_after ≡ with_item item test → KeepsCounts test test_after marks marks_after → IsTextOf item marks_after
+    → KeepsTextsOf marks marks_after → Adds (item ∷ []) test marks test_after marks_after
+item_adds item test test_after marks marks_after more counts own texts rows files file name tests is =
+    item_adds_at item test test_after marks marks_after more counts own texts rows files file name tests is

@@ -1,0 +1,103 @@
+-- Keys with values, ascending: the place of a key that is there, and a value that is put in again. And first clashes of lists
+-- one after the other.
+use Rattle.std.proofs.Common.{◌≡◌, cond, Option, Some, None, List, [], ◌∷◌, ◌++◌, length, refl, sym, ap, ◌∙◌, append_assoc, arith}
+use Rattle.std.specs.declared.cmp.Ordering.{Ordering}
+use Rattle.std.specs.declared.cmp.Ordering.TheVariants.{Less, Equal, Greater}
+use Rattle.std.specs.List.{AllByRecursion, find}
+use Rattle.std.specs.Ordering.{is_eq, match_ordering}
+use Rattle.std.proofs.lemmas.Cmp.{tied_itself}
+use Rattle.std.proofs.lemmas.List.{append-nil}
+use Rattle.std.proofs.lemmas.Option.{none-some, same_Some}
+use Rattle.covstore.specs.Clash.{Checksum, ClashData, clash_with, differs, first_clash, or_later}
+use Rattle.covstore.specs.Counts.{is_new, one_if}
+use Rattle.covstore.specs.Puts.{ArePairs, put, value_of}
+use Rattle.covstore.proofs.Ascend.{IsExactOrder, All-weaker, flips}
+use Rattle.covstore.proofs.Puts.{length-put, value_of_before}
+
+-- ---- the place of a key
+
+-- the key stands between a front and a back, with its value, and with any other value that is put in
+pub record IsPlaceOf {K V : Type 0} (key : K) (value : V) (pairs : List (K × V)) (pairs_with : V → List (K × V)) : Type 0 where
+  pub front : List (K × V)
+  pub back : List (K × V)
+  pub place : pairs ≡ front ++ (key, value) ∷ back
+  pub after : (other : V) → pairs_with other ≡ front ++ (key, other) ∷ back
+
+same_pair : {K V : Type 0} {key other : K} {value held : V} → key ≡ other → value ≡ held → ◌≡◌ {A = K × V} (key, value) (other, held)
+same_pair keys values = λ i. (keys i, values i)
+
+module _ {K V : Type 0} {cmp : K → K → Ordering} (o : IsExactOrder cmp) where
+  place_at : (key : K) (value : V) (pair : K × V) (pairs : List (K × V)) (order : Ordering) → cmp pair.0 key ≡ order → AllByRecursion (λ next. cmp pair.0 next.0 ≡ Less) pairs
+      → (value_of cmp key pairs ≡ Some value → IsPlaceOf key value pairs (λ other. put cmp key other pairs)) → cond (is_eq order) (Some pair.1) (value_of cmp key pairs) ≡ Some value
+      → IsPlaceOf key value (pair ∷ pairs) (λ other. match_ordering order (pair ∷ put cmp key other pairs) ((key, other) ∷ pairs) ((key, other) ∷ pair ∷ pairs))
+  place_at key value pair pairs Less e behind rest h =
+      let later = rest h in
+      record {
+        front = pair ∷ later.front;
+        back = later.back;
+        place = ap (λ (ps : List (K × V)). pair ∷ ps) later.place;
+        after = λ other. ap (λ (ps : List (K × V)). pair ∷ ps) (later.after other);
+      }
+  place_at key value pair pairs Equal e behind rest h =
+      record { front = []; back = pairs; place = ap (λ (p : K × V). p ∷ pairs) (same_pair (o.exact pair.0 key e) (same_Some pair.1 value h)); after = λ other. refl }
+  place_at key value pair pairs Greater e behind rest h =
+      let first : cmp key pair.0 ≡ Less = flips o.total pair.0 key e in
+      let none : value_of cmp key pairs ≡ None =
+      value_of_before o key pairs (All-weaker (λ next. cmp pair.0 next.0 ≡ Less) (λ next. cmp key next.0 ≡ Less) pairs (λ next l. o.total.trans key pair.0 next.0 first l) behind) in
+      absurd (none-some value (sym none ∙ h))
+
+  pub place_of : (key : K) (value : V) (pairs : List (K × V)) → ArePairs cmp pairs → value_of cmp key pairs ≡ Some value → IsPlaceOf key value pairs (λ other. put cmp key other pairs)
+  place_of key value [] sorted h = absurd (none-some value h)
+  place_of key value (pair ∷ pairs) sorted h = place_at key value pair pairs (cmp pair.0 key) refl sorted.0 (place_of key value pairs sorted.1) h
+
+  -- the value that is there changes nothing
+  pub put_there : (key : K) (value : V) (pairs : List (K × V)) → ArePairs cmp pairs → value_of cmp key pairs ≡ Some value → put cmp key value pairs ≡ pairs
+  put_there key value pairs sorted h = let is = place_of key value pairs sorted h in is.after value ∙ sym is.place
+
+  pub length-put_there : (key : K) (value other : V) (pairs : List (K × V)) → ArePairs cmp pairs → value_of cmp key pairs ≡ Some value → length (put cmp key other pairs) ≡ length pairs
+  length-put_there key value other pairs sorted h =
+      let none : one_if (is_new (value_of cmp key pairs)) ≡ 0 = ap (λ (held : Option V). one_if (is_new held)) h in
+      omega (arith, length-put o key other pairs sorted, none)
+
+  -- ---- a value put in after another one of the same key
+
+  put_first : (key : K) (value other : V) (pairs : List (K × V)) → put cmp key other ((key, value) ∷ pairs) ≡ (key, other) ∷ pairs
+  put_first key value other pairs =
+      ap (λ (order : Ordering). match_ordering order ((key, value) ∷ put cmp key other pairs) ((key, other) ∷ pairs) ((key, other) ∷ (key, value) ∷ pairs)) (tied_itself o.total key)
+
+  put_twice_at : (key : K) (value other : V) (pair : K × V) (pairs : List (K × V)) (order : Ordering) → cmp pair.0 key ≡ order → put cmp key other (put cmp key value pairs) ≡ put cmp key other pairs
+      → put cmp key other (match_ordering order (pair ∷ put cmp key value pairs) ((key, value) ∷ pairs) ((key, value) ∷ pair ∷ pairs))
+      ≡ match_ordering order (pair ∷ put cmp key other pairs) ((key, other) ∷ pairs) ((key, other) ∷ pair ∷ pairs)
+  put_twice_at key value other pair pairs Less e rest =
+      let more = put cmp key value pairs in
+      ap (λ (order : Ordering). match_ordering order (pair ∷ put cmp key other more) ((key, other) ∷ more) ((key, other) ∷ pair ∷ more)) e ∙ ap (λ (ps : List (K × V)). pair ∷ ps) rest
+  put_twice_at key value other pair pairs Equal e rest = put_first key value other pairs
+  put_twice_at key value other pair pairs Greater e rest = put_first key value other (pair ∷ pairs)
+
+  pub put_twice : (key : K) (value other : V) (pairs : List (K × V)) → put cmp key other (put cmp key value pairs) ≡ put cmp key other pairs
+  put_twice key value other [] = put_first key value other []
+  put_twice key value other (pair ∷ pairs) = put_twice_at key value other pair pairs (cmp pair.0 key) refl (put_twice key value other pairs)
+
+-- ---- the first clash of lists one after the other
+
+joined_at : (x : Checksum) (found : Option Checksum) (front whole back : Option ClashData) → (front ≡ None → whole ≡ back) → or_later x found front ≡ None → or_later x found whole ≡ back
+joined_at x (Some other) front whole back rest none = absurd (none-some (clash_with x other) (sym none))
+joined_at x None front whole back rest none = rest none
+
+-- where the first list doesn't clash, it counts as held
+pub clash_behind : (held xs ys : List Checksum) → first_clash held xs ≡ None → first_clash held (xs ++ ys) ≡ first_clash (held ++ xs) ys
+clash_behind held [] ys none = ap (λ (all : List Checksum). first_clash all ys) (sym (append-nil held))
+clash_behind held (x ∷ xs) ys none =
+    joined_at x (find (differs x) held) (first_clash (held ++ x ∷ []) xs) (first_clash (held ++ x ∷ []) (xs ++ ys)) (first_clash (held ++ x ∷ xs) ys)
+    (λ later. clash_behind (held ++ x ∷ []) xs ys later ∙ ap (λ (all : List Checksum). first_clash all ys) (append_assoc held (x ∷ []) xs)) none
+
+front_at : (x : Checksum) (found : Option Checksum) (front whole : Option ClashData) (clash : ClashData) → (front ≡ Some clash → whole ≡ Some clash) → or_later x found front ≡ Some clash
+    → or_later x found whole ≡ Some clash
+front_at x (Some other) front whole clash rest h = h
+front_at x None front whole clash rest h = rest h
+
+-- and where it clashes, that is the clash of both
+pub clash_before : (held xs ys : List Checksum) (clash : ClashData) → first_clash held xs ≡ Some clash → first_clash held (xs ++ ys) ≡ Some clash
+clash_before held [] ys clash h = absurd (none-some clash h)
+clash_before held (x ∷ xs) ys clash h =
+    front_at x (find (differs x) held) (first_clash (held ++ x ∷ []) xs) (first_clash (held ++ x ∷ []) (xs ++ ys)) clash (λ later. clash_before (held ++ x ∷ []) xs ys clash later) h

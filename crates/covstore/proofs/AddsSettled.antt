@@ -1,0 +1,96 @@
+-- Nothing is to come of a file but for some tests, also after items of one of these came in, and after a test was made ready.
+use Rattle.std.proofs.Common.{◌≡◌, ℕ, Bool, true, false, cond, ◌||◌, Some, List, [], ◌∷◌, ◌++◌, Vec, filter, map, refl, sym, ap, ◌∙◌, subst}
+use Rattle.std.specs.BTreeMap.{insert_entry, is_at}
+use Rattle.std.specs.Cmp.Lexicographic.{slice_cmp}
+use Rattle.std.specs.declared.cmp.Ordering.{Ordering}
+use Rattle.std.specs.List.{AllByRecursion, list_any}
+use Rattle.std.specs.Map.{lookup, set_value}
+use Rattle.std.specs.Ordering.{nat_cmp}
+use Rattle.std.specs.Str.{bytes_eq}
+use Rattle.std.proofs.lemmas.Bool.{false≢true}
+use Rattle.std.proofs.lemmas.Map.Views.{tells_apart}
+use Rattle.std.proofs.lemmas.Option.{none-some, same_Some}
+use Rattle.std.proofs.lemmas.Slice.Eq.{bytes_eq-Decides}
+use Rattle.covstore.specs.declared.file.File.{File}
+use Rattle.covstore.specs.declared.test.Test.{Test}
+use Rattle.covstore.specs.MapsView.{AreSettledBut, IsSettledBut, tests_of}
+use Rattle.covstore.specs.MarksView.{marks_coming, marks_held}
+use Rattle.covstore.specs.TestView.{test_coming, test_held}
+use Rattle.covstore.proofs.Orders.{names_order}
+use Rattle.covstore.proofs.StoreKept.{All-inserted}
+
+-- what holds of all entries holds after one is written of which it holds
+pub All-set : {K V : Type 0} (P : K × V → Type 0) (here : K → Bool) (w : V) (pairs : List (K × V)) → ((k : K) → here k ≡ true → P (k, w)) → AllByRecursion P pairs → AllByRecursion P (set_value here pairs w)
+All-set P here w [] new all = tt
+All-set {K} {V} P here w (pair ∷ pairs) new all = at (here pair.0) refl (All-set P here w pairs new all.1)
+  where
+    at : (b : Bool) → here pair.0 ≡ b → AllByRecursion P (set_value here pairs w) → AllByRecursion P (cond b ((pair.0, w) ∷ pairs) (pair ∷ set_value here pairs w))
+    at true e rest = (new pair.0 e, all.1)
+    at false e rest = (all.0, rest)
+
+-- nothing is to come of a test, if its name isn't among these
+abbrev IsSettledTest : {A : Type 0} → List (List ℕ) → Vec ℕ A × Test A → Type 0
+IsSettledTest tests pair = list_any (λ test. bytes_eq test pair.0.items) tests ≡ false → test_coming pair.1 ≡ test_held pair.1
+
+pub test_settled : {A : Type 0} (tests : List (List ℕ)) (test : List ℕ) → list_any (λ name. bytes_eq name test) tests ≡ true → (before after : File A) (w : Test A)
+    → after.tests.entries ≡ set_value (is_at (λ (other : Vec ℕ A). slice_cmp nat_cmp test other.items)) before.tests.entries w → IsSettledBut tests before → IsSettledBut tests after
+test_settled {A} tests test among before after w written settled = record {
+  marks = λ e. absurd (false≢true (sym (ap (list_any (λ (name : List ℕ). bytes_eq name test)) e) ∙ among));
+  points = subst (AllByRecursion (IsSettledTest tests)) (sym written)
+      (All-set (IsSettledTest tests) (is_at (λ (other : Vec ℕ A). slice_cmp nat_cmp test other.items)) w before.tests.entries
+      (λ k e other. absurd (false≢true (sym other ∙ sym (ap (λ (own : List ℕ). list_any (λ (name : List ℕ). bytes_eq name own) tests) (tells_apart names_order.exact test k.items e)) ∙ among)))
+      settled.points);
+}
+
+pub test_inserted : {A : Type 0} (tests : List (List ℕ)) (cmp : Vec ℕ A → Vec ℕ A → Ordering) (before after : File A) (key : Vec ℕ A) (w : Test A) → test_coming w ≡ test_held w → after.marks ≡ before.marks
+    → after.tests.entries ≡ insert_entry cmp before.tests.entries key w → IsSettledBut tests before → IsSettledBut tests after
+test_inserted tests cmp before after key w same marks written settled = record {
+  marks = λ e. ap marks_coming marks ∙ settled.marks e ∙ sym (ap marks_held marks);
+  points = subst (AllByRecursion (IsSettledTest tests)) (sym written) (All-inserted cmp (IsSettledTest tests) key w before.tests.entries (λ other e. same) settled.points);
+}
+
+-- ---- the files
+
+found_pair : {K V : Type 0} (P : K × V → Type 0) (here : K → Bool) (v : V) (pairs : List (K × V)) → lookup here pairs ≡ Some v → AllByRecursion P pairs → (k : K) × (here k ≡ true) × P (k, v)
+found_pair P here v [] found all = absurd (none-some v found)
+found_pair {K} {V} P here v (pair ∷ pairs) found all = at (here pair.0) refl found (λ later. found_pair P here v pairs later all.1)
+  where
+    at : (b : Bool) → here pair.0 ≡ b → cond b (Some pair.1) (lookup here pairs) ≡ Some v → (lookup here pairs ≡ Some v → (k : K) × (here k ≡ true) × P (k, v)) → (k : K) × (here k ≡ true) × P (k, v)
+    at true e is rest = (pair.0, e, subst (λ (x : V). P (pair.0, x)) (same_Some pair.1 v is) all.0)
+    at false e is rest = rest is
+
+-- a file is written of which nothing more is to come than of the one before
+pub file_settled : {K A : Type 0} (name : K → List ℕ) (touched : List (List ℕ × List ℕ)) (file : List ℕ) (v w : File A) (before after : List (K × File A))
+    → lookup (is_at (λ other. slice_cmp nat_cmp file (name other))) before ≡ Some v → after ≡ set_value (is_at (λ other. slice_cmp nat_cmp file (name other))) before w
+    → (IsSettledBut (tests_of file touched) v → IsSettledBut (tests_of file touched) w) → AreSettledBut name touched before → AreSettledBut name touched after
+file_settled {K} {A} name touched file v w before after found written more settled =
+    let P = λ (pair : K × File A). IsSettledBut (tests_of (name pair.0) touched) pair.1 in
+    let here = is_at (λ (other : K). slice_cmp nat_cmp file (name other)) in
+    let old = found_pair P here v before found settled in
+    let was : IsSettledBut (tests_of file touched) v = subst (λ (f : List ℕ). IsSettledBut (tests_of f touched) v) (sym (tells_apart names_order.exact file (name old.0) old.1)) old.2 in
+    subst (AllByRecursion P) (sym written)
+    (All-set P here w before (λ k e. subst (λ (f : List ℕ). IsSettledBut (tests_of f touched) w) (tells_apart names_order.exact file (name k) e) (more was)) settled)
+
+-- the test that was touched last is one of its file's
+any_later : (b c : Bool) → c ≡ true → b || c ≡ true
+any_later true c e = refl
+any_later false c e = e
+
+pub touched_among : (file test : List ℕ) (touched : List (List ℕ × List ℕ)) → list_any (λ name. bytes_eq name test) (tests_of file (touched ++ (file, test) ∷ [])) ≡ true
+touched_among file test [] =
+    let is_test = λ (name : List ℕ). bytes_eq name test in
+    ap (λ (b : Bool). list_any is_test (map (λ (t : List ℕ × List ℕ). t.1) (cond b ((file, test) ∷ []) []))) ((bytes_eq-Decides file file).1 refl)
+    ∙ any_first (bytes_eq test test) ((bytes_eq-Decides test test).1 refl)
+  where
+    any_first : (b : Bool) → b ≡ true → b || false ≡ true
+    any_first true e = refl
+    any_first false e = e
+touched_among file test (t ∷ touched) = at (bytes_eq t.0 file) (touched_among file test touched)
+  where
+    rest : List (List ℕ × List ℕ)
+    rest = filter (λ (other : List ℕ × List ℕ). bytes_eq other.0 file) (touched ++ (file, test) ∷ [])
+
+    at : (b : Bool) → list_any (λ (name : List ℕ). bytes_eq name test) (map (λ (other : List ℕ × List ℕ). other.1) rest) ≡ true
+        → list_any (λ (name : List ℕ). bytes_eq name test) (map (λ (other : List ℕ × List ℕ). other.1) (cond b (t ∷ rest) rest)) ≡ true
+    at true later = any_later (bytes_eq t.1 test) (list_any (λ (name : List ℕ). bytes_eq name test) (map (λ (other : List ℕ × List ℕ). other.1) rest)) later
+    at false later = later

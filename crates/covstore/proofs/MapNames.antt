@@ -1,0 +1,100 @@
+-- The entries of a map whose keys are names, before and after a value was written at one of them.
+use Rattle.std.proofs.Common.{◌≡◌, ℕ, Bool, true, false, cond, Option, Some, None, option_map, List, [], ◌∷◌, map, refl, sym, ap, ◌∙◌, subst}
+use Rattle.std.specs.Cmp.Lexicographic.{slice_cmp}
+use Rattle.std.specs.declared.cmp.Ordering.{Ordering}
+use Rattle.std.specs.declared.cmp.Ordering.TheVariants.{Less, Equal, Greater}
+use Rattle.std.specs.List.{AllByRecursion}
+use Rattle.std.specs.List.Sorted.{IsStrictlySortedBy}
+use Rattle.std.specs.Map.{keys_of, lookup, set_value}
+use Rattle.std.specs.Ordering.{is_eq, nat_cmp, ordering_reverse}
+use Rattle.std.specs.Str.{bytes_eq}
+use Rattle.std.proofs.lemmas.Bool.{false_from_ne_true, false≢true}
+use Rattle.std.proofs.lemmas.Cmp.{nat_list_cmp_total, tied_itself}
+use Rattle.std.proofs.lemmas.Map.{NonePasses, none_passes_from_lookup}
+use Rattle.std.proofs.lemmas.Map.Views.{tells_apart}
+use Rattle.std.proofs.lemmas.Option.{same_Some}
+use Rattle.std.proofs.lemmas.Slice.Eq.{bytes_eq-Decides}
+use Rattle.covstore.specs.Puts.{value_of}
+use Rattle.covstore.proofs.Orders.{names_order}
+
+-- names that differ, by `bytes_eq`
+pub bytes_apart : (a b : List ℕ) → (a ≡ b → ⊥) → bytes_eq a b ≡ false
+bytes_apart a b apart = false_from_ne_true (bytes_eq a b) (λ e. apart ((bytes_eq-Decides a b).0 e))
+
+-- the entries, their keys by their names, of which only a part of the value is seen
+abbrev pub names_with : {K X Y : Type 0} → (K → List ℕ) → (X → Y) → List (K × X) → List (List ℕ × Y)
+names_with name f pairs = map (λ pair. (name pair.0, f pair.1)) pairs
+
+module _ {K : Type 0} (name : K → List ℕ) (key : List ℕ) where
+  -- whether a key has this name, as a look-up by the name asks it
+  abbrev pub has_name : K → Bool
+  has_name k = is_eq (slice_cmp nat_cmp key (name k))
+
+  named : (k : K) → has_name k ≡ true → name k ≡ key
+  named k e = sym (tells_apart names_order.exact key (name k) e)
+
+  not_named : (k : K) → has_name k ≡ false → name k ≡ key → ⊥
+  not_named k e same = false≢true (sym e ∙ ap (λ (n : List ℕ). is_eq (slice_cmp nat_cmp key n)) same ∙ ap is_eq (tied_itself nat_list_cmp_total key))
+
+  module _ {X : Type 0} where
+    -- what holds of entries of other names
+    pub All-others : (P Q : K × X → Type 0) (es : List (K × X)) → NonePasses has_name es → ((e : K × X) → P e → (name e.0 ≡ key → ⊥) → Q e) → AllByRecursion P es → AllByRecursion Q es
+    All-others P Q [] none other all = tt
+    All-others P Q (e ∷ es) none other all = (other e all.0 (not_named e.0 none.0), All-others P Q es none.1 other all.1)
+
+    pub All-unfound : (P Q : K × X → Type 0) (es : List (K × X)) → lookup has_name es ≡ None → ((e : K × X) → P e → (name e.0 ≡ key → ⊥) → Q e) → AllByRecursion P es → AllByRecursion Q es
+    All-unfound P Q es none other all = All-others P Q es (none_passes_from_lookup has_name es none) other all
+
+    -- no key behind it has the same name
+    none_behind : (k : K) (es : List (K × X)) → name k ≡ key → AllByRecursion (λ next. slice_cmp nat_cmp (name k) (name next) ≡ Less) (keys_of es) → NonePasses has_name es
+    none_behind k [] e behind = tt
+    none_behind k (next ∷ es) e behind =
+        (ap is_eq (ap (λ (n : List ℕ). slice_cmp nat_cmp n (name next.0)) (sym e) ∙ behind.0), none_behind k es e behind.1)
+
+    -- what holds of all entries after a value was written
+    All-written_at : (P Q : K × X → Type 0) (v w : X) (e : K × X) (es : List (K × X)) (here : Bool) → has_name e.0 ≡ here
+        → AllByRecursion (λ next. slice_cmp nat_cmp (name e.0) (name next) ≡ Less) (keys_of es) → cond here (Some e.1) (lookup has_name es) ≡ Some v
+        → ((k : K) → P (k, v) → name k ≡ key → Q (k, w)) → ((e : K × X) → P e → (name e.0 ≡ key → ⊥) → Q e) → AllByRecursion P (e ∷ es)
+        → (lookup has_name es ≡ Some v → AllByRecursion Q (set_value has_name es w)) → AllByRecursion Q (cond here ((e.0, w) ∷ es) (e ∷ set_value has_name es w))
+    All-written_at P Q v w e es true is behind found own other all rest =
+        (own e.0 (subst (λ (x : X). P (e.0, x)) (same_Some e.1 v found) all.0) (named e.0 is), All-others P Q es (none_behind e.0 es (named e.0 is) behind) other all.1)
+    All-written_at P Q v w e es false is behind found own other all rest = (other e all.0 (not_named e.0 is), rest found)
+
+    pub All-written : (P Q : K × X → Type 0) (v w : X) (es : List (K × X)) → IsStrictlySortedBy (λ (a b : K). slice_cmp nat_cmp (name a) (name b)) (keys_of es) → lookup has_name es ≡ Some v
+        → ((k : K) → P (k, v) → name k ≡ key → Q (k, w)) → ((e : K × X) → P e → (name e.0 ≡ key → ⊥) → Q e) → AllByRecursion P es → AllByRecursion Q (set_value has_name es w)
+    unfolding IsStrictlySortedBy
+    All-written P Q v w [] sorted found own other all = tt
+    All-written P Q v w (e ∷ es) sorted found own other all =
+        All-written_at P Q v w e es (has_name e.0) refl sorted.0 found own other all (λ later. All-written P Q v w es sorted.1 later own other all.1)
+
+    -- where only that is seen of the value that stays as it was
+    map_written_at : {Y : Type 0} (f : X → Y) (v w : X) (e : K × X) (es : List (K × X)) (here : Bool) → f w ≡ f v → cond here (Some e.1) (lookup has_name es) ≡ Some v
+        → (lookup has_name es ≡ Some v → names_with name f (set_value has_name es w) ≡ names_with name f es)
+        → names_with name f (cond here ((e.0, w) ∷ es) (e ∷ set_value has_name es w)) ≡ names_with name f (e ∷ es)
+    map_written_at {Y} f v w e es true same found rest =
+        ap (λ (y : Y). (name e.0, y) ∷ names_with name f es) (same ∙ ap f (sym (same_Some e.1 v found)))
+    map_written_at {Y} f v w e es false same found rest = ap (λ (ys : List (List ℕ × Y)). (name e.0, f e.1) ∷ ys) (rest found)
+
+    pub map_written : {Y : Type 0} (f : X → Y) (v w : X) (es : List (K × X)) → f w ≡ f v → lookup has_name es ≡ Some v
+        → names_with name f (set_value has_name es w) ≡ names_with name f es
+    map_written f v w [] same found = refl
+    map_written f v w (e ∷ es) same found = map_written_at f v w e es (has_name e.0) same found (map_written f v w es same)
+
+is_eq-flipped : (a b : List ℕ) → is_eq (slice_cmp nat_cmp a b) ≡ is_eq (slice_cmp nat_cmp b a)
+is_eq-flipped a b = ap is_eq (nat_list_cmp_total.antisymm a b) ∙ flipped (slice_cmp nat_cmp b a)
+  where
+    flipped : (order : Ordering) → is_eq (ordering_reverse order) ≡ is_eq order
+    flipped Less = refl
+    flipped Equal = refl
+    flipped Greater = refl
+
+-- what a look-up in the map finds, seen as plain data
+pub value_of_named : {K X Y : Type 0} (name : K → List ℕ) (f : X → Y) (key : List ℕ) (pairs : List (K × X)) → value_of (slice_cmp nat_cmp) key (names_with name f pairs) ≡ option_map f (lookup (has_name name key) pairs)
+value_of_named name f key [] = refl
+value_of_named {K} {X} {Y} name f key (pair ∷ pairs) =
+    ap (λ (b : Bool). cond b (Some (f pair.1)) (value_of (slice_cmp nat_cmp) key (names_with name f pairs))) (is_eq-flipped (name pair.0) key)
+    ∙ first_or (is_eq (slice_cmp nat_cmp key (name pair.0))) pair.1 (value_of (slice_cmp nat_cmp) key (names_with name f pairs)) (lookup (has_name name key) pairs) (value_of_named name f key pairs)
+  where
+    first_or : (b : Bool) (x : X) (later : Option Y) (found : Option X) → later ≡ option_map f found → cond b (Some (f x)) later ≡ option_map f (cond b (Some x) found)
+    first_or true x later found e = refl
+    first_or false x later found e = e

@@ -1,0 +1,56 @@
+-- The sections that are seen of a file's tests, one test after another.
+use Rattle.std.proofs.Common.{◌≡◌, ℕ, Bool, false, Option, Some, None, List, [], ◌∷◌, ◌++◌, map, sym, ap, ◌∙◌, subst}
+use Rattle.std.specs.Iterator.{YieldsFirstBy}
+use Rattle.std.specs.List.{flat_map, AllByRecursion}
+use Rattle.std.specs.Option.{is_some}
+use Rattle.std.proofs.lemmas.Bool.{false≢true}
+use Rattle.std.proofs.lemmas.List.Folds.{flat_map-map}
+use Rattle.covstore.specs.declared.file.File.{File}
+use Rattle.covstore.specs.declared.test.Test.{Test}
+use Rattle.covstore.specs.Content.{SectionData}
+use Rattle.covstore.specs.FileView.{file_held}
+use Rattle.covstore.specs.MapsView.{files_held}
+use Rattle.covstore.specs.SeenView.{or_none, sections_left, tests_seen}
+use Rattle.covstore.specs.Sums.{TestData}
+use Rattle.covstore.specs.State.{FileData, section_seen, sections_of, sections_of_file}
+use Rattle.covstore.specs.TestView.{test_held}
+
+-- ---- the sections of a file
+
+pub tests_of_pairs : {K A : Type 0} (name : K → List ℕ) (file : List ℕ) (kept : FileData) (pairs : List (K × Test A)) → kept.tests ≡ map (λ pair. (name pair.0, test_held pair.1)) pairs
+    → sections_of_file (file, kept) ≡ tests_seen name file kept.texts pairs
+tests_of_pairs name file kept pairs is =
+    ap (flat_map (λ (test : List ℕ × TestData). section_seen file kept.texts test.0 test.1)) is
+    ∙ flat_map-map (λ (test : List ℕ × TestData). section_seen file kept.texts test.0 test.1) (λ pair. (name pair.0, test_held pair.1)) pairs
+
+-- ---- what holds of all sections that are left
+
+pub all_first : {X : Type 0} (P : X → Type 0) (xs ys : List X) → AllByRecursion P (xs ++ ys) → AllByRecursion P xs
+all_first P [] ys all = tt
+all_first P (x ∷ xs) ys all = (all.0, all_first P xs ys all.1)
+
+pub all_last : {X : Type 0} (P : X → Type 0) (xs ys : List X) → AllByRecursion P (xs ++ ys) → AllByRecursion P ys
+all_last P [] ys all = all
+all_last P (x ∷ xs) ys all = all_last P xs ys all.1
+
+-- it holds of those of the file that comes next
+pub all_of_next : {K A : Type 0} (P : SectionData → Type 0) (name : K → List ℕ) (current : Option (List SectionData)) (files : List (K × File A)) (all : List SectionData) (key : K) (file : File A) (rest : List (K × File A))
+    → files ≡ (key, file) ∷ rest → sections_left name current files ≡ all → AllByRecursion P all → AllByRecursion P (sections_of_file (name key, file_held file))
+all_of_next {K = K} {A = A} P name current files all key file rest is left holds =
+    let files_in : AllByRecursion P (sections_of (files_held name files)) = all_last P (or_none current) (sections_of (files_held name files)) (subst (AllByRecursion P) (sym left) holds) in
+    all_first P (sections_of_file (name key, file_held file)) (sections_of (files_held name rest))
+    (subst (λ (fs : List (K × File A)). AllByRecursion P (sections_of (files_held name fs))) is files_in)
+
+-- ---- the next file is at hand
+
+pub none_at_hand : (next : Option SectionData) (before after : Option (List SectionData)) (b : Bool) → b ≡ is_some next → b ≡ false → YieldsFirstBy (λ s. s) or_none before next after → or_none before ≡ []
+none_at_hand None before after b is none ends = ends.0
+none_at_hand (Some s) before after b is none ends = absurd (false≢true (sym none ∙ is))
+
+pub next_at_hand : {K A : Type 0} (name : K → List ℕ) (current : Option (List SectionData)) (files : List (K × File A)) (all : List SectionData) (key : K) (file : File A) (rest : List (K × File A)) (sections : List SectionData)
+    → or_none current ≡ [] → files ≡ (key, file) ∷ rest → sections_left name current files ≡ all → sections ≡ sections_of_file (name key, file_held file) → sections_left name (Some sections) rest ≡ all
+next_at_hand {K = K} {A = A} name current files all key file rest sections none is left its =
+    ap (λ (own : List SectionData). own ++ sections_of (files_held name rest)) its
+    ∙ sym (ap (λ (fs : List (K × File A)). sections_of (files_held name fs)) is)
+    ∙ sym (ap (λ (own : List SectionData). own ++ sections_of (files_held name files)) none)
+    ∙ left

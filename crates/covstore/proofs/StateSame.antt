@@ -1,0 +1,54 @@
+-- Two lists of rows with one state: with the same rows more they have one state again.
+use Rattle.std.proofs.Common.{◌≡◌, ℕ, List, [], ◌∷◌, ◌++◌, filter, map, sym, ap, ◌∙◌, subst, append_assoc, inl, inr, ⊎_elim}
+use Rattle.std.proofs.lemmas.List.{append-nil, map-append}
+use Rattle.std.proofs.lemmas.List.Concat.{flat_map-append}
+use Rattle.std.proofs.lemmas.List.Elements.{filter-append}
+use Rattle.covline.specs.Row.{ItemData, Row}
+use Rattle.covstore.specs.Clash.{checksum_of_row, checksums_in, clash_of}
+use Rattle.covstore.specs.Content.{content_of}
+use Rattle.covstore.specs.State.{FileData, IsStateOf}
+use Rattle.covstore.specs.Sums.{test_of, with_item}
+use Rattle.covstore.specs.Value.{Key, has_key, items_at}
+use Rattle.covstore.proofs.AddsPlace.{state_agrees}
+use Rattle.covstore.proofs.Contents.{clash_by_content}
+use Rattle.covstore.proofs.ContentsChecksums.{checksums_there}
+use Rattle.covstore.proofs.Members.{Contains-from, In, In-from, In-joined, In-parts}
+use Rattle.covstore.proofs.StateSections.{sections_are}
+use Rattle.covstore.proofs.SumsMore.{sums_more}
+
+-- items that add up to the same do so with the same items more
+tests_with_more : (xs ys more : List ItemData) → test_of xs ≡ test_of ys → test_of (xs ++ more) ≡ test_of (ys ++ more)
+tests_with_more xs ys [] same = ap test_of (append-nil xs) ∙ same ∙ ap test_of (sym (append-nil ys))
+tests_with_more xs ys (item ∷ more) same =
+    let one : test_of (xs ++ item ∷ []) ≡ test_of (ys ++ item ∷ []) = sums_more xs item ∙ ap (with_item item) same ∙ sym (sums_more ys item) in
+    ap test_of (sym (append_assoc xs (item ∷ []) more)) ∙ tests_with_more (xs ++ item ∷ []) (ys ++ item ∷ []) more one ∙ ap test_of (append_assoc ys (item ∷ []) more)
+
+items_joined : (key : Key) (rows more : List Row) → items_at key (rows ++ more) ≡ items_at key rows ++ items_at key more
+items_joined key rows more =
+    ap (λ (rs : List Row). map (λ (r : Row). r.item) rs) (filter-append (has_key key) rows more)
+    ∙ map-append (λ (r : Row). r.item) (filter (has_key key) rows) (filter (has_key key) more)
+
+module _ (rows others : List Row) (files : List (List ℕ × FileData)) (state : IsStateOf rows files) (other : IsStateOf others files) where
+  pub same_contents : content_of rows ≡ content_of others
+  same_contents = sym (sections_are rows files state (state_agrees rows files state)) ∙ sections_are others files other (state_agrees others files other)
+
+  pub same_state : (more : List Row) (after : List (List ℕ × FileData)) → IsStateOf (rows ++ more) after → IsStateOf (others ++ more) after
+  same_state more after later = record {
+    ascending = later.ascending;
+    points = λ key.
+        later.points key ∙ ap test_of (items_joined key rows more)
+        ∙ tests_with_more (items_at key rows) (items_at key others) (items_at key more) (sym (state.points key) ∙ other.points key)
+        ∙ ap test_of (sym (items_joined key others more));
+    texts = λ held i. later.texts held (Contains-from (checksums_in (rows ++ more)) held (
+        subst (In held) (sym (flat_map-append checksum_of_row rows more))
+        (⊎_elim {C = In held (checksums_in rows ++ checksums_in more)}
+        (λ (before : In held (checksums_in others)).
+        In-joined (checksums_in rows) (checksums_in more) held (inl (checksums_there others rows (state_agrees others files other) (sym same_contents) held before)))
+        (λ (now : In held (checksums_in more)). In-joined (checksums_in rows) (checksums_in more) held (inr now))
+        (In-parts (checksums_in others) (checksums_in more) held
+        (subst (In held) (flat_map-append checksum_of_row others more) (In-from (checksums_in (others ++ more)) held i))))));
+    whole = later.whole;
+  }
+
+  pub same_clash : (more : List Row) → clash_of rows more ≡ clash_of others more
+  same_clash more = clash_by_content rows others more (state_agrees rows files state) (state_agrees others files other) same_contents

@@ -1,0 +1,120 @@
+-- How many points there are, and how many of them are hit, where the numbers of one point are put in.
+use Rattle.std.proofs.Common.{◌≡◌, ℕ, ◌+◌, ◌<◌, ◌≤◌, Bool, true, false, cond, nat_lt, Option, Some, None, unwrap_or, not, List, [], ◌∷◌, refl, sym, ap, ◌∙◌, subst, arith}
+use Rattle.std.specs.Cmp.{IsTotalOrder}
+use Rattle.std.specs.declared.cmp.Ordering.{Ordering}
+use Rattle.std.specs.declared.cmp.Ordering.TheVariants.{Less, Equal, Greater}
+use Rattle.std.specs.List.{AllByRecursion, sum_by}
+use Rattle.std.specs.Option.{is_some}
+use Rattle.std.specs.Ordering.{is_eq, match_ordering}
+use Rattle.std.proofs.lemmas.Bool.{lt-ltb}
+use Rattle.std.proofs.lemmas.List.Sums.{sum_by-cons}
+use Rattle.covstore.specs.declared.kept.Tally.{Tally}
+use Rattle.covstore.specs.declared.sums.Tests.{Tests}
+use Rattle.covstore.specs.Changes.{IsTallyOf}
+use Rattle.covstore.specs.Counts.{found_of, hit_of, is_above_at, is_new, one_if}
+use Rattle.covstore.specs.PointsData.{PointsData}
+use Rattle.covstore.specs.Puts.{ArePairs, put, value_of}
+use Rattle.covstore.proofs.Ascend.{All-weaker, flips}
+use Rattle.covstore.proofs.Puts.{counted_one}
+use Rattle.covstore.proofs.SumsPuts.{no_value}
+use Rattle.covstore.proofs.TotalsCounts.{one_each}
+
+-- what a number for each value is at a key that may have none
+abbrev value_before : {V : Type 0} → (V → ℕ) → Option V → ℕ
+value_before f None = 0
+value_before f (Some value) = f value
+
+module _ {K V : Type 0} {cmp : K → K → Ordering} (t : IsTotalOrder cmp) (f : V → ℕ) (key : K) (value : V) where
+  sum_of-put_at : (pair : K × V) (pairs : List (K × V)) (order : Ordering) → cmp pair.0 key ≡ order → AllByRecursion (λ next. cmp pair.0 next.0 ≡ Less) pairs
+      → sum_by (λ p. f p.1) (put cmp key value pairs) + value_before f (value_of cmp key pairs) ≡ sum_by (λ p. f p.1) pairs + f value
+      → sum_by (λ p. f p.1) (match_ordering order (pair ∷ put cmp key value pairs) ((key, value) ∷ pairs) ((key, value) ∷ pair ∷ pairs))
+      + value_before f (cond (is_eq order) (Some pair.1) (value_of cmp key pairs)) ≡ sum_by (λ p. f p.1) (pair ∷ pairs) + f value
+  sum_of-put_at pair pairs Less e behind rest =
+      omega (arith, sum_by-cons (λ (p : K × V). f p.1) pair (put cmp key value pairs), sum_by-cons (λ (p : K × V). f p.1) pair pairs, rest)
+  sum_of-put_at pair pairs Equal e behind rest =
+      omega (arith, sum_by-cons (λ (p : K × V). f p.1) (key, value) pairs, sum_by-cons (λ (p : K × V). f p.1) pair pairs)
+  sum_of-put_at pair pairs Greater e behind rest =
+      let first = flips t pair.0 key e in
+      let none : value_before f (value_of cmp key pairs) ≡ 0 =
+      ap (value_before f) (no_value t key pairs (All-weaker (λ next. cmp pair.0 next.0 ≡ Less) (λ next. cmp key next.0 ≡ Less) pairs (λ next l. t.trans key pair.0 next.0 first l) behind)) in
+      omega (arith, sum_by-cons (λ (p : K × V). f p.1) (key, value) (pair ∷ pairs), sum_by-cons (λ (p : K × V). f p.1) pair pairs, none)
+
+  -- what the key had before goes, and what it has now comes
+  sum_of-put : (pairs : List (K × V)) → ArePairs cmp pairs → sum_by (λ p. f p.1) (put cmp key value pairs) + value_before f (value_of cmp key pairs) ≡ sum_by (λ p. f p.1) pairs + f value
+  sum_of-put [] sorted = omega (arith, sum_by-cons (λ (p : K × V). f p.1) (key, value) [])
+  sum_of-put (pair ∷ pairs) sorted = sum_of-put_at pair pairs (cmp pair.0 key) refl sorted.0 (sum_of-put pairs sorted.1)
+
+one_or_new : {V : Type 0} (before : Option V) → value_before {V = V} (λ held. 1) before + one_if (is_new before) ≡ 1
+one_or_new None = omega arith
+one_or_new (Some held) = omega arith
+
+module _ {K : Type 0} {cmp : K → K → Ordering} (t : IsTotalOrder cmp) (key : K) (after : Tests) (counts : List (K × Tests)) (sorted : ArePairs cmp counts) where
+  -- a new point is one more
+  pub found_of-put : found_of (put cmp key after counts) ≡ found_of counts + one_if (is_new (value_of cmp key counts))
+  found_of-put =
+      let sums = sum_of-put t (λ held. 1) key after counts sorted in
+      omega (arith, sums, one_each (put cmp key after counts), one_each counts, one_or_new (value_of cmp key counts))
+
+  -- and one that is hit now and wasn't before
+  pub hit_of-put : hit_of (put cmp key after counts) + one_if (is_above_at (λ held. nat_lt 0 held.hit) (value_of cmp key counts)) ≡ hit_of counts + one_if (nat_lt 0 after.hit)
+  hit_of-put =
+      let sums = sum_of-put t (λ held. cond (nat_lt 0 held.hit) 1 0) key after counts sorted in
+      omega (arith, sums, counted (value_of cmp key counts), counted_one (nat_lt 0 after.hit))
+    where
+      counted : (before : Option Tests) → value_before (λ held. cond (nat_lt 0 held.hit) 1 0) before ≡ one_if (is_above_at (λ held. nat_lt 0 held.hit) before)
+      counted None = refl
+      counted (Some held) = counted_one (nat_lt 0 held.hit)
+
+  -- the numbers move with the point
+  pub tally_put : (before : Option Tests) → before ≡ value_of cmp key counts → (tally more : Tally) → IsTallyOf counts tally → more.found ≡ tally.found + one_if (is_new before)
+      → more.hit + one_if (is_above_at (λ held. nat_lt 0 held.hit) before) ≡ tally.hit + one_if (nat_lt 0 after.hit) → IsTallyOf (put cmp key after counts) more
+  tally_put before e tally more is found hit =
+      let new = ap (λ (held : Option Tests). one_if (is_new held)) e in
+      let above = ap (λ (held : Option Tests). one_if (is_above_at (λ (tests : Tests). nat_lt 0 tests.hit) held)) e in
+      record { found = omega (arith, found_of-put, found, is.found, new); hit = omega (arith, hit_of-put, hit, is.hit, above) }
+
+  -- and so do both tallies of the code
+  pub tallies_put : (before : Option Tests) (old middle new : PointsData K Tests) (held coming more : Tally) → IsTallyOf old.held held × IsTallyOf old.coming coming → counts ≡ old.coming → middle ≡ old
+      → new.held ≡ middle.held → new.coming ≡ put cmp key after middle.coming → before ≡ value_of cmp key old.coming → more.found ≡ coming.found + one_if (is_new before)
+      → more.hit + one_if (is_above_at (λ held. nat_lt 0 held.hit) before) ≡ coming.hit + one_if (nat_lt 0 after.hit) → IsTallyOf new.held held × IsTallyOf new.coming more
+  tallies_put before old middle new held coming more are own same stays puts e found hit =
+      let first = subst (λ (points : List (K × Tests)). IsTallyOf points held) (sym (stays ∙ ap (λ (points : PointsData K Tests). points.held) same)) are.0 in
+      let there = tally_put before (e ∙ ap (value_of cmp key) (sym own)) coming more (subst (λ (points : List (K × Tests)). IsTallyOf points coming) (sym own) are.1) found hit in
+      (first, subst (λ (points : List (K × Tests)). IsTallyOf points more) (sym (puts ∙ ap (put cmp key after) (ap (λ (points : PointsData K Tests). points.coming) same ∙ sym own))) there)
+
+-- ---- the numbers of a point before
+
+pub new_as : (before : Option Tests) (none is : Bool) → is_some before ≡ not none → none ≡ is → one_if (is_new before) ≡ one_if is
+new_as before none is e f = ap (λ (b : Bool). one_if (not b)) e ∙ ap (λ (b : Bool). one_if (not (not b))) f ∙ twice is
+  where
+    twice : (b : Bool) → one_if (not (not b)) ≡ one_if b
+    twice true = refl
+    twice false = refl
+
+one_below : (n : ℕ) → 0 < n → one_if (nat_lt 0 n) ≡ 1
+one_below n less = ap one_if (lt-ltb 0 n less)
+
+pub hit_as : (before : Option Tests) (held : Tests) → held ≡ unwrap_or before (record { tests = 0; hit = 0 }) → one_if (is_above_at (λ tests. nat_lt 0 tests.hit) before) ≡ one_if (nat_lt 0 held.hit)
+hit_as None held e = ap (λ (tests : Tests). one_if (nat_lt 0 tests.hit)) (sym e)
+hit_as (Some is) held e = ap (λ (tests : Tests). one_if (nat_lt 0 tests.hit)) (sym e)
+
+-- hit for the first time, not hit, and hit before
+pub hit_first : (before : Option Tests) (held : Tests) (hit more : ℕ) → held ≡ unwrap_or before (record { tests = 0; hit = 0 }) → held.hit ≡ 0 → 0 < held.hit + more
+    → hit + 1 + one_if (is_above_at (λ tests. nat_lt 0 tests.hit) before) ≡ hit + one_if (nat_lt 0 (held.hit + more))
+hit_first before held hit more e none less =
+    let was : one_if (nat_lt 0 held.hit) ≡ 0 = ap (λ (n : ℕ). one_if (nat_lt 0 n)) none in
+    omega (arith, hit_as before held e, was, one_below (held.hit + more) less)
+
+pub hit_not : (before : Option Tests) (held : Tests) (hit more : ℕ) → held ≡ unwrap_or before (record { tests = 0; hit = 0 }) → held.hit ≡ 0 → held.hit + more ≤ 0
+    → hit + one_if (is_above_at (λ tests. nat_lt 0 tests.hit) before) ≡ hit + one_if (nat_lt 0 (held.hit + more))
+hit_not before held hit more e none less =
+    let was : one_if (nat_lt 0 held.hit) ≡ 0 = ap (λ (n : ℕ). one_if (nat_lt 0 n)) none in
+    let is : held.hit + more ≡ 0 = omega arith in
+    let now : one_if (nat_lt 0 (held.hit + more)) ≡ 0 = ap (λ (n : ℕ). one_if (nat_lt 0 n)) is in
+    omega (arith, hit_as before held e, was, now)
+
+pub hit_already : (before : Option Tests) (held : Tests) (hit more : ℕ) → held ≡ unwrap_or before (record { tests = 0; hit = 0 }) → (held.hit ≡ 0 → ⊥)
+    → hit + one_if (is_above_at (λ tests. nat_lt 0 tests.hit) before) ≡ hit + one_if (nat_lt 0 (held.hit + more))
+hit_already before held hit more e some =
+    let less : 0 < held.hit = omega arith in
+    omega (arith, hit_as before held e, one_below held.hit less, one_below (held.hit + more) (omega arith))

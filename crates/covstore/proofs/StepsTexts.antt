@@ -1,0 +1,102 @@
+-- The checksums' texts where one comes in, and the lines of which a checksum is held where one more test holds one.
+use Rattle.std.proofs.Common.{◌≡◌, ℕ, Bool, true, false, cond, Option, Some, None, List, [], ◌∷◌, refl, sym, ap, ◌∙◌, subst, inl, inr, ⊎_elim}
+use Rattle.std.specs.Prelude.{◌⊎◌, Result, Ok, Err, OnOk}
+use Rattle.std.specs.BTreeMap.{insert_entry}
+use Rattle.std.specs.declared.cmp.Ordering.{Ordering}
+use Rattle.std.specs.declared.cmp.Ordering.TheVariants.{Less, Equal, Greater}
+use Rattle.std.specs.Option.{is_some}
+use Rattle.std.specs.Result.{is_err}
+use Rattle.std.specs.Ordering.{is_eq, match_ordering, nat_cmp, ordering_reverse}
+use Rattle.std.proofs.lemmas.Bool.{false≢true}
+use Rattle.covstore.specs.Checksums.{AreAmong, HaveTexts, KeepsTexts, StayTexts}
+use Rattle.covstore.specs.Puts.{put, value_of}
+use Rattle.covstore.proofs.Ascend.{IsExactOrder}
+use Rattle.covstore.proofs.Orders.{lines_order}
+use Rattle.covstore.proofs.Puts.{value_of-put, value_of-put_any, value_of-put_other}
+
+-- a map's insertion is a value put in
+module _ {K V : Type 0} {cmp : K → K → Ordering} (o : IsExactOrder cmp) (key : K) (value : V) where
+  insert_at : (pair : K × V) (pairs rest : List (K × V)) (order : Ordering) → cmp pair.0 key ≡ order → rest ≡ put cmp key value pairs
+      → match_ordering (ordering_reverse order) ((key, value) ∷ pair ∷ pairs) ((pair.0, value) ∷ pairs) (pair ∷ rest)
+      ≡ match_ordering order (pair ∷ put cmp key value pairs) ((key, value) ∷ pairs) ((key, value) ∷ pair ∷ pairs)
+  insert_at pair pairs rest Less e same = ap (λ (others : List (K × V)). pair ∷ others) same
+  insert_at pair pairs rest Equal e same = ap (λ (k : K). (k, value) ∷ pairs) (o.exact pair.0 key e)
+  insert_at pair pairs rest Greater e same = refl
+
+  pub insert_is_put : (pairs : List (K × V)) → insert_entry cmp pairs key value ≡ put cmp key value pairs
+  insert_is_put [] = refl
+  insert_is_put (pair ∷ pairs) =
+      ap (λ (order : Ordering). match_ordering order ((key, value) ∷ pair ∷ pairs) ((pair.0, value) ∷ pairs) (pair ∷ insert_entry cmp pairs key value)) (o.total.antisymm key pair.0)
+      ∙ insert_at pair pairs (insert_entry cmp pairs key value) (cmp pair.0 key) refl (insert_is_put pairs)
+
+-- ---- what is there
+
+some_if : {V : Type 0} (here : Bool) (value : V) (rest : Option V) → is_some rest ≡ true → is_some (cond here (Some value) rest) ≡ true
+some_if true value rest e = refl
+some_if false value rest e = e
+
+-- a line that has a value has one after another is put in
+pub some_after : {V : Type 0} (line other : ℕ) (value : V) (pairs : List (ℕ × V)) → is_some (value_of nat_cmp other pairs) ≡ true → is_some (value_of nat_cmp other (put nat_cmp line value pairs)) ≡ true
+some_after line other value pairs e =
+    ap is_some (value_of-put_any lines_order line other value pairs) ∙ some_if (is_eq (nat_cmp line other)) value (value_of nat_cmp other pairs) e
+
+module _ (line : ℕ) (text : List ℕ) (holders : List (ℕ × ℕ)) (texts more : List (ℕ × List ℕ)) (comes : more ≡ insert_entry nat_cmp texts line text) where
+  is_put : more ≡ put nat_cmp line text texts
+  is_put = comes ∙ insert_is_put lines_order line text texts
+
+  -- the text that came in is there
+  pub inserted_is : value_of nat_cmp line more ≡ Some text
+  inserted_is = ap (value_of nat_cmp line) is_put ∙ value_of-put lines_order line text texts
+
+  pub have_inserted : HaveTexts holders texts → HaveTexts holders more
+  have_inserted have other e = ap (λ (pairs : List (ℕ × List ℕ)). is_some (value_of nat_cmp other pairs)) is_put ∙ some_after line other text texts (have other e)
+
+  other_text : (none : value_of nat_cmp line holders ≡ None) (other : ℕ) → is_some (value_of nat_cmp other holders) ≡ true → value_of nat_cmp other more ≡ value_of nat_cmp other texts
+  other_text none other e =
+      ap (value_of nat_cmp other) is_put
+      ∙ value_of-put_other lines_order line other text texts (λ same. false≢true (sym (ap is_some none) ∙ ap (λ (l : ℕ). is_some (value_of nat_cmp l holders)) same ∙ e))
+
+  -- a text comes in of a line of which no checksum is to be held: those of the lines of which one is held stay
+  pub stay_inserted : (held : List (ℕ × ℕ)) → AreAmong held holders → value_of nat_cmp line holders ≡ None → StayTexts held texts more
+  stay_inserted held among none other e = other_text none other (among other e)
+
+  -- and then its checksum is to be held
+  pub keeps_first : (others : List (ℕ × ℕ)) → value_of nat_cmp line holders ≡ None → others ≡ put nat_cmp line 1 holders → KeepsTexts holders texts others more
+  keeps_first others none puts = record {
+    held = λ other e. ap (λ (pairs : List (ℕ × ℕ)). is_some (value_of nat_cmp other pairs)) puts ∙ some_after line other 1 holders e;
+    texts_stay = other_text none;
+  }
+
+module _ (line tests : ℕ) (holders others : List (ℕ × ℕ)) (puts : others ≡ put nat_cmp line tests holders) where
+  -- the line is held
+  pub held_is : is_some (value_of nat_cmp line others) ≡ true
+  held_is = ap is_some (ap (value_of nat_cmp line) puts ∙ value_of-put lines_order line tests holders)
+
+  held_at : (other : ℕ) → is_some (value_of nat_cmp other others) ≡ true → (nat_cmp line other ≡ Equal) ⊎ (is_some (value_of nat_cmp other holders) ≡ true)
+  held_at other e = by (nat_cmp line other) refl (sym (ap is_some (ap (value_of nat_cmp other) puts ∙ value_of-put_any lines_order line other tests holders)) ∙ e)
+    where
+      by : (order : Ordering) → nat_cmp line other ≡ order → is_some (cond (is_eq order) (Some tests) (value_of nat_cmp other holders)) ≡ true
+          → (nat_cmp line other ≡ Equal) ⊎ (is_some (value_of nat_cmp other holders) ≡ true)
+      by Less is h = inr h
+      by Equal is h = inl is
+      by Greater is h = inr h
+
+  pub have_held : (texts : List (ℕ × List ℕ)) → is_some (value_of nat_cmp line texts) ≡ true → HaveTexts holders texts → HaveTexts others texts
+  have_held texts there have other e =
+      ⊎_elim (λ (same : nat_cmp line other ≡ Equal). subst (λ (l : ℕ). is_some (value_of nat_cmp l texts) ≡ true) (lines_order.exact line other same) there) (λ h. have other h) (held_at other e)
+
+  -- what was among the lines of which a checksum is held is so still
+  pub among_held : (held : List (ℕ × ℕ)) → AreAmong held holders → AreAmong held others
+  among_held held among other e = ap (λ (pairs : List (ℕ × ℕ)). is_some (value_of nat_cmp other pairs)) puts ∙ some_after line other tests holders (among other e)
+
+  -- one test more holds a line's checksum
+  pub keeps_held : (texts : List (ℕ × List ℕ)) → KeepsTexts holders texts others texts
+  keeps_held texts = record {
+    held = λ other e. ap (λ (pairs : List (ℕ × ℕ)). is_some (value_of nat_cmp other pairs)) puts ∙ some_after line other tests holders e;
+    texts_stay = λ other e. refl;
+  }
+
+-- what holds of a value holds where there is no refusal
+pub ok_unless : {T E P : Type 0} (r : Result T E) {b : Bool} → b ≡ is_err r → b ≡ false → OnOk r P → P
+ok_unless (Ok x) is without h = h
+ok_unless (Err e) is without h = absurd (false≢true (sym without ∙ is))

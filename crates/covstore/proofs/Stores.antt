@@ -1,0 +1,132 @@
+-- A store over maps: what it stands for, also with a submission more.
+use Rattle.std.proofs.Common.{◌≡◌, ℕ, ◌+◌, ◌≤◌, List, [], ◌∷◌, ◌++◌, length, refl, sym, ap, ◌∙◌, subst, arith}
+use Rattle.std.specs.Prelude.{None}
+use Rattle.std.specs.List.{AllByRecursion, flat_map}
+use Rattle.std.proofs.lemmas.List.{append-nil, length_push}
+use Rattle.std.proofs.lemmas.List.Concat.{flat_map-append}
+use Rattle.covline.specs.Row.{ItemData, Row, SectData, SubmissionData, rows_of, rows_of_sect}
+use Rattle.covline.specs.Lawful.{AllFit64, IsLawful, most_items}
+use Rattle.covstore.specs.declared.totals.Totals.{Totals}
+use Rattle.covstore.specs.Adds.{SmallRow}
+use Rattle.covstore.specs.Clash.{Agree, checksums_in, clash_of}
+use Rattle.covstore.specs.Content.{content_of}
+use Rattle.covstore.specs.Stored.{IsPlanOf, PlanData, StandsFor, StoreData}
+use Rattle.covstore.specs.MapsView.{IsStore}
+use Rattle.covstore.specs.State.{FileData, IsStateOf, sections_of}
+use Rattle.covstore.specs.Table.{Table, all_rows, clash_at}
+use Rattle.covstore.specs.Totals.{AreTotals, totals_of}
+use Rattle.covstore.proofs.Bounds.{length-rows_of_sects}
+use Rattle.covstore.proofs.Clashes.{agree_empty, agree_submitted}
+use Rattle.covstore.proofs.Contents.{clash_by_content, content-append}
+use Rattle.covstore.proofs.StateSections.{no_rows, sections_are}
+use Rattle.covstore.proofs.StateTotals.{totals_are}
+use Rattle.covstore.proofs.TotalsDifferent.{are_totals}
+
+-- ---- rows of a submission
+
+pub rows_accepted : (table : Table) (rows : List Row) → all_rows (table ++ rows ∷ []) ≡ all_rows table ++ rows
+rows_accepted table rows = flat_map-append (λ (xs : List Row). xs) table (rows ∷ []) ∙ ap (λ (xs : List Row). all_rows table ++ xs) (append-nil rows)
+
+pub few_rows : (s : SubmissionData) → IsLawful s → length (rows_of s) ≤ most_items
+few_rows s lawful = omega (arith, length-rows_of_sects s.sects, lawful.few)
+
+pub All-joined : {X : Type 0} (P : X → Type 0) (xs ys : List X) → AllByRecursion P xs → AllByRecursion P ys → AllByRecursion P (xs ++ ys)
+All-joined P [] ys all more = more
+All-joined P (x ∷ xs) ys all more = (all.0, All-joined P xs ys all.1 more)
+
+pub small_sect : (test file : List ℕ) (items : List ItemData) → AllFit64 items → AllByRecursion SmallRow (rows_of_sect (record { test = test; file = file; items = items }))
+small_sect test file [] fit = tt
+small_sect test file (item ∷ items) fit = (fit.0, small_sect test file items fit.1)
+
+small_sects : (sects : List SectData) → AllByRecursion (λ sect. AllFit64 sect.items) sects → AllByRecursion SmallRow (flat_map rows_of_sect sects)
+small_sects [] fit = tt
+small_sects (sect ∷ sects) fit = All-joined SmallRow (rows_of_sect sect) (flat_map rows_of_sect sects) (small_sect sect.test sect.file sect.items fit.0) (small_sects sects fit.1)
+
+pub small_rows : (s : SubmissionData) → IsLawful s → AllByRecursion SmallRow (rows_of s)
+small_rows s lawful = small_sects s.sects lawful.fit
+
+-- ---- what is kept
+
+pub no_store : IsStore 0 (record { lf = 0; lh = 0; ff = 0; fh = 0; bf = 0; bh = 0 }) []
+no_store = record {
+  own = [];
+  state = no_rows;
+  agree = agree_empty;
+  counted = refl;
+  few = omega arith;
+  small = tt;
+  small_rows = tt;
+  totals = refl;
+}
+
+module _ (members : ℕ) (held : Totals) (files : List (List ℕ × FileData)) (is : IsStore members held files) where
+  pub store_sections : sections_of files ≡ content_of (all_rows is.own)
+  store_sections = sections_are (all_rows is.own) files is.state is.agree
+
+  pub store_totals : held ≡ totals_of (sections_of files)
+  store_totals = is.totals ∙ sym (totals_are (all_rows is.own) files is.state is.agree)
+
+  pub store_bounds : AreTotals held
+  store_bounds = subst AreTotals (sym store_totals) (are_totals (sections_of files))
+
+-- ---- a submission more
+
+-- a store, seen as plain data
+abbrev pub store_of : ℕ → List (List ℕ × FileData) → List (List ℕ × FileData) → Totals → StoreData
+store_of members held coming after = record { sections = sections_of held; members = members; held = held; coming = coming; after = after }
+
+module _ (members : ℕ) (totals : Totals) (held coming : List (List ℕ × FileData)) (after : Totals) (is : IsStore members totals held) (s : SubmissionData) (plan : PlanData)
+    (p : IsPlanOf (store_of members held coming after) s plan) where
+  more : (clash_of (all_rows is.own) (rows_of s) ≡ None) × IsStateOf (all_rows is.own ++ rows_of s) coming × Agree (checksums_in (all_rows is.own ++ rows_of s))
+  more = p.adds (all_rows is.own) is.state is.agree
+
+  rows_more : all_rows (is.own ++ rows_of s ∷ []) ≡ all_rows is.own ++ rows_of s
+  rows_more = rows_accepted is.own (rows_of s)
+
+  pub store_more : IsStore (members + 1) plan.after coming
+  store_more = record {
+    own = is.own ++ rows_of s ∷ [];
+    state = subst (λ (rows : List Row). IsStateOf rows coming) (sym rows_more) more.1;
+    agree = subst (λ (rows : List Row). Agree (checksums_in rows)) (sym rows_more) more.2;
+    counted = omega (arith, is.counted, length_push is.own (rows_of s));
+    few = omega (arith, is.counted, p.few, length_push is.own (rows_of s));
+    small = All-joined (λ (rows : List Row). length rows ≤ most_items) is.own (rows_of s ∷ []) is.small (few_rows s p.lawful, tt);
+    small_rows = subst (AllByRecursion SmallRow) (sym rows_more) (All-joined SmallRow (all_rows is.own) (rows_of s) is.small_rows (small_rows s p.lawful));
+    totals = p.planned ∙ p.totals;
+  }
+
+  -- it is one more in each table that the store stands for
+  module _ (table : Table) (stands : StandsFor (store_of members held coming after) table) where
+    same_content : content_of (all_rows is.own) ≡ content_of (all_rows table)
+    same_content = sym (store_sections members totals held is) ∙ stands.content
+
+    no_clash : clash_at table s ≡ None
+    no_clash = sym (clash_by_content (all_rows is.own) (all_rows table) (rows_of s) is.agree stands.agree same_content) ∙ more.0
+
+    pub stands_more : StandsFor (store_of (members + 1) coming coming plan.after) (table ++ rows_of s ∷ [])
+    stands_more = record {
+      content =
+          sections_are (all_rows is.own ++ rows_of s) coming more.1 more.2
+          ∙ content-append (all_rows is.own) (all_rows table) (rows_of s) same_content
+          ∙ ap content_of (sym (rows_accepted table (rows_of s)));
+      members = omega (arith, stands.members, length_push table (rows_of s));
+      agree = agree_submitted table s no_clash stands.agree;
+      few = omega (arith, stands.members, p.few, length_push table (rows_of s));
+      small = All-joined (λ (rows : List Row). length rows ≤ most_items) table (rows_of s ∷ []) stands.small (few_rows s p.lawful, tt);
+    }
+
+-- ---- stores that are equal part by part
+
+pub same_members : {held other : Totals} {files others : List (List ℕ × FileData)} (members count : ℕ) → members ≡ count → held ≡ other → files ≡ others → IsStore count other others → IsStore members held files
+same_members {held} {other} {files} {others} members count counted totals same is =
+    subst (λ (m : ℕ). IsStore m held files) (sym counted) (subst (λ (t : Totals). IsStore count t files) (sym totals) (subst (λ (xs : List (List ℕ × FileData)). IsStore count other xs) (sym same) is))
+
+pub stands_same : (table : Table) (members count : ℕ) (held coming others : List (List ℕ × FileData)) (after other : Totals) → members ≡ count → held ≡ others
+    → StandsFor (store_of count others others other) table → StandsFor (store_of members held coming after) table
+stands_same table members count held coming others after other counted same stands = record {
+  content = ap sections_of same ∙ stands.content;
+  members = counted ∙ stands.members;
+  agree = stands.agree;
+  few = stands.few;
+  small = stands.small;
+}

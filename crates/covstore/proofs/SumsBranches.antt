@@ -1,0 +1,86 @@
+-- The sums of branches with one item more.
+use Rattle.std.proofs.Common.{◌≡◌, ℕ, ◌+◌, Bool, true, ◌&&◌, eqb, Option, Some, None, List, [], ◌∷◌, ◌++◌, refl, ap, ◌∙◌, arith}
+use Rattle.std.specs.List.{flat_map, sum_by}
+use Rattle.std.proofs.lemmas.Bool.{cond-true, eq-eqb}
+use Rattle.std.proofs.lemmas.List.{append-nil}
+use Rattle.std.proofs.lemmas.List.Sums.{sum_by-append, sum_by-cons}
+use Rattle.covline.specs.Points.{BranchPoint, branch_point, branch_points}
+use Rattle.covline.specs.Row.{ItemData, BranchItem}
+use Rattle.covstore.specs.declared.sums.Taken.{Taken}
+use Rattle.covstore.specs.Puts.{put, value_of}
+use Rattle.covstore.specs.Sums.{branch_sum, branch_with, sum_taken}
+use Rattle.covstore.specs.Value.{branch_cmp, is_branch, sum_if_any, taken_said}
+use Rattle.covstore.proofs.ContentsPoints.{nothing_said, taken_unsaid}
+use Rattle.covstore.proofs.Members.{In}
+use Rattle.covstore.proofs.Orders.{branches_order}
+use Rattle.covstore.proofs.SumsKinds.{sums, sums_put, sums_same}
+use Rattle.covstore.proofs.SumsLast.{last_said, none_said}
+
+-- what items add up to at a branch
+abbrev pub branch_held : List ItemData → BranchPoint → Taken
+branch_held items point = (branch_sum items point).1
+
+taken_of : Option ℕ → Taken
+taken_of times = record { times = times }
+
+-- an item that doesn't speak of the branch leaves it
+branch_others : (items : List ItemData) (item : ItemData) (point : BranchPoint) → (In point (branch_point item) → ⊥) → branch_held (items ++ item ∷ []) point ≡ branch_held items point
+unfolding taken_of
+branch_others items item point none = ap (λ (said : List ℕ). taken_of (sum_if_any said)) (none_said (taken_said point) items item (taken_unsaid point item none))
+
+-- ---- an item of the branch
+
+abbrev point_of : ℕ → ℕ → ℕ → BranchPoint
+point_of line block branch = record { line = line; block = block; branch = branch }
+
+all_true : (x y z : Bool) → x ≡ true → y ≡ true → z ≡ true → (x && y && z) ≡ true
+all_true x y z a b c = ap (λ (x : Bool). x && y && z) a ∙ ap (λ (y : Bool). y && z) b ∙ c
+
+-- the numbers that the item says for its branch
+abbrev told : Option ℕ → List ℕ
+told None = []
+told (Some taken) = taken ∷ []
+
+own_taken : (line block branch : ℕ) (taken : Option ℕ) → taken_said (point_of line block branch) (BranchItem line block branch taken) ≡ told taken
+own_taken line block branch None = refl
+own_taken line block branch (Some taken) =
+    cond-true (is_branch (point_of line block branch) line block branch) (taken ∷ []) []
+    (all_true (eqb line line) (eqb block block) (eqb branch branch) (eq-eqb line line refl) (eq-eqb block block refl) (eq-eqb branch branch refl))
+
+sum_one : (n : ℕ) → sum_by (λ m. m) (n ∷ []) ≡ n
+sum_one n =
+    let nothing : sum_by (λ m. m) [] ≡ 0 = refl in
+    omega (arith, sum_by-cons (λ m. m) n [], nothing)
+
+sum_told : (numbers : List ℕ) (taken : Option ℕ) → sum_if_any (numbers ++ told taken) ≡ sum_taken (sum_if_any numbers) taken
+sum_told [] None = refl
+sum_told [] (Some taken) = ap (λ (n : ℕ). Some n) (sum_one taken)
+sum_told (n ∷ numbers) None = ap (λ (ns : List ℕ). Some (sum_by (λ (m : ℕ). m) (n ∷ ns))) (append-nil numbers)
+sum_told (n ∷ numbers) (Some taken) =
+    ap (λ (n : ℕ). Some n) (sum_by-append (λ m. m) (n ∷ numbers) (taken ∷ []) ∙ ap (λ (k : ℕ). sum_by (λ (m : ℕ). m) (n ∷ numbers) + k) (sum_one taken))
+
+module _ (items : List ItemData) (line block branch : ℕ) (taken : Option ℕ) where
+  branch_more : branch_held (items ++ BranchItem line block branch taken ∷ []) (point_of line block branch) ≡ branch_with taken (Some (branch_held items (point_of line block branch)))
+  unfolding taken_of
+  branch_more =
+      let point = point_of line block branch in
+      ap (λ (said : List ℕ). taken_of (sum_if_any said))
+      (last_said (taken_said point) items (BranchItem line block branch taken) ∙ ap (λ (said : List ℕ). flat_map (taken_said point) items ++ said) (own_taken line block branch taken))
+      ∙ ap taken_of (sum_told (flat_map (taken_said point) items) taken)
+
+  branch_first : (In (point_of line block branch) (branch_points items) → ⊥) → branch_held (items ++ BranchItem line block branch taken ∷ []) (point_of line block branch) ≡ branch_with taken None
+  unfolding taken_of
+  branch_first none =
+      let point = point_of line block branch in
+      branch_more ∙ ap (λ (said : List ℕ). taken_of (sum_taken (sum_if_any said) taken)) (nothing_said branch_point (taken_said point) point (taken_unsaid point) items none)
+
+  pub branches_put : sums branch_cmp branch_point branch_held (items ++ BranchItem line block branch taken ∷ [])
+      ≡ put branch_cmp (point_of line block branch) (branch_with taken (value_of branch_cmp (point_of line block branch) (sums branch_cmp branch_point branch_held items)))
+      (sums branch_cmp branch_point branch_held items)
+  branches_put =
+      sums_put branches_order branch_point branch_held items (BranchItem line block branch taken) (branch_others items (BranchItem line block branch taken)) (point_of line block branch) (branch_with taken) refl
+      branch_first (λ _. branch_more)
+
+-- an item of another kind leaves all branches
+pub branches_same : (items : List ItemData) (item : ItemData) → branch_point item ≡ [] → sums branch_cmp branch_point branch_held (items ++ item ∷ []) ≡ sums branch_cmp branch_point branch_held items
+branches_same items item none = sums_same branches_order branch_point branch_held items item (branch_others items item) none

@@ -1,0 +1,89 @@
+-- The sums of functions with one item more.
+use Rattle.std.proofs.Common.{◌≡◌, ℕ, ◌+◌, true, min, Some, None, unwrap_or, List, [], ◌∷◌, ◌++◌, refl, ap, ◌∙◌, arith}
+use Rattle.std.specs.Cmp.Lexicographic.{slice_cmp}
+use Rattle.std.specs.List.{flat_map}
+use Rattle.std.specs.Option.{is_some}
+use Rattle.std.specs.Ordering.{nat_cmp}
+use Rattle.std.specs.Str.{bytes_eq}
+use Rattle.std.proofs.lemmas.Bool.{cond-true, false≢true}
+use Rattle.std.proofs.lemmas.List.Sums.{fold-append}
+use Rattle.std.proofs.lemmas.Slice.Eq.{bytes_eq-Decides}
+use Rattle.covline.specs.Points.{func_point, func_points, least}
+use Rattle.covline.specs.Row.{ItemData, FuncItem}
+use Rattle.covstore.specs.declared.sums.FunctionSum.{FunctionSum}
+use Rattle.covstore.specs.Puts.{put, value_of}
+use Rattle.covstore.specs.Sums.{function_sum, function_with}
+use Rattle.covstore.specs.Value.{function_added, function_count, function_start, start_said}
+use Rattle.covstore.proofs.ContentsPoints.{count_unadded, has_start, nothing_added, nothing_said, start_unsaid}
+use Rattle.covstore.proofs.Members.{In}
+use Rattle.covstore.proofs.Orders.{names_order}
+use Rattle.covstore.proofs.SumsKinds.{sums, sums_put, sums_same}
+use Rattle.covstore.proofs.SumsLast.{last_added, last_said, none_added, none_said}
+
+-- what items add up to at a function
+abbrev pub function_held : List ItemData → List ℕ → FunctionSum
+function_held items name = (function_sum items name).1
+
+function_of : ℕ → ℕ → FunctionSum
+function_of line count = record { line = line; count = count }
+
+-- two sums of the same parts are the same
+same_sum : (line other_line count other : ℕ) → line ≡ other_line → count ≡ other → function_of line count ≡ function_of other_line other
+same_sum line other_line count other left right = ap (λ (n : ℕ). function_of n count) left ∙ ap (λ (n : ℕ). function_of other_line n) right
+
+-- an item that doesn't speak of the function leaves it
+function_others : (items : List ItemData) (item : ItemData) (name : List ℕ) → (In name (func_point item) → ⊥) → function_held (items ++ item ∷ []) name ≡ function_held items name
+unfolding function_of
+function_others items item name none =
+    same_sum (function_start name (items ++ item ∷ [])) (function_start name items) (function_count name (items ++ item ∷ [])) (function_count name items)
+    (ap (λ (said : List ℕ). unwrap_or (least said) 0) (none_said (start_said name) items item (start_unsaid name item none)))
+    (none_added (function_added name) items item (count_unadded name item none))
+
+-- ---- an item of the function
+
+own_count : (name : List ℕ) (line count : ℕ) → function_added name (FuncItem name line count) ≡ count
+own_count name line count = cond-true (bytes_eq name name) count 0 ((bytes_eq-Decides name name).1 refl)
+
+own_start : (name : List ℕ) (line count : ℕ) → start_said name (FuncItem name line count) ≡ line ∷ []
+own_start name line count = cond-true (bytes_eq name name) (line ∷ []) [] ((bytes_eq-Decides name name).1 refl)
+
+least_last : (starts : List ℕ) (line : ℕ) → is_some (least starts) ≡ true → unwrap_or (least (starts ++ line ∷ [])) 0 ≡ min (unwrap_or (least starts) 0) line
+least_last [] line some = absurd (false≢true some)
+least_last (start ∷ starts) line some = fold-append min start starts (line ∷ [])
+
+module _ (name : List ℕ) (items : List ItemData) (line count : ℕ) where
+  starts_more : function_start name (items ++ FuncItem name line count ∷ []) ≡ unwrap_or (least (flat_map (start_said name) items ++ line ∷ [])) 0
+  starts_more =
+      ap (λ (said : List ℕ). unwrap_or (least said) 0)
+      (last_said (start_said name) items (FuncItem name line count) ∙ ap (λ (said : List ℕ). flat_map (start_said name) items ++ said) (own_start name line count))
+
+  function_more : In name (func_points items) → function_held (items ++ FuncItem name line count ∷ []) name ≡ function_with line count (Some (function_held items name))
+  unfolding function_of
+  function_more i =
+      same_sum (function_start name (items ++ FuncItem name line count ∷ [])) (min (function_start name items) line)
+      (function_count name (items ++ FuncItem name line count ∷ [])) (function_count name items + count)
+      (starts_more ∙ least_last (flat_map (start_said name) items) line (has_start name items i))
+      (omega (arith, last_added (function_added name) items (FuncItem name line count), own_count name line count))
+
+  function_first : (In name (func_points items) → ⊥) → function_held (items ++ FuncItem name line count ∷ []) name ≡ function_with line count None
+  unfolding function_of
+  function_first none =
+      same_sum (function_start name (items ++ FuncItem name line count ∷ [])) line (function_count name (items ++ FuncItem name line count ∷ [])) count
+      (starts_more ∙ ap (λ (said : List ℕ). unwrap_or (least (said ++ line ∷ [])) 0) (nothing_said func_point (start_said name) name (start_unsaid name) items none))
+      (omega (
+        arith,
+        last_added (function_added name) items (FuncItem name line count),
+        own_count name line count,
+        nothing_added func_point (function_added name) name (count_unadded name) items none,
+      ))
+
+  pub functions_put : sums (slice_cmp nat_cmp) func_point function_held (items ++ FuncItem name line count ∷ [])
+      ≡ put (slice_cmp nat_cmp) name (function_with line count (value_of (slice_cmp nat_cmp) name (sums (slice_cmp nat_cmp) func_point function_held items)))
+      (sums (slice_cmp nat_cmp) func_point function_held items)
+  functions_put =
+      sums_put names_order func_point function_held items (FuncItem name line count) (function_others items (FuncItem name line count)) name (function_with line count) refl function_first function_more
+
+-- an item of another kind leaves all functions
+pub functions_same : (items : List ItemData) (item : ItemData) → func_point item ≡ []
+    → sums (slice_cmp nat_cmp) func_point function_held (items ++ item ∷ []) ≡ sums (slice_cmp nat_cmp) func_point function_held items
+functions_same items item none = sums_same names_order func_point function_held items item (function_others items item) none

@@ -1,0 +1,21 @@
+-- What items say of a point with one item more at their end.
+use Rattle.std.proofs.Common.{◌≡◌, ℕ, ◌+◌, List, [], ◌∷◌, ◌++◌, refl, ap, ◌∙◌, arith}
+use Rattle.std.specs.List.{flat_map, sum_by}
+use Rattle.std.proofs.lemmas.List.{append-nil}
+use Rattle.std.proofs.lemmas.List.Concat.{flat_map-append}
+use Rattle.std.proofs.lemmas.List.Sums.{sum_by-cons, sum_by-append}
+use Rattle.covline.specs.Row.{ItemData}
+
+pub last_added : (added : ItemData → ℕ) (items : List ItemData) (item : ItemData) → sum_by added (items ++ item ∷ []) ≡ sum_by added items + added item
+last_added added items item =
+    let nothing : sum_by added [] ≡ 0 = refl in
+    omega (arith, sum_by-append added items (item ∷ []), sum_by-cons added item [], nothing)
+
+pub none_added : (added : ItemData → ℕ) (items : List ItemData) (item : ItemData) → added item ≡ 0 → sum_by added (items ++ item ∷ []) ≡ sum_by added items
+none_added added items item none = omega (arith, last_added added items item, none)
+
+pub last_said : {X : Type 0} (said : ItemData → List X) (items : List ItemData) (item : ItemData) → flat_map said (items ++ item ∷ []) ≡ flat_map said items ++ said item
+last_said {X} said items item = flat_map-append said items (item ∷ []) ∙ ap (λ (xs : List X). flat_map said items ++ xs) (append-nil (said item))
+
+pub none_said : {X : Type 0} (said : ItemData → List X) (items : List ItemData) (item : ItemData) → said item ≡ [] → flat_map said (items ++ item ∷ []) ≡ flat_map said items
+none_said {X} said items item none = last_said said items item ∙ ap (λ (xs : List X). flat_map said items ++ xs) none ∙ append-nil (flat_map said items)

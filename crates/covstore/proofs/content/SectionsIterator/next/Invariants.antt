@@ -1,0 +1,10 @@
+use Rattle.std.proofs.Common.{◌≡◌, length}
+use Rattle.covstore.specs.SeenView.{sections_left}
+use Rattle.covstore.proofs.content.SectionsIterator.next.Given as goal
+
+-- what is left is what was left
+abbrev pub invariant-loop-next : goal.invariant-loop-next
+invariant-loop-next g l = sections_left (λ name. name.items) l.self-inside.current l.self-inside.files ≡ sections_left (λ name. name.items) l.initial.self-inside.current l.initial.self-inside.files
+
+abbrev pub decreases-loop-next : goal.decreases-loop-next
+decreases-loop-next g l = length l.self-inside.files

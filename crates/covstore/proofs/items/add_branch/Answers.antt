@@ -1,0 +1,63 @@
+use Rattle.std.proofs.Common.{◌<◌, ◌^◌, Option, List, refl, sym, ap, ◌∙◌, subst}
+use Rattle.std.specs.Option.{IfSome}
+use Rattle.covline.specs.Points.{BranchPoint}
+use Rattle.covline.specs.PointView.{branch_point_data}
+use Rattle.covline.specs.declared.point.BranchPoint as code
+use Rattle.covstore.specs.declared.sums.Taken.{Taken}
+use Rattle.covstore.specs.declared.sums.Tests.{Tests}
+use Rattle.covstore.specs.Changes.{change_of}
+use Rattle.covstore.specs.Counts.{is_above_at}
+use Rattle.covstore.specs.KeyOrders.{code_branch_cmp}
+use Rattle.covstore.specs.PointsData.{PointsData}
+use Rattle.covstore.specs.Puts.{put}
+use Rattle.covstore.specs.State.{branch_above}
+use Rattle.covstore.specs.Sums.{TestData, branch_fits, branch_with}
+use Rattle.covstore.specs.TestView.{branches_data}
+use Rattle.covstore.specs.Value.{branch_cmp}
+use Rattle.covstore.proofs.StepsKept.{keeps_branch, room_for}
+use Rattle.covstore.proofs.StepsCounts.{branch_stays, changed_as, seen-changed, seen-put, value_of-seen}
+use Rattle.covstore.proofs.items.add_branch.Goals as goal
+
+pub with-after-requires : goal.with-after-requires
+with-after-requires g c =
+    let before = c.coming_at-before in
+    let same = before.ensures.value ∙ sym (value_of-seen branch_cmp branch_point_data c.args.point c.args.test.now.branches.coming) in
+    subst (λ (held : Option Taken). branch_fits c.args.taken held) (sym same) c.requires.fits
+
+pub add-requires-clause-room : goal.add-requires-clause-room
+add-requires-clause-room g c =
+    let room = c.requires.room in
+    let counts = c.args.marks.now.branches.coming in
+    subst (λ (value : Option Tests). IfSome value (λ held. (held.tests < 2 ^ 63) × (held.hit < 2 ^ 63))) (value_of-seen branch_cmp branch_point_data c.args.point counts)
+    (room_for (λ (test : TestData). test.branches) _ (branches_data counts) room.few room.kept.branches (branch_point_data c.args.point))
+
+pub returns-clause-test : goal.returns-clause-test
+returns-clause-test g c =
+    let point = branch_point_data c.args.point in
+    let value = c.with-after.result in
+    let before = c.coming_at-before in
+    let test = c.args.test.now in
+    let pairs = test.branches.coming in
+    let given = before.ensures.value ∙ sym (value_of-seen branch_cmp branch_point_data c.args.point pairs) in
+    let puts = ap branches_data (c.in_ok-put.ensures.ok ∙ ap (λ (points : PointsData code.BranchPoint Taken). put code_branch_cmp c.args.point value points.coming) before.ensures.same)
+    ∙ seen-put branch_cmp branch_point_data c.args.point value pairs in
+    let made : List (BranchPoint × Taken) → TestData = λ own. record { lines = test.lines.coming; functions = test.functions.coming; branches = own } in
+    ap made (puts ∙ ap (λ (sum : Taken). put branch_cmp point sum (branches_data pairs)) (c.with-after.ensures ∙ ap (branch_with c.args.taken) given))
+
+pub returns-clause-counts : goal.returns-clause-counts
+returns-clause-counts g c =
+    let point = branch_point_data c.args.point in
+    let value = c.with-after.result in
+    let before = c.coming_at-before in
+    let pairs = c.args.test.now.branches.coming in
+    let counts = c.args.marks.now.branches.coming in
+    let given = before.ensures.value ∙ sym (value_of-seen branch_cmp branch_point_data c.args.point pairs) in
+    let kept = ap branches_data c.in_ok-add.ensures.ok
+    ∙ seen-changed branch_cmp branch_point_data c.args.point c.of-change.result counts
+    ∙ changed_as branch_cmp branch_above point (branches_data counts) c.of-change.result c.is_some.result c.is_hit-was_above.result before.result _ value
+    (c.of-change.ensures ∙ ap (change_of c.is_some.result c.is_hit-was_above.result) c.is_above.ensures) c.is_some.ensures c.is_hit-was_above.ensures given in
+    let puts = ap branches_data (c.in_ok-put.ensures.ok ∙ ap (λ (points : PointsData code.BranchPoint Taken). put code_branch_cmp c.args.point value points.coming) before.ensures.same)
+    ∙ seen-put branch_cmp branch_point_data c.args.point value pairs in
+    keeps_branch _ _ _ _ point value
+    (λ above. ap branch_above c.with-after.ensures ∙ branch_stays c.args.taken before.result (ap (is_above_at branch_above) given ∙ above))
+    refl refl puts refl refl kept refl

@@ -1,0 +1,27 @@
+use Rattle.std.proofs.Common.{◌≡◌, ◌∙◌, ap, sym, subst}
+use Rattle.covstore.specs.Coming.{AreAscending, AreColumnsOf, coming_of, with_page}
+use Rattle.covstore.specs.PointsData.{PointsData}
+use Rattle.covstore.specs.Slots.{filled, slots_of}
+use Rattle.covstore.proofs.Comings.{nothing_coming}
+use Rattle.covstore.proofs.PointTakes.{columns_left, taken_last}
+use Rattle.covstore.proofs.points.Points.take.Goals as goal
+
+pub loop-number-preserved : goal.loop-number-preserved
+loop-number-preserved g c =
+    let slots = c.loop-number.self-inside.slots in
+    let left = c.pop.new.self in
+    let parts = c.in-Some.ensures.some in
+    let after : c.fill.new.self ≡ with_page c.in-Some.number c.in-Some.column.items slots = c.fill.ensures ∙ ap (λ values. with_page c.in-Some.number values slots) c.deref.ensures.value in (
+      subst (λ pages. AreColumnsOf pages left) (sym after) (columns_left slots left (c.in-Some.number, c.in-Some.column.items) (subst (AreColumnsOf slots) parts c.loop-number.invariant.0)),
+      ap (λ pages. coming_of pages left) after
+          ∙ taken_last slots left (c.in-Some.number, c.in-Some.column.items) (subst AreAscending parts c.in-Some.ensures.ascending)
+          ∙ ap (coming_of slots) (sym parts)
+          ∙ c.loop-number.invariant.1,
+    )
+
+pub returns-clause-now : goal.returns-clause-now
+returns-clause-now g c =
+    let old = c.self.inside in
+    let slots = c.loop-number.self-inside.slots in
+    let done : slots ≡ coming_of old.slots old.coming = sym (nothing_coming 0 slots) ∙ ap (coming_of slots) (sym c.in_default.ensures.same) ∙ c.loop-number.invariant.1 in
+    ap (λ pages. filled (slots_of pages)) done ∙ ap (λ (points : PointsData g.row.K.Denot g.row.V.Denot). points.coming) c.self.view_is

@@ -1,0 +1,24 @@
+use Rattle.std.proofs.Common.{◌+◌, ◌<◌, ◌^◌, ◌∙◌, refl, ap, sym, subst, get_or, arith}
+use Rattle.covstore.specs.Coming.{number_after}
+use Rattle.covstore.proofs.ComingGrowth.{front_read, front_whole, number_more}
+use Rattle.covstore.proofs.Leads.{all_at}
+use Rattle.covstore.proofs.slots.coming.renumber.Goals as goal
+
+pub loop-index-init : goal.loop-index-init
+loop-index-init g c = refl
+
+pub number_after-requires : goal.number_after-requires
+number_after-requires g c =
+    let index = c.loop-index.index in
+    let old = c.args.columns.now in
+    let column = c.index-columns-index.result in
+    let same = ap (λ columns. get_or columns index column) c.loop-index.invariant ∙ front_read (λ column. (number_after c.args.page column.0, column.1)) old index column in
+    subst (λ column. column.0 + 1 < 2 ^ 64) (sym same) (all_at (λ column. column.0 + 1 < 2 ^ 64) old index column c.requires c.loop-index-test.true)
+
+pub loop-index-preserved : goal.loop-index-preserved
+loop-index-preserved g c =
+    number_more c.args.page c.loop-index.index c.args.columns.now c.loop-index.columns c.index-columns-index.result c.index-columns-index-in-loop-index.result c.number_after.result
+    c.loop-index.invariant c.loop-index-test.true c.index-columns-index.is c.number_after.ensures
+
+pub returns : goal.returns
+returns g c = c.loop-index.invariant ∙ front_whole (λ column. (number_after c.args.page column.0, column.1)) c.args.columns.now c.loop-index.index (omega (arith, c.loop-index-test.false))

@@ -1,0 +1,56 @@
+-- The checksums of a file's lines: how many tests hold one, and the texts.
+use Rattle.std.specs.Prelude.{◌≡◌, ℕ, ◌+◌, Bool, true, false, Option, Some, None, List}
+use Rattle.std.specs.Option.{is_some}
+use Rattle.std.specs.Ordering.{nat_cmp}
+use Rattle.covstore.specs.declared.stop.Stop.{Stop}
+use Rattle.covstore.specs.declared.stop.Stop.TheVariants.{Clash, Memory}
+use Rattle.covstore.specs.Puts.{put, value_of}
+
+-- how many tests hold a checksum of a line, as it is and as it is to be; and the texts
+pub record ChecksumsData : Type 0 where
+  pub held : List (ℕ × ℕ)
+  pub coming : List (ℕ × ℕ)
+  pub texts : List (ℕ × List ℕ)
+
+-- each line of which a checksum is held has its text
+abbrev pub HaveTexts : List (ℕ × ℕ) → List (ℕ × List ℕ) → Type 0
+HaveTexts holders texts = (line : ℕ) → is_some (value_of nat_cmp line holders) ≡ true → is_some (value_of nat_cmp line texts) ≡ true
+
+-- each line of which a checksum is held is among those that are to hold one
+abbrev pub AreAmong : List (ℕ × ℕ) → List (ℕ × ℕ) → Type 0
+AreAmong held coming = (line : ℕ) → is_some (value_of nat_cmp line held) ≡ true → is_some (value_of nat_cmp line coming) ≡ true
+
+-- the text of each line of which a checksum is held stays
+abbrev pub StayTexts : List (ℕ × ℕ) → List (ℕ × List ℕ) → List (ℕ × List ℕ) → Type 0
+StayTexts holders texts more = (line : ℕ) → is_some (value_of nat_cmp line holders) ≡ true → value_of nat_cmp line more ≡ value_of nat_cmp line texts
+
+-- each line of which a checksum is held stays one, and its text stays
+pub record KeepsTexts (holders : List (ℕ × ℕ)) (texts : List (ℕ × List ℕ)) (more_holders : List (ℕ × ℕ)) (more_texts : List (ℕ × List ℕ)) : Type 0 where
+  pub held : (line : ℕ) → is_some (value_of nat_cmp line holders) ≡ true → is_some (value_of nat_cmp line more_holders) ≡ true
+  pub texts_stay : (line : ℕ) → is_some (value_of nat_cmp line holders) ≡ true → value_of nat_cmp line more_texts ≡ value_of nat_cmp line texts
+
+-- one test more holds the checksum of the line, unless it held it before
+abbrev pub one_more : Option ℕ → ℕ
+one_more None = 1
+one_more (Some tests) = tests + 1
+
+abbrev pub held_more : ℕ → Bool → List (ℕ × ℕ) → List (ℕ × ℕ)
+held_more line true holders = holders
+held_more line false holders = put nat_cmp line (one_more (value_of nat_cmp line holders)) holders
+
+-- the line's checksum is held, and is this text; and it was, where one was held
+pub record IsHeldToo (line : ℕ) (text : List ℕ) (before after : ChecksumsData) : Type 0 where
+  pub is_held : is_some (value_of nat_cmp line after.coming) ≡ true
+  pub is_kept : value_of nat_cmp line after.texts ≡ Some text
+  pub agrees : is_some (value_of nat_cmp line before.coming) ≡ true → value_of nat_cmp line before.texts ≡ Some text
+
+-- another checksum of the line is held
+pub record IsOther (before : ChecksumsData) (line : ℕ) (held given : List ℕ) : Type 0 where
+  pub is_held : is_some (value_of nat_cmp line before.coming) ≡ true
+  pub is_kept : value_of nat_cmp line before.texts ≡ Some held
+  pub other : held ≡ given → ⊥
+
+-- a clash is told only where another checksum of the line is held, and then that one
+abbrev pub IsToldOf : {A : Type 0} → ChecksumsData → ℕ → List ℕ → Stop A → Type 0
+IsToldOf before line text Memory = Unit {0}
+IsToldOf before line text (Clash told held given) = (told ≡ line) × (given ≡ text) × IsOther before line held text

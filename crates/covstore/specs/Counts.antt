@@ -1,0 +1,59 @@
+-- How many tests of a file have a point, and how many have it above 0: each number counts the tests alone.
+use Rattle.std.specs.Prelude.{◌≡◌, ℕ, ◌+◌, Bool, true, false, nat_lt, ◌&&◌, not, if◌then◌else◌, Option, Some, None, List, length, count_by}
+use Rattle.std.specs.declared.cmp.Ordering.{Ordering}
+use Rattle.std.specs.Option.{is_some}
+use Rattle.covstore.specs.declared.sums.Tests.{Tests}
+use Rattle.covstore.specs.Puts.{ArePairs, put, value_of}
+
+-- there is a value, and it is above 0
+abbrev pub is_above_at : {V : Type 0} → (V → Bool) → Option V → Bool
+is_above_at is_above None = false
+is_above_at is_above (Some value) = is_above value
+
+-- how many of the tests have the point, and how many have it above 0. A test is its points with their values
+abbrev pub count_with : {K V : Type 0} → (K → K → Ordering) → K → List (List (K × V)) → ℕ
+count_with cmp key tests = count_by (λ pairs. is_some (value_of cmp key pairs)) tests
+
+abbrev pub count_above : {K V : Type 0} → (K → K → Ordering) → (V → Bool) → K → List (List (K × V)) → ℕ
+count_above cmp is_above key tests = count_by (λ pairs. is_above_at is_above (value_of cmp key pairs)) tests
+
+-- none where no test has the point
+abbrev pub tests_at : {K V : Type 0} → (K → K → Ordering) → (V → Bool) → K → List (List (K × V)) → Option Tests
+tests_at cmp is_above key tests =
+    if nat_lt 0 (count_with cmp key tests) then Some (record { tests = count_with cmp key tests; hit = count_above cmp is_above key tests }) else None
+
+-- the counts of a file's points of a kind are those of its tests
+pub record AreCounts {K V : Type 0} (cmp : K → K → Ordering) (is_above : V → Bool) (tests : List (List (K × V))) (counts : List (K × Tests)) : Type 0 where
+  pub ascending : ArePairs cmp counts
+  pub counted : (key : K) → value_of cmp key counts ≡ tests_at cmp is_above key tests
+
+-- how many points some test has, and how many of these some test has above 0
+abbrev pub found_of : {K : Type 0} → List (K × Tests) → ℕ
+found_of counts = length counts
+
+abbrev pub hit_of : {K : Type 0} → List (K × Tests) → ℕ
+hit_of counts = count_by (λ pair. nat_lt 0 pair.1.hit) counts
+
+-- ---- a value put into one test
+
+-- one more where a point is new in its test, and where it is above 0 there for the first time
+abbrev pub one_if : Bool → ℕ
+one_if true = 1
+one_if false = 0
+
+abbrev pub tests_more : Bool → Bool → Option Tests → Tests
+tests_more is_new is_newly_hit None = record { tests = one_if is_new; hit = one_if is_newly_hit }
+tests_more is_new is_newly_hit (Some held) = record { tests = held.tests + one_if is_new; hit = held.hit + one_if is_newly_hit }
+
+-- the point had no value before; it is above 0, and wasn't before
+abbrev pub is_new : {V : Type 0} → Option V → Bool
+is_new before = not (is_some before)
+
+abbrev pub is_newly_hit : {V : Type 0} → (V → Bool) → Option V → V → Bool
+is_newly_hit is_above before after = is_above after && not (is_above_at is_above before)
+
+-- the counts where a test's value of the key was `before` and is `after`
+abbrev pub counts_with : {K V : Type 0} → (K → K → Ordering) → (V → Bool) → K → Option V → V → List (K × Tests) → List (K × Tests)
+counts_with cmp is_above key before after counts =
+    if is_new before then put cmp key (tests_more true (is_newly_hit is_above before after) (value_of cmp key counts)) counts else
+    if is_newly_hit is_above before after then put cmp key (tests_more false true (value_of cmp key counts)) counts else counts

@@ -1,0 +1,31 @@
+-- Totals of which a part is exchanged.
+use Rattle.std.specs.Prelude.{◌+◌, ◌-◌, ◌≤◌, ◌<◌, ◌^◌}
+use Rattle.covstore.specs.declared.totals.Totals.{Totals}
+
+-- the part is no larger than the whole
+pub record IsAmong (part whole : Totals) : Type 0 where
+  pub lf : part.lf ≤ whole.lf
+  pub lh : part.lh ≤ whole.lh
+  pub ff : part.ff ≤ whole.ff
+  pub fh : part.fh ≤ whole.fh
+  pub bf : part.bf ≤ whole.bf
+  pub bh : part.bh ≤ whole.bh
+
+-- both together fit
+pub record FitTogether (a b : Totals) : Type 0 where
+  pub lf : b.lf + a.lf < 2 ^ 64
+  pub lh : b.lh + a.lh < 2 ^ 64
+  pub ff : b.ff + a.ff < 2 ^ 64
+  pub fh : b.fh + a.fh < 2 ^ 64
+  pub bf : b.bf + a.bf < 2 ^ 64
+  pub bh : b.bh + a.bh < 2 ^ 64
+
+abbrev pub exchanged : Totals → Totals → Totals → Totals
+exchanged whole before after = record {
+  lf = whole.lf - before.lf + after.lf;
+  lh = whole.lh - before.lh + after.lh;
+  ff = whole.ff - before.ff + after.ff;
+  fh = whole.fh - before.fh + after.fh;
+  bf = whole.bf - before.bf + after.bf;
+  bh = whole.bh - before.bh + after.bh;
+}

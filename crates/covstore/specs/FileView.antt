@@ -1,0 +1,49 @@
+-- A file of the code, seen as plain data: as it is, and as it is to be.
+use Rattle.std.specs.Prelude.{◌≡◌, ℕ, true, if◌then◌else◌, List, [], map}
+use Rattle.std.specs.Cmp.Lexicographic.{slice_cmp}
+use Rattle.std.specs.Option.{is_some}
+use Rattle.std.specs.Ordering.{nat_cmp}
+use Rattle.covstore.specs.declared.file.File.{File}
+use Rattle.covstore.specs.Marks.{file_with}
+use Rattle.covstore.specs.MarksView.{marks_coming, marks_held, no_marks}
+use Rattle.covstore.specs.Puts.{put, value_of}
+use Rattle.covstore.specs.State.{FileData}
+use Rattle.covstore.specs.Sums.{TestData, test_of}
+use Rattle.covstore.specs.TestView.{test_coming, test_held}
+
+abbrev pub file_held : {A : Type 0} → File A → FileData
+file_held file = file_with (map (λ pair. (pair.0.items, test_held pair.1)) file.tests.entries) (marks_held file.marks)
+
+abbrev pub file_coming : {A : Type 0} → File A → FileData
+file_coming file = file_with (map (λ pair. (pair.0.items, test_coming pair.1)) file.tests.entries) (marks_coming file.marks)
+
+-- a file without tests
+abbrev pub no_file : FileData
+no_file = file_with [] no_marks
+
+-- the file with this test, without points where it wasn't there
+abbrev pub tests_with : List ℕ → List (List ℕ × TestData) → List (List ℕ × TestData)
+tests_with test tests = if is_some (value_of (slice_cmp nat_cmp) test tests) then tests else put (slice_cmp nat_cmp) test (test_of []) tests
+
+abbrev pub with_test : List ℕ → FileData → FileData
+with_test test file = record {
+  tests = tests_with test file.tests;
+  lines = file.lines;
+  functions = file.functions;
+  branches = file.branches;
+  holders = file.holders;
+  texts = file.texts;
+}
+
+-- the files with this one, without tests where it wasn't there
+abbrev pub with_file : List ℕ → List (List ℕ × FileData) → List (List ℕ × FileData)
+with_file file files = if is_some (value_of (slice_cmp nat_cmp) file files) then files else put (slice_cmp nat_cmp) file no_file files
+
+-- the same tests and numbers, and the text of each line of which a checksum is held
+pub record KeepsFile (before after : FileData) : Type 0 where
+  pub tests : after.tests ≡ before.tests
+  pub lines : after.lines ≡ before.lines
+  pub functions : after.functions ≡ before.functions
+  pub branches : after.branches ≡ before.branches
+  pub holders : after.holders ≡ before.holders
+  pub texts : (line : ℕ) → is_some (value_of nat_cmp line before.holders) ≡ true → value_of nat_cmp line after.texts ≡ value_of nat_cmp line before.texts

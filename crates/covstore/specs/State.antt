@@ -1,0 +1,158 @@
+-- What a store keeps: for each file its tests, each with its points, and for each point in how many tests it is; and of which
+-- rows that is what they add up to.
+use Rattle.std.specs.Prelude.{◌≡◌, ℕ, Bool, true, false, nat_lt, ◌&&◌, not, if◌then◌else◌, Option, Some, None, List, [], ◌∷◌, map, count_by, Contains}
+use Rattle.std.specs.Cmp.Lexicographic.{slice_cmp}
+use Rattle.std.specs.List.{flat_map, sum_by, AllByRecursion}
+use Rattle.std.specs.Ordering.{nat_cmp}
+use Rattle.covline.specs.Points.{BranchPoint}
+use Rattle.covline.specs.Row.{Row}
+use Rattle.covstore.specs.declared.sums.LineSum.{LineSum}
+use Rattle.covstore.specs.declared.sums.FunctionSum.{FunctionSum}
+use Rattle.covstore.specs.declared.sums.Taken.{Taken}
+use Rattle.covstore.specs.declared.sums.Tests.{Tests}
+use Rattle.covstore.specs.declared.totals.Totals.{Totals}
+use Rattle.covstore.specs.Clash.{Checksum, checksums_in}
+use Rattle.covstore.specs.Content.{FunctionValueData, BranchValueData, LineValueData, SectionData}
+use Rattle.covstore.specs.Counts.{AreCounts, found_of, hit_of, is_above_at}
+use Rattle.covstore.specs.Puts.{ArePairs, value_of}
+use Rattle.covstore.specs.Sums.{TestData, test_of}
+use Rattle.covstore.specs.Value.{Key, branch_cmp, items_at, is_taken}
+
+-- ---- one file
+
+-- what is kept for a file: its tests; for each point of a kind in how many tests it is; for each line with a checksum how many
+-- tests hold it; and the checksums' texts, among them some that no test holds any more
+pub record FileData : Type 0 where
+  pub tests : List (List ℕ × TestData)
+  pub lines : List (ℕ × Tests)
+  pub functions : List (List ℕ × Tests)
+  pub branches : List (BranchPoint × Tests)
+  pub holders : List (ℕ × ℕ)
+  pub texts : List (ℕ × List ℕ)
+
+abbrev pub line_above : LineSum → Bool
+line_above sum = nat_lt 0 sum.count
+
+abbrev pub function_above : FunctionSum → Bool
+function_above sum = nat_lt 0 sum.count
+
+abbrev pub branch_above : Taken → Bool
+branch_above sum = is_taken sum.times
+
+abbrev pub has_checksum : LineSum → Bool
+has_checksum sum = sum.has_checksum
+
+-- the tests alone
+abbrev pub tests_in : FileData → List TestData
+tests_in file = map (λ pair. pair.1) file.tests
+
+-- how many of the tests hold a checksum of the line; none where no test does
+abbrev pub holding : ℕ → List TestData → ℕ
+holding line tests = count_by (λ test. is_above_at has_checksum (value_of nat_cmp line test.lines)) tests
+
+abbrev pub holders_at : ℕ → List TestData → Option ℕ
+holders_at line tests = if nat_lt 0 (holding line tests) then Some (holding line tests) else None
+
+-- each kept number of a file counts its tests
+pub record AreKept (tests : List TestData) (file : FileData) : Type 0 where
+  pub lines : AreCounts nat_cmp line_above (map (λ test. test.lines) tests) file.lines
+  pub functions : AreCounts (slice_cmp nat_cmp) function_above (map (λ test. test.functions) tests) file.functions
+  pub branches : AreCounts branch_cmp branch_above (map (λ test. test.branches) tests) file.branches
+  pub holders : (line : ℕ) → value_of nat_cmp line file.holders ≡ holders_at line tests
+
+abbrev pub file_totals : FileData → Totals
+file_totals file = record {
+  lf = found_of file.lines;
+  lh = hit_of file.lines;
+  ff = found_of file.functions;
+  fh = hit_of file.functions;
+  bf = found_of file.branches;
+  bh = hit_of file.branches;
+}
+
+-- ---- what is seen of it
+
+-- the checksum of a line, where a test holds one
+abbrev pub text_at : List (ℕ × List ℕ) → ℕ → Bool → Option (List ℕ)
+text_at texts line true = value_of nat_cmp line texts
+text_at texts line false = None
+
+abbrev pub line_seen : List (ℕ × List ℕ) → ℕ × LineSum → LineValueData
+line_seen texts pair = record { line = pair.0; count = pair.1.count; checksum = text_at texts pair.0 pair.1.has_checksum }
+
+abbrev pub function_seen : List ℕ × FunctionSum → FunctionValueData
+function_seen pair = record { line = pair.1.line; name = pair.0; count = pair.1.count }
+
+abbrev pub branch_seen : BranchPoint × Taken → BranchValueData
+branch_seen pair = record { point = pair.0; taken = pair.1.times }
+
+-- the section of a test's points, and none where there are no points
+abbrev pub section_with_points : List ℕ → List (ℕ × List ℕ) → List ℕ → TestData → SectionData
+section_with_points file texts test points = record {
+  key = record { file = file; test = test };
+  functions = map function_seen points.functions;
+  branches = map branch_seen points.branches;
+  lines = map (line_seen texts) points.lines;
+}
+
+abbrev pub has_none : {X : Type 0} → List X → Bool
+has_none [] = true
+has_none (x ∷ xs) = false
+
+abbrev pub has_no_points : TestData → Bool
+has_no_points points = has_none points.lines && has_none points.functions && has_none points.branches
+
+abbrev pub section_seen : List ℕ → List (ℕ × List ℕ) → List ℕ → TestData → List SectionData
+section_seen file texts test points = if has_no_points points then [] else section_with_points file texts test points ∷ []
+
+abbrev pub sections_of_file : List ℕ × FileData → List SectionData
+sections_of_file pair = flat_map (λ test. section_seen pair.0 pair.1.texts test.0 test.1) pair.1.tests
+
+-- ---- all files
+
+abbrev pub sections_of : List (List ℕ × FileData) → List SectionData
+sections_of files = flat_map sections_of_file files
+
+abbrev pub totals_in : List (List ℕ × FileData) → Totals
+totals_in files = record {
+  lf = sum_by (λ pair. found_of pair.1.lines) files;
+  lh = sum_by (λ pair. hit_of pair.1.lines) files;
+  ff = sum_by (λ pair. found_of pair.1.functions) files;
+  fh = sum_by (λ pair. hit_of pair.1.functions) files;
+  bf = sum_by (λ pair. found_of pair.1.branches) files;
+  bh = sum_by (λ pair. hit_of pair.1.branches) files;
+}
+
+-- the points of a file and a test, and none where one of the two isn't there
+abbrev pub points_or_none : Option TestData → TestData
+points_or_none None = test_of []
+points_or_none (Some points) = points
+
+abbrev pub points_in : Option FileData → List ℕ → TestData
+points_in None test = test_of []
+points_in (Some file) test = points_or_none (value_of (slice_cmp nat_cmp) test file.tests)
+
+abbrev pub points_at : Key → List (List ℕ × FileData) → TestData
+points_at key files = points_in (value_of (slice_cmp nat_cmp) key.file files) key.test
+
+-- whether a test of the file has points
+abbrev pub has_points_of : List ℕ → FileData → Bool
+has_points_of test file = not (has_no_points (points_in (Some file) test))
+
+-- the checksum's text that is kept for a line of a file
+abbrev pub text_in : Option FileData → ℕ → Option (List ℕ)
+text_in None line = None
+text_in (Some file) line = value_of nat_cmp line file.texts
+
+-- one file is whole: its tests stand in order, and its numbers count them
+pub record IsWholeFile (file : FileData) : Type 0 where
+  pub ascending : ArePairs (slice_cmp nat_cmp) file.tests
+  pub kept : AreKept (tests_in file) file
+
+-- the files are what the rows add up to: each file and test has the points of its items, with their values; the texts are those
+-- of the rows' checksums; and the kept numbers count what is below them
+pub record IsStateOf (rows : List Row) (files : List (List ℕ × FileData)) : Type 0 where
+  pub ascending : ArePairs (slice_cmp nat_cmp) files
+  pub points : (key : Key) → points_at key files ≡ test_of (items_at key rows)
+  pub texts : (held : Checksum) → Contains (checksums_in rows) held → text_in (value_of (slice_cmp nat_cmp) held.file files) held.line ≡ Some held.checksum
+  pub whole : AllByRecursion (λ pair. IsWholeFile pair.1) files

@@ -1,0 +1,67 @@
+-- What an item more needs, and what it does to what is kept of its file.
+use Rattle.std.specs.Prelude.{◌≡◌, ℕ, ◌+◌, ◌<◌, ◌^◌, true, Some, None, IfSome, List, [], ◌∷◌, ◌++◌, length}
+use Rattle.std.specs.Cmp.Lexicographic.{slice_cmp}
+use Rattle.std.specs.Option.{is_some}
+use Rattle.std.specs.Ordering.{nat_cmp}
+use Rattle.covline.specs.Row.{ItemData, LineItem, FuncItem, BranchItem}
+use Rattle.covstore.specs.declared.stop.Stop.{Stop}
+use Rattle.covstore.specs.declared.stop.Stop.TheVariants.{Clash, Memory}
+use Rattle.covstore.specs.Checksums.{KeepsTexts}
+use Rattle.covstore.specs.Marks.{MarksData, file_with}
+use Rattle.covstore.specs.Puts.{value_of}
+use Rattle.covstore.specs.State.{AreKept}
+use Rattle.covstore.specs.Sums.{TestData, branch_fits}
+use Rattle.covstore.specs.Value.{branch_cmp}
+
+-- the sums fit
+abbrev pub CanTake : ItemData → TestData → Type 0
+CanTake (LineItem line count checksum) test = IfSome (value_of nat_cmp line test.lines) (λ sum. sum.count + count < 2 ^ 128)
+CanTake (FuncItem name line count) test = IfSome (value_of (slice_cmp nat_cmp) name test.functions) (λ sum. sum.count + count < 2 ^ 128)
+CanTake (BranchItem line block branch taken) test = branch_fits taken (value_of branch_cmp (record { line = line; block = block; branch = branch }) test.branches)
+
+-- the kept numbers count tests, of which this is one, and there are not too many
+pub record HasRoom (test : TestData) (marks : MarksData) : Type 0 where
+  pub front : List TestData
+  pub back : List TestData
+  pub kept : AreKept (front ++ test ∷ back) (file_with [] marks)
+  pub few : length (front ++ test ∷ back) < 2 ^ 63
+  pub lines : length marks.lines < 2 ^ 63
+  pub functions : length marks.functions < 2 ^ 63
+  pub branches : length marks.branches < 2 ^ 63
+
+-- whatever the other tests are: numbers that counted the tests do so with the changed one
+abbrev pub KeepsCounts : TestData → TestData → MarksData → MarksData → Type 0
+KeepsCounts before after marks more = (front back : List TestData) → AreKept (front ++ before ∷ back) (file_with [] marks) → AreKept (front ++ after ∷ back) (file_with [] more)
+
+-- each line of which a checksum is held stays one, and its text stays
+abbrev pub KeepsTextsOf : MarksData → MarksData → Type 0
+KeepsTextsOf before after = KeepsTexts before.holders before.texts after.holders after.texts
+
+-- the checksum of a line is held, and is this text
+pub record IsTextAt (line : ℕ) (text : List ℕ) (marks : MarksData) : Type 0 where
+  pub is_held : is_some (value_of nat_cmp line marks.holders) ≡ true
+  pub is_kept : value_of nat_cmp line marks.texts ≡ Some text
+
+-- an item's checksum is that of its line
+abbrev pub IsTextOf : ItemData → MarksData → Type 0
+IsTextOf (LineItem line count (Some checksum)) marks = IsTextAt line checksum marks
+IsTextOf (LineItem line count None) marks = Unit {0}
+IsTextOf (FuncItem name line count) marks = Unit {0}
+IsTextOf (BranchItem line block branch taken) marks = Unit {0}
+
+-- another checksum of the line is held
+pub record IsOtherText (marks : MarksData) (line : ℕ) (held given : List ℕ) : Type 0 where
+  pub is_held : is_some (value_of nat_cmp line marks.holders) ≡ true
+  pub is_kept : value_of nat_cmp line marks.texts ≡ Some held
+  pub other : held ≡ given → ⊥
+
+-- a clash is told of a line's item with a checksum alone, where another one of the line is held, and then that one
+abbrev pub IsClashAt : ItemData → MarksData → ℕ → List ℕ → List ℕ → Type 0
+IsClashAt (LineItem line count (Some checksum)) marks told held given = (told ≡ line) × (given ≡ checksum) × IsOtherText marks line held checksum
+IsClashAt (LineItem line count None) marks told held given = ⊥
+IsClashAt (FuncItem name line count) marks told held given = ⊥
+IsClashAt (BranchItem line block branch taken) marks told held given = ⊥
+
+abbrev pub IsClashOf : {A : Type 0} → ItemData → MarksData → Stop A → Type 0
+IsClashOf item marks Memory = Unit {0}
+IsClashOf item marks (Clash told held given) = IsClashAt item marks told held given

@@ -1,0 +1,86 @@
+-- What the items of a file and a test add up to, by kinds: each point with its value, ascending; and what one item more does.
+use Rattle.std.specs.Prelude.{ℕ, ◌+◌, ◌^◌, ◌<◌, min, Bool, ◌||◌, Option, Some, None, List, map}
+use Rattle.std.specs.Cmp.Lexicographic.{slice_cmp}
+use Rattle.std.specs.Option.{is_some}
+use Rattle.std.specs.Ordering.{nat_cmp}
+use Rattle.covline.specs.Lawful.{Fits64}
+use Rattle.covline.specs.Points.{BranchPoint}
+use Rattle.covline.specs.Row.{ItemData, LineItem, FuncItem, BranchItem}
+use Rattle.covstore.specs.declared.sums.LineSum.{LineSum}
+use Rattle.covstore.specs.declared.sums.FunctionSum.{FunctionSum}
+use Rattle.covstore.specs.declared.sums.Taken.{Taken}
+use Rattle.covstore.specs.Puts.{put, value_of}
+use Rattle.covstore.specs.Value.{lines_in, line_value, line_checksum, names_in, function_start, function_count, branch_cmp, branches_in, branch_value}
+
+-- the lines, functions and branches of a test, each with what its items add up to
+pub record TestData : Type 0 where
+  pub lines : List (ℕ × LineSum)
+  pub functions : List (List ℕ × FunctionSum)
+  pub branches : List (BranchPoint × Taken)
+
+abbrev pub line_sum : List ItemData → ℕ → ℕ × LineSum
+line_sum items line = (line, record { count = line_value line items; has_checksum = is_some (line_checksum line items) })
+
+abbrev pub function_sum : List ItemData → List ℕ → List ℕ × FunctionSum
+function_sum items name = (name, record { line = function_start name items; count = function_count name items })
+
+abbrev pub branch_sum : List ItemData → BranchPoint → BranchPoint × Taken
+branch_sum items point = (point, record { times = branch_value point items })
+
+-- what items add up to
+abbrev pub test_of : List ItemData → TestData
+test_of items = record {
+  lines = map (line_sum items) (lines_in items);
+  functions = map (function_sum items) (names_in items);
+  branches = map (branch_sum items) (branches_in items);
+}
+
+-- every number of the item is one of 64 bits
+abbrev pub SmallItem : ItemData → Type 0
+SmallItem item = Fits64 item
+
+-- ---- one item more
+
+abbrev pub line_with : ℕ → Bool → Option LineSum → LineSum
+line_with count has_checksum None = record { count = count; has_checksum = has_checksum }
+line_with count has_checksum (Some held) = record { count = held.count + count; has_checksum = held.has_checksum || has_checksum }
+
+abbrev pub function_with : ℕ → ℕ → Option FunctionSum → FunctionSum
+function_with line count None = record { line = line; count = count }
+function_with line count (Some held) = record { line = min held.line line; count = held.count + count }
+
+-- two numbers that may be missing: their sum, and none where both are missing
+abbrev pub sum_taken : Option ℕ → Option ℕ → Option ℕ
+sum_taken None taken = taken
+sum_taken (Some held) None = Some held
+sum_taken (Some held) (Some taken) = Some (held + taken)
+
+abbrev pub branch_with : Option ℕ → Option Taken → Taken
+branch_with taken None = record { times = taken }
+branch_with taken (Some held) = record { times = sum_taken held.times taken }
+
+abbrev pub with_item : ItemData → TestData → TestData
+with_item (LineItem line count checksum) test = record {
+  lines = put nat_cmp line (line_with count (is_some checksum) (value_of nat_cmp line test.lines)) test.lines;
+  functions = test.functions;
+  branches = test.branches;
+}
+with_item (FuncItem name line count) test = record {
+  lines = test.lines;
+  functions = put (slice_cmp nat_cmp) name (function_with line count (value_of (slice_cmp nat_cmp) name test.functions)) test.functions;
+  branches = test.branches;
+}
+with_item (BranchItem line block branch taken) test = let point : BranchPoint = record { line = line; block = block; branch = branch } in record {
+  lines = test.lines;
+  functions = test.functions;
+  branches = put branch_cmp point (branch_with taken (value_of branch_cmp point test.branches)) test.branches;
+}
+
+-- two numbers that may be missing have a sum that fits
+abbrev pub sum_fits : Option ℕ → Option ℕ → Type 0
+sum_fits (Some held) (Some taken) = held + taken < 2 ^ 128
+sum_fits held taken = Unit {0}
+
+abbrev pub branch_fits : Option ℕ → Option Taken → Type 0
+branch_fits taken None = Unit {0}
+branch_fits taken (Some held) = sum_fits held.times taken

@@ -1,0 +1,17 @@
+-- A test of the code, seen as plain data: as it is, and as it is to be.
+use Rattle.std.specs.Prelude.{List, map}
+use Rattle.covline.specs.Points.{BranchPoint}
+use Rattle.covline.specs.PointView.{branch_point_data}
+use Rattle.covline.specs.declared.point.BranchPoint as code
+use Rattle.covstore.specs.declared.test.Test.{Test}
+use Rattle.covstore.specs.Sums.{TestData}
+
+-- branches of the code with what they have, seen as plain data
+abbrev pub branches_data : {V : Type 0} → List (code.BranchPoint × V) → List (BranchPoint × V)
+branches_data pairs = map (λ pair. (branch_point_data pair.0, pair.1)) pairs
+
+abbrev pub test_held : {A : Type 0} → Test A → TestData
+test_held test = record { lines = test.lines.held; functions = test.functions.held; branches = branches_data test.branches.held }
+
+abbrev pub test_coming : {A : Type 0} → Test A → TestData
+test_coming test = record { lines = test.lines.coming; functions = test.functions.coming; branches = branches_data test.branches.coming }

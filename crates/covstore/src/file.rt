@@ -1,0 +1,144 @@
+//! A file of the store: its tests, and what is kept of them.
+
+ghost use Rattle.std.specs.Prelude.{◌≡◌, ℕ, List, [], ◌∷◌, ◌++◌, map, IfErr, IfOk, IsTrue, OnErr, OnOk};
+
+use crate::marks::Marks;
+use crate::refuse::Refuse;
+use crate::section::add_items;
+use crate::stop::Stop;
+use crate::test::Test;
+use crate::totals::Totals;
+use covline::{Bytes, Item, Memory};
+use std::alloc::Allocator;
+use std::collections::BTreeMap;
+
+/// The tests of a file, each with its points, and what is kept of them.
+#[derive(Drop)]
+pub(crate) struct File<A: Allocator> {
+    pub tests: BTreeMap<Vec<u8, A>, Test<A>, A>,
+    pub marks: Marks<A>,
+}
+
+impl<A: Allocator + Copy> File<A> {
+    ghost use Rattle.std.specs.Prelude.{true};
+    ghost use Rattle.std.specs.List.{list_any};
+    ghost use Rattle.std.specs.Str.{bytes_eq};
+    ghost use Rattle.covline.specs.Row.{item_data};
+    ghost use Rattle.covstore.specs.FileAdds.{AddsItems, ClashesIn, HasRoomIn};
+    ghost use Rattle.covstore.specs.FileView.{KeepsFile, file_coming, file_held, no_file, with_test};
+    ghost use Rattle.covstore.specs.MapsView.{IsSettledBut};
+    ghost use Rattle.covstore.specs.RefuseView.{refuse_data};
+    ghost use Rattle.covstore.specs.SectionAdds.{RefusedIn};
+    ghost use Rattle.covstore.specs.State.{file_totals, has_points_of};
+
+    /// No tests.
+    pub(crate) fn new(alloc: A) -> File<A>
+        ensures held { file_held result ≡ no_file }
+        ensures coming { file_coming result ≡ no_file }
+        ensures settled { (tests : List (List ℕ)) → IsSettledBut tests result }
+    {
+        File {
+            tests: BTreeMap::new(alloc),
+            marks: Marks::new(alloc),
+        }
+    }
+
+    /// Sees to it that the test is there.
+    pub(crate) fn open(&mut self, alloc: A, test: &[u8]) -> Result<(), Memory>
+        ensures held { OnOk result (file_held self.new ≡ with_test test.now (file_held self.old)) }
+        ensures coming { OnOk result (file_coming self.new ≡ with_test test.now (file_coming self.old)) }
+        ensures err_held { OnErr result (file_held self.new ≡ file_held self.old) }
+        ensures err_coming { OnErr result (file_coming self.new ≡ file_coming self.old) }
+        ensures settled { (tests : List (List ℕ)) → IsSettledBut tests self.old → IsSettledBut tests self.new }
+    {
+        if self.tests.contains_key(test) {
+            return Ok(());
+        }
+        let name = Vec::from_slice(alloc, test)?;
+        self.tests.insert(name, Test::new(alloc))?;
+        Ok(())
+    }
+
+    /// Takes the items of a test into what is to come, in order, up to the first that clashes.
+    pub(crate) fn add(&mut self, alloc: A, test: &[u8], items: &[Item<A>]) -> Result<(), Stop<A>>
+        requires room { HasRoomIn (map item_data items.now) test.now (file_coming self.old) }
+        ensures held { KeepsFile (file_held self.old) (file_held self.new) }
+        ensures ok { OnOk result (AddsItems (map item_data items.now) test.now (file_coming self.old) (file_coming self.new)) }
+        ensures clash { IfErr result (ClashesIn (map item_data items.now) test.now (file_coming self.old)) }
+        ensures settled { (tests : List (List ℕ)) → list_any (λ name. bytes_eq name test.now) tests ≡ true → IsSettledBut tests self.old → IsSettledBut tests self.new }
+    {
+        // Tells that a map has fewer than 2^63 entries.
+        self.tests.len();
+        match self.tests.get_mut(test) {
+            Some(points) => add_items(points, &mut self.marks, alloc, items),
+            None => Ok(()),
+        }
+    }
+
+    /// Takes the items of a test of this file, and tells the file's totals as they were to be and as they are to be now.
+    pub(crate) fn exchange(
+        &mut self,
+        alloc: A,
+        file: &[u8],
+        test: &[u8],
+        items: &[Item<A>],
+    ) -> Result<(Totals, Totals), Refuse<A>>
+        requires { HasRoomIn (map item_data items.now) test.now (file_coming self.old) }
+        ensures held { KeepsFile (file_held self.old) (file_held self.new) }
+        ensures ok { OnOk result (AddsItems (map item_data items.now) test.now (file_coming self.old) (file_coming self.new)) }
+        ensures totals { IfOk result (λ t. (t.0 ≡ file_totals (file_coming self.old)) × (t.1 ≡ file_totals (file_coming self.new))) }
+        ensures clash { IfErr result (λ e. RefusedIn (map item_data items.now) file.now test.now (file_coming self.old) (refuse_data e)) }
+        ensures settled { (tests : List (List ℕ)) → list_any (λ name. bytes_eq name test.now) tests ≡ true → IsSettledBut tests self.old → IsSettledBut tests self.new }
+    {
+        let before = self.totals();
+        match self.add(alloc, test, items) {
+            Ok(()) => Ok((before, self.totals())),
+            Err(Stop::Memory) => Err(Refuse::Memory),
+            Err(Stop::Clash { line, held, given }) => Err(Refuse::Clash {
+                file: Bytes::of(alloc, file)?,
+                line,
+                held,
+                given,
+            }),
+        }
+    }
+
+    /// What was to come of a test, and of what is kept of the file, is there.
+    pub(crate) fn take(&mut self, test: &[u8])
+        ensures coming { file_coming self.new ≡ file_coming self.old }
+        ensures settled { (tests : List (List ℕ)) → IsSettledBut (tests ++ test.now ∷ []) self.old → IsSettledBut tests self.new }
+    {
+        if let Some(points) = self.tests.get_mut(test) {
+            points.take();
+        }
+        self.marks.take();
+    }
+
+    /// Nothing is to come of a test, nor of what is kept of the file.
+    pub(crate) fn forget(&mut self, test: &[u8])
+        ensures held { file_held self.new ≡ file_held self.old }
+        ensures settled { (tests : List (List ℕ)) → IsSettledBut (tests ++ test.now ∷ []) self.old → IsSettledBut tests self.new }
+    {
+        if let Some(points) = self.tests.get_mut(test) {
+            points.forget();
+        }
+        self.marks.forget();
+    }
+
+    /// The file's totals as they are to be.
+    pub(crate) fn totals(&self) -> Totals
+        ensures { result ≡ file_totals (file_coming self.now) }
+    {
+        self.marks.totals()
+    }
+
+    /// Whether the test has points now.
+    pub(crate) fn has_test(&self, test: &[u8]) -> bool
+        ensures { result ≡ has_points_of test.now (file_held self.now) }
+    {
+        match self.tests.get(test) {
+            Some(points) => !points.is_empty(),
+            None => false,
+        }
+    }
+}

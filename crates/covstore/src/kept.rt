@@ -1,0 +1,146 @@
+//! In how many tests of a file the points of a kind are, and how many points there are.
+
+ghost use Rattle.std.specs.Prelude.{◌≡◌, ◌<◌, ◌^◌, [], IfSome, OnOk, length};
+ghost use Rattle.covstore.specs.Changes.{changed};
+ghost use Rattle.covstore.specs.Counts.{found_of, hit_of};
+ghost use Rattle.covstore.specs.Puts.{value_of};
+
+use crate::points::{Asked, Key, Points};
+use crate::sums::Tests;
+use std::alloc::{AllocError, Allocator};
+use std::marker::Model;
+
+/// What a count more of a point does in its test.
+#[derive(Clone, Copy)]
+pub(crate) enum Change {
+    /// The test had the point, and it is as much above 0 as it was.
+    Same,
+    /// The test had the point, which is above 0 now.
+    Hit,
+    /// The test has the point now, and not above 0.
+    Found,
+    /// The test has the point now, above 0.
+    FoundAndHit,
+}
+
+impl Change {
+    ghost use Rattle.covstore.specs.Changes.{change_of};
+
+    /// The change of a point that was there or not, above 0 or not.
+    pub(crate) fn of(was_there: bool, was_above: bool, is_above: bool) -> Change
+        ensures { result ≡ change_of was_there was_above is_above }
+    {
+        match (was_there, is_above && !was_above) {
+            (true, false) => Change::Same,
+            (true, true) => Change::Hit,
+            (false, false) => Change::Found,
+            (false, true) => Change::FoundAndHit,
+        }
+    }
+}
+
+/// How many points are found, and how many of them hit.
+#[derive(Clone, Copy)]
+pub(crate) struct Tally {
+    pub found: u64,
+    pub hit: u64,
+}
+
+/// For each point of a kind in how many tests of a file it is, as it is and as it is to be. Contracts see the points.
+#[derive(Drop)]
+pub(crate) struct Kept<K: Key, A: Allocator> {
+    counts: Points<K, Tests, A>,
+    held: Tally,
+    coming: Tally,
+}
+
+impl<K: Key, A: Allocator> Model for Kept<K, A> {
+    ghost use Rattle.covstore.specs.declared.sums.Tests.{Tests};
+    ghost use Rattle.covstore.specs.PointsData.{PointsData};
+    ghost use Rattle.covstore.specs.Changes.{IsTallyOf};
+
+    ghost Value = { PointsData K Tests };
+
+    ghost view = { λ k. k.counts };
+
+    ghost invariant = { λ k. IsTallyOf k.counts.held k.held × IsTallyOf k.counts.coming k.coming };
+}
+
+impl<K: Key + Drop, A: Allocator + Copy> Kept<K, A> {
+    /// No points.
+    pub(crate) fn new(alloc: A) -> Kept<K, A>
+        ensures held { result.held ≡ [] }
+        ensures coming { result.coming ≡ [] }
+    {
+        let none = Tally { found: 0, hit: 0 };
+        Kept {
+            counts: Points::new(alloc),
+            held: none,
+            coming: none,
+        }
+    }
+
+    /// Counts the change of a point in one test.
+    pub(crate) fn add<Q: Asked<K, A>>(
+        &mut self,
+        alloc: A,
+        asked: Q,
+        change: Change,
+    ) -> Result<(), AllocError>
+        requires few { length self.old.coming < 2 ^ 63 }
+        requires room { IfSome (value_of K.cmp (Q.named asked) self.old.coming) (λ held. (held.tests < 2 ^ 63) × (held.hit < 2 ^ 63)) }
+        ensures held { self.new.held ≡ self.old.held }
+        ensures ok { OnOk result (self.new.coming ≡ changed K.cmp (Q.named asked) change self.old.coming) }
+    {
+        let (found, hit) = match change {
+            Change::Same => return Ok(()),
+            Change::Hit => (0, 1),
+            Change::Found => (1, 0),
+            Change::FoundAndHit => (1, 1),
+        };
+        let before = self.counts.coming_at(asked);
+        let held = before.unwrap_or(Tests { tests: 0, hit: 0 });
+        let after = Tests {
+            tests: held.tests + found,
+            hit: held.hit + hit,
+        };
+        if let Err(refused) = self.counts.put(alloc, asked, after) {
+            self.counts.forget();
+            self.coming = self.held;
+            return Err(refused);
+        }
+        if before.is_none() {
+            self.coming.found += 1;
+        }
+        if held.hit == 0 && after.hit > 0 {
+            self.coming.hit += 1;
+        }
+        Ok(())
+    }
+
+    /// What was to come is there.
+    pub(crate) fn take(&mut self)
+        ensures held { self.new.held ≡ self.old.coming }
+        ensures coming { self.new.coming ≡ self.old.coming }
+    {
+        self.counts.take();
+        self.held = self.coming;
+    }
+
+    /// Nothing is to come.
+    pub(crate) fn forget(&mut self)
+        ensures held { self.new.held ≡ self.old.held }
+        ensures coming { self.new.coming ≡ self.old.held }
+    {
+        self.counts.forget();
+        self.coming = self.held;
+    }
+
+    /// How many points there are to be, and how many of them hit.
+    pub(crate) fn coming(&self) -> Tally
+        ensures found { result.found ≡ found_of self.now.coming }
+        ensures hit { result.hit ≡ hit_of self.now.coming }
+    {
+        self.coming
+    }
+}

@@ -1,0 +1,75 @@
+//! What is kept of a file beside its tests.
+
+ghost use Rattle.std.specs.Prelude.{◌≡◌};
+
+use crate::checksums::Checksums;
+use crate::kept::Kept;
+use crate::totals::Totals;
+use covline::{BranchPoint, Bytes};
+use std::alloc::Allocator;
+
+/// In how many tests of a file each of its points is, and the checksums of its lines.
+#[derive(Drop)]
+pub(crate) struct Marks<A: Allocator> {
+    pub lines: Kept<u64, A>,
+    pub functions: Kept<Bytes<A>, A>,
+    pub branches: Kept<BranchPoint, A>,
+    pub checksums: Checksums<A>,
+}
+
+impl<A: Allocator + Copy> Marks<A> {
+    ghost use Rattle.covstore.specs.MarksView.{marks_coming, marks_held, no_marks};
+    ghost use Rattle.covstore.specs.Marks.{marks_totals};
+
+    /// No tests, and no points.
+    pub(crate) fn new(alloc: A) -> Marks<A>
+        ensures held { marks_held result ≡ no_marks }
+        ensures coming { marks_coming result ≡ no_marks }
+    {
+        Marks {
+            lines: Kept::new(alloc),
+            functions: Kept::new(alloc),
+            branches: Kept::new(alloc),
+            checksums: Checksums::new(alloc),
+        }
+    }
+
+    /// What was to come is there.
+    pub(crate) fn take(&mut self)
+        ensures held { marks_held self.new ≡ marks_coming self.old }
+        ensures coming { marks_coming self.new ≡ marks_coming self.old }
+    {
+        self.lines.take();
+        self.functions.take();
+        self.branches.take();
+        self.checksums.take();
+    }
+
+    /// Nothing is to come.
+    pub(crate) fn forget(&mut self)
+        ensures held { marks_held self.new ≡ marks_held self.old }
+        ensures coming { marks_coming self.new ≡ marks_held self.old }
+    {
+        self.lines.forget();
+        self.functions.forget();
+        self.branches.forget();
+        self.checksums.forget();
+    }
+
+    /// The file's totals as they are to be.
+    pub(crate) fn totals(&self) -> Totals
+        ensures { result ≡ marks_totals (marks_coming self.now) }
+    {
+        let lines = self.lines.coming();
+        let functions = self.functions.coming();
+        let branches = self.branches.coming();
+        Totals {
+            lf: lines.found,
+            lh: lines.hit,
+            ff: functions.found,
+            fh: functions.hit,
+            bf: branches.found,
+            bh: branches.hit,
+        }
+    }
+}

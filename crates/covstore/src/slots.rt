@@ -1,0 +1,325 @@
+//! The points of one kind, ascending, each with a value or an empty slot.
+//!
+//! The slots are cut into pages of at most 512, so that a key that is put in moves few others. A page is found by its
+//! last key, and a slot on it, by a binary search; a walk in order costs no search, where each place is the guess for
+//! the next one. What stands above knows the list of all slots and what a place is, and not how the pages are cut.
+
+ghost use Rattle.std.specs.Prelude.{◌≡◌, ◌↔◌, ◌+◌, ◌^◌, ◌<◌, None, [], ◌∷◌, ◌++◌, IfErr, IfOk, OnErr, OnOk, length, option_map};
+ghost use Rattle.std.specs.declared.cmp.Ordering.TheVariants.{Less};
+ghost use Rattle.std.specs.List.{AllByRecursion};
+ghost use Rattle.covstore.specs.Slots.{AreSlots, IsAscending, IsCut, IsGap, IsPlace, behind, ends_before, filled, is_before, lead, order_at, page_at, slot_at, slots_of, value_at, with_empty, with_page_split};
+ghost use Rattle.covstore.specs.Coming.{column_of, with_column, with_page};
+ghost use Rattle.covstore.specs.SlotPlace.{at};
+
+pub(crate) mod coming;
+pub(crate) mod growth;
+
+use crate::points::{Asked, Filled, Key};
+use std::alloc::{AllocError, Allocator};
+use std::cmp::Ordering;
+use std::marker::Model;
+
+/// How many slots fit on a page.
+const PAGE: usize = 512;
+
+/// How many slots a full page keeps where it is split.
+const HALF: usize = 256;
+
+/// Where a key stands: the number of a page, and of a slot on it.
+#[derive(Clone, Copy)]
+pub(crate) struct Place {
+    page: usize,
+    index: usize,
+}
+
+impl Place {
+    /// The place of the first slot.
+    pub(crate) fn first() -> Place {
+        Place { page: 0, index: 0 }
+    }
+}
+
+/// The points of one kind, ascending, each with a value or an empty slot. Contracts see the pages of slots.
+#[derive(Drop)]
+pub(crate) struct Slots<K: Key, V, A: Allocator> {
+    pages: Vec<Vec<(K, Option<V>), A>, A>,
+}
+
+impl<K: Key, V, A: Allocator> Model for Slots<K, V, A> {
+    ghost use Rattle.std.specs.Prelude.{List, Option, map};
+
+    ghost Value = { List (List (K × Option V)) };
+
+    ghost use Rattle.covstore.specs.Slots.{AreSlots};
+
+    ghost view = { λ slots. map (λ page. page.items) slots.pages.items };
+
+    ghost invariant = { λ slots. AreSlots K.cmp (map (λ page. page.items) slots.pages.items) };
+}
+
+impl<K: Key, V, A: Allocator> Slots<K, V, A> {
+    /// No slots.
+    pub(crate) fn new(alloc: A) -> Slots<K, V, A>
+        ensures { result ≡ [] }
+    {
+        Slots {
+            pages: Vec::new(alloc),
+        }
+    }
+
+    /// The first page that doesn't end before what is asked for.
+    fn page_of<Q: Asked<K, A>>(&self, asked: Q) -> usize
+        ensures { result ≡ lead (ends_before (λ key. K.cmp key (Q.named asked))) self.now }
+    {
+        let mut low = 0;
+        let mut high = self.pages.len();
+        while low < high {
+            let middle = low + (high - low) / 2;
+            if ends_before(&self.pages[middle], asked) {
+                low = middle + 1;
+            } else {
+                high = middle;
+            }
+        }
+        low
+    }
+}
+
+impl<K: Key, V, A: Allocator> Slots<K, V, A> {
+    /// Where what is asked for would stand: what is before the place comes before it, and nothing from the place on.
+    fn cut<Q: Asked<K, A>>(&self, asked: Q) -> Place
+        ensures cut { IsCut (λ key. K.cmp key (Q.named asked)) self.now (at result) }
+        ensures whole { AreSlots K.cmp self.now }
+    {
+        let page = self.page_of(asked);
+        let index = index_of(self.page(page), asked);
+        Place { page, index }
+    }
+
+    /// Where what is asked for stands, or would go. Costs no search where that is the guess or just behind it.
+    pub(crate) fn find<Q: Asked<K, A>>(&self, asked: Q, guess: Place) -> Result<Place, Place>
+        ensures found { IfOk result (λ place. IsPlace (λ key. K.cmp key (Q.named asked)) self.now (at place)) }
+        ensures absent { IfErr result (λ place. IsGap (λ key. K.cmp key (Q.named asked)) self.now (at place)) }
+        ensures whole { AreSlots K.cmp self.now }
+    {
+        match self.compare_at(guess, asked) {
+            Ordering::Less => self.find_behind(asked, guess),
+            Ordering::Equal => Ok(guess),
+            Ordering::Greater => self.search(asked),
+        }
+    }
+
+    /// The same as `find`, where the slot at a place comes before what is asked for.
+    fn find_behind<Q: Asked<K, A>>(&self, asked: Q, place: Place) -> Result<Place, Place>
+        requires { order_at (λ key. K.cmp key (Q.named asked)) (slot_at self.now (at place)) ≡ Less }
+        ensures found { IfOk result (λ place. IsPlace (λ key. K.cmp key (Q.named asked)) self.now (at place)) }
+        ensures absent { IfErr result (λ place. IsGap (λ key. K.cmp key (Q.named asked)) self.now (at place)) }
+    {
+        let next = self.behind(place);
+        match self.compare_at(next, asked) {
+            Ordering::Less => self.search(asked),
+            Ordering::Equal => Ok(next),
+            Ordering::Greater => Err(next),
+        }
+    }
+
+    /// The same as `find`, by a search among all slots.
+    fn search<Q: Asked<K, A>>(&self, asked: Q) -> Result<Place, Place>
+        ensures found { IfOk result (λ place. IsPlace (λ key. K.cmp key (Q.named asked)) self.now (at place)) }
+        ensures absent { IfErr result (λ place. IsGap (λ key. K.cmp key (Q.named asked)) self.now (at place)) }
+    {
+        let place = self.cut(asked);
+        if self.compare_at(place, asked).is_eq() {
+            return Ok(place);
+        }
+        Err(place)
+    }
+
+    /// How the key of the slot at a place stands to what is asked for. Where there is no slot, all keys come before it.
+    fn compare_at<Q: Asked<K, A>>(&self, place: Place, asked: Q) -> Ordering
+        ensures order { result ≡ order_at (λ key. K.cmp key (Q.named asked)) (slot_at self.now (at place)) }
+        ensures whole { AreSlots K.cmp self.now }
+    {
+        match self.slot_at(place) {
+            Some(slot) => asked.compare(&slot.0),
+            None => Ordering::Greater,
+        }
+    }
+
+    /// The place just behind that of a slot.
+    fn behind(&self, place: Place) -> Place
+        requires { place.index < length (page_at self.now place.page) }
+        ensures next { at result ≡ behind self.now (at place) }
+        ensures whole { AreSlots K.cmp self.now }
+    {
+        let page = self.page(place.page);
+        let index = place.index + 1;
+        if index < page.len() {
+            return Place {
+                page: place.page,
+                index,
+            };
+        }
+        Place {
+            page: place.page + 1,
+            index: 0,
+        }
+    }
+
+    /// The slot at a place.
+    fn slot_at(&self, place: Place) -> Option<&(K, Option<V>)>
+        ensures slot { option_map (λ slot. slot.now) result ≡ slot_at self.now (at place) }
+        ensures whole { AreSlots K.cmp self.now }
+    {
+        self.page(place.page).get(place.index)
+    }
+
+    /// Tells, for a proof alone, that the slots are whole: no page is empty, and all keys ascend.
+    pub(crate) fn are_whole(&self)
+        ensures { AreSlots K.cmp self.now }
+    {
+        let _ = &self.pages;
+    }
+
+    /// How many pages there are.
+    fn count(&self) -> usize
+        ensures { result ≡ length self.now }
+    {
+        self.pages.len()
+    }
+
+    /// The page of this number, and an empty one where there is none.
+    fn page(&self, number: usize) -> &[(K, Option<V>)]
+        ensures now { result.now ≡ page_at self.now number }
+        ensures ascending { IsAscending K.cmp result.now }
+        ensures whole { AreSlots K.cmp self.now }
+        ensures fits { length self.now < 2 ^ 64 }
+    {
+        match self.pages.get(number) {
+            Some(page) => page,
+            None => &[],
+        }
+    }
+}
+
+impl<K: Key, V, A: Allocator> Slots<K, V, A> {
+    /// The filled slots in order, each key with its value.
+    pub(crate) fn filled(&self) -> Filled<'_, K, V, A>
+        ensures { result ≡ filled (slots_of self.now) }
+    {
+        Filled::of(&self.pages)
+    }
+}
+
+impl<K: Key, V: Copy, A: Allocator> Slots<K, V, A> {
+    /// The value in the slot at a place.
+    pub(crate) fn value_at(&self, place: Place) -> Option<V>
+        ensures { result ≡ value_at self.now (at place) }
+    {
+        match self.slot_at(place) {
+            Some(slot) => slot.1,
+            None => None,
+        }
+    }
+
+    /// A copy of the values of a page.
+    fn column(&self, alloc: A, number: usize) -> Result<Vec<Option<V>, A>, AllocError>
+        ensures { IfOk result (λ column. column.items ≡ column_of (page_at self.now number)) }
+    {
+        self.page(number).iter().map(|slot| slot.1).collect(alloc)
+    }
+
+    /// Writes these values into the slots of a page.
+    pub(crate) fn fill(&mut self, number: usize, column: &[Option<V>])
+        requires there { number < length self.old }
+        requires fits { length column.now ≡ length (page_at self.old number) }
+        ensures { self.new ≡ with_page number column.now self.old }
+    {
+        fill_page(&mut self.pages[number], column);
+    }
+}
+
+impl<K: Key + Drop, V: Drop, A: Allocator + Copy> Slots<K, V, A> {
+    /// Puts an empty slot on a page that has room for it.
+    fn insert(&mut self, place: Place, key: K) -> Result<(), AllocError>
+        requires there { place.page < length self.old }
+        requires room { length (page_at self.old place.page) < 512 }
+        requires gap { IsGap (λ other. K.cmp other key) self.old (at place) }
+        ensures ok { OnOk result (self.new ≡ with_empty (at place) key self.old) }
+        ensures err { OnErr result (self.new ≡ self.old) }
+    {
+        self.pages[place.page].insert(place.index, (key, None))?;
+        Ok(())
+    }
+
+    /// Puts an empty slot on a new page, behind all others.
+    fn push_page(&mut self, alloc: A, key: K) -> Result<(), AllocError>
+        requires { AllByRecursion (λ slot. K.cmp slot.0 key ≡ Less) (slots_of self.old) }
+        ensures ok { OnOk result (self.new ≡ self.old ++ ((key, None) ∷ []) ∷ []) }
+        ensures err { OnErr result (self.new ≡ self.old) }
+    {
+        let mut page = Vec::new(alloc);
+        page.push((key, None))?;
+        self.pages.push(page)?;
+        Ok(())
+    }
+
+    /// Moves the second half of a full page to a page of its own.
+    fn split(&mut self, number: usize) -> Result<(), AllocError>
+        requires there { number < length self.old }
+        requires full { length (page_at self.old number) ≡ 512 }
+        ensures ok { OnOk result (self.new ≡ with_page_split number self.old) }
+        ensures fits { length self.old < 2 ^ 64 }
+        ensures err { OnErr result (self.new ≡ self.old) }
+    {
+        self.pages.reserve(1)?;
+        let behind = self.pages[number].split_off(HALF)?;
+        self.pages.insert(number + 1, behind)?;
+        Ok(())
+    }
+}
+
+/// Whether the last key of a page comes before what is asked for.
+fn ends_before<K: Key, V, A: Allocator, Q: Asked<K, A>>(page: &[(K, Option<V>)], asked: Q) -> bool
+    ensures { result ≡ ends_before (λ key. K.cmp key (Q.named asked)) page.now }
+{
+    match page.last() {
+        Some(slot) => is_before(slot, asked),
+        None => true,
+    }
+}
+
+/// Whether the key of a slot comes before what is asked for.
+fn is_before<K: Key, V, A: Allocator, Q: Asked<K, A>>(slot: &(K, Option<V>), asked: Q) -> bool
+    ensures { result ≡ is_before (λ key. K.cmp key (Q.named asked)) slot.now }
+{
+    asked.compare(&slot.0).is_lt()
+}
+
+/// The first slot of a page that doesn't come before what is asked for.
+fn index_of<K: Key, V, A: Allocator, Q: Asked<K, A>>(page: &[(K, Option<V>)], asked: Q) -> usize
+    requires { IsAscending K.cmp page.now }
+    ensures { result ≡ lead (is_before (λ key. K.cmp key (Q.named asked))) page.now }
+{
+    let mut low = 0;
+    let mut high = page.len();
+    while low < high {
+        let middle = low + (high - low) / 2;
+        if is_before(&page[middle], asked) {
+            low = middle + 1;
+        } else {
+            high = middle;
+        }
+    }
+    low
+}
+
+/// Writes these values into the slots of one page.
+fn fill_page<K, V: Copy>(page: &mut [(K, Option<V>)], column: &[Option<V>])
+    requires { length column.now ≡ length page.old }
+    ensures { page.new ≡ with_column page.old column.now }
+{
+    for index in 0..column.len() {
+        page[index].1 = column[index];
+    }
+}

@@ -1,0 +1,127 @@
+//! What the items of a file and a test add up to at a point, and in how many tests a file has a point.
+
+ghost use Rattle.std.specs.Prelude.{◌≡◌, ◌+◌, ◌^◌, ◌<◌, IfSome};
+ghost use Rattle.covstore.specs.Counts.{is_above_at};
+ghost use Rattle.covstore.specs.State.{branch_above, function_above, has_checksum, line_above};
+ghost use Rattle.covstore.specs.Sums.{branch_fits, branch_with, function_with, line_with};
+ghost use Rattle.covstore.specs.Value.{is_taken};
+
+/// A line: the sum of its execution counts, and whether an item has a checksum of it (geninfo(1): `DA:`).
+#[derive(Clone, Copy)]
+pub(crate) struct LineSum {
+    pub count: u128,
+    pub has_checksum: bool,
+}
+
+/// A function: its least start line and the sum of its execution counts (geninfo(1): `FN:`, `FNDA:`).
+#[derive(Clone, Copy)]
+pub(crate) struct FunctionSum {
+    pub line: u64,
+    pub count: u128,
+}
+
+/// A branch: how often it was taken, none where its block was never executed (geninfo(1): `BRDA:`).
+#[derive(Clone, Copy)]
+pub(crate) struct Taken {
+    pub times: Option<u128>,
+}
+
+/// How many tests of a file have a point, and how many have it above 0.
+#[derive(Clone, Copy)]
+pub(crate) struct Tests {
+    pub tests: u64,
+    pub hit: u64,
+}
+
+impl LineSum {
+    /// Whether the line is there, with a count above 0.
+    pub(crate) fn is_hit(held: Option<LineSum>) -> bool
+        ensures { result ≡ is_above_at line_above held }
+    {
+        held.is_some_and(|sum| sum.count > 0)
+    }
+
+    /// Whether the line is there, with a checksum.
+    pub(crate) fn is_checked(held: Option<LineSum>) -> bool
+        ensures { result ≡ is_above_at has_checksum held }
+    {
+        held.is_some_and(|sum| sum.has_checksum)
+    }
+
+    /// The sum with one count more.
+    pub(crate) fn with(held: Option<LineSum>, count: u64, has_checksum: bool) -> LineSum
+        requires { IfSome held (λ sum. sum.count + count < 2 ^ 128) }
+        ensures { result ≡ line_with count has_checksum held }
+    {
+        match held {
+            Some(sum) => LineSum {
+                count: sum.count + u128::from(count),
+                has_checksum: sum.has_checksum || has_checksum,
+            },
+            None => LineSum {
+                count: u128::from(count),
+                has_checksum,
+            },
+        }
+    }
+}
+
+impl FunctionSum {
+    /// Whether the function is there, with a count above 0.
+    pub(crate) fn is_hit(held: Option<FunctionSum>) -> bool
+        ensures { result ≡ is_above_at function_above held }
+    {
+        held.is_some_and(|sum| sum.count > 0)
+    }
+
+    /// The sum with one count more.
+    pub(crate) fn with(held: Option<FunctionSum>, line: u64, count: u64) -> FunctionSum
+        requires { IfSome held (λ sum. sum.count + count < 2 ^ 128) }
+        ensures { result ≡ function_with line count held }
+    {
+        match held {
+            Some(sum) => FunctionSum {
+                line: sum.line.min(line),
+                count: sum.count + u128::from(count),
+            },
+            None => FunctionSum {
+                line,
+                count: u128::from(count),
+            },
+        }
+    }
+}
+
+impl Taken {
+    /// Whether the branch is there, and was taken.
+    pub(crate) fn is_hit(held: Option<Taken>) -> bool
+        ensures { result ≡ is_above_at branch_above held }
+    {
+        held.is_some_and(|sum| sum.is_above())
+    }
+
+    /// The sum with one number more, which may be missing.
+    pub(crate) fn with(held: Option<Taken>, times: Option<u64>) -> Taken
+        requires { branch_fits times held }
+        ensures { result ≡ branch_with times held }
+    {
+        let Some(times) = times else {
+            return held.unwrap_or(Taken { times: None });
+        };
+        match held {
+            Some(Taken { times: Some(sum) }) => Taken {
+                times: Some(sum + u128::from(times)),
+            },
+            Some(Taken { times: None }) | None => Taken {
+                times: Some(u128::from(times)),
+            },
+        }
+    }
+
+    /// Whether the branch was taken.
+    pub(crate) fn is_above(&self) -> bool
+        ensures { result ≡ is_taken self.now.times }
+    {
+        self.times.is_some_and(|times| times > 0)
+    }
+}
