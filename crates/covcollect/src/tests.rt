@@ -4,8 +4,10 @@
 //!
 //! Examples are text, so that they cost the proof of these tests nothing. `check_all` says how they are written.
 
+ghost use Rattle.std.specs.Prelude.{◌<◌, ◌^◌};
+
 use crate::session::{SessionFault, session};
-use crate::stream::{FromRead, FromWrite};
+use crate::stream::{FromRead, FromWrite, Sink, Source};
 use std::alloc::Global;
 use std::process::Abort;
 use std::test::*;
@@ -21,13 +23,26 @@ mod streams;
 mod summaries;
 mod texts;
 
+/// How a session ends, without what it promises: a test looks at what it does, and its proof is quicker so.
+fn session_end<I: Source, O: Sink>(
+    alloc: Global,
+    source: &mut I,
+    sink: &mut O,
+) -> Result<(), SessionFault>
+    requires reads { I.reads source.old < 2 ^ 62 }
+    requires failed_reads { I.failed_reads source.old < 2 ^ 62 }
+    requires failed_writes { O.failed_writes sink.old < 2 ^ 62 }
+{
+    session(alloc, source, sink)
+}
+
 /// How a session on these bytes ends, and what it writes.
 fn run(alloc: Global, input: &[u8]) -> (Result<(), SessionFault>, Vec<u8>) {
     let mut output: Vec<u8> = Vec::new(alloc);
     let ended = {
         let mut source = FromRead::new(input);
         let mut sink = FromWrite::new(&mut output);
-        session(alloc, &mut source, &mut sink)
+        session_end(alloc, &mut source, &mut sink)
     };
     (ended, output)
 }

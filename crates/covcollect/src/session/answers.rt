@@ -16,6 +16,30 @@ use covread::ReadFault;
 use itoa::Buffer;
 use std::alloc::Allocator;
 
+// Appends words and a number behind them.
+fn add_number<A: Allocator>(
+    line: &mut Vec<u8, A>,
+    words: &[u8],
+    number: u64,
+) -> Result<(), SessionFault>
+    ensures added { OnOk result (line.new.items ≡ line.old.items ++ (words.now ++ decimal number)) }
+    ensures fault { IfErr result (λ f. f ≡ session_faults.Memory) }
+{
+    line.extend_from_slice(words)?;
+    line.extend_from_slice(Buffer::new().format(number).as_bytes())?;
+    Ok(())
+}
+
+// Appends a space and a checksum.
+fn add_checksum<A: Allocator>(line: &mut Vec<u8, A>, checksum: &[u8]) -> Result<(), SessionFault>
+    ensures added { OnOk result (line.new.items ≡ line.old.items ++ (codes " " ++ checksum.now)) }
+    ensures fault { IfErr result (λ f. f ≡ session_faults.Memory) }
+{
+    line.extend_from_slice(b" ")?;
+    line.extend_from_slice(checksum)?;
+    Ok(())
+}
+
 // The line that says that a submission was accepted.
 fn accepted_line<A: Allocator>(
     alloc: A,
@@ -26,12 +50,10 @@ fn accepted_line<A: Allocator>(
     ensures line { IfOk result (λ line. line.items ≡ answer_text (AcceptedAnswer number items odd)) }
     ensures fault { IfErr result (λ f. f ≡ session_faults.Memory) }
 {
-    let mut line = Vec::from_slice(alloc, b"accepted ")?;
-    line.extend_from_slice(Buffer::new().format(number).as_bytes())?;
-    line.extend_from_slice(b" items ")?;
-    line.extend_from_slice(Buffer::new().format(items).as_bytes())?;
-    line.extend_from_slice(b" odd ")?;
-    line.extend_from_slice(Buffer::new().format(odd).as_bytes())?;
+    let mut line = Vec::new(alloc);
+    add_number(&mut line, b"accepted ", number)?;
+    add_number(&mut line, b" items ", items)?;
+    add_number(&mut line, b" odd ", odd)?;
     line.extend_from_slice(b"\n")?;
     Ok(line)
 }
@@ -57,12 +79,9 @@ fn clash_line<A: Allocator>(alloc: A, clash: Clash<'_>) -> Result<Vec<u8, A>, Se
 {
     let mut text = Vec::from_slice(alloc, b"clash ")?;
     text.extend_from_slice(clash.file)?;
-    text.extend_from_slice(b" ")?;
-    text.extend_from_slice(Buffer::new().format(clash.line).as_bytes())?;
-    text.extend_from_slice(b" ")?;
-    text.extend_from_slice(clash.held)?;
-    text.extend_from_slice(b" ")?;
-    text.extend_from_slice(clash.given)?;
+    add_number(&mut text, b" ", clash.line)?;
+    add_checksum(&mut text, clash.held)?;
+    add_checksum(&mut text, clash.given)?;
     text.extend_from_slice(b"\n")?;
     Ok(text)
 }
@@ -84,8 +103,7 @@ fn text_at<A: Allocator>(alloc: A, name: &[u8], at: u64) -> Result<Vec<u8, A>, S
     ensures fault { IfErr result (λ f. f ≡ session_faults.Memory) }
 {
     let mut text = Vec::from_slice(alloc, name)?;
-    text.extend_from_slice(b" at ")?;
-    text.extend_from_slice(Buffer::new().format(at).as_bytes())?;
+    add_number(&mut text, b" at ", at)?;
     Ok(text)
 }
 

@@ -2,8 +2,9 @@
 
 ghost use Rattle.std.specs.Prelude.{None};
 
+use super::session_end;
 use crate::program::run_session;
-use crate::session::{SessionFault, session};
+use crate::session::SessionFault;
 use crate::stream::{Failed, FromRead, FromWrite, Sink, Source};
 use std::alloc::Global;
 use std::io::{self, Read, Write};
@@ -100,7 +101,7 @@ fn by_bytes(
         good_writes,
         failed: 0,
     };
-    let ended = session(alloc, &mut source, &mut sink);
+    let ended = session_end(alloc, &mut source, &mut sink);
     let written = sink.output.as_slice();
     (ended, written.len(), ANSWER.starts_with(written))
 }
@@ -188,7 +189,7 @@ fn by_flushes(alloc: Global, can_send: bool) -> (Result<(), SessionFault>, bool)
         can_send,
         failed: 0,
     };
-    let ended = session(alloc, &mut source, &mut sink);
+    let ended = session_end(alloc, &mut source, &mut sink);
     let sent = sink.sent == ANSWER.len() && sink.held.as_slice() == ANSWER;
     (ended, sent)
 }
@@ -221,7 +222,7 @@ fn a_writer_that_cannot_send_on(rt: HostRuntime) {
     let mut source = FromRead::new(INPUT);
     let mut sink = FromWrite::new(Stuck);
     assert_eq!(rt;
-        session(rt.alloc(), &mut source, &mut sink),
+        session_end(rt.alloc(), &mut source, &mut sink),
         Err(SessionFault::Write)
     );
 }
@@ -262,13 +263,13 @@ fn a_failed_call_is_not_made_again(rt: HostRuntime) {
     let mut source = FromRead::new(FailsOnce { failed: false });
     let mut sink = FromWrite::new(FailsOnce { failed: true });
     assert_eq!(rt;
-        session(rt.alloc(), &mut source, &mut sink),
+        session_end(rt.alloc(), &mut source, &mut sink),
         Err(SessionFault::Read)
     );
     let mut source = FromRead::new(INPUT);
     let mut sink = FromWrite::new(FailsOnce { failed: false });
     assert_eq!(rt;
-        session(rt.alloc(), &mut source, &mut sink),
+        session_end(rt.alloc(), &mut source, &mut sink),
         Err(SessionFault::Write)
     );
 }
@@ -332,7 +333,7 @@ fn long_line(
             reads: 0,
         };
         let mut sink = FromWrite::new(&mut output);
-        session(alloc, &mut source, &mut sink)
+        session_end(alloc, &mut source, &mut sink)
     };
     (ended, output.as_slice() == wanted)
 }
@@ -397,7 +398,7 @@ fn a_writer_that_is_full(rt: HostRuntime) {
     let mut source = FromRead::new(INPUT);
     let mut sink = FromWrite::new(room.as_mut_slice());
     assert_eq!(rt;
-        session(rt.alloc(), &mut source, &mut sink),
+        session_end(rt.alloc(), &mut source, &mut sink),
         Err(SessionFault::Write)
     );
 }
