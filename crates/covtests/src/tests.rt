@@ -1,14 +1,21 @@
 //! Public calls with ample memory. What is wanted was worked out by hand from the formats (geninfo(1), section FILES; gcov(1)),
 //! never taken from an output.
 
+use std::process::Abort;
 use std::test::*;
 
 mod annotated;
 mod books;
 mod calls;
 mod limits;
+mod maps;
 mod records;
 mod store;
+
+/// The bytes are as wanted. The tests compare here, since each comparison in a test's own body is proved there.
+fn check_bytes(rt: &impl Abort, given: &[u8], wanted: &[u8]) {
+    assert_eq!(rt; given, wanted);
+}
 
 /// Appends a line.
 fn push_line(text: &mut Vec<u8>, line: &[u8]) -> Result<(), Fail> {

@@ -1,8 +1,9 @@
 //! The reader of gcov's annotated source: what it answers, item by item, and what no session hands it.
 
 use super::calls::annotated;
-use super::push_line;
+use super::{check_bytes, push_line};
 use std::alloc::Global;
+use std::process::Abort;
 use std::test::*;
 
 mod items;
@@ -18,6 +19,18 @@ fn counted(alloc: Global, test: &[u8], text: &[u8]) -> Result<String, Fail> {
         }
         Err(fault) => format!(in alloc; "{fault}")?,
     })
+}
+
+/// A text gives so many sections and items, or its fault is as wanted.
+fn check_counted(
+    rt: &(impl Abort + AllocGlobal),
+    test: &[u8],
+    text: &[u8],
+    wanted: &[u8],
+) -> Result<(), Fail> {
+    let counted = counted(rt.alloc(), test, text)?;
+    check_bytes(rt, counted.as_bytes(), wanted);
+    Ok(())
 }
 
 /// What the lines down to here give, behind each line of one text.
@@ -55,8 +68,7 @@ branch  0 never executed
         match line.strip_prefix(b"> ") {
             None => push_line(&mut text, line)?,
             Some(wanted) => {
-                let counted = counted(rt.alloc(), b"t", text.as_slice())?;
-                assert_eq!(rt; counted.as_bytes(), wanted);
+                check_counted(&rt, b"t", text.as_slice(), wanted)?;
             }
         }
     }
@@ -67,8 +79,7 @@ branch  0 never executed
 #[test]
 fn unlawful_names(rt: HostRuntime) -> Result<(), Fail> {
     for name in b"a\nb|\n|a\r|\r".split(|byte| *byte == b'|') {
-        let counted = counted(rt.alloc(), name, b"")?;
-        assert_eq!(rt; counted.as_bytes(), b"BadTest".as_slice(), "{name:?}");
+        check_counted(&rt, name, b"", b"BadTest")?;
     }
     Ok(())
 }
@@ -77,9 +88,6 @@ fn unlawful_names(rt: HostRuntime) -> Result<(), Fail> {
 #[test]
 fn longest_text(rt: HostRuntime) -> Result<(), Fail> {
     let text = vec![in rt.alloc(); b'#'; 67_108_865]?;
-    let longer = counted(rt.alloc(), b"a\nb", &text)?;
-    let longest = counted(rt.alloc(), b"t", &text[1..])?;
-    assert_eq!(rt; longer.as_bytes(), b"TooLong".as_slice());
-    assert_eq!(rt; longest.as_bytes(), b"sections 0 items 0".as_slice());
-    Ok(())
+    check_counted(&rt, b"a\nb", &text, b"TooLong")?;
+    check_counted(&rt, b"t", &text[1..], b"sections 0 items 0")
 }

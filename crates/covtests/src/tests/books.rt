@@ -48,6 +48,41 @@ fn check_words(rt: &impl Abort, op: &Op, answer: &Answer, wanted: Wanted<'_>) {
     assert_eq!(rt; text_in(answer), wanted.2);
 }
 
+/// The receipt has this place, and what it holds is as wanted.
+fn check_receipt(rt: &impl Abort, receipt: &Receipt, place: u64, wanted: Wanted<'_>) {
+    assert_eq!(rt; receipt.place, place);
+    check_words(rt, &receipt.op, &receipt.answer, wanted);
+}
+
+/// Copies of what the receipt holds are as wanted.
+fn check_copies(
+    rt: &(impl Abort + AllocGlobal),
+    receipt: &Receipt,
+    wanted: Wanted<'_>,
+) -> Result<(), Fail> {
+    let op = copied(rt.alloc(), &receipt.op)?;
+    let answer = copied_answer(rt.alloc(), &receipt.answer)?;
+    check_words(rt, &op, &answer, wanted);
+    Ok(())
+}
+
+/// The entry is by this job, and what it holds is as wanted.
+fn check_entry(rt: &impl Abort, entry: &Entry, job: u32, wanted: Wanted<'_>) {
+    assert_eq!(rt; entry.job, job);
+    check_words(rt, &entry.op, &entry.answer, wanted);
+}
+
+/// Behind so many entries there is one by this job, and what it holds is as wanted.
+fn check_last(rt: &impl Abort, entries: &[Entry], before: usize, job: u32, wanted: Wanted<'_>) {
+    match entries.split_last() {
+        Some((entry, rest)) => {
+            assert_eq!(rt; rest.len(), before);
+            check_entry(rt, entry, job, wanted);
+        }
+        None => panic!(rt; "no entry"),
+    }
+}
+
 /// The book's next step, by this job, is asked and answered so: in its receipt, in the copies of what that holds, and in its
 /// entry.
 fn check_step(
@@ -57,21 +92,11 @@ fn check_step(
     op: &Op,
     wanted: Wanted<'_>,
 ) -> Result<(), Fail> {
-    let place = entries(book).len();
+    let before = entries(book).len();
     let receipt = step(rt.alloc(), book, job, op)?;
-    assert_eq!(rt; receipt.place, place as u64);
-    check_words(rt, &receipt.op, &receipt.answer, wanted);
-    let op = copied(rt.alloc(), &receipt.op)?;
-    let answer = copied_answer(rt.alloc(), &receipt.answer)?;
-    check_words(rt, &op, &answer, wanted);
-    match entries(book).split_last() {
-        Some((entry, before)) => {
-            assert_eq!(rt; before.len(), place);
-            assert_eq!(rt; entry.job, job);
-            check_words(rt, &entry.op, &entry.answer, wanted);
-        }
-        None => assert!(rt; false, "no entry"),
-    }
+    check_receipt(rt, &receipt, before as u64, wanted);
+    check_copies(rt, &receipt, wanted)?;
+    check_last(rt, entries(book), before, job, wanted);
     Ok(())
 }
 
@@ -115,60 +140,85 @@ fn a_history_with_a_clash(rt: HostRuntime) -> Result<(), Fail> {
     check_step(&rt, &mut book, 1, &first, ((1, 1), (2, 1, 1), b""))
 }
 
-#[test]
-fn lists(rt: HostRuntime) -> Result<(), Fail> {
-    let text = TextRef::of(rt.alloc(), bytes_of(rt.alloc(), b"ab")?)?;
-    let mut entries = Entries::new(rt.alloc());
+/// The answer that is this text, shared once.
+fn shared(alloc: Global, text: &[u8]) -> Result<Answer, Memory> {
+    let text = TextRef::of(alloc, bytes_of(alloc, text)?)?;
+    Ok(Answer::Text(text.copy()?))
+}
+
+/// A list of one entry.
+fn one_entry(alloc: Global) -> Result<Entries, Memory> {
+    let answer = shared(alloc, b"ab")?;
+    let mut entries = Entries::new(alloc);
     entries.push(Entry {
         job: 7,
         op: Op::Report,
-        answer: Answer::Text(text.copy()?),
+        answer,
     })?;
-    for entry in entries.get() {
-        assert_eq!(rt; entry.job, 7);
-        check_words(&rt, &entry.op, &entry.answer, ((2, 0), (0, 0, 0), b"ab"));
-    }
-    let mut receipts = Receipts::new(rt.alloc());
-    receipts.push(Receipt {
-        place: 3,
-        op: Op::Summary,
-        answer: Answer::Text(text),
-    })?;
-    for receipt in receipts.get() {
-        assert_eq!(rt; receipt.place, 3);
-        check_words(
-            &rt,
-            &receipt.op,
-            &receipt.answer,
-            ((3, 0), (0, 0, 0), b"ab"),
-        );
-    }
-    assert_eq!(rt; (entries.get().len(), receipts.get().len()), (1, 1));
+    Ok(entries)
+}
+
+#[test]
+fn a_list_of_entries(rt: HostRuntime) -> Result<(), Fail> {
+    let entries = one_entry(rt.alloc())?;
+    check_last(&rt, entries.get(), 0, 7, ((2, 0), (0, 0, 0), b"ab"));
     Ok(())
 }
 
-/// The place of a book's next step.
-fn next_place(alloc: Global, book: &mut Book) -> Result<u64, BookFault> {
-    let receipt = step(alloc, book, 0, &Op::Summary)?;
-    Ok(receipt.place)
+/// A list of one receipt.
+fn one_receipt(alloc: Global) -> Result<Receipts, Memory> {
+    let answer = shared(alloc, b"ab")?;
+    let mut receipts = Receipts::new(alloc);
+    receipts.push(Receipt {
+        place: 3,
+        op: Op::Summary,
+        answer,
+    })?;
+    Ok(receipts)
+}
+
+#[test]
+fn a_list_of_receipts(rt: HostRuntime) -> Result<(), Fail> {
+    let receipts = one_receipt(rt.alloc())?;
+    match receipts.get() {
+        [receipt] => check_receipt(&rt, receipt, 3, ((3, 0), (0, 0, 0), b"ab")),
+        _ => panic!(rt; "not one receipt"),
+    }
+    Ok(())
+}
+
+/// Whether a book's next step has this place.
+fn is_next(alloc: Global, book: &mut Book, place: u64) -> bool {
+    match step(alloc, book, 0, &Op::Summary) {
+        Ok(receipt) => receipt.place == place,
+        Err(_fault) => false,
+    }
+}
+
+/// Whether a book takes no step, since it is full.
+fn is_full(alloc: Global, book: &mut Book) -> bool {
+    match step(alloc, book, 0, &Op::Summary) {
+        Ok(_receipt) => false,
+        Err(fault) => fault == BookFault::Full,
+    }
 }
 
 /// Whether so many steps have the first places.
-fn is_filled(alloc: Global, book: &mut Book, steps: u64) -> Result<bool, BookFault> {
+fn is_filled(alloc: Global, book: &mut Book, steps: u64) -> bool {
     for place in 0..steps {
-        if next_place(alloc, book)? != place {
-            return Ok(false);
+        if !is_next(alloc, book, place) {
+            return false;
         }
     }
-    Ok(true)
+    true
 }
 
 /// A history takes 1,048,576 entries and no more.
 #[test]
 fn a_full_book(rt: HostRuntime) {
     let mut book = Book::new(rt.alloc());
-    assert_eq!(rt; is_filled(rt.alloc(), &mut book, 1_048_576), Ok(true));
-    assert_eq!(rt; next_place(rt.alloc(), &mut book), Err(BookFault::Full));
+    assert!(rt; is_filled(rt.alloc(), &mut book, 1_048_576));
+    assert!(rt; is_full(rt.alloc(), &mut book));
     assert_eq!(rt; entries(&book).len(), 1_048_576);
 }
 

@@ -2,14 +2,19 @@
 //! of them.
 
 use covbook::{Book, BookFault, Entry, Op, Receipt};
-use covline::{BadSubmission, Bytes, Item, Memory, Sect, Sects, Submission, TraceLine};
+use covline::{BadSubmission, Bytes, Item, Items, Memory, Sect, Sects, Submission, TraceLine};
 use covread::{ReadFault, read_gcov, read_trace};
 use covreport::{PatternFault, Patterns, matches};
+use covstore::Totals;
 use std::alloc::Global;
 use std::test::*;
 
 pub(super) fn bytes_of(alloc: Global, bytes: &[u8]) -> Result<Bytes, Memory> {
     Bytes::of(alloc, bytes)
+}
+
+pub(super) fn copy_of(alloc: Global, bytes: &Bytes) -> Result<Bytes, Memory> {
+    bytes.copy(alloc)
 }
 
 pub(super) fn append(text: &mut Bytes, bytes: &[u8]) -> Result<(), Memory> {
@@ -39,6 +44,21 @@ pub(super) fn submission_of(sects: Sects, odd: u64) -> Result<Submission, (Sects
     Submission::of(sects, odd)
 }
 
+pub(super) fn copied_submission(
+    alloc: Global,
+    submission: &Submission,
+) -> Result<Submission, Memory> {
+    submission.copy(alloc)
+}
+
+pub(super) fn copied_sects(alloc: Global, sects: &Sects) -> Result<Sects, Memory> {
+    sects.copy(alloc)
+}
+
+pub(super) fn copied_items(alloc: Global, items: &Items) -> Result<Items, Memory> {
+    items.copy(alloc)
+}
+
 pub(super) fn read(alloc: Global, text: &[u8]) -> Result<Submission, ReadFault> {
     read_trace(alloc, text)
 }
@@ -59,6 +79,10 @@ pub(super) fn add(
     patterns.add(alloc, pattern)
 }
 
+pub(super) fn copied_patterns(alloc: Global, patterns: &Patterns) -> Result<Patterns, Memory> {
+    patterns.copy(alloc)
+}
+
 pub(super) fn any_matches(patterns: &Patterns, path: &[u8]) -> bool {
     patterns.any_matches(path)
 }
@@ -70,6 +94,23 @@ pub(super) fn step(
     op: &Op,
 ) -> Result<Receipt, BookFault> {
     book.step(alloc, job, op)
+}
+
+/// A step by its two halves.
+pub(super) fn step_in_halves(
+    alloc: Global,
+    book: &mut Book,
+    job: u32,
+    op: &Op,
+) -> Result<Receipt, BookFault> {
+    let ready = book.ready(alloc, job, op)?;
+    Ok(book.finish(ready))
+}
+
+/// The totals after a step that is made ready and dropped.
+pub(super) fn after_dropped(alloc: Global, book: &mut Book, op: &Op) -> Result<Totals, BookFault> {
+    let ready = book.ready(alloc, 0, op)?;
+    Ok(ready.after())
 }
 
 pub(super) fn entries(book: &Book) -> &[Entry] {

@@ -1,8 +1,10 @@
 //! Limits, and what is large.
 
 use super::calls::{is_match, read, repeated, text_of};
+use covline::Bytes;
 use covread::ReadFault;
 use std::alloc::Global;
+use std::process::Abort;
 use std::test::*;
 
 /// How many items a text has and how many of its lines are odd, or its fault.
@@ -11,39 +13,60 @@ fn counted(alloc: Global, text: &[u8]) -> Result<(u64, u64), ReadFault> {
     Ok((submission.items(), submission.odd()))
 }
 
+/// A text has so many items and odd lines, or this fault.
+fn check_counted(
+    rt: &(impl Abort + AllocGlobal),
+    text: &[u8],
+    wanted: Result<(u64, u64), ReadFault>,
+) {
+    assert_eq!(rt; counted(rt.alloc(), text), wanted);
+}
+
 /// A text of 67,108,864 bytes is read, one of a byte more isn't.
 #[test]
 fn longest_text(rt: HostRuntime) -> Result<(), Fail> {
     let text = vec![in rt.alloc(); b'#'; 67_108_865]?;
-    assert_eq!(rt; counted(rt.alloc(), &text), Err(ReadFault::TooLong));
-    assert_eq!(rt; counted(rt.alloc(), &text[1..]), Ok((0, 0)));
+    check_counted(&rt, &text, Err(ReadFault::TooLong));
+    check_counted(&rt, &text[1..], Ok((0, 0)));
     Ok(())
+}
+
+/// The text with a million zeros in the place of each star.
+fn filled(alloc: Global, text: &[u8]) -> Result<Vec<u8>, Fail> {
+    let zeros = vec![in alloc; b'0'; 1_000_000]?;
+    let mut filled = Vec::new(alloc);
+    for byte in text {
+        match *byte {
+            b'*' => filled.extend_from_slice(&zeros)?,
+            other => filled.push(other)?,
+        }
+    }
+    Ok(filled)
+}
+
+/// What is read of a text, as text.
+fn printed(alloc: Global, text: &[u8]) -> Result<Bytes, Fail> {
+    let submission = read(alloc, text)?;
+    Ok(text_of(alloc, submission.sects())?)
 }
 
 /// A path, a line number and a count of a million zeros each.
 #[test]
 fn long_lines(rt: HostRuntime) -> Result<(), Fail> {
-    let zeros = vec![in rt.alloc(); b'0'; 1_000_000]?;
-    let mut text: Vec<u8> = Vec::from_slice(rt.alloc(), b"SF:")?;
-    text.extend_from_slice(&zeros)?;
-    text.extend_from_slice(b"\nDA:")?;
-    text.extend_from_slice(&zeros)?;
-    text.extend_from_slice(b"1,")?;
-    text.extend_from_slice(&zeros)?;
-    text.extend_from_slice(b"2\nend_of_record\n")?;
-    let submission = read(rt.alloc(), &text)?;
-    for sect in submission.sects() {
-        assert!(rt; sect.file.get() == zeros.as_slice());
-    }
-    let printed = text_of(rt.alloc(), submission.sects())?;
-    assert!(rt; printed.get().ends_with(b"\nDA:1,2\nend_of_record\n"));
+    let text = filled(rt.alloc(), b"SF:*\nDA:*1,*2\nend_of_record\n")?;
+    let printed = printed(rt.alloc(), &text)?;
+    let wanted = filled(rt.alloc(), b"TN:\nSF:*\nDA:1,2\nend_of_record\n")?;
+    assert!(rt; printed.get() == wanted.as_slice());
     Ok(())
 }
 
-/// The records of a line, a function and a branch with this number, all counted so often.
-fn point(alloc: Global, n: u64) -> Result<String, Fail> {
-    let function = format!(in alloc; "FNDA:{n},f{n}\nFN:{n},f{n}\n")?;
-    Ok(format!(in alloc; "{function}BRDA:{n},0,0,{n}\nDA:{n},{n}\n")?)
+/// Appends the records of a line, a function and a branch with this number, all counted so often.
+fn push_point(alloc: Global, n: u64, text: &mut Vec<u8>) -> Result<(), Fail> {
+    let function: String = format!(in alloc; "FNDA:{n},f{n}\nFN:{n},f{n}\n")?;
+    let others: String = format!(in alloc; "BRDA:{n},0,0,{n}\nDA:{n},{n}\n")?;
+    text.extend_from_slice(function.as_bytes())?;
+    text.extend_from_slice(others.as_bytes())?;
+    Ok(())
 }
 
 /// 300,000 lines, functions and branches each that don't ascend. Reading them in time takes more than passing over all of
@@ -52,13 +75,12 @@ fn point(alloc: Global, n: u64) -> Result<String, Fail> {
 fn long_section(rt: HostRuntime) -> Result<(), Fail> {
     let mut text = Vec::from_slice(rt.alloc(), b"SF:a\n")?;
     for n in (0..300_000).rev() {
-        let point = point(rt.alloc(), n)?;
-        text.extend_from_slice(point.as_bytes())?;
+        push_point(rt.alloc(), n, &mut text)?;
     }
     text.extend_from_slice(
         b"FNF:300000\nFNH:299999\nBRF:300000\nBRH:299999\nLF:300000\nLH:299999\nend_of_record\n",
     )?;
-    assert_eq!(rt; counted(rt.alloc(), text.as_slice()), Ok((1_200_000, 0)));
+    check_counted(&rt, text.as_slice(), Ok((1_200_000, 0)));
     Ok(())
 }
 

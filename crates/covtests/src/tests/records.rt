@@ -1,28 +1,36 @@
 //! Calls of covline and covread that no session shows: single records, lists, submissions, and the items of a text.
 
 use super::calls::{
-    append, bytes_of, counted_first, cut_first, put_line, read, submission_of, text_of,
+    append, bytes_of, copied_items, copied_sects, copied_submission, copy_of, counted_first,
+    cut_first, put_line, read, submission_of, text_of,
 };
+use super::{check_bytes, push_line};
 use covline::{
-    BadSubmission, BranchPoint, Bytes, Item, Items, LineFault, Memory, Sect, Sects, Submission,
-    Tally, TotalKind, TraceLine, good_test, lines, read_line, without_returns,
+    BadSubmission, Bytes, Item, Items, LineFault, Memory, Sect, Sects, Submission, Tally,
+    TotalKind, TraceLine, good_test, lines, read_line, without_returns,
 };
 use covread::ReadFault;
 use std::alloc::Global;
 use std::process::Abort;
 use std::test::*;
 
+/// A text, and a copy of it before its last two growths.
+fn text_and_copy(alloc: Global) -> Result<(Bytes, Bytes), Memory> {
+    let mut text = bytes_of(alloc, b"ab")?;
+    append(&mut text, b"cd")?;
+    let copy = copy_of(alloc, &text)?;
+    append(&mut text, b"")?;
+    append(&mut text, b"\x00")?;
+    Ok((text, copy))
+}
+
 #[test]
 fn bytes(rt: HostRuntime) -> Result<(), Fail> {
-    let mut text = Bytes::of(rt.alloc(), b"ab")?;
-    text.append(b"cd")?;
-    let other = text.copy(rt.alloc())?;
-    text.append(b"")?;
-    text.append(b"\x00")?;
-    assert_eq!(rt; text.get(), b"abcd\x00".as_slice());
-    assert_eq!(rt; other.get(), b"abcd".as_slice());
+    let (text, other) = text_and_copy(rt.alloc())?;
+    check_bytes(&rt, text.get(), b"abcd\x00");
+    check_bytes(&rt, other.get(), b"abcd");
     let none: Bytes = Bytes::new(rt.alloc());
-    assert_eq!(rt; none.get(), b"".as_slice());
+    check_bytes(&rt, none.get(), b"");
     Ok(())
 }
 
@@ -40,25 +48,36 @@ fn printed_records(rt: HostRuntime) -> Result<(), Fail> {
             value: u64::MAX,
         },
     ];
-    let mut text = Bytes::of(rt.alloc(), b"#\n")?;
+    let mut text = bytes_of(rt.alloc(), b"#\n")?;
     for record in &records {
         put_line(record, &mut text)?;
     }
-    assert_eq!(rt;
+    check_bytes(
+        &rt,
         text.get(),
-        b"#\nFNDA:340282366920938463463374607431768211455,g(int, int)\nLH:18446744073709551615\n".as_slice()
+        b"#\nFNDA:340282366920938463463374607431768211455,g(int, int)\nLH:18446744073709551615\n",
     );
     Ok(())
+}
+
+/// What the first line of a text counts, if it only counts.
+fn check_first(rt: &impl Abort, text: &[u8], wanted: Option<(u64, u64, usize)>) {
+    assert_eq!(rt; counted_first(text), wanted);
+}
+
+/// How the first line of a text is cut.
+fn check_cut(rt: &impl Abort, text: &[u8], wanted: (usize, usize)) {
+    assert_eq!(rt; cut_first(text), wanted);
 }
 
 /// A first line that only counts is read before it is cut; another one is cut.
 #[test]
 fn counts_before_a_cut(rt: HostRuntime) {
-    assert_eq!(rt; counted_first(b"DA:7,12\nDA:8,1\n"), Some((7, 12, 7)));
-    assert_eq!(rt; counted_first(b"DA:7,12,sum\n"), None);
-    assert_eq!(rt; counted_first(b"DA:7,12"), None);
-    assert_eq!(rt; cut_first(b"TN:a\r\nrest"), (4, 4));
-    assert_eq!(rt; cut_first(b"rest"), (4, 0));
+    check_first(&rt, b"DA:7,12\nDA:8,1\n", Some((7, 12, 7)));
+    check_first(&rt, b"DA:7,12,sum\n", None);
+    check_first(&rt, b"DA:7,12", None);
+    check_cut(&rt, b"TN:a\r\nrest", (4, 4));
+    check_cut(&rt, b"rest", (4, 0));
 }
 
 /// What is read of each line, as it is printed.
@@ -104,7 +123,8 @@ BRH:4
 LF:5
 LH:6",
     )?;
-    assert_eq!(rt;
+    check_bytes(
+        &rt,
         printed.get(),
         b"\
 DA:7,1
@@ -131,8 +151,7 @@ BRF:3
 BRH:4
 LF:5
 LH:6
-"
-            .as_slice()
+",
     );
     Ok(())
 }
@@ -154,17 +173,14 @@ fn lines_of_texts(rt: HostRuntime) -> Result<(), Fail> {
     for text in texts.split(|byte| *byte == b';') {
         put_lines(text, &mut joined)?;
     }
-    assert_eq!(rt;
-        joined.get(),
-        b";a|;a|b|;||a|;|;a|b|;a\rb|;a||;a|\rb|;".as_slice()
-    );
+    check_bytes(&rt, joined.get(), b";a|;a|b|;||a|;|;a|b|;a\rb|;a||;a|\rb|;");
     Ok(())
 }
 
 #[test]
 fn ends_of_lines(rt: HostRuntime) {
-    assert_eq!(rt; without_returns(b"\ra\rb\r\r"), b"\ra\rb".as_slice());
-    assert_eq!(rt; without_returns(b"\r"), b"".as_slice());
+    check_bytes(&rt, without_returns(b"\ra\rb\r\r"), b"\ra\rb");
+    check_bytes(&rt, without_returns(b"\r"), b"");
 }
 
 #[test]
@@ -207,29 +223,32 @@ fn items_of(alloc: Global, function: &[u8], checksum: &[u8]) -> Result<Items, Me
     Ok(items)
 }
 
-/// The line and the branch that an item speaks of, and whether it is hit.
-fn points(item: &Item) -> (Option<u64>, Option<BranchPoint>, bool) {
-    (item.line_point(), item.branch_point(), item.is_hit())
+/// Appends the line, the branch and the function that an item speaks of, and whether it is hit.
+fn put_points(alloc: Global, item: &Item, text: &mut Vec<u8>) -> Result<(), Fail> {
+    let line = item.line_point();
+    let branch = item.branch_point();
+    let function = item.function_name();
+    let hit = item.is_hit();
+    let words: String = format!(in alloc; "{line:?} {branch:?} {function:?} {hit}")?;
+    push_line(text, words.as_bytes())
 }
 
 #[test]
 fn points_of_items(rt: HostRuntime) -> Result<(), Fail> {
     let items = items_of(rt.alloc(), b"f", b"k")?;
-    let at = BranchPoint {
-        line: 5,
-        block: 6,
-        branch: 7,
-    };
-    match items.get() {
-        [line, function, branch] => {
-            assert_eq!(rt; points(line), (Some(1), None, true));
-            assert_eq!(rt; points(function), (None, None, true));
-            assert_eq!(rt; points(branch), (None, Some(at), false));
-            assert!(rt; line.function_name().is_none());
-            assert_eq!(rt; function.function_name(), Some(b"f".as_slice()));
-        }
-        _ => assert!(rt; false, "three items"),
+    let mut text = Vec::new(rt.alloc());
+    for item in items.get() {
+        put_points(rt.alloc(), item, &mut text)?;
     }
+    check_bytes(
+        &rt,
+        text.as_slice(),
+        b"\
+Some(1) None None true
+None None Some([102]) true
+None Some(BranchPoint { line: 5, block: 6, branch: 7 }) None false
+",
+    );
     Ok(())
 }
 
@@ -249,79 +268,123 @@ fn push_sect(
 const TWO: &[u8] = b"TN:\nSF:a.c\nDA:1,2,k\nFN:3,f\nFNDA:4,f\nBRDA:5,6,7,-\nend_of_record\n\
     TN:t\nSF:a\rb.c\nDA:1,2,+/==\nFN:3,g(int, int)\nFNDA:4,g(int, int)\nBRDA:5,6,7,-\nend_of_record\n";
 
+/// Appends a section with the names of its test, its file and its function, and with a checksum.
+fn push_names(
+    alloc: Global,
+    sects: &mut Sects,
+    test: &[u8],
+    file: &[u8],
+    function: &[u8],
+    checksum: &[u8],
+) -> Result<(), Memory> {
+    let items = items_of(alloc, function, checksum)?;
+    push_sect(alloc, sects, test, file, items)
+}
+
 /// The sections of `TWO`.
 fn two_sects(alloc: Global) -> Result<Sects, Memory> {
-    let first = items_of(alloc, b"f", b"k")?;
-    let second = items_of(alloc, b"g(int, int)", b"+/==")?;
     let mut sects = Sects::new(alloc);
-    push_sect(alloc, &mut sects, b"", b"a.c", first)?;
-    push_sect(alloc, &mut sects, b"t", b"a\rb.c", second)?;
+    push_names(alloc, &mut sects, b"", b"a.c", b"f", b"k")?;
+    push_names(alloc, &mut sects, b"t", b"a\rb.c", b"g(int, int)", b"+/==")?;
     Ok(sects)
 }
 
-#[test]
-fn lists_and_their_copies(rt: HostRuntime) -> Result<(), Fail> {
-    let sects = two_sects(rt.alloc())?;
-    assert_eq!(rt; text_of(rt.alloc(), sects.get())?.get(), TWO);
-    let copy = sects.copy(rt.alloc())?;
-    assert_eq!(rt; text_of(rt.alloc(), copy.get())?.get(), TWO);
-    for sect in copy.get() {
-        let items = sect.items.copy(rt.alloc())?;
+/// The sections are those of a text.
+fn check_sects(rt: &(impl Abort + AllocGlobal), sects: &[Sect], wanted: &[u8]) -> Result<(), Fail> {
+    let text = text_of(rt.alloc(), sects)?;
+    check_bytes(rt, text.get(), wanted);
+    Ok(())
+}
+
+/// Each section's items are copied, and are three.
+fn check_copied_items(rt: &(impl Abort + AllocGlobal), sects: &[Sect]) -> Result<(), Fail> {
+    for sect in sects {
+        let items = copied_items(rt.alloc(), &sect.items)?;
         assert_eq!(rt; items.get().len(), 3);
     }
     Ok(())
 }
 
 #[test]
-fn lawful_submissions(rt: HostRuntime) -> Result<(), Fail> {
-    match submission_of(two_sects(rt.alloc())?, 14) {
-        Ok(submission) => {
-            assert_eq!(rt; submission.items(), 6);
-            assert_eq!(rt; submission.odd(), 14);
-            assert_eq!(rt; text_of(rt.alloc(), submission.sects())?.get(), TWO);
-            let copy = submission.copy(rt.alloc())?;
-            assert_eq!(rt; copy.items(), 6);
-            assert_eq!(rt; copy.odd(), 14);
-            assert_eq!(rt; text_of(rt.alloc(), copy.sects())?.get(), TWO);
-        }
-        Err((_sects, fault)) => assert!(rt; false, "{fault}"),
+fn lists_and_their_copies(rt: HostRuntime) -> Result<(), Fail> {
+    let sects = two_sects(rt.alloc())?;
+    check_sects(&rt, sects.get(), TWO)?;
+    let copy = copied_sects(rt.alloc(), &sects)?;
+    check_sects(&rt, copy.get(), TWO)?;
+    check_copied_items(&rt, copy.get())
+}
+
+/// The submission of `TWO`, with 14 odd lines.
+fn of_two(alloc: Global) -> Result<Submission, Fail> {
+    match submission_of(two_sects(alloc)?, 14) {
+        Ok(submission) => Ok(submission),
+        Err((_sects, fault)) => Err(Fail::from(fault)),
     }
-    Ok(())
+}
+
+/// The submission is that of `TWO`, with 14 odd lines.
+fn check_two(rt: &(impl Abort + AllocGlobal), submission: &Submission) -> Result<(), Fail> {
+    assert_eq!(rt; submission.items(), 6);
+    assert_eq!(rt; submission.odd(), 14);
+    check_sects(rt, submission.sects(), TWO)
+}
+
+#[test]
+fn lawful_submissions(rt: HostRuntime) -> Result<(), Fail> {
+    let submission = of_two(rt.alloc())?;
+    check_two(&rt, &submission)?;
+    let copy = copied_submission(rt.alloc(), &submission)?;
+    check_two(&rt, &copy)
+}
+
+/// The sections that are handed back, and in which section a text is unlawful.
+fn handed_back(sects: Sects) -> Option<(Sects, usize)> {
+    match submission_of(sects, 0) {
+        Ok(_submission) => None,
+        Err((sects, fault)) => match fault {
+            BadSubmission::BadText { sect } => Some((sects, sect)),
+            BadSubmission::TooMany => None,
+        },
+    }
 }
 
 /// A refusal hands the sections back.
 #[test]
 fn an_empty_file(rt: HostRuntime) -> Result<(), Fail> {
-    let items = items_of(rt.alloc(), b"f", b"k")?;
     let mut sects = Sects::new(rt.alloc());
-    push_sect(rt.alloc(), &mut sects, b"t", b"", items)?;
-    match submission_of(sects, 0) {
-        Ok(_submission) => assert!(rt; false, "it is a submission"),
-        Err((sects, fault)) => {
-            assert_eq!(rt; fault, BadSubmission::BadText { sect: 0 });
-            assert_eq!(rt;
-                text_of(rt.alloc(), sects.get())?.get(),
-                b"TN:t\nSF:\nDA:1,2,k\nFN:3,f\nFNDA:4,f\nBRDA:5,6,7,-\nend_of_record\n".as_slice()
-            );
+    push_names(rt.alloc(), &mut sects, b"t", b"", b"f", b"k")?;
+    match handed_back(sects) {
+        Some((sects, unlawful)) => {
+            assert_eq!(rt; unlawful, 0);
+            check_sects(
+                &rt,
+                sects.get(),
+                b"TN:t\nSF:\nDA:1,2,k\nFN:3,f\nFNDA:4,f\nBRDA:5,6,7,-\nend_of_record\n",
+            )
         }
+        None => panic!(rt; "it isn't refused for its texts"),
     }
-    Ok(())
 }
 
-/// How many sections are handed back, and why. The third of four has these names and items, and the fourth one is
-/// unlawful.
-fn told(
-    alloc: Global,
-    test: &[u8],
-    file: &[u8],
-    items: Items,
-) -> Result<Option<(usize, BadSubmission)>, Memory> {
+/// Appends a section with the names of a row.
+fn push_row(alloc: Global, sects: &mut Sects, row: &[u8]) -> Result<(), Memory> {
+    let mut parts = row.split(|byte| *byte == b'|');
+    let test = parts.next().unwrap_or(b"");
+    let file = parts.next().unwrap_or(b"");
+    let function = parts.next().unwrap_or(b"");
+    let checksum = parts.next().unwrap_or(b"");
+    push_names(alloc, sects, test, file, function, checksum)
+}
+
+/// How many sections are handed back, and in which a text is unlawful. The third of four is that of the row, and the fourth
+/// one is unlawful.
+fn told(alloc: Global, row: &[u8]) -> Result<(usize, usize), Memory> {
     let mut sects = two_sects(alloc)?;
-    push_sect(alloc, &mut sects, test, file, items)?;
+    push_row(alloc, &mut sects, row)?;
     push_sect(alloc, &mut sects, b"\n", b"", Items::new(alloc))?;
-    match submission_of(sects, 0) {
-        Err((sects, fault)) => Ok(Some((sects.get().len(), fault))),
-        Ok(_submission) => Ok(None),
+    match handed_back(sects) {
+        Some((sects, unlawful)) => Ok((sects.get().len(), unlawful)),
+        None => Ok((0, 0)),
     }
 }
 
@@ -331,18 +394,8 @@ fn unlawful_texts(rt: HostRuntime) -> Result<(), Fail> {
     let rows =
         b"t||f|k|;t|b\n|f|k|;t|a\r|f|k|;t\n|b|f|k|;t|b||k|;t|b|f\ng|k|;t|b|f||;t|b|f|k,|;t|b|f| k|;t|b|f|k\tk|;t|b|f|k\rk|";
     for row in rows.split(|byte| *byte == b';') {
-        let mut parts = row.split(|byte| *byte == b'|');
-        let test = parts.next().unwrap_or(b"");
-        let file = parts.next().unwrap_or(b"");
-        let function = parts.next().unwrap_or(b"");
-        let checksum = parts.next().unwrap_or(b"");
-        let items = items_of(rt.alloc(), function, checksum)?;
-        let told = told(rt.alloc(), test, file, items)?;
-        assert_eq!(rt;
-            told,
-            Some((4, BadSubmission::BadText { sect: 2 })),
-            "{row:?}"
-        );
+        let told = told(rt.alloc(), row)?;
+        assert_eq!(rt; told, (4, 2), "{row:?}");
     }
     Ok(())
 }
@@ -384,8 +437,7 @@ fn numbers_of_faults(rt: HostRuntime) {
 fn check_read(rt: &(impl Abort + AllocGlobal), text: &[u8], wanted: &[u8]) -> Result<(), Fail> {
     let submission = read(rt.alloc(), text)?;
     assert_eq!(rt; submission.odd(), 0);
-    assert_eq!(rt; text_of(rt.alloc(), submission.sects())?.get(), wanted);
-    Ok(())
+    check_sects(rt, submission.sects(), wanted)
 }
 
 /// Items stand in the order of their lines; a function's start line is the least of its name in the section.

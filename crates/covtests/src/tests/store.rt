@@ -2,10 +2,13 @@
 
 ghost use Rattle.covstore.specs.Totals.{AreTotals};
 
-use super::calls::{add, any_matches, is_match, list_of, put_line, read};
-use covline::{Bytes, Memory, TraceLine};
+use super::calls::{
+    add, any_matches, copied_patterns, is_match, list_of, put_line, read, repeated,
+};
+use super::{check_bytes, push_line};
+use covline::{Bytes, Memory, Submission, TraceLine};
 use covreport::{Choice, PatternFault, Patterns, summary_text, tenths, trace_text};
-use covstore::{Refuse, Section, Store, Totals};
+use covstore::{Plan, Refuse, Section, Store, Totals};
 use std::alloc::Global;
 use std::process::Abort;
 use std::test::*;
@@ -14,7 +17,7 @@ const ALL: &[u8] =
     b"TN:t\nSF:/a.c\nFN:9,f\nFN:3,g\nFNDA:1,f\nFNDA:0,g\nBRDA:5,6,7,-\nBRDA:5,6,8,2\nDA:1,2,k\nDA:2,0\nend_of_record\n\
     TN:v\nSF:/b.c\nend_of_record\n";
 
-const NOTHING: Totals = Totals {
+pub(super) const NOTHING: Totals = Totals {
     lf: 0,
     lh: 0,
     ff: 0,
@@ -32,18 +35,45 @@ const OF_ALL: Totals = Totals {
     bh: 1,
 };
 
+/// The totals are as wanted.
+fn check_totals(rt: &impl Abort, given: Totals, wanted: Totals) {
+    assert_eq!(rt; given, wanted);
+}
+
+/// The totals of the store.
+fn totals_of(store: &Store) -> Totals {
+    store.totals()
+}
+
+/// Whether the store has no section.
+fn is_empty(store: &Store) -> bool {
+    store.sections().next().is_none()
+}
+
+/// Whether the store has the test.
+fn has_test(store: &Store, test: &[u8]) -> bool {
+    store.has_test(test)
+}
+
+/// A store that holds nothing, behind its plan to hold the submission.
+fn prepared(rt: &(impl Abort + AllocGlobal), given: &Submission) -> (Store, Result<Plan, Refuse>) {
+    let mut store = Store::new(rt.alloc());
+    check_totals(rt, totals_of(&store), NOTHING);
+    let planned = store.prepare(rt.alloc(), given);
+    (store, planned)
+}
+
 #[test]
 fn a_plan_that_is_dropped(rt: HostRuntime) -> Result<(), Fail> {
     let given = read(rt.alloc(), ALL)?;
-    let mut store = Store::new(rt.alloc());
-    assert_eq!(rt; store.totals(), NOTHING);
-    match store.prepare(rt.alloc(), &given) {
-        Ok(plan) => assert_eq!(rt; plan.after(), OF_ALL),
+    let (store, planned) = prepared(&rt, &given);
+    match planned {
+        Ok(plan) => check_totals(&rt, plan.after(), OF_ALL),
         Err(refuse) => panic!(rt; "refused {}", refuse.number()),
     }
-    assert!(rt; store.sections().next().is_none());
-    assert_eq!(rt; store.totals(), NOTHING);
-    assert!(rt; !store.has_test(b"t"));
+    assert!(rt; is_empty(&store));
+    check_totals(&rt, totals_of(&store), NOTHING);
+    assert!(rt; !has_test(&store, b"t"));
     Ok(())
 }
 
@@ -108,7 +138,7 @@ fn put_lines(section: &Section<'_>, text: &mut Bytes) -> Result<(), Memory> {
 }
 
 /// Appends what the section has.
-fn put_section(section: &Section<'_>, text: &mut Bytes) -> Result<(), Memory> {
+pub(super) fn put_section(section: &Section<'_>, text: &mut Bytes) -> Result<(), Memory> {
     put_line(&TraceLine::Test(section.test()), text)?;
     put_line(&TraceLine::Path(section.file()), text)?;
     put_functions(section, text)?;
@@ -116,22 +146,63 @@ fn put_section(section: &Section<'_>, text: &mut Bytes) -> Result<(), Memory> {
     put_lines(section, text)
 }
 
-#[test]
-fn what_is_held(rt: HostRuntime) -> Result<(), Fail> {
-    let store = store_of(&rt, ALL)?;
-    let mut text = Bytes::new(rt.alloc());
+/// What the store has.
+fn held(alloc: Global, store: &Store) -> Result<Bytes, Memory> {
+    let mut text = Bytes::new(alloc);
     for section in store.sections() {
         put_section(&section, &mut text)?;
     }
-    assert_eq!(rt;
+    Ok(text)
+}
+
+#[test]
+fn what_is_held(rt: HostRuntime) -> Result<(), Fail> {
+    let store = store_of(&rt, ALL)?;
+    let text = held(rt.alloc(), &store)?;
+    check_bytes(
+        &rt,
         text.get(),
-        b"TN:t\nSF:/a.c\nFN:9,f\nFNDA:1,f\nFN:3,g\nFNDA:0,g\nBRDA:5,6,7,-\nBRDA:5,6,8,2\nDA:1,2,k\nDA:2,0\n".as_slice()
+        b"TN:t\nSF:/a.c\nFN:9,f\nFNDA:1,f\nFN:3,g\nFNDA:0,g\nBRDA:5,6,7,-\nBRDA:5,6,8,2\nDA:1,2,k\nDA:2,0\n",
     );
-    assert_eq!(rt; store.totals(), OF_ALL);
-    assert!(rt; store.has_test(b"t"));
-    assert!(rt; !store.has_test(b"/a.c"), "a file");
-    assert!(rt; !store.has_test(b"v"), "a section without items");
+    check_totals(&rt, totals_of(&store), OF_ALL);
+    assert!(rt; has_test(&store, b"t"));
+    assert!(rt; !has_test(&store, b"/a.c"), "a file");
+    assert!(rt; !has_test(&store, b"v"), "a section without items");
     Ok(())
+}
+
+/// Appends a refusal: the file, the line and the two checksums of a clash.
+fn put_refusal(alloc: Global, refuse: &Refuse, text: &mut Vec<u8>) -> Result<(), Fail> {
+    match refuse {
+        Refuse::Clash {
+            file,
+            line,
+            held,
+            given,
+        } => {
+            let line: String = format!(in alloc; "line {line}")?;
+            push_line(text, b"clash")?;
+            push_line(text, file.get())?;
+            push_line(text, line.as_bytes())?;
+            push_line(text, held.get())?;
+            push_line(text, given.get())
+        }
+        Refuse::Memory => push_line(text, b"memory"),
+    }
+}
+
+/// What a store that holds nothing answers to the submission: a refusal, and whether it is still empty.
+fn refused(rt: &(impl Abort + AllocGlobal), given: &Submission) -> Result<Vec<u8>, Fail> {
+    let mut text = Vec::new(rt.alloc());
+    let (store, planned) = prepared(rt, given);
+    match planned {
+        Ok(_plan) => push_line(&mut text, b"a plan")?,
+        Err(refuse) => put_refusal(rt.alloc(), &refuse, &mut text)?,
+    }
+    if is_empty(&store) {
+        push_line(&mut text, b"empty")?;
+    }
+    Ok(text)
 }
 
 /// A clash is told as it is, and never as want of memory.
@@ -141,28 +212,19 @@ fn a_clash(rt: HostRuntime) -> Result<(), Fail> {
         rt.alloc(),
         b"TN:t\nSF:/a.c\nDA:1,1,x\nend_of_record\nTN:u\nSF:/a.c\nDA:1,0,y\nend_of_record\n",
     )?;
-    let mut store = Store::new(rt.alloc());
-    match store.prepare(rt.alloc(), &given) {
-        Err(
-            Refuse::Clash {
-                file,
-                line,
-                held,
-                given,
-            },
-        ) => {
-            assert_eq!(rt; file.get(), b"/a.c".as_slice());
-            assert_eq!(rt; line, 1);
-            assert_eq!(rt; held.get(), b"x".as_slice());
-            assert_eq!(rt; given.get(), b"y".as_slice());
-        }
-        Err(Refuse::Memory) => assert!(rt; false, "memory"),
-        Ok(_plan) => assert!(rt; false, "a plan"),
-    }
-    assert!(rt; store.sections().next().is_none());
+    let refused = refused(&rt, &given)?;
+    check_bytes(
+        &rt,
+        refused.as_slice(),
+        b"clash\n/a.c\nline 1\nx\ny\nempty\n",
+    );
+    Ok(())
+}
+
+#[test]
+fn a_refused_growth(rt: HostRuntime) {
     let memory: Refuse = Refuse::from(Memory);
     assert_eq!(rt; memory.number(), 2);
-    Ok(())
 }
 
 /// What the chosen part of the store prints.
@@ -173,8 +235,30 @@ fn check_text(
     wanted: &[u8],
 ) -> Result<(), Fail> {
     let text = trace_text(rt.alloc(), store, choice)?;
-    assert_eq!(rt; text.get(), wanted);
+    check_bytes(rt, text.get(), wanted);
     Ok(())
+}
+
+/// What the files that match the patterns print.
+fn check_extract(
+    rt: &(impl Abort + AllocGlobal),
+    store: &Store,
+    patterns: &[u8],
+    wanted: &[u8],
+) -> Result<(), Fail> {
+    let extract = Choice::Extract(list_of(rt.alloc(), patterns)?);
+    check_text(rt, store, &extract, wanted)
+}
+
+/// What the other files print.
+fn check_remove(
+    rt: &(impl Abort + AllocGlobal),
+    store: &Store,
+    patterns: &[u8],
+    wanted: &[u8],
+) -> Result<(), Fail> {
+    let remove = Choice::Remove(list_of(rt.alloc(), patterns)?);
+    check_text(rt, store, &remove, wanted)
 }
 
 #[test]
@@ -182,12 +266,9 @@ fn chosen_texts(rt: HostRuntime) -> Result<(), Fail> {
     let text = b"TN:t\nSF:/a.c\nDA:1,2\nLF:1\nLH:1\nend_of_record\n";
     let store = store_of(&rt, text)?;
     check_text(&rt, &store, &Choice::All, text)?;
-    let extract = Choice::Extract(list_of(rt.alloc(), b"*.h|/a.?")?);
-    check_text(&rt, &store, &extract, text)?;
-    let remove = Choice::Remove(list_of(rt.alloc(), b"*.h|/a.?")?);
-    check_text(&rt, &store, &remove, b"")?;
-    let others = Choice::Remove(list_of(rt.alloc(), b"*.h|/b.?")?);
-    check_text(&rt, &store, &others, text)
+    check_extract(&rt, &store, b"*.h|/a.?", text)?;
+    check_remove(&rt, &store, b"*.h|/a.?", b"")?;
+    check_remove(&rt, &store, b"*.h|/b.?", text)
 }
 
 #[test]
@@ -215,53 +296,65 @@ fn bytes_of_patterns(rt: HostRuntime) {
     assert!(rt; !is_match(b"[!\x00-\xff]", b"a"));
 }
 
+/// Whether the list refuses the pattern for this fault.
+fn is_refused(alloc: Global, patterns: &mut Patterns, pattern: &[u8], fault: PatternFault) -> bool {
+    add(alloc, patterns, pattern) == Err(fault)
+}
+
+/// The list has so many patterns, and takes the paths, which stand between bars and with a minus before those that it
+/// doesn't take.
+fn check_list(rt: &impl Abort, patterns: &Patterns, count: usize, paths: &[u8]) {
+    assert_eq!(rt; patterns.get().len(), count);
+    for path in paths.split(|byte| *byte == b'|') {
+        match path.strip_prefix(b"-") {
+            Some(other) => assert!(rt; !any_matches(patterns, other), "{other:?}"),
+            None => assert!(rt; any_matches(patterns, path), "{path:?}"),
+        }
+    }
+}
+
 #[test]
 fn a_list(rt: HostRuntime) -> Result<(), Fail> {
-    let longer = [b'a'; 1_025];
+    let longer = repeated(rt.alloc(), b"a", 1_025)?;
     let mut patterns = Patterns::new(rt.alloc());
-    assert_eq!(rt;
-        add(rt.alloc(), &mut patterns, &longer),
-        Err(PatternFault::TooLong)
-    );
-    assert!(rt; patterns.get().is_empty());
-    assert!(rt; !any_matches(&patterns, b""));
+    assert!(rt; is_refused(rt.alloc(), &mut patterns, &longer, PatternFault::TooLong));
+    check_list(&rt, &patterns, 0, b"-");
     add(rt.alloc(), &mut patterns, b"*.c")?;
     add(rt.alloc(), &mut patterns, b"")?;
-    let copy = patterns.copy(rt.alloc())?;
+    let copy = copied_patterns(rt.alloc(), &patterns)?;
     add(rt.alloc(), &mut patterns, b"*")?;
-    assert_eq!(rt; patterns.get().len(), 3);
-    assert!(rt; any_matches(&patterns, b"a.h"));
-    assert_eq!(rt; copy.get().len(), 2);
-    assert!(rt; any_matches(&copy, b"a.c"));
-    assert!(rt; any_matches(&copy, b""));
-    assert!(rt; !any_matches(&copy, b"a.h"));
+    check_list(&rt, &patterns, 3, b"a.h");
+    check_list(&rt, &copy, 2, b"a.c||-a.h");
     Ok(())
+}
+
+/// A list of 64 times the pattern.
+fn full_list(alloc: Global, pattern: &[u8]) -> Result<Patterns, PatternFault> {
+    let mut patterns = Patterns::new(alloc);
+    for _time in 0..64 {
+        add(alloc, &mut patterns, pattern)?;
+    }
+    Ok(patterns)
 }
 
 /// A list takes 64 patterns of 1,024 bytes; that it is full is told before that a pattern is too long.
 #[test]
 fn a_full_list(rt: HostRuntime) -> Result<(), Fail> {
-    let most = [b'a'; 1_024];
-    let longer = [b'a'; 1_025];
-    let mut patterns = Patterns::new(rt.alloc());
-    for _time in 0..64 {
-        add(rt.alloc(), &mut patterns, &most)?;
-    }
-    assert_eq!(rt;
-        add(rt.alloc(), &mut patterns, b"b"),
-        Err(PatternFault::TooMany)
-    );
-    assert_eq!(rt;
-        add(rt.alloc(), &mut patterns, &longer),
-        Err(PatternFault::TooMany)
-    );
-    assert_eq!(rt; patterns.get().len(), 64);
-    assert!(rt; any_matches(&patterns, &most));
-    assert!(rt; !any_matches(&patterns, b"b"));
+    let most = repeated(rt.alloc(), b"a", 1_024)?;
+    let longer = repeated(rt.alloc(), b"a", 1_025)?;
+    let mut patterns = full_list(rt.alloc(), &most)?;
+    assert!(rt; is_refused(rt.alloc(), &mut patterns, b"b", PatternFault::TooMany));
+    assert!(rt; is_refused(rt.alloc(), &mut patterns, &longer, PatternFault::TooMany));
+    check_list(&rt, &patterns, 64, &most);
+    check_list(&rt, &patterns, 64, b"-b");
+    Ok(())
+}
+
+#[test]
+fn numbers_of_pattern_faults(rt: HostRuntime) {
     assert_eq!(rt; PatternFault::TooMany.number(), 1);
     assert_eq!(rt; PatternFault::TooLong.number(), 2);
     assert_eq!(rt; PatternFault::Memory.number(), 3);
-    Ok(())
 }
 
 /// The rate of so many points hit of those found, where there can be one.
@@ -295,9 +388,10 @@ fn summaries(rt: HostRuntime) -> Result<(), Fail> {
         few.get().starts_with(b"Summary coverage rate:\n  lines......: 0.1% (1 of 3000 lines)\n")
     );
     let many = summary(&rt, 1_999, 2_000)?;
-    assert_eq!(rt;
+    check_bytes(
+        &rt,
         many.get(),
-        b"Summary coverage rate:\n  lines......: 99.9% (1999 of 2000 lines)\n  functions..: no data found\n  branches...: no data found\n".as_slice()
+        b"Summary coverage rate:\n  lines......: 99.9% (1999 of 2000 lines)\n  functions..: no data found\n  branches...: no data found\n",
     );
     Ok(())
 }

@@ -3,39 +3,39 @@
 use crate::tests::calls::annotated;
 use crate::tests::push_line;
 use covline::{Item, Sect};
-use std::alloc::Global;
+use std::alloc::{AllocError, Global};
 use std::process::Abort;
 use std::test::*;
 
 /// The words of an item. A branch whose block was never executed has a dash in place of its count.
-fn words_of(alloc: Global, item: &Item) -> Result<String, Fail> {
-    Ok(match item {
+fn words_of(alloc: Global, item: &Item) -> Result<String, AllocError> {
+    match item {
         Item::Line {
             line,
             count,
             checksum: None,
-        } => format!(in alloc; "Line {line} {count}")?,
+        } => format!(in alloc; "Line {line} {count}"),
         Item::Line {
             checksum: Some(_),
             ..
-        } => String::from_str(alloc, "a line with a checksum")?,
+        } => String::from_str(alloc, "a line with a checksum"),
         Item::Func { name, line, count } => {
             let name: String = String::from_utf8_lossy(alloc, name.get())?;
-            format!(in alloc; "Func {name} {line} {count}")?
+            format!(in alloc; "Func {name} {line} {count}")
         }
         Item::Branch {
             line,
             block,
             branch,
             taken: Some(times),
-        } => format!(in alloc; "Branch {line} {block} {branch} {times}")?,
+        } => format!(in alloc; "Branch {line} {block} {branch} {times}"),
         Item::Branch {
             line,
             block,
             branch,
             taken: None,
-        } => format!(in alloc; "Branch {line} {block} {branch} -")?,
-    })
+        } => format!(in alloc; "Branch {line} {block} {branch} -"),
+    }
 }
 
 /// Appends a line that names the section's test and file, and one for each of its items.
@@ -68,27 +68,45 @@ fn given(alloc: Global, text: &[u8]) -> Result<Vec<u8>, Fail> {
     Ok(given)
 }
 
-/// Checks what a text gives: its lines come first, and behind them what is wanted, in lines that begin with `> `.
-pub(super) fn check_given(rt: &(impl Abort + AllocGlobal), example: &[u8]) -> Result<(), Fail> {
+/// The text of this name gives what is wanted.
+fn check_given(
+    rt: &(impl Abort + AllocGlobal),
+    name: &[u8],
+    text: &[u8],
+    wanted: &[u8],
+) -> Result<(), Fail> {
+    let given = given(rt.alloc(), text)?;
+    if given.as_slice() != wanted {
+        let name: Result<String, _> = String::from_utf8_lossy(rt.alloc(), name);
+        let given: Result<String, _> = String::from_utf8_lossy(rt.alloc(), given.as_slice());
+        panic!(rt; "{name:?}: it gives {given:?}");
+    }
+    Ok(())
+}
+
+/// Checks what texts give, one behind the other: the lines of each come first, then what is wanted, in lines that begin with
+/// `> `, and one that begins with `= ` ends it and is its name.
+pub(super) fn check_all(rt: &(impl Abort + AllocGlobal), examples: &[u8]) -> Result<(), Fail> {
     let mut text = Vec::new(rt.alloc());
     let mut wanted = Vec::new(rt.alloc());
-    for line in example.split(|byte| *byte == b'\n') {
-        match line.strip_prefix(b"> ") {
-            Some(words) => push_line(&mut wanted, words)?,
-            None => push_line(&mut text, line)?,
+    for line in examples.split(|byte| *byte == b'\n') {
+        if let Some(name) = line.strip_prefix(b"= ") {
+            check_given(rt, name, text.as_slice(), wanted.as_slice())?;
+            text.clear();
+            wanted.clear();
+        } else if let Some(words) = line.strip_prefix(b"> ") {
+            push_line(&mut wanted, words)?;
+        } else {
+            push_line(&mut text, line)?;
         }
     }
-    let given = given(rt.alloc(), text.as_slice())?;
-    if given.as_slice() != wanted.as_slice() {
-        let given: Result<String, _> = String::from_utf8_lossy(rt.alloc(), given.as_slice());
-        panic!(rt; "it gives {given:?}");
-    }
+    assert!(rt; wanted.is_empty(), "the last example has no name");
     Ok(())
 }
 
 #[test]
 fn each_kind_of_line(rt: HostRuntime) -> Result<(), Fail> {
-    check_given(
+    check_all(
         &rt,
         b"        -:    0:Source:tmp.c
         -:    0:Runs:1
@@ -111,14 +129,15 @@ branch  0 never executed
 > Branch 3 2 1 1
 > Line 4 0
 > Branch 4 0 0 -
-> Line 5 0",
+> Line 5 0
+= each kind of line",
     )
 }
 
 /// Items come in the order of their lines, and functions at the line that they begin at.
 #[test]
 fn orders(rt: HostRuntime) -> Result<(), Fail> {
-    check_given(
+    check_all(
         &rt,
         b"-:0:Source:b.c
 function g called 2
@@ -149,6 +168,7 @@ function h called 0
 > Sect t a.c
 > Sect t b.c
 > Func h 7 0
-> Line 7 7",
+> Line 7 7
+= orders",
     )
 }

@@ -1,13 +1,13 @@
 //! Texts as gcov 12 wrote them, byte by byte, of four small programs. What is wanted was worked out by hand from each text,
 //! line by line. The programs were compiled with `--coverage` and run once; their sources stand in the texts.
 
-use super::items::check_given;
+use super::items::check_all;
 use std::test::*;
 
-/// `gcov a.gcda`, of a C program with a function that is never called.
+/// Each example ends in a line with the command that wrote it.
 #[test]
-fn a_plain(rt: HostRuntime) -> Result<(), Fail> {
-    check_given(
+fn texts_of_gcov(rt: HostRuntime) -> Result<(), Fail> {
+    check_all(
         &rt,
         b"        -:    0:Source:a.c
         -:    0:Graph:a.gcno
@@ -39,16 +39,9 @@ fn a_plain(rt: HostRuntime) -> Result<(), Fail> {
 > Line 11 1501
 > Line 12 1500
 > Line 13 1
-> Line 14 1",
-    )
-}
-
-/// `gcov -b -c a.gcda`.
-#[test]
-fn a_with_branches(rt: HostRuntime) -> Result<(), Fail> {
-    check_given(
-        &rt,
-        b"        -:    0:Source:a.c
+> Line 14 1
+= gcov a.gcda, of a C program with a function that is never called
+        -:    0:Source:a.c
         -:    0:Graph:a.gcno
         -:    0:Data:a.gcda
         -:    0:Runs:1
@@ -106,16 +99,9 @@ call    2 never executed
 > Line 13 1
 > Branch 13 0 0 0
 > Branch 13 0 1 1
-> Line 14 1",
-    )
-}
-
-/// `gcov -a -b -c a.gcda`.
-#[test]
-fn a_with_blocks(rt: HostRuntime) -> Result<(), Fail> {
-    check_given(
-        &rt,
-        b"        -:    0:Source:a.c
+> Line 14 1
+= gcov -b -c a.gcda
+        -:    0:Source:a.c
         -:    0:Graph:a.gcno
         -:    0:Data:a.gcda
         -:    0:Runs:1
@@ -187,16 +173,66 @@ call    2 never executed
 > Line 13 1
 > Branch 13 0 0 0
 > Branch 13 0 1 1
-> Line 14 1",
-    )
-}
-
-/// `gcov b.gcda`, of a C program with a `switch`.
-#[test]
-fn b_plain(rt: HostRuntime) -> Result<(), Fail> {
-    check_given(
-        &rt,
-        b"        -:    0:Source:b.c
+> Line 14 1
+= gcov -a -b -c a.gcda
+        -:    0:Source:a.c
+        -:    0:Graph:a.gcno
+        -:    0:Data:a.gcda
+        -:    0:Runs:1
+function keep called 1500 returned 100% blocks executed 100%
+     1500:    1:static int keep(int x) {
+     1500:    2:  if (x > 2 && x != 5)
+branch  0 taken 100% (fallthrough)
+branch  1 taken 1%
+branch  2 taken 100% (fallthrough)
+branch  3 taken 1%
+     1496:    3:    return x * 2;
+        4:    4:  return 0;
+        -:    5:}
+        -:    6:
+function never called 0 returned 0% blocks executed 0%
+    #####:    7:static int never(int x) { return x ? 1 : 2; }
+branch  0 never executed
+branch  1 never executed
+        -:    8:
+function main called 1 returned 100% blocks executed 78%
+        1:    9:int main(int argc, char **argv) {
+        1:   10:  int sum = 0;
+     1501:   11:  for (int i = 0; i < 1500; i++)
+branch  0 taken 100%
+branch  1 taken 1% (fallthrough)
+     1500:   12:    sum += keep(i);
+call    0 returned 100%
+       1*:   13:  if (argc > 7) sum += never(sum);
+branch  0 taken 0% (fallthrough)
+branch  1 taken 100%
+call    2 never executed
+        1:   14:  return sum < 0;
+        -:   15:}
+> Percent at 8
+= gcov -b a.gcda
+        -:    0:Source:a.c
+        -:    0:Graph:a.gcno
+        -:    0:Data:a.gcda
+        -:    0:Runs:1
+     1.5k:    1:static int keep(int x) {
+     1.5k:    2:  if (x > 2 && x != 5)
+     1.5k:    3:    return x * 2;
+        4:    4:  return 0;
+        -:    5:}
+        -:    6:
+    #####:    7:static int never(int x) { return x ? 1 : 2; }
+        -:    8:
+        1:    9:int main(int argc, char **argv) {
+        1:   10:  int sum = 0;
+     1.5k:   11:  for (int i = 0; i < 1500; i++)
+     1.5k:   12:    sum += keep(i);
+       1*:   13:  if (argc > 7) sum += never(sum);
+        1:   14:  return sum < 0;
+        -:   15:}
+> BadMark at 5
+= gcov -H a.gcda
+        -:    0:Source:b.c
         -:    0:Graph:b.gcno
         -:    0:Data:b.gcda
         -:    0:Runs:1
@@ -231,16 +267,9 @@ fn b_plain(rt: HostRuntime) -> Result<(), Fail> {
 > Line 14 15
 > Line 15 14
 > Line 16 3
-> Line 17 1",
-    )
-}
-
-/// `gcov -b -c b.gcda`.
-#[test]
-fn b_with_branches(rt: HostRuntime) -> Result<(), Fail> {
-    check_given(
-        &rt,
-        b"        -:    0:Source:b.c
+> Line 17 1
+= gcov b.gcda, of a C program with a switch
+        -:    0:Source:b.c
         -:    0:Graph:b.gcno
         -:    0:Data:b.gcda
         -:    0:Runs:1
@@ -298,16 +327,9 @@ branch  1 taken 1 (fallthrough)
 > Line 16 3
 > Branch 16 0 0 2
 > Branch 16 0 1 1
-> Line 17 1",
-    )
-}
-
-/// `gcov -a -b -c b.gcda`.
-#[test]
-fn b_with_blocks(rt: HostRuntime) -> Result<(), Fail> {
-    check_given(
-        &rt,
-        b"        -:    0:Source:b.c
+> Line 17 1
+= gcov -b -c b.gcda
+        -:    0:Source:b.c
         -:    0:Graph:b.gcno
         -:    0:Data:b.gcda
         -:    0:Runs:1
@@ -375,16 +397,9 @@ branch  1 taken 1 (fallthrough)
 > Line 16 3
 > Branch 16 0 0 2
 > Branch 16 0 1 1
-> Line 17 1",
-    )
-}
-
-/// `gcov -a -b -c -u b.gcda`. An unconditional branch gives no item, but takes a number of its line.
-#[test]
-fn b_with_unconditional_branches(rt: HostRuntime) -> Result<(), Fail> {
-    check_given(
-        &rt,
-        b"        -:    0:Source:b.c
+> Line 17 1
+= gcov -a -b -c b.gcda
+        -:    0:Source:b.c
         -:    0:Graph:b.gcno
         -:    0:Data:b.gcda
         -:    0:Runs:1
@@ -458,16 +473,9 @@ unconditional  0 taken 1
 > Line 16 3
 > Branch 16 0 0 2
 > Branch 16 0 1 1
-> Line 17 1",
-    )
-}
-
-/// `gcov c.gcda`, of a C++ program that throws an exception.
-#[test]
-fn c_plain(rt: HostRuntime) -> Result<(), Fail> {
-    check_given(
-        &rt,
-        b"        -:    0:Source:c.cc
+> Line 17 1
+= gcov -a -b -c -u b.gcda. An unconditional branch gives no item, but takes a number of its line
+        -:    0:Source:c.cc
         -:    0:Graph:c.gcno
         -:    0:Data:c.gcda
         -:    0:Runs:1
@@ -507,16 +515,9 @@ fn c_plain(rt: HostRuntime) -> Result<(), Fail> {
 > Line 18 1
 > Line 19 0
 > Line 20 0
-> Line 21 0",
-    )
-}
-
-/// `gcov -b -c c.gcda`.
-#[test]
-fn c_with_branches(rt: HostRuntime) -> Result<(), Fail> {
-    check_given(
-        &rt,
-        b"        -:    0:Source:c.cc
+> Line 21 0
+= gcov c.gcda, of a C++ program that throws an exception
+        -:    0:Source:c.cc
         -:    0:Graph:c.gcno
         -:    0:Data:c.gcda
         -:    0:Runs:1
@@ -588,16 +589,9 @@ call    0 never executed
 > Line 18 1
 > Line 19 0
 > Line 20 0
-> Line 21 0",
-    )
-}
-
-/// `gcov -a -b -c c.gcda`.
-#[test]
-fn c_with_blocks(rt: HostRuntime) -> Result<(), Fail> {
-    check_given(
-        &rt,
-        b"        -:    0:Source:c.cc
+> Line 21 0
+= gcov -b -c c.gcda
+        -:    0:Source:c.cc
         -:    0:Graph:c.gcno
         -:    0:Data:c.gcda
         -:    0:Runs:1
@@ -679,87 +673,9 @@ call    0 never executed
 > Line 18 1
 > Line 19 0
 > Line 20 0
-> Line 21 0",
-    )
-}
-
-/// `gcov -b a.gcda`.
-#[test]
-fn a_with_percentages(rt: HostRuntime) -> Result<(), Fail> {
-    check_given(
-        &rt,
-        b"        -:    0:Source:a.c
-        -:    0:Graph:a.gcno
-        -:    0:Data:a.gcda
-        -:    0:Runs:1
-function keep called 1500 returned 100% blocks executed 100%
-     1500:    1:static int keep(int x) {
-     1500:    2:  if (x > 2 && x != 5)
-branch  0 taken 100% (fallthrough)
-branch  1 taken 1%
-branch  2 taken 100% (fallthrough)
-branch  3 taken 1%
-     1496:    3:    return x * 2;
-        4:    4:  return 0;
-        -:    5:}
-        -:    6:
-function never called 0 returned 0% blocks executed 0%
-    #####:    7:static int never(int x) { return x ? 1 : 2; }
-branch  0 never executed
-branch  1 never executed
-        -:    8:
-function main called 1 returned 100% blocks executed 78%
-        1:    9:int main(int argc, char **argv) {
-        1:   10:  int sum = 0;
-     1501:   11:  for (int i = 0; i < 1500; i++)
-branch  0 taken 100%
-branch  1 taken 1% (fallthrough)
-     1500:   12:    sum += keep(i);
-call    0 returned 100%
-       1*:   13:  if (argc > 7) sum += never(sum);
-branch  0 taken 0% (fallthrough)
-branch  1 taken 100%
-call    2 never executed
-        1:   14:  return sum < 0;
-        -:   15:}
-> Percent at 8",
-    )
-}
-
-/// `gcov -H a.gcda`.
-#[test]
-fn a_with_rounded_counts(rt: HostRuntime) -> Result<(), Fail> {
-    check_given(
-        &rt,
-        b"        -:    0:Source:a.c
-        -:    0:Graph:a.gcno
-        -:    0:Data:a.gcda
-        -:    0:Runs:1
-     1.5k:    1:static int keep(int x) {
-     1.5k:    2:  if (x > 2 && x != 5)
-     1.5k:    3:    return x * 2;
-        4:    4:  return 0;
-        -:    5:}
-        -:    6:
-    #####:    7:static int never(int x) { return x ? 1 : 2; }
-        -:    8:
-        1:    9:int main(int argc, char **argv) {
-        1:   10:  int sum = 0;
-     1.5k:   11:  for (int i = 0; i < 1500; i++)
-     1.5k:   12:    sum += keep(i);
-       1*:   13:  if (argc > 7) sum += never(sum);
-        1:   14:  return sum < 0;
-        -:   15:}
-> BadMark at 5",
-    )
-}
-
-/// `gcov d.gcda`, of a C++ program with two instances of a template.
-#[test]
-fn d_with_instances(rt: HostRuntime) -> Result<(), Fail> {
-    check_given(
-        &rt,
-        b"        -:    0:Source:d.cc
+> Line 21 0
+= gcov -a -b -c c.gcda
+        -:    0:Source:d.cc
         -:    0:Graph:d.gcno
         -:    0:Data:d.gcda
         -:    0:Runs:1
@@ -781,6 +697,7 @@ _Z5twiceIiET_S0_:
         1:    5:int main() {
        1*:    6:  return twice(2) != 4 || twice(2L) != 4;
         -:    7:}
-> Instances at 8",
+> Instances at 8
+= gcov d.gcda, of a C++ program with two instances of a template",
     )
 }

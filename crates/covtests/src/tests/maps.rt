@@ -1,0 +1,347 @@
+//! The store over maps: plans and steps that are dropped, a large section, and random submissions beside a plain list.
+
+use super::calls::{after_dropped, read, step, step_in_halves};
+use super::push_line;
+use super::store::{NOTHING, put_section};
+use covbook::{Answer, Book, Op, Receipt, SubRef};
+use covline::Bytes;
+use covreport::summary_text;
+use covstore::{Store, Totals};
+use std::alloc::Global;
+use std::process::Abort;
+use std::test::*;
+
+const SMALL: &[u8] = b"TN:t\nSF:/a.c\nDA:1,2\nDA:2,0\nend_of_record\n";
+
+/// What a plan that is dropped leaves behind is seen by nobody, and the submission can be planned again.
+#[test]
+fn a_plan_that_is_made_again(rt: HostRuntime) -> Result<(), Fail> {
+    let given = read(rt.alloc(), SMALL)?;
+    let mut store = Store::new(rt.alloc());
+    match store.prepare(rt.alloc(), &given) {
+        Ok(plan) => assert_eq!(rt; plan.after().lf, 2),
+        Err(refuse) => panic!(rt; "refused {}", refuse.number()),
+    }
+    assert!(rt; store.sections().next().is_none());
+    assert!(rt; !store.has_test(b"t"));
+    match store.prepare(rt.alloc(), &given) {
+        Ok(plan) => store.commit(plan),
+        Err(refuse) => panic!(rt; "refused {}", refuse.number()),
+    }
+    let mut text = Bytes::new(rt.alloc());
+    for section in store.sections() {
+        put_section(&section, &mut text)?;
+    }
+    assert_eq!(rt; text.get(), b"TN:t\nSF:/a.c\nDA:1,2\nDA:2,0\n".as_slice());
+    assert_eq!(rt; (store.totals().lf, store.totals().lh), (2, 1));
+    assert!(rt; store.has_test(b"t"));
+    Ok(())
+}
+
+/// A million lines of one section. Totals that pass over all lines for each line would not end.
+#[test]
+fn a_million_lines(rt: HostRuntime) -> Result<(), Fail> {
+    let mut text = Vec::from_slice(rt.alloc(), b"SF:/m\n")?;
+    for line in 1..1_000_001u64 {
+        let record = format!(in rt.alloc(); "DA:{line},1\n")?;
+        text.extend_from_slice(record.as_bytes())?;
+    }
+    text.extend_from_slice(b"end_of_record\n")?;
+    let given = read(rt.alloc(), &text)?;
+    let mut store = Store::new(rt.alloc());
+    match store.prepare(rt.alloc(), &given) {
+        Ok(plan) => store.commit(plan),
+        Err(refuse) => panic!(rt; "refused {}", refuse.number()),
+    }
+    let wanted = Totals {
+        lf: 1_000_000,
+        lh: 1_000_000,
+        ..NOTHING
+    };
+    assert_eq!(rt; store.totals(), wanted);
+    Ok(())
+}
+
+/// The operation that submits the text.
+fn submit(alloc: Global, text: &[u8]) -> Result<Op, Fail> {
+    let shared = SubRef::of(alloc, read(alloc, text)?)?;
+    Ok(Op::Submit(shared))
+}
+
+/// What the book prints for this.
+fn printed(rt: &(impl Abort + AllocGlobal), book: &mut Book, op: &Op) -> Result<Bytes, Fail> {
+    let Receipt { answer, .. } = step(rt.alloc(), book, 0, op)?;
+    match answer {
+        Answer::Text(text) => Ok(text.get().copy(rt.alloc())?),
+        Answer::Accepted { .. } | Answer::Clash { .. } => panic!(rt; "no text"),
+    }
+}
+
+/// A step is its two halves, and one whose second half never comes is none.
+#[test]
+fn halves_of_a_step(rt: HostRuntime) -> Result<(), Fail> {
+    let mut book = Book::new(rt.alloc());
+    let small = submit(rt.alloc(), SMALL)?;
+    let more = submit(
+        rt.alloc(),
+        b"TN:u\nSF:/a.c\nDA:2,1\nDA:3,0\nend_of_record\n",
+    )?;
+    assert_eq!(rt; after_dropped(rt.alloc(), &mut book, &small)?.lf, 2);
+    let receipt = step_in_halves(rt.alloc(), &mut book, 3, &small)?;
+    assert_eq!(rt; receipt.place, 0);
+    let after = after_dropped(rt.alloc(), &mut book, &more)?;
+    assert_eq!(rt; (after.lf, after.lh), (3, 2));
+    let text = printed(&rt, &mut book, &Op::Report)?;
+    assert_eq!(rt;
+        text.get(),
+        b"TN:t\nSF:/a.c\nDA:1,2\nDA:2,0\nLF:2\nLH:1\nend_of_record\n".as_slice()
+    );
+    Ok(())
+}
+
+/// A section of the plain list: a file and a test of it, in the order in which they are printed.
+const SECTIONS: [&[u8]; 6] = [
+    b"TN:a\nSF:/f\n",
+    b"TN:b\nSF:/f\n",
+    b"TN:c\nSF:/f\n",
+    b"TN:a\nSF:/g\n",
+    b"TN:b\nSF:/g\n",
+    b"TN:c\nSF:/g\n",
+];
+
+/// A row of the plain list: functions are the points 0 to 2, branches 3 to 5, lines 6 to 9.
+#[derive(Clone, Copy)]
+struct Row {
+    section: usize,
+    point: u64,
+    count: Option<u64>,
+}
+
+/// The numbers of a linear congruence, which are as good as random here.
+#[derive(Drop)]
+struct Random {
+    state: u64,
+}
+
+impl Random {
+    /// A number below a limit.
+    fn below(&mut self, limit: u64) -> u64 {
+        self.state = self
+            .state
+            .wrapping_mul(6_364_136_223_846_793_005)
+            .wrapping_add(1_442_695_040_888_963_407);
+        (self.state >> 33).checked_rem(limit).unwrap_or(0)
+    }
+}
+
+/// What is printed of a point.
+#[derive(Clone, Copy)]
+enum Record {
+    Start,
+    Calls,
+    Branch,
+    Line,
+}
+
+/// The first point of a kind, and the one behind its last.
+fn points_of(record: Record) -> (u64, u64) {
+    match record {
+        Record::Start | Record::Calls => (0, 3),
+        Record::Branch => (3, 6),
+        Record::Line => (6, 10),
+    }
+}
+
+/// The line that tells a point and its count.
+fn line_of(alloc: Global, record: Record, point: u64, count: Option<u64>) -> Result<String, Fail> {
+    let number = count.unwrap_or(0);
+    match record {
+        Record::Start => Ok(format!(in alloc; "FN:{point},f{point}\n")?),
+        Record::Calls => Ok(format!(in alloc; "FNDA:{number},f{point}\n")?),
+        Record::Line => Ok(format!(in alloc; "DA:{point},{number}\n")?),
+        Record::Branch if count.is_none() => Ok(format!(in alloc; "BRDA:1,0,{point},-\n")?),
+        Record::Branch => Ok(format!(in alloc; "BRDA:1,0,{point},{number}\n")?),
+    }
+}
+
+/// Two counts together, where `-` is no number.
+fn both(one: Option<u64>, other: Option<u64>) -> Option<u64> {
+    match one {
+        Some(count) => Some(count.saturating_add(other.unwrap_or(0))),
+        None => other,
+    }
+}
+
+/// What the rows of a section count at a point together, where one of them has it.
+fn sum_of(rows: &[Row], section: usize, point: u64) -> Option<Option<u64>> {
+    let mut sum = None;
+    for row in rows {
+        if row.section == section && row.point == point {
+            sum = Some(both(sum.unwrap_or(None), row.count));
+        }
+    }
+    sum
+}
+
+/// Appends the lines of a section's points, and counts these and those above 0.
+fn put_points(
+    alloc: Global,
+    rows: &[Row],
+    section: usize,
+    record: Record,
+    text: &mut Vec<u8>,
+) -> Result<(u64, u64), Fail> {
+    let (first, end) = points_of(record);
+    let mut found = 0u64;
+    let mut hit = 0u64;
+    for point in first..end {
+        if let Some(count) = sum_of(rows, section, point) {
+            let line = line_of(alloc, record, point, count)?;
+            text.extend_from_slice(line.as_bytes())?;
+            found = found.wrapping_add(1);
+            hit = hit.wrapping_add(u64::from(count.unwrap_or(0) > 0));
+        }
+    }
+    Ok((found, hit))
+}
+
+/// Appends what is to be printed of a section.
+fn put_list(
+    alloc: Global,
+    rows: &[Row],
+    section: usize,
+    name: &[u8],
+    text: &mut Vec<u8>,
+) -> Result<(), Fail> {
+    if !rows.iter().any(|row| row.section == section) {
+        return Ok(());
+    }
+    text.extend_from_slice(name)?;
+    put_points(alloc, rows, section, Record::Start, text)?;
+    let (found, hit) = put_points(alloc, rows, section, Record::Calls, text)?;
+    if found > 0 {
+        let totals = format!(in alloc; "FNF:{found}\nFNH:{hit}\n")?;
+        text.extend_from_slice(totals.as_bytes())?;
+    }
+    let (found, hit) = put_points(alloc, rows, section, Record::Branch, text)?;
+    if found > 0 {
+        let totals = format!(in alloc; "BRF:{found}\nBRH:{hit}\n")?;
+        text.extend_from_slice(totals.as_bytes())?;
+    }
+    let (found, hit) = put_points(alloc, rows, section, Record::Line, text)?;
+    let totals = format!(in alloc; "LF:{found}\nLH:{hit}\nend_of_record\n")?;
+    text.extend_from_slice(totals.as_bytes())?;
+    Ok(())
+}
+
+/// How many different points of a kind the rows have in each file, over its tests, and how many of them are above 0 in
+/// one.
+fn tally_of(rows: &[Row], record: Record) -> (u64, u64) {
+    let (first, end) = points_of(record);
+    let mut found = 0u64;
+    let mut hit = 0u64;
+    for point in first..end {
+        for file in [0usize, 3] {
+            let mut is_found = false;
+            let mut is_hit = false;
+            for test in 0..3usize {
+                if let Some(count) = sum_of(rows, file.wrapping_add(test), point) {
+                    is_found = true;
+                    is_hit = is_hit || count.unwrap_or(0) > 0;
+                }
+            }
+            found = found.wrapping_add(u64::from(is_found));
+            hit = hit.wrapping_add(u64::from(is_hit));
+        }
+    }
+    (found, hit)
+}
+
+/// A random submission as text; its rows come to the list.
+fn random_text(alloc: Global, random: &mut Random, rows: &mut Vec<Row>) -> Result<Vec<u8>, Fail> {
+    let mut text = Vec::new(alloc);
+    for _section in 0..random.below(4) {
+        let section = random.below(6) as usize;
+        if let Some(name) = SECTIONS.get(section) {
+            text.extend_from_slice(name)?;
+            for _row in 0..random.below(7) {
+                put_random(alloc, random, section, rows, &mut text)?;
+            }
+            push_line(&mut text, b"end_of_record")?;
+        }
+    }
+    Ok(text)
+}
+
+/// Appends a random row of a section to the list and to the text.
+fn put_random(
+    alloc: Global,
+    random: &mut Random,
+    section: usize,
+    rows: &mut Vec<Row>,
+    text: &mut Vec<u8>,
+) -> Result<(), Fail> {
+    let point = random.below(10);
+    let number = random.below(3);
+    let record = match point {
+        0..=2 => Record::Calls,
+        3..=5 => Record::Branch,
+        _ => Record::Line,
+    };
+    let is_number = point < 3 || point > 5 || random.below(2) > 0;
+    let count = if is_number { Some(number) } else { None };
+    if point < 3 {
+        let start = line_of(alloc, Record::Start, point, None)?;
+        text.extend_from_slice(start.as_bytes())?;
+    }
+    let line = line_of(alloc, record, point, count)?;
+    text.extend_from_slice(line.as_bytes())?;
+    rows.push(Row {
+        section,
+        point,
+        count,
+    })?;
+    Ok(())
+}
+
+/// The book prints what the plain list says, and its totals.
+fn check_list(rt: &(impl Abort + AllocGlobal), book: &mut Book, rows: &[Row]) -> Result<(), Fail> {
+    let mut wanted = Vec::new(rt.alloc());
+    for (section, name) in SECTIONS.iter().enumerate() {
+        put_list(rt.alloc(), rows, section, name, &mut wanted)?;
+    }
+    let report = printed(rt, book, &Op::Report)?;
+    assert_eq!(rt; report.get(), wanted.as_slice());
+    let (lf, lh) = tally_of(rows, Record::Line);
+    let (ff, fh) = tally_of(rows, Record::Calls);
+    let (bf, bh) = tally_of(rows, Record::Branch);
+    assert!(rt; lh <= lf && fh <= ff && bh <= bf);
+    let totals = Totals {
+        lf,
+        lh,
+        ff,
+        fh,
+        bf,
+        bh,
+    };
+    let summary = summary_text(rt.alloc(), &totals)?;
+    assert_eq!(rt; printed(rt, book, &Op::Summary)?.get(), summary.get());
+    Ok(())
+}
+
+/// After each of many random submissions the book says what a list of all rows says, passed over for each point. Each
+/// one is also made ready and dropped before it is held.
+#[test]
+fn random_submissions(rt: HostRuntime) -> Result<(), Fail> {
+    let mut random = Random { state: 20_261_123 };
+    let mut book = Book::new(rt.alloc());
+    let mut rows = Vec::new(rt.alloc());
+    for _time in 0..200 {
+        let text = random_text(rt.alloc(), &mut random, &mut rows)?;
+        let op = submit(rt.alloc(), &text)?;
+        after_dropped(rt.alloc(), &mut book, &op)?;
+        step(rt.alloc(), &mut book, 1, &op)?;
+        check_list(&rt, &mut book, &rows)?;
+    }
+    Ok(())
+}
