@@ -33,3 +33,5 @@ pub mod Asked
 pub mod Slots
 pub mod SlotPlace
 pub mod Coming
+pub mod Without
+pub mod Drops
