@@ -188,7 +188,7 @@ impl<'a, A: Allocator + Copy> Reader<'a, A> {
         ensures { EndsTo result (is_some (held_data self.entry).section) (ends self.entry.test.now (held_data self.entry)) }
     {
         if !self.waiting.is_empty() {
-            return Err(ReadFault::LostFunction);
+            return Err(ReadFault::LostFunction); // No source line comes any more.
         }
         self.close(alloc)?;
         let Reader { mut sects, .. } = self;
