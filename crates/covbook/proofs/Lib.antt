@@ -1,3 +1,4 @@
+pub mod Members
 pub mod Runs
 pub mod Halves
 pub mod Told

@@ -1,17 +1,24 @@
 -- A run with one operation more, and a history with one entry more.
-use Rattle.std.proofs.Common.{◌≡◌, ℕ, ◌+◌, ◌<◌, ◌≤◌, List, [], ◌∷◌, ◌++◌, length, Some, None, refl, sym, ap, ◌∙◌, subst, arith}
+use Rattle.std.proofs.Common.{◌≡◌, ℕ, ◌+◌, ◌<◌, ◌≤◌, List, [], ◌∷◌, ◌++◌, length, None, refl, sym, ap, ◌∙◌, subst, arith}
 use Rattle.std.proofs.lemmas.List.{map_push, length_push}
-use Rattle.covline.specs.Row.{SubmissionData, rows_of}
+use Rattle.covstore.specs.declared.totals.Totals.{Totals}
+use Rattle.covline.specs.Row.{SubmissionData, items_in, rows_of}
 use Rattle.covstore.specs.Stored.{StoreData, PlanData, IsPlanOf, StandsFor}
 use Rattle.covstore.specs.Table.{Table, clash_at}
+use Rattle.covstore.specs.Without.{without_test}
+use Rattle.covbook.proofs.Members.{members_stay}
 use Rattle.covbook.specs.Held.{BookData, IsBook}
-use Rattle.covbook.specs.Op.{OpData, SubmitOp, AnswerData, EntryData}
-use Rattle.covbook.specs.Ready.{HasRoom, IsNextOf, IsPlanned}
-use Rattle.covbook.specs.Step.{table_after_submit, answer_of, table_after, answers_from, table_from, answers_to, table_of, ops_in, next_entry, IsLegal, most_entries}
+use Rattle.covbook.specs.Op.{OpData, SubmitOp, AnswerData, AcceptedAnswer, EntryData}
+use Rattle.covbook.specs.Ready.{HasRoom, IsNextOf, IsPlanned, HoldChange, DropChange}
+use Rattle.covbook.specs.Step.{answer_to_submit, table_after_submit, answer_of, table_after, totals_at, answers_from, totals_from, table_from, answers_to, totals_to, table_of, ops_in, next_entry, totals_in, IsLegal, no_totals, last_totals, most_entries}
 
 pub answers_from-push : (table : Table) (ops : List OpData) (op : OpData) → answers_from table (ops ++ op ∷ []) ≡ answers_from table ops ++ answer_of (table_from table ops) op ∷ []
 answers_from-push table [] op = refl
 answers_from-push table (first ∷ ops) op = ap (λ (answers : List AnswerData). answer_of table first ∷ answers) (answers_from-push (table_after table first) ops op)
+
+pub totals_from-push : (table : Table) (ops : List OpData) (op : OpData) → totals_from table (ops ++ op ∷ []) ≡ totals_from table ops ++ totals_at (table_after (table_from table ops) op) ∷ []
+totals_from-push table [] op = refl
+totals_from-push table (first ∷ ops) op = ap (λ (totals : List Totals). totals_at (table_after table first) ∷ totals) (totals_from-push (table_after table first) ops op)
 
 pub table_from-push : (table : Table) (ops : List OpData) (op : OpData) → table_from table (ops ++ op ∷ []) ≡ table_after (table_from table ops) op
 table_from-push table [] op = refl
@@ -21,10 +28,17 @@ table_from-push table (first ∷ ops) op = table_from-push (table_after table fi
 legal-next : (entries : List EntryData) (job : ℕ) (op : OpData) → IsLegal entries → IsLegal (entries ++ next_entry entries job op ∷ [])
 legal-next entries job op legal =
     let e = next_entry entries job op in
-    map_push (λ (x : EntryData). x.answer) entries e
-    ∙ ap (λ (answers : List AnswerData). answers ++ e.answer ∷ []) legal
-    ∙ sym (answers_from-push [] (ops_in entries) op)
-    ∙ ap answers_to (sym (map_push (λ (x : EntryData). x.op) entries e))
+    let ops = sym (map_push (λ (x : EntryData). x.op) entries e) in
+    record {
+      answers = map_push (λ (x : EntryData). x.answer) entries e
+        ∙ ap (λ (answers : List AnswerData). answers ++ e.answer ∷ []) legal.answers
+        ∙ sym (answers_from-push [] (ops_in entries) op)
+        ∙ ap answers_to ops;
+      totals = map_push (λ (x : EntryData). x.after) entries e
+        ∙ ap (λ (totals : List Totals). totals ++ e.after ∷ []) legal.totals
+        ∙ sym (totals_from-push [] (ops_in entries) op)
+        ∙ ap totals_to ops;
+    }
 
 table-next : (entries : List EntryData) (job : ℕ) (op : OpData) → table_of (ops_in (entries ++ next_entry entries job op ∷ [])) ≡ table_after (table_of (ops_in entries)) op
 table-next entries job op = ap table_of (map_push (λ (x : EntryData). x.op) entries (next_entry entries job op)) ∙ table_from-push [] (ops_in entries) op
@@ -75,15 +89,23 @@ pub table_with : (store : StoreData) (table : Table) (own given : SubmissionData
 table_with store table own given stands agrees is =
     ap (λ (x : SubmissionData). table_after table (SubmitOp x)) (sym is) ∙ ap (table_after_submit table given) (agrees table stands)
 
+-- and what it is answered
+pub answer_with : (store : StoreData) (table : Table) (own given : SubmissionData) (number items odd : ℕ) → StandsFor store table → ((t : Table) → StandsFor store t → clash_at t given ≡ None) → given ≡ own
+    → number ≡ length table → items ≡ items_in given.sects → odd ≡ given.odd → AcceptedAnswer (number + 1) items odd ≡ answer_of table (SubmitOp own)
+answer_with store table own given number items odd stands agrees is counted its_items its_odd =
+    ap (λ (n : ℕ). AcceptedAnswer (n + 1) items odd) counted ∙ ap (λ (n : ℕ). AcceptedAnswer (length table + 1) n odd) its_items
+    ∙ ap (λ (n : ℕ). AcceptedAnswer (length table + 1) (items_in given.sects) n) its_odd
+    ∙ ap (answer_to_submit table given) (sym (agrees table stands)) ∙ ap (λ (x : SubmissionData). answer_of table (SubmitOp x)) is
+
 -- the book that holds it too
 pub held_book : (store committed : StoreData) (accepted room : ℕ) (entries : List EntryData) (book : BookData) (new : List EntryData) (e : EntryData) (plan : PlanData) → IsBook store accepted entries
-    → shown store room entries ≡ book → HasRoom book → IsNextOf book e → IsPlanned book.store (table_of (ops_in book.entries)) e.op (Some plan)
+    → shown store room entries ≡ book → HasRoom book → IsNextOf book e → IsPlanned book.store (table_of (ops_in book.entries)) e.op (HoldChange plan)
     → ((s : SubmissionData) (table : Table) → IsPlanOf store s plan → StandsFor store table → StandsFor committed (table ++ rows_of s ∷ [])) → new ≡ entries ++ e ∷ [] → IsBook committed (accepted + 1) new
 held_book store committed accepted room entries book new e plan b view has next planned commit is =
     let back = sym view in
     let few = (subst HasRoom back has).few in
     let next_here = subst (λ (x : BookData). IsNextOf x e) back next in
-    let planned_here = subst (λ (x : BookData). IsPlanned x.store (table_of (ops_in x.entries)) e.op (Some plan)) back planned in
+    let planned_here = subst (λ (x : BookData). IsPlanned x.store (table_of (ops_in x.entries)) e.op (HoldChange plan)) back planned in
     let table = table_of (ops_in entries) in
     let s = planned_here.0 in
     let leaves : table ++ rows_of s ∷ [] ≡ table_after table e.op = sym planned_here.2 in
@@ -92,3 +114,45 @@ held_book store committed accepted room entries book new e plan b view has next 
     let fewer : accepted + 1 ≤ length entries + 1 = omega (arith, b.fewer) in
     let made = next_book committed (accepted + 1) entries e.job e.op b.legal few stands number fewer in
     subst (IsBook committed (accepted + 1)) (ap (λ (x : EntryData). entries ++ x ∷ []) (sym next_here) ∙ sym is) made
+
+-- ---- a test that is dropped
+
+-- the book without the test
+pub dropped_book : (store without : StoreData) (accepted room : ℕ) (entries : List EntryData) (book : BookData) (new : List EntryData) (e : EntryData) (test : List ℕ) → IsBook store accepted entries
+    → shown store room entries ≡ book → HasRoom book → IsNextOf book e → IsPlanned book.store (table_of (ops_in book.entries)) e.op (DropChange test)
+    → ((table : Table) → StandsFor store table → StandsFor without (without_test test table)) → new ≡ entries ++ e ∷ [] → IsBook without accepted new
+dropped_book store without accepted room entries book new e test b view has next planned drop is =
+    let back = sym view in
+    let few = (subst HasRoom back has).few in
+    let next_here = subst (λ (x : BookData). IsNextOf x e) back next in
+    let table = table_of (ops_in entries) in
+    let leaves : without_test test table ≡ table_after table e.op = sym (subst (λ (x : BookData). IsPlanned x.store (table_of (ops_in x.entries)) e.op (DropChange test)) back planned) in
+    let stands : StandsFor without (table_after table e.op) = subst (StandsFor without) leaves (drop table b.stands) in
+    let number : accepted ≡ length (table_after table e.op) = b.number ∙ members_stay test table ∙ ap length leaves in
+    let fewer : accepted ≤ length entries + 1 = omega (arith, b.fewer) in
+    let made = next_book without accepted entries e.job e.op b.legal few stands number fewer in
+    subst (IsBook without accepted) (ap (λ (x : EntryData). entries ++ x ∷ []) (sym next_here) ∙ sym is) made
+
+-- ---- the last totals
+
+abbrev last_of : List Totals → Totals
+last_of [] = no_totals
+last_of (t ∷ []) = t
+last_of (t ∷ next ∷ rest) = last_of (next ∷ rest)
+
+last_in : (entries : List EntryData) → last_totals entries ≡ last_of (totals_in entries)
+last_in [] = refl
+last_in (e ∷ []) = refl
+last_in (e ∷ next ∷ entries) = last_in (next ∷ entries)
+
+last_from : (table : Table) (op : OpData) (ops : List OpData) → last_of (totals_from table (op ∷ ops)) ≡ totals_at (table_from table (op ∷ ops))
+last_from table op [] = refl
+last_from table op (next ∷ ops) = last_from (table_after table op) next ops
+
+last_to : (ops : List OpData) → last_of (totals_to ops) ≡ totals_at (table_of ops)
+last_to [] = refl
+last_to (op ∷ ops) = last_from [] op ops
+
+-- the totals of a legal history's table are those after its last entry
+pub last_told : (entries : List EntryData) → IsLegal entries → totals_at (table_of (ops_in entries)) ≡ last_totals entries
+last_told entries legal = sym (last_in entries ∙ ap last_of legal.totals ∙ last_to (ops_in entries))

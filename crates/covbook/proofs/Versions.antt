@@ -1,11 +1,12 @@
 -- Tables of runs have no two different checksums of one line of a file.
 use Rattle.std.proofs.Common.{◌≡◌, List, [], ◌∷◌, ◌++◌, refl}
-use Rattle.std.specs.Prelude.{Option, Some, None}
+use Rattle.std.specs.Prelude.{ℕ, Bool, true, false, Option, Some, None}
 use Rattle.covline.specs.Row.{SubmissionData, rows_of}
 use Rattle.covstore.specs.Clash.{ClashData, Agree, checksums_in}
 use Rattle.covstore.specs.Table.{Table, all_rows, clash_at}
-use Rattle.covbook.specs.Op.{OpData, SubmitOp}
-use Rattle.covbook.specs.Step.{table_after, table_after_submit, table_from}
+use Rattle.covstore.specs.Without.{without_test}
+use Rattle.covbook.specs.Op.{OpData, SubmitOp, DropTestOp}
+use Rattle.covbook.specs.Step.{has_test, table_after, table_after_drop, table_after_submit, table_from}
 
 -- what covstore's law says of a submission that doesn't clash
 abbrev pub AcceptedAgree : Type 0
@@ -15,10 +16,19 @@ agree_submitted : AcceptedAgree → (table : Table) (s : SubmissionData) (clash 
 agree_submitted law table s (Some clash) is agree = agree
 agree_submitted law table s None is agree = law table s is agree
 
-agree_after : AcceptedAgree → (table : Table) (op : OpData) → Agree (checksums_in (all_rows table)) → Agree (checksums_in (all_rows (table_after table op)))
-agree_after law table (SubmitOp s) agree = agree_submitted law table s (clash_at table s) refl agree
-agree_after law table text agree = agree
+-- and of a test that is dropped
+abbrev pub DroppedAgree : Type 0
+DroppedAgree = (table : Table) (test : List ℕ) → Agree (checksums_in (all_rows table)) → Agree (checksums_in (all_rows (without_test test table)))
 
-pub agree_from : AcceptedAgree → (table : Table) (ops : List OpData) → Agree (checksums_in (all_rows table)) → Agree (checksums_in (all_rows (table_from table ops)))
-agree_from law table [] agree = agree
-agree_from law table (op ∷ ops) agree = agree_from law (table_after table op) ops (agree_after law table op agree)
+agree_dropped : DroppedAgree → (table : Table) (test : List ℕ) (there : Bool) → Agree (checksums_in (all_rows table)) → Agree (checksums_in (all_rows (table_after_drop table test there)))
+agree_dropped law table test true agree = law table test agree
+agree_dropped law table test false agree = agree
+
+agree_after : AcceptedAgree → DroppedAgree → (table : Table) (op : OpData) → Agree (checksums_in (all_rows table)) → Agree (checksums_in (all_rows (table_after table op)))
+agree_after law dropped table (SubmitOp s) agree = agree_submitted law table s (clash_at table s) refl agree
+agree_after law dropped table (DropTestOp test) agree = agree_dropped dropped table test (has_test table test) agree
+agree_after law dropped table text agree = agree
+
+pub agree_from : AcceptedAgree → DroppedAgree → (table : Table) (ops : List OpData) → Agree (checksums_in (all_rows table)) → Agree (checksums_in (all_rows (table_from table ops)))
+agree_from law dropped table [] agree = agree
+agree_from law dropped table (op ∷ ops) agree = agree_from law dropped (table_after table op) ops (agree_after law dropped table op agree)

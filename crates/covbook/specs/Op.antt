@@ -1,10 +1,12 @@
 -- Operations, answers, entries of a history and receipts, apart from where they lie in memory.
 use Rattle.std.specs.Prelude.{ℕ, List}
 use Rattle.covline.specs.Row.{SubmissionData}
+use Rattle.covstore.specs.declared.totals.Totals.{Totals}
 use Rattle.covstore.specs.Clash.{ClashData}
 
 pub data OpData : Type 0 where
   SubmitOp : (submission : SubmissionData) → OpData
+  DropTestOp : (test : List ℕ) → OpData
   ReportOp : OpData
   ExtractOp : (patterns : List (List ℕ)) → OpData
   RemoveOp : (patterns : List (List ℕ)) → OpData
@@ -13,13 +15,16 @@ pub data OpData : Type 0 where
 pub data AnswerData : Type 0 where
   AcceptedAnswer : (number items odd : ℕ) → AnswerData
   ClashAnswer : (clash : ClashData) → AnswerData
+  DroppedAnswer : (sections : ℕ) → AnswerData
+  NoSuchTestAnswer : AnswerData
   TextAnswer : (text : List ℕ) → AnswerData
 
--- one operation of a job, and what it was answered
+-- one operation of a job, what it was answered, and the totals after it
 pub record EntryData : Type 0 where
   pub job : ℕ
   pub op : OpData
   pub answer : AnswerData
+  pub after : Totals
 
 -- what the asking job gets of an operation: its place in the history, counted from 0, and the answer
 pub record ReceiptData : Type 0 where

@@ -1,20 +1,25 @@
 -- A step in two halves: what the first one leaves for the second, and when the second may come.
-use Rattle.std.specs.Prelude.{◌≡◌, ℕ, ◌<◌, [], ◌∷◌, ◌++◌, length, Option, Some, None}
+use Rattle.std.specs.Prelude.{◌≡◌, ℕ, ◌<◌, List, [], ◌∷◌, ◌++◌, length}
 use Rattle.covline.specs.Row.{SubmissionData, rows_of}
 use Rattle.covstore.specs.declared.totals.Totals.{Totals}
-use Rattle.covstore.specs.Content.{content_at}
 use Rattle.covstore.specs.Stored.{StoreData, PlanData, IsPlanOf}
 use Rattle.covstore.specs.Table.{Table}
-use Rattle.covstore.specs.Totals.{totals_of}
+use Rattle.covstore.specs.Without.{without_test}
 use Rattle.covbook.specs.Held.{BookData}
 use Rattle.covbook.specs.Op.{OpData, EntryData}
-use Rattle.covbook.specs.Step.{table_after, table_of, ops_in, next_entry, most_entries}
+use Rattle.covbook.specs.Step.{table_after, table_of, totals_at, ops_in, next_entry, most_entries}
 
--- a step made ready: the entry that comes, and its place; the store's plan where a submission is accepted; the totals after it
+-- what a step does to the store: nothing, or it holds what is planned, or drops a test
+pub data ChangeData : Type 0 where
+  NoChange : ChangeData
+  HoldChange : (plan : PlanData) → ChangeData
+  DropChange : (test : List ℕ) → ChangeData
+
+-- a step made ready: the entry that comes, and its place; what it does to the store; the totals after it
 pub record ReadyData : Type 0 where
   pub place : ℕ
   pub entry : EntryData
-  pub plan : Option PlanData
+  pub change : ChangeData
   pub after : Totals
 
 -- the history takes one more entry, and there is room for it
@@ -26,21 +31,23 @@ pub record HasRoom (book : BookData) : Type 0 where
 abbrev pub IsNextOf : BookData → EntryData → Type 0
 IsNextOf book entry = entry ≡ next_entry book.entries entry.job entry.op
 
--- a plan is the store's own for the rows that the operation adds to the table; without one it adds none
-abbrev pub IsPlanned : StoreData → Table → OpData → Option PlanData → Type 0
-IsPlanned store table op (Some plan) = (s : SubmissionData) × IsPlanOf store s plan × (table_after table op ≡ table ++ rows_of s ∷ [])
-IsPlanned store table op None = table_after table op ≡ table
+-- a plan is the store's own for the rows that the operation adds to the table; a test is dropped where the operation takes its
+-- rows out of the table; where nothing is done the table stays
+abbrev pub IsPlanned : StoreData → Table → OpData → ChangeData → Type 0
+IsPlanned store table op NoChange = table_after table op ≡ table
+IsPlanned store table op (HoldChange plan) = (s : SubmissionData) × IsPlanOf store s plan × (table_after table op ≡ table ++ rows_of s ∷ [])
+IsPlanned store table op (DropChange test) = table_after table op ≡ without_test test table
 
 -- the totals are those that stand when the operation is answered
 abbrev pub IsAfter : BookData → OpData → Totals → Type 0
-IsAfter book op totals = totals ≡ totals_of (content_at (table_after (table_of (ops_in book.entries)) op))
+IsAfter book op totals = totals ≡ totals_at (table_after (table_of (ops_in book.entries)) op)
 
 -- the book is as it was left when this step was made ready. Callers hand it from `ready` to `finish`
 pub record IsReadyOf (book : BookData) (ready : ReadyData) : Type 0 where
   pub room : HasRoom book
   pub next : IsNextOf book ready.entry
   pub place : ready.place ≡ length book.entries
-  pub planned : IsPlanned book.store (table_of (ops_in book.entries)) ready.entry.op ready.plan
+  pub planned : IsPlanned book.store (table_of (ops_in book.entries)) ready.entry.op ready.change
   pub after : IsAfter book ready.entry.op ready.after
 
 -- the same of the step of this job and this operation

@@ -1,14 +1,17 @@
 -- One step of the plain table of counts, and whole runs of steps.
-use Rattle.std.specs.Prelude.{◌≡◌, ℕ, ◌+◌, List, [], ◌∷◌, ◌++◌, length, Option, Some, None, map}
+use Rattle.std.specs.Prelude.{◌≡◌, ℕ, ◌+◌, Bool, true, false, List, [], ◌∷◌, ◌++◌, length, Option, Some, None, map}
+use Rattle.std.specs.List.{list_any}
 use Rattle.covline.specs.Row.{SubmissionData, rows_of, items_in}
+use Rattle.covstore.specs.declared.totals.Totals.{Totals}
 use Rattle.covstore.specs.Clash.{ClashData}
 use Rattle.covstore.specs.Content.{content_at}
-use Rattle.covstore.specs.Table.{Table, clash_at}
+use Rattle.covstore.specs.Table.{Table, all_rows, clash_at}
 use Rattle.covstore.specs.Totals.{totals_of}
+use Rattle.covstore.specs.Without.{is_of_test, without_test, sections_of_test}
 use Rattle.covreport.specs.Choice.{AllFiles, Extracted, Removed}
 use Rattle.covreport.specs.Report.{report_text}
 use Rattle.covreport.specs.Summary.{summary_of}
-use Rattle.covbook.specs.Op.{OpData, SubmitOp, ReportOp, ExtractOp, RemoveOp, SummaryOp, AnswerData, AcceptedAnswer, ClashAnswer, TextAnswer, EntryData, ReceiptData}
+use Rattle.covbook.specs.Op.{OpData, SubmitOp, DropTestOp, ReportOp, ExtractOp, RemoveOp, SummaryOp, AnswerData, AcceptedAnswer, ClashAnswer, DroppedAnswer, NoSuchTestAnswer, TextAnswer, EntryData, ReceiptData}
 
 -- a submission that clashes is refused whole; another one is accepted with the next number
 abbrev pub answer_to_submit : Table → SubmissionData → Option ClashData → AnswerData
@@ -19,9 +22,23 @@ abbrev pub table_after_submit : Table → SubmissionData → Option ClashData �
 table_after_submit table submission (Some clash) = table
 table_after_submit table submission None = table ++ rows_of submission ∷ []
 
+-- some row is of the test
+abbrev pub has_test : Table → List ℕ → Bool
+has_test table test = list_any (is_of_test test) (all_rows table)
+
+-- a test without a row is no such test; the rows of another one go, and the members of the table stay
+abbrev pub answer_to_drop : Table → List ℕ → Bool → AnswerData
+answer_to_drop table test true = DroppedAnswer (sections_of_test test table)
+answer_to_drop table test false = NoSuchTestAnswer
+
+abbrev pub table_after_drop : Table → List ℕ → Bool → Table
+table_after_drop table test true = without_test test table
+table_after_drop table test false = table
+
 -- the answer to an operation at a table
 abbrev pub answer_of : Table → OpData → AnswerData
 answer_of table (SubmitOp submission) = answer_to_submit table submission (clash_at table submission)
+answer_of table (DropTestOp test) = answer_to_drop table test (has_test table test)
 answer_of table ReportOp = TextAnswer (report_text AllFiles (content_at table))
 answer_of table (ExtractOp patterns) = TextAnswer (report_text (Extracted patterns) (content_at table))
 answer_of table (RemoveOp patterns) = TextAnswer (report_text (Removed patterns) (content_at table))
@@ -30,12 +47,21 @@ answer_of table SummaryOp = TextAnswer (summary_of (totals_of (content_at table)
 -- the table that it leaves: a text changes nothing
 abbrev pub table_after : Table → OpData → Table
 table_after table (SubmitOp submission) = table_after_submit table submission (clash_at table submission)
+table_after table (DropTestOp test) = table_after_drop table test (has_test table test)
 table_after table text = table
 
--- the answers to operations one after another, and the table that they leave
+-- the totals of a table
+abbrev pub totals_at : Table → Totals
+totals_at table = totals_of (content_at table)
+
+-- the answers to operations one after another, the totals after each, and the table that they leave
 abbrev pub answers_from : Table → List OpData → List AnswerData
 answers_from table [] = []
 answers_from table (op ∷ ops) = answer_of table op ∷ answers_from (table_after table op) ops
+
+abbrev pub totals_from : Table → List OpData → List Totals
+totals_from table [] = []
+totals_from table (op ∷ ops) = totals_at (table_after table op) ∷ totals_from (table_after table op) ops
 
 abbrev pub table_from : Table → List OpData → Table
 table_from table [] = table
@@ -44,6 +70,9 @@ table_from table (op ∷ ops) = table_from (table_after table op) ops
 -- a run begins with the empty table
 abbrev pub answers_to : List OpData → List AnswerData
 answers_to ops = answers_from [] ops
+
+abbrev pub totals_to : List OpData → List Totals
+totals_to ops = totals_from [] ops
 
 abbrev pub table_of : List OpData → Table
 table_of ops = table_from [] ops
@@ -55,13 +84,27 @@ ops_in entries = map (λ e. e.op) entries
 abbrev pub answers_in : List EntryData → List AnswerData
 answers_in entries = map (λ e. e.answer) entries
 
--- a history is legal: its answers are those of the run over its operations
-abbrev pub IsLegal : List EntryData → Type 0
-IsLegal entries = answers_in entries ≡ answers_to (ops_in entries)
+abbrev pub totals_in : List EntryData → List Totals
+totals_in entries = map (λ e. e.after) entries
+
+-- a history is legal: its answers, and the totals after them, are those of the run over its operations
+pub record IsLegal (entries : List EntryData) : Type 0 where
+  pub answers : answers_in entries ≡ answers_to (ops_in entries)
+  pub totals : totals_in entries ≡ totals_to (ops_in entries)
+
+-- nothing is found, and nothing hit
+abbrev pub no_totals : Totals
+no_totals = record { lf = 0; lh = 0; ff = 0; fh = 0; bf = 0; bh = 0 }
+
+-- the totals after the last entry, and none where there are no entries
+abbrev pub last_totals : List EntryData → Totals
+last_totals [] = no_totals
+last_totals (e ∷ []) = e.after
+last_totals (e ∷ next ∷ entries) = last_totals (next ∷ entries)
 
 -- the entry that an operation of a job appends to a history
 abbrev pub next_entry : List EntryData → ℕ → OpData → EntryData
-next_entry history job op = record { job = job; op = op; answer = answer_of (table_of (ops_in history)) op }
+next_entry history job op = record { job = job; op = op; answer = answer_of (table_of (ops_in history)) op; after = totals_at (table_after (table_of (ops_in history)) op) }
 
 -- what the asking job gets of the entry at a place
 abbrev pub receipt_of : ℕ → EntryData → ReceiptData

@@ -3,11 +3,11 @@
 use crate::entry::{Entry, Receipt};
 use crate::history::History;
 use crate::op::{Answer, Op};
-use crate::ready::Ready;
+use crate::ready::{Change, Ready};
 use crate::shared::{SubRef, TextRef};
 use covline::{Bytes, Memory};
 use covreport::{Choice, summary_text, trace_text};
-use covstore::{Plan, Refuse, Store};
+use covstore::{Plan, Refuse, Store, Totals};
 use std::alloc::{Allocator, Global};
 use std::marker::Model;
 use thiserror::Error;
@@ -66,15 +66,17 @@ impl<A: Allocator> Model for Book<A> {
 }
 
 impl<A: Allocator + Copy> Book<A> {
-    ghost use Rattle.std.specs.Prelude.{◌≡◌, ◌↔◌, ◌<◌, ◌++◌, [], ◌∷◌, length, Some, IfOk, OnOk, OnErr, Err, map};
+    ghost use Rattle.std.specs.Prelude.{◌≡◌, ◌↔◌, ◌<◌, ◌++◌, [], ◌∷◌, length, IfOk, OnOk, OnErr, Err, map};
     ghost use Rattle.covstore.specs.Stored.{SameContent};
-    ghost use Rattle.covbook.specs.Op.{SubmitOp, TextAnswer};
-    ghost use Rattle.covbook.specs.Step.{IsLegal, answer_of, next_entry, receipt_of, table_after, table_of, ops_in, most_entries};
+    ghost use Rattle.covstore.specs.Totals.{AreTotals};
+    ghost use Rattle.covbook.specs.ChangeView.{change_data};
+    ghost use Rattle.covbook.specs.Op.{SubmitOp, DropTestOp, TextAnswer};
+    ghost use Rattle.covbook.specs.Step.{IsLegal, answer_of, last_totals, next_entry, receipt_of, table_after, table_of, totals_at, ops_in, most_entries};
     ghost use Rattle.covbook.specs.Texts.{IsText};
     ghost use Rattle.covbook.specs.View.{op_data, answer_data};
     ghost use Rattle.covbook.specs.EntryView.{entry_data, receipt_data};
     ghost use Rattle.covbook.specs.Held.{SameBook};
-    ghost use Rattle.covbook.specs.Ready.{HasRoom, IsNextOf, IsPlanned, IsAfter, IsReadyOf, IsReadyFor};
+    ghost use Rattle.covbook.specs.Ready.{DropChange, HasRoom, HoldChange, IsNextOf, IsPlanned, IsAfter, IsReadyOf, IsReadyFor};
 
     /// A book without entries. Takes no memory.
     pub fn new(alloc: A) -> Book<A>
@@ -93,6 +95,15 @@ impl<A: Allocator + Copy> Book<A> {
         ensures legal { IsLegal self.now.entries }
     {
         self.history.get()
+    }
+
+    /// The totals now: those after the last entry, and zeros where there are no entries. Takes no memory.
+    pub fn totals(&self) -> Totals
+        ensures last { result ≡ last_totals self.now.entries }
+        ensures table { result ≡ totals_at (table_of (ops_in self.now.entries)) }
+        ensures bounds { AreTotals result }
+    {
+        self.store.totals()
     }
 
     /// One step of the table: the operation is answered, and its entry appended. A refusal leaves history and content
@@ -133,10 +144,11 @@ impl<A: Allocator + Copy> Book<A> {
         ensures entry { self.new.entries ≡ self.old.entries ++ next_entry self.old.entries ready.entry.job ready.entry.op ∷ [] }
         ensures legal { IsLegal self.new.entries }
     {
-        let (entry, receipt, plan) = ready.into_parts();
-        match plan {
-            Some(plan) => self.hold(plan, entry),
-            None => self.note(entry),
+        let (entry, receipt, change) = ready.into_parts();
+        match change {
+            Change::Nothing => self.note(entry),
+            Change::Hold(plan) => self.hold(plan, entry),
+            Change::Drop(test) => self.drop_test(&test, entry),
         }
         receipt
     }
@@ -150,6 +162,7 @@ impl<A: Allocator + Copy> Book<A> {
         self.make_room()?;
         match op {
             Op::Submit(submission) => self.submission_ready(alloc, job, submission),
+            Op::DropTest(test) => self.drop_ready(alloc, job, test),
             Op::Report | Op::Extract(_) | Op::Remove(_) | Op::Summary => {
                 self.text_ready(alloc, job, op)
             }
@@ -187,13 +200,40 @@ impl<A: Allocator + Copy> Book<A> {
                     items: given.items(),
                     odd: given.odd(),
                 };
-                self.holding(alloc, Entry { job, op, answer }, plan)
+                let after = plan.after();
+                let entry = Entry {
+                    job,
+                    op,
+                    answer,
+                    after,
+                };
+                self.changing(alloc, entry, Change::Hold(plan))
             }
             Err(refuse) => {
                 let answer = clash_of(refuse)?;
-                self.noting(alloc, Entry { job, op, answer })
+                self.noting(alloc, job, op, answer)
             }
         }
+    }
+
+    /// The drop of a test made ready, where a row is of it.
+    fn drop_ready(&self, alloc: A, job: u32, test: &Bytes<A>) -> Result<Ready<A>, Memory>
+        requires { HasRoom self.now }
+        ensures { IfOk result (λ r. IsReadyFor self.now job (DropTestOp test.now) r) }
+    {
+        let op = Op::DropTest(test.copy(alloc)?);
+        if !self.store.has_test(test.get()) {
+            return self.noting(alloc, job, op, Answer::NoSuchTest);
+        }
+        let (sections, after) = self.store.after_drop(test.get());
+        let answer = Answer::Dropped { sections };
+        let entry = Entry {
+            job,
+            op,
+            answer,
+            after,
+        };
+        self.changing(alloc, entry, Change::Drop(test.copy(alloc)?))
     }
 
     /// A text made ready: it is printed, and shared between the entry and the receipt.
@@ -204,45 +244,66 @@ impl<A: Allocator + Copy> Book<A> {
     {
         let text = TextRef::of(alloc, self.text_of(alloc, op)?)?;
         let op = op.copy(alloc)?;
-        let answer = Answer::Text(text);
-        self.noting(alloc, Entry { job, op, answer })
+        self.noting(alloc, job, op, Answer::Text(text))
     }
 
-    /// The step that appends this entry and holds what is planned.
-    fn holding(&self, alloc: A, entry: Entry<A>, plan: Plan) -> Result<Ready<A>, Memory>
+    /// The step that appends this entry and does this to the store.
+    fn changing(&self, alloc: A, entry: Entry<A>, change: Change<A>) -> Result<Ready<A>, Memory>
         requires room { HasRoom self.now }
         requires next { IsNextOf self.now (entry_data entry) }
-        requires planned { IsPlanned self.now.store (table_of (ops_in self.now.entries)) (op_data entry.op) (Some plan) }
-        requires after { IsAfter self.now (op_data entry.op) plan.after }
+        requires planned { IsPlanned self.now.store (table_of (ops_in self.now.entries)) (op_data entry.op) (change_data change) }
+        requires bounds { AreTotals entry.after }
         ensures { IfOk result (λ r. IsReadyFor self.now entry.job (op_data entry.op) r) }
     {
         let receipt = self.history.receipt(alloc, &entry)?;
-        let after = plan.after();
-        Ok(Ready::new(entry, receipt, Some(plan), after))
+        Ok(Ready::new(entry, receipt, change))
     }
 
-    /// The step that appends this entry and leaves the table as it is.
-    fn noting(&self, alloc: A, entry: Entry<A>) -> Result<Ready<A>, Memory>
+    /// The step that appends the entry of this answer and leaves the table as it is.
+    fn noting(
+        &self,
+        alloc: A,
+        job: u32,
+        op: Op<A>,
+        answer: Answer<A>,
+    ) -> Result<Ready<A>, Memory>
         requires room { HasRoom self.now }
-        requires next { IsNextOf self.now (entry_data entry) }
-        requires still { table_after (table_of (ops_in self.now.entries)) (op_data entry.op) ≡ table_of (ops_in self.now.entries) }
-        ensures { IfOk result (λ r. IsReadyFor self.now entry.job (op_data entry.op) r) }
+        requires answer { answer_data answer ≡ answer_of (table_of (ops_in self.now.entries)) (op_data op) }
+        requires still { table_after (table_of (ops_in self.now.entries)) (op_data op) ≡ table_of (ops_in self.now.entries) }
+        ensures { IfOk result (λ r. IsReadyFor self.now job (op_data op) r) }
     {
-        let receipt = self.history.receipt(alloc, &entry)?;
         let after = self.store.totals();
-        Ok(Ready::new(entry, receipt, None, after))
+        let entry = Entry {
+            job,
+            op,
+            answer,
+            after,
+        };
+        self.changing(alloc, entry, Change::Nothing)
     }
 
     /// Holds what is planned, and appends its entry.
     fn hold(&mut self, plan: Plan, entry: Entry<A>)
         requires room { HasRoom self.old }
         requires next { IsNextOf self.old (entry_data entry) }
-        requires planned { IsPlanned self.old.store (table_of (ops_in self.old.entries)) (op_data entry.op) (Some plan) }
+        requires planned { IsPlanned self.old.store (table_of (ops_in self.old.entries)) (op_data entry.op) (HoldChange plan) }
         ensures entry { self.new.entries ≡ self.old.entries ++ entry_data entry ∷ [] }
         ensures legal { IsLegal self.new.entries }
     {
         self.store.commit(plan);
         self.accepted += 1;
+        self.history.append(entry);
+    }
+
+    /// Drops a test, and appends the entry.
+    fn drop_test(&mut self, test: &Bytes<A>, entry: Entry<A>)
+        requires room { HasRoom self.old }
+        requires next { IsNextOf self.old (entry_data entry) }
+        requires planned { IsPlanned self.old.store (table_of (ops_in self.old.entries)) (op_data entry.op) (DropChange test.now) }
+        ensures entry { self.new.entries ≡ self.old.entries ++ entry_data entry ∷ [] }
+        ensures legal { IsLegal self.new.entries }
+    {
+        self.store.drop_test(test.get());
         self.history.append(entry);
     }
 
@@ -263,7 +324,7 @@ impl<A: Allocator + Copy> Book<A> {
         ensures { IfOk result (λ t. TextAnswer t ≡ answer_of (table_of (ops_in self.now.entries)) (op_data op.now)) }
     {
         match op {
-            Op::Submit(_) => unreachable!(),
+            Op::Submit(_) | Op::DropTest(_) => unreachable!(),
             Op::Report => trace_text(alloc, &self.store, &Choice::All),
             Op::Extract(patterns) => {
                 trace_text(alloc, &self.store, &Choice::Extract(patterns.copy(alloc)?))

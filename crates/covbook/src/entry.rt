@@ -2,18 +2,20 @@
 
 use crate::op::{Answer, Op};
 use covline::Memory;
+use covstore::Totals;
 use std::alloc::{Allocator, Global};
 use std::marker::Model;
 
 /// How many entries one history has at the most.
 pub const MOST_ENTRIES: u64 = 1_048_576;
 
-/// One operation that a book was asked, by which job, and what it answered.
+/// One operation that a book was asked, by which job, what it answered, and the totals after it.
 #[derive(Drop)]
 pub struct Entry<A: Allocator = Global> {
     pub job: u32,
     pub op: Op<A>,
     pub answer: Answer<A>,
+    pub after: Totals,
 }
 
 impl<A: Allocator + Copy> Entry<A> {

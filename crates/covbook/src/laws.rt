@@ -2,7 +2,7 @@
 
 ghost use Rattle.std.specs.Prelude.{◌≡◌, List, [], ◌∷◌, ◌++◌};
 ghost use Rattle.covbook.specs.Op.{OpData};
-ghost use Rattle.covbook.specs.Step.{answer_of, answers_to, table_after, table_of};
+ghost use Rattle.covbook.specs.Step.{answer_of, answers_to, table_after, table_of, totals_at, totals_to};
 ghost use Rattle.covstore.specs.Clash.{Agree, checksums_in};
 ghost use Rattle.covstore.specs.Table.{all_rows};
 
@@ -15,8 +15,10 @@ pub fn no_versions_are_mixed()
     accepted_rows_agree();
 }
 
-/// A run goes on where it stood: with one operation more the answers get one more, and the table goes one step on.
+/// A run goes on where it stood: with one operation more the answers and the totals get one more, and the table goes one
+/// step on.
 pub fn a_run_goes_on()
     ensures answers { (ops : List OpData) (op : OpData) → answers_to (ops ++ op ∷ []) ≡ answers_to ops ++ answer_of (table_of ops) op ∷ [] }
+    ensures totals { (ops : List OpData) (op : OpData) → totals_to (ops ++ op ∷ []) ≡ totals_to ops ++ totals_at (table_after (table_of ops) op) ∷ [] }
     ensures table { (ops : List OpData) (op : OpData) → table_of (ops ++ op ∷ []) ≡ table_after (table_of ops) op }
 {}

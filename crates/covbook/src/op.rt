@@ -10,6 +10,8 @@ use std::alloc::{Allocator, Global};
 pub enum Op<A: Allocator = Global> {
     /// Add the counts of a submission.
     Submit(SubRef<A>),
+    /// Take the counts of a test out again, in all files.
+    DropTest(Bytes<A>),
     /// Print the merged tracefile.
     Report,
     /// Print the sections of the files that match at least one of the patterns (lcov(1), `--extract`).
@@ -24,12 +26,13 @@ impl<A: Allocator + Copy> Op<A> {
     ghost use Rattle.std.specs.Prelude.{◌≡◌, IfOk};
     ghost use Rattle.covbook.specs.View.{op_data};
 
-    /// An equal operation, which shares the submission; patterns are copied.
+    /// An equal operation, which shares the submission; a test's name and patterns are copied.
     pub fn copy(&self, alloc: A) -> Result<Op<A>, Memory>
         ensures { IfOk result (λ o. op_data o ≡ op_data self.now) }
     {
         match self {
             Op::Submit(submission) => Ok(Op::Submit(submission.copy()?)),
+            Op::DropTest(test) => Ok(Op::DropTest(test.copy(alloc)?)),
             Op::Report => Ok(Op::Report),
             Op::Extract(patterns) => Ok(Op::Extract(patterns.copy(alloc)?)),
             Op::Remove(patterns) => Ok(Op::Remove(patterns.copy(alloc)?)),
@@ -56,6 +59,10 @@ pub enum Answer<A: Allocator = Global> {
         held: Bytes<A>,
         given: Bytes<A>,
     },
+    /// The test's counts are gone. It stood in so many sections, each of a file.
+    Dropped { sections: u64 },
+    /// No count is of this test.
+    NoSuchTest,
     /// The printed text.
     Text(TextRef<A>),
 }
@@ -85,6 +92,10 @@ impl<A: Allocator + Copy> Answer<A> {
                 held: held.copy(alloc)?,
                 given: given.copy(alloc)?,
             }),
+            Answer::Dropped { sections } => Ok(Answer::Dropped {
+                sections: *sections,
+            }),
+            Answer::NoSuchTest => Ok(Answer::NoSuchTest),
             Answer::Text(text) => Ok(Answer::Text(text.copy()?)),
         }
     }

@@ -1,19 +1,29 @@
 //! A step that a book has made ready.
 
 use crate::entry::{Entry, Receipt};
+use covline::Bytes;
 use covstore::{Plan, Totals};
 use std::alloc::{Allocator, Global};
 use std::marker::Model;
 
-/// A step that its book can take without further memory. Contracts see its entry with its place, the plan where a
-/// submission is accepted, and the totals that stand when it is taken. Dropped, it leaves the book's history and content
-/// as they are.
+/// What a step does to the store.
+#[derive(Drop)]
+pub(crate) enum Change<A: Allocator> {
+    /// Nothing: a text is printed, or the operation has no effect.
+    Nothing,
+    /// A submission is held, as it is planned.
+    Hold(Plan),
+    /// The test of this name is dropped.
+    Drop(Bytes<A>),
+}
+
+/// A step that its book can take without further memory. Contracts see its entry with its place, what it does to the
+/// store, and the totals that stand when it is taken. Dropped, it leaves the book's history and content as they are.
 #[derive(Drop)]
 pub struct Ready<A: Allocator = Global> {
     entry: Entry<A>,
     receipt: Receipt<A>,
-    plan: Option<Plan>,
-    after: Totals,
+    change: Change<A>,
 }
 
 impl<A: Allocator> Model for Ready<A> {
@@ -21,40 +31,36 @@ impl<A: Allocator> Model for Ready<A> {
     ghost use Rattle.covstore.specs.Totals.{AreTotals};
     ghost use Rattle.covbook.specs.EntryView.{entry_data, receipt_data};
     ghost use Rattle.covbook.specs.Ready.{ReadyData};
+    ghost use Rattle.covbook.specs.ChangeView.{change_data};
     ghost use Rattle.covbook.specs.Step.{receipt_of};
 
     ghost Value = { ReadyData };
 
-    ghost view = { λ a. record { place = a.receipt.place; entry = entry_data a.entry; plan = a.plan; after = a.after } };
+    ghost view = { λ a. record { place = a.receipt.place; entry = entry_data a.entry; change = change_data a.change; after = a.entry.after } };
 
-    ghost invariant = { λ a. (receipt_data a.receipt ≡ receipt_of a.receipt.place (entry_data a.entry)) × AreTotals a.after };
+    ghost invariant = { λ a. (receipt_data a.receipt ≡ receipt_of a.receipt.place (entry_data a.entry)) × AreTotals a.entry.after };
 }
 
 impl<A: Allocator> Ready<A> {
     ghost use Rattle.std.specs.Prelude.{◌≡◌};
     ghost use Rattle.covstore.specs.Totals.{AreTotals};
     ghost use Rattle.covbook.specs.EntryView.{entry_data, receipt_data};
+    ghost use Rattle.covbook.specs.ChangeView.{change_data};
     ghost use Rattle.covbook.specs.Step.{receipt_of};
 
-    /// The step that appends this entry with this receipt, and holds what is planned. These totals stand after it.
-    pub(crate) fn new(
-        entry: Entry<A>,
-        receipt: Receipt<A>,
-        plan: Option<Plan>,
-        after: Totals,
-    ) -> Ready<A>
+    /// The step that appends this entry with this receipt, and does this to the store.
+    pub(crate) fn new(entry: Entry<A>, receipt: Receipt<A>, change: Change<A>) -> Ready<A>
         requires receipt { receipt_data receipt ≡ receipt_of receipt.place (entry_data entry) }
-        requires totals { AreTotals after }
+        requires totals { AreTotals entry.after }
         ensures place { result.place ≡ receipt.place }
         ensures entry { result.entry ≡ entry_data entry }
-        ensures plan { result.plan ≡ plan }
-        ensures after { result.after ≡ after }
+        ensures change { result.change ≡ change_data change }
+        ensures after { result.after ≡ entry.after }
     {
         Ready {
             entry,
             receipt,
-            plan,
-            after,
+            change,
         }
     }
 
@@ -63,15 +69,15 @@ impl<A: Allocator> Ready<A> {
         ensures value { result ≡ self.now.after }
         ensures bounds { AreTotals result }
     {
-        self.after
+        self.entry.after
     }
 
-    /// The entry, its receipt, and the plan.
-    pub(crate) fn into_parts(self) -> (Entry<A>, Receipt<A>, Option<Plan>)
+    /// The entry, its receipt, and what is done to the store.
+    pub(crate) fn into_parts(self) -> (Entry<A>, Receipt<A>, Change<A>)
         ensures entry { entry_data result.0 ≡ self.entry }
         ensures receipt { receipt_data result.1 ≡ receipt_of self.place self.entry }
-        ensures plan { result.2 ≡ self.plan }
+        ensures change { change_data result.2 ≡ self.change }
     {
-        (self.entry, self.receipt, self.plan)
+        (self.entry, self.receipt, self.change)
     }
 }

@@ -12,6 +12,7 @@ ghost use Rattle.covstore.specs.Counted.{lines, functions, branches, found, hit}
 ghost use Rattle.covstore.specs.Table.{Table, all_rows, clash_at};
 ghost use Rattle.covstore.specs.Totals.{AreTotals, totals_of};
 ghost use Rattle.covstore.specs.TotalsSteps.{totals_over};
+ghost use Rattle.covstore.specs.Without.{without_test};
 ghost use Rattle.covstore.specs.Value.{Key, key_cmp, key_of_row, keys_of, lines_in, names_in, branch_cmp, branches_in};
 
 /// The sections of a store stand in strictly ascending order, one for each file and test with a row.
@@ -45,10 +46,11 @@ pub fn the_first_clash_is_told()
 {}
 
 /// No table comes to have two different checksums of one line of a file: the empty one has none, and the rows of a
-/// submission that doesn't clash bring none.
+/// submission that doesn't clash bring none, nor does a test that is dropped.
 pub fn accepted_rows_agree()
     ensures empty { Agree (checksums_in (all_rows [])) }
     ensures accepted { (table : Table) (s : SubmissionData) → clash_at table s ≡ None → Agree (checksums_in (all_rows table)) → Agree (checksums_in (all_rows (table ++ rows_of s ∷ []))) }
+    ensures dropped { (table : Table) (test : List ℕ) → Agree (checksums_in (all_rows table)) → Agree (checksums_in (all_rows (without_test test table))) }
 {}
 
 /// The totals are what they are called: found is how many different points of a kind all rows have, each in its file, and

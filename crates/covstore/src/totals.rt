@@ -5,7 +5,7 @@ ghost use Rattle.covstore.specs.Exchanged.{FitTogether, IsAmong, exchanged};
 
 /// The totals of a store (geninfo(1): `LF:`, `LH:`, `FNF:`, `FNH:`, `BRF:`, `BRH:`). A point
 /// is found once for each file, over all tests, and hit if some test has it above 0.
-#[derive(Clone, Copy, Debug, PartialEq, Eq)]
+#[derive(Clone, Copy, Debug, Default, PartialEq, Eq)]
 pub struct Totals {
     /// Lines found.
     pub lf: u64,
