@@ -4,14 +4,16 @@ use Rattle.std.specs.Cmp.Lexicographic.{slice_cmp}
 use Rattle.std.specs.declared.cmp.Ordering.{Ordering}
 use Rattle.std.specs.List.{flat_map}
 use Rattle.std.specs.Prelude.{Contains}
+use Rattle.std.specs.List.Sorted.{IsPermutation}
 use Rattle.std.specs.Ordering.{nat_cmp}
 use Rattle.covline.specs.Points.{BranchPoint, line_point, func_point, branch_point, line_points, func_points, branch_points}
 use Rattle.covline.specs.Row.{ItemData, Row}
 use Rattle.covstore.specs.Ascending.{ascending}
 use Rattle.covstore.specs.Clash.{Checksum, Agree, checksum_of_row, checksums_in}
 use Rattle.covstore.specs.Content.{section_with, section_of, content_of, function_at, branch_at, line_at}
+use Rattle.covstore.specs.Table.{Table, all_rows}
 use Rattle.covstore.specs.Value.{Key, key_cmp, key_of_row, has_key, items_at, branch_cmp, checksum_said, line_added, start_said, function_added, taken_said}
-use Rattle.covstore.proofs.Alike.{AreAlike, alike_mapped, alike_said, alike_picked, first_alike, sum_alike, least_alike}
+use Rattle.covstore.proofs.Alike.{AreAlike, alike_permuted, alike_mapped, alike_said, alike_picked, first_alike, sum_alike, least_alike}
 use Rattle.covstore.proofs.Ascend.{IsExactOrder}
 use Rattle.covstore.proofs.ContentsChecksums.{one_said}
 use Rattle.covstore.proofs.ContentsKinds.{same_ascending, map_same}
@@ -67,3 +69,7 @@ module _ (rows others : List Row) (alike : AreAlike rows others) (agree : Agree 
     where
       held : (c : Checksum) → Contains (checksums_in others) c → Contains (checksums_in rows) c
       held c k = Contains-from (checksums_in rows) c ((alike_said checksum_of_row rows others alike).back c (In-from (checksums_in others) c k))
+
+-- the rows of the same submissions in another order
+pub rows_alike : (table others : Table) → IsPermutation table others → AreAlike (all_rows table) (all_rows others)
+rows_alike table others permuted = alike_said (λ (rows : List Row). rows) table others (alike_permuted table others permuted)

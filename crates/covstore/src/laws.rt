@@ -72,10 +72,14 @@ pub fn totals_count_the_rows()
     ensures { (rows : List Row) → totals_of (content_of rows) ≡ totals_over rows }
 {}
 
-/// What rows add up to doesn't depend on their order, where their checksums agree; neither does it depend on the order of
-/// the submissions in a table.
+/// What rows add up to doesn't depend on their order, where their checksums agree.
 pub fn order_of_rows_does_not_matter()
     ensures content { (rows others : List Row) → IsPermutation rows others → Agree (checksums_in rows) → content_of rows ≡ content_of others }
     ensures agree { (rows others : List Row) → IsPermutation rows others → Agree (checksums_in rows) → Agree (checksums_in others) }
-    ensures table { (table others : Table) → IsPermutation table others → Agree (checksums_in (all_rows table)) → content_at table ≡ content_at others }
+{}
+
+/// What a table adds up to doesn't depend on the order of its submissions, where their checksums agree.
+pub fn order_of_submissions_does_not_matter()
+    ensures content { (table others : Table) → IsPermutation table others → Agree (checksums_in (all_rows table)) → content_at table ≡ content_at others }
+    ensures agree { (table others : Table) → IsPermutation table others → Agree (checksums_in (all_rows table)) → Agree (checksums_in (all_rows others)) }
 {}
