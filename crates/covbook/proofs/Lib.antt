@@ -2,3 +2,4 @@ pub mod Runs
 pub mod Halves
 pub mod Told
 pub mod Versions
+pub mod Orders

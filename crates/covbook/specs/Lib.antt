@@ -7,3 +7,4 @@ pub mod Ready
 pub mod Fault
 pub mod Texts
 pub mod Refusal
+pub mod Order
