@@ -119,8 +119,7 @@ answers_run : NoneClashes → (done : List SubmissionData) (ops : List OpData) �
 answers_run law done [] only agree = tt
 answers_run law done (op ∷ ops) only agree =
     let all = step_agrees done op ops agree in
-    let here = front_agrees (done ++ submission_of op) (submissions_in ops) all in
-    (
+    let here = front_agrees (done ++ submission_of op) (submissions_in ops) all in (
       answer_step law done op only.0 here,
       subst (λ (table : Table). AllByRecursion IsNoClash (answers_from table ops)) (sym (table_step law done op only.0 here)) (answers_run law (done ++ submission_of op) ops only.1 all),
     )
