@@ -3,3 +3,4 @@ pub mod Runs
 pub mod Halves
 pub mod Told
 pub mod Versions
+pub mod Orders

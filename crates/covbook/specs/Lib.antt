@@ -8,3 +8,4 @@ pub mod Fault
 pub mod Texts
 pub mod Refusal
 pub mod ChangeView
+pub mod Order

@@ -1,12 +1,17 @@
 //! Laws of the definitions that this crate's contracts cite. The functions do nothing: the contract is the law.
 
-ghost use Rattle.std.specs.Prelude.{◌≡◌, List, [], ◌∷◌, ◌++◌};
-ghost use Rattle.covbook.specs.Op.{OpData};
+ghost use Rattle.std.specs.Prelude.{◌≡◌, List, [], ◌∷◌, ◌++◌, map, Contains};
+ghost use Rattle.covbook.specs.Op.{OpData, SubmitOp, ClashAnswer};
+ghost use Rattle.covbook.specs.Order.{submissions_in, AreTheSame, AreAgreeing, OnlySubmitsAndAsks};
 ghost use Rattle.covbook.specs.Step.{answer_of, answers_to, table_after, table_of, totals_at, totals_to};
-ghost use Rattle.covstore.specs.Clash.{Agree, checksums_in};
+ghost use Rattle.covbook.specs.Texts.{IsText};
+ghost use Rattle.covline.specs.Row.{SubmissionData, rows_of};
+ghost use Rattle.covstore.specs.Clash.{ClashData, Agree, checksums_in};
 ghost use Rattle.covstore.specs.Table.{all_rows};
 
-use covstore::laws::accepted_rows_agree;
+use covstore::laws::{
+    accepted_rows_agree, order_of_submissions_does_not_matter, the_first_clash_is_told,
+};
 
 /// No run mixes two versions of a source: the rows of its table have no two different checksums of one line of a file.
 pub fn no_versions_are_mixed()
@@ -22,3 +27,15 @@ pub fn a_run_goes_on()
     ensures totals { (ops : List OpData) (op : OpData) → totals_to (ops ++ op ∷ []) ≡ totals_to ops ++ totals_at (table_after (table_of ops) op) ∷ [] }
     ensures table { (ops : List OpData) (op : OpData) → table_of (ops ++ op ∷ []) ≡ table_after (table_of ops) op }
 {}
+
+/// The order in which submissions come doesn't matter, where their checksums agree: none is refused, the table has the rows
+/// of each, and with the same submissions in another order each text is the same, whatever was asked in between.
+pub fn order_does_not_matter()
+    ensures accepted { (ops : List OpData) → OnlySubmitsAndAsks ops → AreAgreeing (submissions_in ops) → (clash : ClashData) → ¬ Contains (answers_to ops) (ClashAnswer clash) }
+    ensures table { (ops : List OpData) → OnlySubmitsAndAsks ops → AreAgreeing (submissions_in ops) → table_of ops ≡ map rows_of (submissions_in ops) }
+    ensures texts { (some others : List OpData) → OnlySubmitsAndAsks some → OnlySubmitsAndAsks others → AreTheSame (submissions_in some) (submissions_in others) → AreAgreeing (submissions_in some) → (op : OpData) → IsText op → answer_of (table_of some) op ≡ answer_of (table_of others) op }
+    ensures lists { (some others : List SubmissionData) → AreTheSame some others → AreAgreeing some → (op : OpData) → IsText op → answer_of (table_of (map SubmitOp some)) op ≡ answer_of (table_of (map SubmitOp others)) op }
+{
+    the_first_clash_is_told();
+    order_of_submissions_does_not_matter();
+}

@@ -103,6 +103,16 @@ unfolding checksum_with
 one_checksum file line a b e =
     (bytes_eq-Decides a b).0 (last_same (bytes_eq file file) (eqb line line) (bytes_eq a b) ((bytes_eq-Decides file file).1 refl) (eq-eqb line line refl) e)
 
+-- what the items of a file and a test say of a line is one checksum, where checksums agree
+pub one_said : (rows : List Row) → Agree (checksums_in rows) → (key : Key) (line : ℕ) (a b : List ℕ) → In a (flat_map (checksum_said line) (items_at key rows))
+    → In b (flat_map (checksum_said line) (items_at key rows)) → a ≡ b
+unfolding checksum_with said_at
+one_said rows agree key line a b i j =
+    one_checksum key.file line a b
+    (agree (checksum_with key.file line a) (checksum_with key.file line b)
+    (Contains-from (checksums_in rows) (checksum_with key.file line a) (said_among rows key line a i))
+    (Contains-from (checksums_in rows) (checksum_with key.file line b) (said_among rows key line b j)))
+
 pub checksums_there : (rows others : List Row) → Agree (checksums_in rows) → content_of rows ≡ content_of others → (c : Checksum) → In c (checksums_in rows) → In c (checksums_in others)
 unfolding checksum_with said_at
 checksums_there rows others agree same c i =

@@ -16,7 +16,7 @@ pub record IsKind {I P V : Type 0} (cmp : P → P → Ordering) (points : List I
   pub extends : (xs ys zs : List I) (p : P) → value xs p ≡ value ys p → (In p (points xs) → In p (points ys)) → (In p (points ys) → In p (points xs)) → value (xs ++ zs) p ≡ value (ys ++ zs) p
 
 -- lists of the same members are one ascending list
-same_ascending : {X : Type 0} (cmp : X → X → Ordering) → IsExactOrder cmp → (xs ys : List X) → ((x : X) → In x xs → In x ys) → ((x : X) → In x ys → In x xs) → ascending cmp xs ≡ ascending cmp ys
+pub same_ascending : {X : Type 0} (cmp : X → X → Ordering) → IsExactOrder cmp → (xs ys : List X) → ((x : X) → In x xs → In x ys) → ((x : X) → In x ys → In x xs) → ascending cmp xs ≡ ascending cmp ys
 same_ascending cmp order xs ys there back =
     let left = ascending_is order xs in
     let right = ascending_is order ys in
@@ -26,7 +26,7 @@ same_ascending cmp order xs ys there back =
       members = λ x. (λ h. Contains-from xs x (back x (In-from ys x ((right.members x).0 h))), λ h. (right.members x).1 (Contains-from ys x (there x (In-from xs x h))));
     })
 
-map_same : {P V : Type 0} (f g : P → V) (ps : List P) → ((p : P) → f p ≡ g p) → map f ps ≡ map g ps
+pub map_same : {P V : Type 0} (f g : P → V) (ps : List P) → ((p : P) → f p ≡ g p) → map f ps ≡ map g ps
 map_same f g [] same = refl
 map_same {P} {V} f g (p ∷ ps) same = let here : f p ≡ g p = same p in let others : map f ps ≡ map g ps = map_same f g ps same in cc
 

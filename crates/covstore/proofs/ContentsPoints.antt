@@ -83,7 +83,7 @@ checksum_unsaid line (BranchItem at block branch taken) none = refl
 line_with : ℕ → ℕ → Option (List ℕ) → LineValueData
 line_with line count checksum = record { line = line; count = count; checksum = checksum }
 
-same_line : (line : ℕ) (xs ys : List ItemData) → line_value line xs ≡ line_value line ys → line_checksum line xs ≡ line_checksum line ys → line_at xs line ≡ line_at ys line
+pub same_line : (line : ℕ) (xs ys : List ItemData) → line_value line xs ≡ line_value line ys → line_checksum line xs ≡ line_checksum line ys → line_at xs line ≡ line_at ys line
 unfolding line_with
 same_line line xs ys count checksum =
     ap (λ (n : ℕ). line_with line n (line_checksum line xs)) count ∙ ap (λ (c : Option (List ℕ)). line_with line (line_value line ys) c) checksum
@@ -170,7 +170,7 @@ same_least name xs ys e there back =
 function_with : ℕ → List ℕ → ℕ → FunctionValueData
 function_with line name count = record { line = line; name = name; count = count }
 
-same_function : (name : List ℕ) (xs ys : List ItemData) → least (flat_map (start_said name) xs) ≡ least (flat_map (start_said name) ys) → function_count name xs ≡ function_count name ys → function_at xs name ≡ function_at ys name
+pub same_function : (name : List ℕ) (xs ys : List ItemData) → least (flat_map (start_said name) xs) ≡ least (flat_map (start_said name) ys) → function_count name xs ≡ function_count name ys → function_at xs name ≡ function_at ys name
 unfolding function_with
 same_function name xs ys start count =
     ap (λ (o : Option ℕ). function_with (unwrap_or o 0) name (function_count name xs)) start ∙ ap (λ (n : ℕ). function_with (function_start name ys) name n) count
@@ -212,7 +212,7 @@ sum_if_more (x ∷ xs) (y ∷ ys) zs e =
 taken_with : BranchPoint → Option ℕ → BranchValueData
 taken_with point taken = record { point = point; taken = taken }
 
-same_branch : (point : BranchPoint) (xs ys : List ItemData) → branch_value point xs ≡ branch_value point ys → branch_at xs point ≡ branch_at ys point
+pub same_branch : (point : BranchPoint) (xs ys : List ItemData) → branch_value point xs ≡ branch_value point ys → branch_at xs point ≡ branch_at ys point
 unfolding taken_with
 same_branch point xs ys taken = ap (λ (o : Option ℕ). taken_with point o) taken
 

@@ -50,7 +50,7 @@ no_row key (row ∷ rows) none = by (has_key key row) refl (no_row key rows (λ 
 section_from : Key → List FunctionValueData → List BranchValueData → List LineValueData → SectionData
 section_from key functions branches lines = record { key = key; functions = functions; branches = branches; lines = lines }
 
-same_section : (key : Key) (xs ys : List ItemData) → (section_with key xs).functions ≡ (section_with key ys).functions → (section_with key xs).branches ≡ (section_with key ys).branches
+pub same_section : (key : Key) (xs ys : List ItemData) → (section_with key xs).functions ≡ (section_with key ys).functions → (section_with key xs).branches ≡ (section_with key ys).branches
     → (section_with key xs).lines ≡ (section_with key ys).lines → section_with key xs ≡ section_with key ys
 unfolding section_from
 same_section key xs ys functions branches lines =

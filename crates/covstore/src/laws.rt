@@ -2,12 +2,13 @@
 
 ghost use Rattle.std.specs.Prelude.{◌≡◌, ◌↔◌, List, [], ◌∷◌, ◌++◌, ℕ, Some, None, map};
 ghost use Rattle.std.specs.Cmp.Lexicographic.{slice_cmp};
+ghost use Rattle.std.specs.List.Sorted.{IsPermutation};
 ghost use Rattle.std.specs.Ordering.{nat_cmp};
 ghost use Rattle.covline.specs.Points.{BranchPoint, line_points, func_points, branch_points};
 ghost use Rattle.covline.specs.Row.{ItemData, Row, SubmissionData, rows_of};
 ghost use Rattle.covstore.specs.Ascending.{IsAscendingOf};
 ghost use Rattle.covstore.specs.Clash.{Checksum, ClashData, Agree, IsFirstClash, checksums_in, first_clash};
-ghost use Rattle.covstore.specs.Content.{SectionData, content_of};
+ghost use Rattle.covstore.specs.Content.{SectionData, content_of, content_at};
 ghost use Rattle.covstore.specs.Counted.{lines, functions, branches, found, hit};
 ghost use Rattle.covstore.specs.Table.{Table, all_rows, clash_at};
 ghost use Rattle.covstore.specs.Totals.{AreTotals, totals_of};
@@ -71,4 +72,16 @@ pub fn no_more_are_hit_than_found()
 /// these the ones that some row counts above 0.
 pub fn totals_count_the_rows()
     ensures { (rows : List Row) → totals_of (content_of rows) ≡ totals_over rows }
+{}
+
+/// What rows add up to doesn't depend on their order, where their checksums agree.
+pub fn order_of_rows_does_not_matter()
+    ensures content { (rows others : List Row) → IsPermutation rows others → Agree (checksums_in rows) → content_of rows ≡ content_of others }
+    ensures agree { (rows others : List Row) → IsPermutation rows others → Agree (checksums_in rows) → Agree (checksums_in others) }
+{}
+
+/// What a table adds up to doesn't depend on the order of its submissions, where their checksums agree.
+pub fn order_of_submissions_does_not_matter()
+    ensures content { (table others : Table) → IsPermutation table others → Agree (checksums_in (all_rows table)) → content_at table ≡ content_at others }
+    ensures agree { (table others : Table) → IsPermutation table others → Agree (checksums_in (all_rows table)) → Agree (checksums_in (all_rows others)) }
 {}

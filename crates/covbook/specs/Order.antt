@@ -1,0 +1,33 @@
+-- Where the order in which jobs hand in doesn't matter: the same submissions, whose checksums agree.
+use Rattle.std.specs.Prelude.{List, [], ◌∷◌}
+use Rattle.std.specs.List.{AllByRecursion, flat_map}
+use Rattle.std.specs.List.Sorted.{IsPermutation}
+use Rattle.covline.specs.Row.{SubmissionData, rows_of}
+use Rattle.covstore.specs.Clash.{Agree, checksums_in}
+use Rattle.covbook.specs.Op.{OpData, SubmitOp}
+use Rattle.covbook.specs.Texts.{IsText}
+
+-- the submission that an operation hands in, where it does
+abbrev pub submission_of : OpData → List SubmissionData
+submission_of (SubmitOp submission) = submission ∷ []
+submission_of other = []
+
+-- the submissions that operations hand in, in their order
+abbrev pub submissions_in : List OpData → List SubmissionData
+submissions_in ops = flat_map submission_of ops
+
+-- the same submissions, each as often, in whatever order
+abbrev pub AreTheSame : List SubmissionData → List SubmissionData → Type 0
+AreTheSame some others = IsPermutation some others
+
+-- any two rows of any of them that have a checksum for one line of one file have the same
+abbrev pub AreAgreeing : List SubmissionData → Type 0
+AreAgreeing submissions = Agree (checksums_in (flat_map rows_of submissions))
+
+-- the operation hands in a submission or asks for a text
+abbrev pub SubmitsOrAsks : OpData → Type 0
+SubmitsOrAsks (SubmitOp submission) = Unit {0}
+SubmitsOrAsks other = IsText other
+
+abbrev pub OnlySubmitsAndAsks : List OpData → Type 0
+OnlySubmitsAndAsks ops = AllByRecursion SubmitsOrAsks ops
