@@ -31,13 +31,13 @@ legal-next entries job op legal =
     let ops = sym (map_push (λ (x : EntryData). x.op) entries e) in
     record {
       answers = map_push (λ (x : EntryData). x.answer) entries e
-        ∙ ap (λ (answers : List AnswerData). answers ++ e.answer ∷ []) legal.answers
-        ∙ sym (answers_from-push [] (ops_in entries) op)
-        ∙ ap answers_to ops;
+          ∙ ap (λ (answers : List AnswerData). answers ++ e.answer ∷ []) legal.answers
+          ∙ sym (answers_from-push [] (ops_in entries) op)
+          ∙ ap answers_to ops;
       totals = map_push (λ (x : EntryData). x.after) entries e
-        ∙ ap (λ (totals : List Totals). totals ++ e.after ∷ []) legal.totals
-        ∙ sym (totals_from-push [] (ops_in entries) op)
-        ∙ ap totals_to ops;
+          ∙ ap (λ (totals : List Totals). totals ++ e.after ∷ []) legal.totals
+          ∙ sym (totals_from-push [] (ops_in entries) op)
+          ∙ ap totals_to ops;
     }
 
 table-next : (entries : List EntryData) (job : ℕ) (op : OpData) → table_of (ops_in (entries ++ next_entry entries job op ∷ [])) ≡ table_after (table_of (ops_in entries)) op

@@ -260,13 +260,7 @@ impl<A: Allocator + Copy> Book<A> {
     }
 
     /// The step that appends the entry of this answer and leaves the table as it is.
-    fn noting(
-        &self,
-        alloc: A,
-        job: u32,
-        op: Op<A>,
-        answer: Answer<A>,
-    ) -> Result<Ready<A>, Memory>
+    fn noting(&self, alloc: A, job: u32, op: Op<A>, answer: Answer<A>) -> Result<Ready<A>, Memory>
         requires room { HasRoom self.now }
         requires answer { answer_data answer ≡ answer_of (table_of (ops_in self.now.entries)) (op_data op) }
         requires still { table_after (table_of (ops_in self.now.entries)) (op_data op) ≡ table_of (ops_in self.now.entries) }

@@ -60,7 +60,9 @@ pub enum Answer<A: Allocator = Global> {
         given: Bytes<A>,
     },
     /// The test's counts are gone. It stood in so many sections, each of a file.
-    Dropped { sections: u64 },
+    Dropped {
+        sections: u64,
+    },
     /// No count is of this test.
     NoSuchTest,
     /// The printed text.

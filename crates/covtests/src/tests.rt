@@ -7,6 +7,7 @@ use std::test::*;
 mod annotated;
 mod books;
 mod calls;
+mod drops;
 mod limits;
 mod maps;
 mod records;

@@ -1,15 +1,16 @@
 //! Calls of covbook that no session shows: receipts, entries, copies, and the length of a history.
 
-use super::calls::{bytes_of, entries, list_of, read, step};
+use super::calls::{bytes_of, entries, list_of, read, step, totals};
 use covbook::{Answer, Book, BookFault, Entries, Entry, Op, Receipt, Receipts, SubRef, TextRef};
 use covline::Memory;
+use covstore::Totals;
 use std::alloc::Global;
 use std::process::Abort;
 use std::test::*;
 
 const SMALL: &[u8] = b"TN:t\nSF:/a.c\nDA:1,2\nDA:2,0\nend_of_record\n";
 
-/// An operation in two numbers: which one it is, and how many items or patterns it has.
+/// An operation in two numbers: which one it is, and how many items, patterns or bytes of a name it has.
 fn numbers_of(op: &Op) -> (u32, u64) {
     match op {
         Op::Submit(submission) => (1, submission.get().items()),
@@ -17,22 +18,25 @@ fn numbers_of(op: &Op) -> (u32, u64) {
         Op::Summary => (3, 0),
         Op::Extract(patterns) => (4, patterns.get().len() as u64),
         Op::Remove(patterns) => (5, patterns.get().len() as u64),
+        Op::DropTest(test) => (6, test.get().len() as u64),
     }
 }
 
-/// The numbers of an answer: those of an accepted submission, or the line of a clash.
+/// The numbers of an answer: those of an accepted submission, the line of a clash, or the sections of a test.
 fn numbers_in(answer: &Answer) -> (u64, u64, u64) {
     match answer {
         Answer::Accepted { number, items, odd } => (*number, *items, *odd),
         Answer::Clash { line, .. } => (*line, 0, 0),
-        Answer::Text(_) => (0, 0, 0),
+        Answer::Dropped { sections } => (0, *sections, 0),
+        Answer::NoSuchTest | Answer::Text(_) => (0, 0, 0),
     }
 }
 
 /// The text of an answer; of a clash the checksum that was given.
 fn text_in(answer: &Answer) -> &[u8] {
     match answer {
-        Answer::Accepted { .. } => b"",
+        Answer::Accepted { .. } | Answer::Dropped { .. } => b"",
+        Answer::NoSuchTest => b"no such test",
         Answer::Clash { given, .. } => given.get(),
         Answer::Text(text) => text.get().get(),
     }
@@ -140,6 +144,37 @@ fn a_history_with_a_clash(rt: HostRuntime) -> Result<(), Fail> {
     check_step(&rt, &mut book, 1, &first, ((1, 1), (2, 1, 1), b""))
 }
 
+/// How many lines are found and hit after the last entry, and in the book now.
+fn lines_after(book: &Book) -> (u64, u64, u64, u64) {
+    let now = totals(book);
+    match entries(book).last() {
+        Some(entry) => (entry.after.lf, entry.after.lh, now.lf, now.lh),
+        None => (0, 0, now.lf, now.lh),
+    }
+}
+
+/// A test that is dropped is gone from the totals, and its number isn't given again. One that isn't there has its entry.
+#[test]
+fn a_history_with_drops(rt: HostRuntime) -> Result<(), Fail> {
+    let alloc = rt.alloc();
+    let mut book = Book::new(alloc);
+    assert_eq!(rt; lines_after(&book), (0, 0, 0, 0));
+    let small = submit(alloc, SMALL)?;
+    check_step(&rt, &mut book, 5, &small, ((1, 2), (1, 2, 0), b""))?;
+    assert_eq!(rt; lines_after(&book), (2, 1, 2, 1));
+    let other = Op::DropTest(bytes_of(alloc, b"tt")?);
+    let missing = b"no such test".as_slice();
+    check_step(&rt, &mut book, 6, &other, ((6, 2), (0, 0, 0), missing))?;
+    assert_eq!(rt; lines_after(&book), (2, 1, 2, 1));
+    let drop = Op::DropTest(bytes_of(alloc, b"t")?);
+    check_step(&rt, &mut book, 7, &drop, ((6, 1), (0, 1, 0), b""))?;
+    assert_eq!(rt; lines_after(&book), (0, 0, 0, 0));
+    check_step(&rt, &mut book, 7, &drop, ((6, 1), (0, 0, 0), missing))?;
+    check_step(&rt, &mut book, 5, &small, ((1, 2), (2, 2, 0), b""))?;
+    assert_eq!(rt; lines_after(&book), (2, 1, 2, 1));
+    Ok(())
+}
+
 /// The answer that is this text, shared once.
 fn shared(alloc: Global, text: &[u8]) -> Result<Answer, Memory> {
     let text = TextRef::of(alloc, bytes_of(alloc, text)?)?;
@@ -154,6 +189,7 @@ fn one_entry(alloc: Global) -> Result<Entries, Memory> {
         job: 7,
         op: Op::Report,
         answer,
+        after: Totals::default(),
     })?;
     Ok(entries)
 }

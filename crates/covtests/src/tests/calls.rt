@@ -117,6 +117,10 @@ pub(super) fn entries(book: &Book) -> &[Entry] {
     book.entries()
 }
 
+pub(super) fn totals(book: &Book) -> Totals {
+    book.totals()
+}
+
 /// The list of the patterns, which stand between bars.
 pub(super) fn list_of(alloc: Global, patterns: &[u8]) -> Result<Patterns, PatternFault> {
     let mut list = Patterns::new(alloc);

@@ -1,6 +1,6 @@
 //! The store over maps: plans and steps that are dropped, a large section, and random submissions beside a plain list.
 
-use super::calls::{after_dropped, read, step, step_in_halves};
+use super::calls::{after_dropped, bytes_of, read, step, step_in_halves};
 use super::push_line;
 use super::store::{NOTHING, put_section};
 use covbook::{Answer, Book, Op, Receipt, SubRef};
@@ -63,17 +63,24 @@ fn a_million_lines(rt: HostRuntime) -> Result<(), Fail> {
 }
 
 /// The operation that submits the text.
-fn submit(alloc: Global, text: &[u8]) -> Result<Op, Fail> {
+pub(super) fn submit(alloc: Global, text: &[u8]) -> Result<Op, Fail> {
     let shared = SubRef::of(alloc, read(alloc, text)?)?;
     Ok(Op::Submit(shared))
 }
 
 /// What the book prints for this.
-fn printed(rt: &(impl Abort + AllocGlobal), book: &mut Book, op: &Op) -> Result<Bytes, Fail> {
+pub(super) fn printed(
+    rt: &(impl Abort + AllocGlobal),
+    book: &mut Book,
+    op: &Op,
+) -> Result<Bytes, Fail> {
     let Receipt { answer, .. } = step(rt.alloc(), book, 0, op)?;
     match answer {
         Answer::Text(text) => Ok(text.get().copy(rt.alloc())?),
-        Answer::Accepted { .. } | Answer::Clash { .. } => panic!(rt; "no text"),
+        Answer::Accepted { .. }
+        | Answer::Clash { .. }
+        | Answer::Dropped { .. }
+        | Answer::NoSuchTest => panic!(rt; "no text"),
     }
 }
 
@@ -111,7 +118,7 @@ const SECTIONS: [&[u8]; 6] = [
 
 /// A row of the plain list: functions are the points 0 to 2, branches 3 to 5, lines 6 to 9.
 #[derive(Clone, Copy)]
-struct Row {
+pub(super) struct Row {
     section: usize,
     point: u64,
     count: Option<u64>,
@@ -119,13 +126,13 @@ struct Row {
 
 /// The numbers of a linear congruence, which are as good as random here.
 #[derive(Drop)]
-struct Random {
-    state: u64,
+pub(super) struct Random {
+    pub state: u64,
 }
 
 impl Random {
     /// A number below a limit.
-    fn below(&mut self, limit: u64) -> u64 {
+    pub(super) fn below(&mut self, limit: u64) -> u64 {
         self.state = self
             .state
             .wrapping_mul(6_364_136_223_846_793_005)
@@ -258,7 +265,11 @@ fn tally_of(rows: &[Row], record: Record) -> (u64, u64) {
 }
 
 /// A random submission as text; its rows come to the list.
-fn random_text(alloc: Global, random: &mut Random, rows: &mut Vec<Row>) -> Result<Vec<u8>, Fail> {
+pub(super) fn random_text(
+    alloc: Global,
+    random: &mut Random,
+    rows: &mut Vec<Row>,
+) -> Result<Vec<u8>, Fail> {
     let mut text = Vec::new(alloc);
     for _section in 0..random.below(4) {
         let section = random.below(6) as usize;
@@ -329,8 +340,53 @@ fn check_list(rt: &(impl Abort + AllocGlobal), book: &mut Book, rows: &[Row]) ->
     Ok(())
 }
 
-/// After each of many random submissions the book says what a list of all rows says, passed over for each point. Each
-/// one is also made ready and dropped before it is held.
+/// The rows that aren't of a test, which is every third section's.
+fn without(alloc: Global, rows: &[Row], test: usize) -> Result<Vec<Row>, Fail> {
+    let mut others = Vec::new(alloc);
+    for row in rows {
+        if row.section != test && row.section != test.wrapping_add(3) {
+            others.push(*row)?;
+        }
+    }
+    Ok(others)
+}
+
+/// In how many sections a test has a row.
+fn sections_with(rows: &[Row], test: usize) -> u64 {
+    let in_first = rows.iter().any(|row| row.section == test);
+    let in_second = rows.iter().any(|row| row.section == test.wrapping_add(3));
+    u64::from(in_first).wrapping_add(u64::from(in_second))
+}
+
+/// The name of a test.
+fn name_of(test: usize) -> &'static [u8] {
+    match test {
+        0 => b"a",
+        1 => b"b",
+        _ => b"c",
+    }
+}
+
+/// Drops a test of the book and of the list, which agree on how many sections it had.
+fn drop_random(
+    rt: &(impl Abort + AllocGlobal),
+    book: &mut Book,
+    test: usize,
+    rows: &[Row],
+) -> Result<Vec<Row>, Fail> {
+    let op = Op::DropTest(bytes_of(rt.alloc(), name_of(test))?);
+    let Receipt { answer, .. } = step(rt.alloc(), book, 1, &op)?;
+    let sections = match answer {
+        Answer::Dropped { sections } => sections,
+        Answer::NoSuchTest => 0,
+        Answer::Accepted { .. } | Answer::Clash { .. } | Answer::Text(_) => panic!(rt; "no drop"),
+    };
+    assert_eq!(rt; sections, sections_with(rows, test));
+    without(rt.alloc(), rows, test)
+}
+
+/// After each of many random submissions, and of some tests that are dropped, the book says what a list of all rows says,
+/// passed over for each point. Each submission is also made ready and dropped before it is held.
 #[test]
 fn random_submissions(rt: HostRuntime) -> Result<(), Fail> {
     let mut random = Random { state: 20_261_123 };
@@ -342,6 +398,11 @@ fn random_submissions(rt: HostRuntime) -> Result<(), Fail> {
         after_dropped(rt.alloc(), &mut book, &op)?;
         step(rt.alloc(), &mut book, 1, &op)?;
         check_list(&rt, &mut book, &rows)?;
+        let test = random.below(12) as usize;
+        if test < 3 {
+            rows = drop_random(&rt, &mut book, test, &rows)?;
+            check_list(&rt, &mut book, &rows)?;
+        }
     }
     Ok(())
 }
