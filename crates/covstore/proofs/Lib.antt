@@ -66,6 +66,10 @@ pub mod StepsTexts
 pub mod StepsCounts
 pub mod StepsKept
 pub mod StepsMore
+pub mod Assigned
+pub mod Fewer
+pub mod FewerTally
+pub mod FewerLoops
 pub mod SeenTests
 pub mod SeenStore
 pub mod Settled

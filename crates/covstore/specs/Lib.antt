@@ -34,4 +34,6 @@ pub mod Slots
 pub mod SlotPlace
 pub mod Coming
 pub mod Without
+pub mod Assigned
+pub mod Fewer
 pub mod Drops
