@@ -90,4 +90,5 @@ pub mod ComingWhole
 pub mod Filled
 pub mod PointPlaces
 pub mod PointTakes
+pub mod PointAssigned
 pub mod ComingGrowth
