@@ -36,21 +36,26 @@ module _ {K V : Type 0} {cmp : K → K → Ordering} (o : IsExactOrder cmp) (is_
         subst (λ (own : List (K × V)). AreCounts cmp is_above (own ∷ others) fewer) (sym all) (subst (AreCounts cmp is_above (points ∷ others)) (sym same) are);
   }
 
-  pub losing_can : (key : K) (value : V) (left rest : List (K × V)) (fewer : List (K × Tests)) → AreWith cmp is_above points counts → left ≡ (key, value) ∷ rest
-      → IsLosing cmp is_above points counts left fewer → CanLose (is_above value) (value_of cmp key fewer)
-  losing_can key value left rest fewer are first is =
-      can_lose o left are.0 fewer (is.counted are.0 are.1) key value (ap (value_of cmp key) first ∙ value_of_first o key value rest)
+  -- the next point, as it is asked for and as its value was read
+  module _ (key : K) (value : V) (asked : K) (named : asked ≡ key) (above : Bool) (read : above ≡ is_above value) (left rest : List (K × V)) (first : left ≡ (key, value) ∷ rest) (fewer : List (K × Tests))
+      (is : IsLosing cmp is_above points counts left fewer) where
+    pub losing_can : AreWith cmp is_above points counts → CanLose above (value_of cmp asked fewer)
+    losing_can are =
+        subst (λ (b : Bool). CanLose b (value_of cmp asked fewer)) (sym read)
+        (subst (λ (k : K). CanLose (is_above value) (value_of cmp k fewer)) (sym named)
+        (can_lose o left are.0 fewer (is.counted are.0 are.1) key value (ap (value_of cmp key) first ∙ value_of_first o key value rest)))
 
-  pub losing_more : (key : K) (value : V) (left rest : List (K × V)) (fewer more : List (K × Tests)) → left ≡ (key, value) ∷ rest → IsLosing cmp is_above points counts left fewer
-      → more ≡ counts_without cmp key (is_above value) fewer → IsLosing cmp is_above points counts rest more
-  losing_more key value left rest fewer more first is moved =
-      let sorted = subst (ArePairs cmp) first is.sorted in
-      record {
-        sorted = sorted.1;
-        counted = λ others are.
-            subst (AreCounts cmp is_above (rest ∷ others)) (sym moved)
-            (counts_fewer o key value rest sorted others fewer (subst (λ (own : List (K × V)). AreCounts cmp is_above (own ∷ others) fewer) first (is.counted others are)));
-      }
+    pub losing_more : (more : List (K × Tests)) → more ≡ counts_without cmp asked above fewer → IsLosing cmp is_above points counts rest more
+    losing_more more moved =
+        let sorted = subst (ArePairs cmp) first is.sorted in
+        let same : more ≡ counts_without cmp key (is_above value) fewer =
+        moved ∙ ap (λ (k : K). counts_without cmp k above fewer) named ∙ ap (λ (b : Bool). counts_without cmp key b fewer) read in
+        record {
+          sorted = sorted.1;
+          counted = λ others are.
+              subst (AreCounts cmp is_above (rest ∷ others)) (sym same)
+              (counts_fewer o key value rest sorted others fewer (subst (λ (own : List (K × V)). AreCounts cmp is_above (own ∷ others) fewer) first (is.counted others are)));
+        }
 
   pub losing_all : (left : List (K × V)) (fewer : List (K × Tests)) → left ≡ [] → IsLosing cmp is_above points counts left fewer → LosesTest cmp is_above points counts fewer
   losing_all left fewer none is others are =
@@ -65,22 +70,26 @@ module _ {K V : Type 0} {cmp : K → K → Ordering} (o : IsExactOrder cmp) (is_
     tallied = λ others are. (counts, subst (λ (own : List (K × V)). AreCounts cmp is_above (own ∷ others) counts) (sym all) are, is);
   }
 
-  module _ (key : K) (value : V) (left rest : List (K × V)) (tally : Tally) (first : left ≡ (key, value) ∷ rest) (is : IsTallying cmp is_above points counts left tally) where
+  module _ (key : K) (value : V) (asked : K) (named : asked ≡ key) (above : Bool) (read : above ≡ is_above value) (left rest : List (K × V)) (first : left ≡ (key, value) ∷ rest) (tally : Tally)
+      (is : IsTallying cmp is_above points counts left tally) where
     value_there : value_of cmp key left ≡ Some value
     value_there = ap (value_of cmp key) first ∙ value_of_first o key value rest
 
-    pub tallying_can : AreWith cmp is_above points counts → CanLose (is_above value) (value_of cmp key counts)
-    tallying_can are = can_lose o points are.0 counts are.1 key value (is.values key value value_there)
+    pub tallying_can : AreWith cmp is_above points counts → CanLose above (value_of cmp asked counts)
+    tallying_can are =
+        subst (λ (b : Bool). CanLose b (value_of cmp asked counts)) (sym read)
+        (subst (λ (k : K). CanLose (is_above value) (value_of cmp k counts)) (sym named) (can_lose o points are.0 counts are.1 key value (is.values key value value_there)))
 
     tally_at : (others : List (List (K × V))) → AreCounts cmp is_above (points ∷ others) counts → (fewer : List (K × Tests)) → AreCounts cmp is_above (left ∷ others) fewer → IsTallyOf fewer tally
-        → IsTallyAt cmp key counts fewer tally
-    tally_at others are fewer own tallied = record {
-      ascending = own.ascending;
-      same = same_numbers o points left others counts fewer are own key value (is.values key value value_there) value_there;
-      tallied = tallied;
-    }
+        → IsTallyAt cmp asked counts fewer tally
+    tally_at others are fewer own tallied =
+        subst (λ (k : K). IsTallyAt cmp k counts fewer tally) (sym named) (record {
+          ascending = own.ascending;
+          same = same_numbers o points left others counts fewer are own key value (is.values key value value_there) value_there;
+          tallied = tallied;
+        })
 
-    pub tallying_at : AreWith cmp is_above points counts → (fewer : List (K × Tests)) × IsTallyAt cmp key counts fewer tally
+    pub tallying_at : AreWith cmp is_above points counts → (fewer : List (K × Tests)) × IsTallyAt cmp asked counts fewer tally
     tallying_at are = let of = is.tallied are.0 are.1 in (of.0, tally_at are.0 are.1 of.0 of.1 of.2)
 
     rest_value : ArePairs cmp ((key, value) ∷ rest) → (other : K) (held : V) → value_of cmp other rest ≡ Some held → value_of cmp other left ≡ Some held
@@ -89,7 +98,7 @@ module _ {K V : Type 0} {cmp : K → K → Ordering} (o : IsExactOrder cmp) (is_
         (λ there. absurd (none-some held (sym (value_of_before o key rest sorted.0) ∙ there)))
         (λ k apart there. ap (value_of cmp k) first ∙ value_of_later o k (key, value) rest apart ∙ there) other e
 
-    pub tallying_more : (less : Tally) → ((fewer : List (K × Tests)) → IsTallyAt cmp key counts fewer tally → IsTallyOf (counts_without cmp key (is_above value) fewer) less)
+    pub tallying_more : (less : Tally) → ((fewer : List (K × Tests)) → IsTallyAt cmp asked counts fewer tally → IsTallyOf (counts_without cmp asked above fewer) less)
         → IsTallying cmp is_above points counts rest less
     tallying_more less moved =
         let sorted = subst (ArePairs cmp) first is.sorted in
@@ -100,7 +109,8 @@ module _ {K V : Type 0} {cmp : K → K → Ordering} (o : IsExactOrder cmp) (is_
               let of = is.tallied others are in (
                 counts_without cmp key (is_above value) of.0,
                 counts_fewer o key value rest sorted others of.0 (subst (λ (own : List (K × V)). AreCounts cmp is_above (own ∷ others) of.0) first of.1),
-                moved of.0 (tally_at others are of.0 of.1 of.2),
+                subst (λ (b : Bool). IsTallyOf (counts_without cmp key b of.0) less) read
+                    (subst (λ (k : K). IsTallyOf (counts_without cmp k above of.0) less) named (moved of.0 (tally_at others are of.0 of.1 of.2))),
               );
         }
 

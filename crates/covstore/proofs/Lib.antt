@@ -70,6 +70,7 @@ pub mod Assigned
 pub mod Fewer
 pub mod FewerTally
 pub mod FewerLoops
+pub mod FewerKeys
 pub mod SeenTests
 pub mod SeenStore
 pub mod Settled

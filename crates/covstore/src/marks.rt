@@ -2,6 +2,8 @@
 
 ghost use Rattle.std.specs.Prelude.{◌≡◌};
 
+mod drops;
+
 use crate::checksums::Checksums;
 use crate::kept::Kept;
 use crate::totals::Totals;

@@ -115,7 +115,8 @@ impl<K: Key, V: Copy, A: Allocator> Points<K, V, A> {
 
     /// The value that what is asked for has now, and the place to look at first for the next one.
     pub(crate) fn held_at<Q: Asked<K, A>>(&self, asked: Q, guess: Place) -> (Option<V>, Place)
-        ensures { result.0 ≡ value_of K.cmp (Q.named asked) self.now.held }
+        ensures value { result.0 ≡ value_of K.cmp (Q.named asked) self.now.held }
+        ensures whole { ArePairs K.cmp self.now.held }
     {
         match self.slots.find(asked, guess) {
             Ok(place) => (self.slots.value_at(place), place),
@@ -127,6 +128,7 @@ impl<K: Key, V: Copy, A: Allocator> Points<K, V, A> {
     pub(crate) fn held<Q: Asked<K, A>>(&mut self, asked: Q) -> Option<V>
         ensures value { result ≡ value_of K.cmp (Q.named asked) self.old.held }
         ensures same { self.new ≡ self.old }
+        ensures whole { ArePairs K.cmp self.old.held }
     {
         let (value, place) = self.held_at(asked, self.cursor);
         self.cursor = place;
@@ -138,7 +140,6 @@ impl<K: Key, V: Copy, A: Allocator> Points<K, V, A> {
         requires { is_some (value_of K.cmp (Q.named asked) self.old.held) ≡ true }
         ensures now { self.new.held ≡ assigned K.cmp (Q.named asked) value self.old.held }
         ensures coming { self.new.coming ≡ self.new.held }
-        ensures whole { ArePairs K.cmp self.old.held }
     {
         self.coming.clear();
         if let Ok(place) = self.slots.find(asked, self.cursor) {

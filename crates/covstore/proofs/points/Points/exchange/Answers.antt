@@ -1,13 +1,12 @@
-use Rattle.std.proofs.Common.{◌≡◌, ◌∙◌, None, true, ap, sym, subst}
+use Rattle.std.proofs.Common.{◌≡◌, ◌∙◌, None, true, ap, sym}
 use Rattle.std.specs.Option.{is_some}
 use Rattle.std.proofs.lemmas.Bool.{false≢true}
 use Rattle.covstore.specs.Assigned.{assigned}
 use Rattle.covstore.specs.Coming.{coming_of}
 use Rattle.covstore.specs.PointsData.{PointsData}
-use Rattle.covstore.specs.Puts.{ArePairs, value_of}
+use Rattle.covstore.specs.Puts.{value_of}
 use Rattle.covstore.specs.Slots.{filled, slots_of}
 use Rattle.covstore.proofs.Comings.{nothing_coming}
-use Rattle.covstore.proofs.Filled.{filled_pairs}
 use Rattle.covstore.proofs.PointAssigned.{held_absent, slot_assigned}
 use Rattle.covstore.proofs.points.Points.exchange.Goals as goal
 
@@ -22,11 +21,6 @@ returns-in-Ok-clause-now g c =
 pub returns-in-Ok-clause-coming : goal.returns-in-Ok-clause-coming
 returns-in-Ok-clause-coming g c =
     ap (λ columns. filled (slots_of (coming_of c.write.new.self columns))) c.clear.ensures ∙ ap (λ pages. filled (slots_of pages)) (nothing_coming 0 c.write.new.self)
-
-pub returns-in-Ok-clause-whole : goal.returns-in-Ok-clause-whole
-returns-in-Ok-clause-whole g c =
-    subst (λ (points : PointsData g.row.K.Denot g.row.V.Denot). ArePairs g.K.Key.cmp points.held) c.self.view_is
-    (filled_pairs g.K.Key.cmp (slots_of c.self.inside.slots) c.find.ensures.whole.ascending)
 
 -- what is asked for has a value, so it has a place
 pub returns-in_default : goal.returns-in_default
