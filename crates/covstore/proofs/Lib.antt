@@ -71,6 +71,8 @@ pub mod Fewer
 pub mod FewerTally
 pub mod FewerLoops
 pub mod FewerKeys
+pub mod FewerHolders
+pub mod FewerMarks
 pub mod SeenTests
 pub mod SeenStore
 pub mod Settled

@@ -1,14 +1,18 @@
 -- What a test less does to the numbers of a point, and to how many tests hold a line's checksum.
-use Rattle.std.specs.Prelude.{◌≡◌, ℕ, ◌+◌, ◌-◌, ◌<◌, ◌≤◌, Bool, true, nat_lt, if◌then◌else◌, Option, Some, None, List, ◌∷◌}
+use Rattle.std.specs.Prelude.{◌≡◌, ℕ, ◌+◌, ◌-◌, ◌<◌, ◌≤◌, Bool, true, nat_lt, if◌then◌else◌, Option, Some, None, List, [], ◌∷◌}
 use Rattle.std.specs.declared.cmp.Ordering.{Ordering}
 use Rattle.std.specs.Ordering.{nat_cmp}
 use Rattle.std.specs.Option.{is_some}
 use Rattle.covstore.specs.declared.kept.Tally.{Tally}
+use Rattle.covstore.specs.declared.sums.LineSum.{LineSum}
 use Rattle.covstore.specs.declared.sums.Tests.{Tests}
+use Rattle.covstore.specs.declared.totals.Totals.{Totals}
 use Rattle.covstore.specs.Assigned.{assigned}
 use Rattle.covstore.specs.Changes.{IsTallyOf}
 use Rattle.covstore.specs.Counts.{AreCounts, is_above_at, one_if}
 use Rattle.covstore.specs.Puts.{ArePairs, value_of}
+use Rattle.covstore.specs.State.{holders_at}
+use Rattle.covstore.specs.Sums.{TestData}
 
 -- a test less has the point, above 0 or not; none where it was the only one
 abbrev pub fewer_tests : Bool → Tests → Option Tests
@@ -49,6 +53,10 @@ pub record IsTallyAt {K : Type 0} (cmp : K → K → Ordering) (key : K) (counts
   pub same : value_of cmp key others ≡ value_of cmp key counts
   pub tallied : IsTallyOf others tally
 
+-- the totals of a file, by the tallies of its kinds of points
+abbrev pub totals_by : Tally → Tally → Tally → Totals
+totals_by lines functions branches = record { lf = lines.found; lh = lines.hit; ff = functions.found; fh = functions.hit; bf = branches.found; bh = branches.hit }
+
 -- some test has the point above 0
 abbrev pub is_hit : Option Tests → Bool
 is_hit held = is_above_at (λ tests. nat_lt 0 tests.hit) held
@@ -73,3 +81,19 @@ less_of (Some tests) = one_less tests
 
 abbrev pub held_less : ℕ → List (ℕ × ℕ) → List (ℕ × ℕ)
 held_less line holders = assigned nat_cmp line (less_of (value_of nat_cmp line holders)) holders
+
+-- the numbers of the lines are how many of these tests hold a checksum of each
+abbrev pub AreHolders : List TestData → List (ℕ × ℕ) → Type 0
+AreHolders tests holders = (line : ℕ) → value_of nat_cmp line holders ≡ holders_at line tests
+
+-- a test, by its lines alone
+abbrev pub with_lines : List (ℕ × LineSum) → TestData
+with_lines lines = record { lines = lines; functions = []; branches = [] }
+
+-- they are those of a test with these lines, and of others
+abbrev pub AreHoldersWith : List (ℕ × LineSum) → List (ℕ × ℕ) → Type 0
+AreHoldersWith lines holders = (others : List TestData) × AreHolders (with_lines lines ∷ others) holders
+
+-- whatever the others are, they are theirs without that test
+abbrev pub LosesHolders : List (ℕ × LineSum) → List (ℕ × ℕ) → List (ℕ × ℕ) → Type 0
+LosesHolders lines holders fewer = (others : List TestData) → AreHolders (with_lines lines ∷ others) holders → AreHolders others fewer

@@ -3,10 +3,11 @@
 ghost use Rattle.std.specs.Prelude.{◌≡◌};
 ghost use Rattle.std.specs.Cmp.Lexicographic.{slice_cmp};
 ghost use Rattle.std.specs.Ordering.{nat_cmp};
-ghost use Rattle.covstore.specs.Fewer.{AreWith, IsTallyWithout, LosesTest};
+ghost use Rattle.covstore.specs.Fewer.{AreHoldersWith, AreWith, IsTallyWithout, LosesHolders, LosesTest};
 ghost use Rattle.covstore.specs.KeyOrders.{code_branch_cmp};
 ghost use Rattle.covstore.specs.State.{branch_above, function_above, line_above};
 
+use crate::checksums::Checksums;
 use crate::kept::{Kept, Tally};
 use crate::points::Points;
 use crate::sums::{FunctionSum, LineSum, Taken};
@@ -58,6 +59,25 @@ pub(super) fn drop_branches<A: Allocator + Copy>(
     branches.are_whole();
     for (point, sum) in branches.filled() {
         kept.remove(*point, Taken::is_hit(Some(*sum)));
+    }
+}
+
+/// The test with these lines is gone, and holds no checksum any more. Nothing else is to come then.
+pub(super) fn drop_checksums<A: Allocator + Copy>(
+    checksums: &mut Checksums<A>,
+    lines: &Points<u64, LineSum, A>,
+)
+    requires { AreHoldersWith lines.now.held checksums.old.held }
+    ensures held { LosesHolders lines.now.held checksums.old.held checksums.new.held }
+    ensures coming { checksums.new.coming ≡ checksums.new.held }
+    ensures texts { checksums.new.texts ≡ checksums.old.texts }
+{
+    checksums.forget();
+    lines.are_whole();
+    for (line, sum) in lines.filled() {
+        if sum.has_checksum {
+            checksums.release(*line);
+        }
     }
 }
 
