@@ -1,5 +1,5 @@
 -- The branches of the code and those of the specifications: what is counted of the ones is counted of the others.
-use Rattle.std.proofs.Common.{◌≡◌, ℕ, Bool, Option, List, [], ◌∷◌, length, map, refl, sym, ap, ◌∙◌, subst}
+use Rattle.std.proofs.Common.{◌≡◌, Bool, List, [], ◌∷◌, map, refl, sym, ap, ◌∙◌, subst}
 use Rattle.std.specs.declared.cmp.Ordering.{Ordering}
 use Rattle.std.specs.declared.cmp.Ordering.TheVariants.{Less}
 use Rattle.std.specs.List.{AllByRecursion}
@@ -10,7 +10,6 @@ use Rattle.covline.specs.PointView.{branch_point_data}
 use Rattle.covline.specs.declared.point.BranchPoint as code
 use Rattle.covstore.specs.declared.kept.Tally.{Tally}
 use Rattle.covstore.specs.declared.sums.Tests.{Tests}
-use Rattle.covstore.specs.Changes.{IsTallyOf}
 use Rattle.covstore.specs.Counts.{AreCounts, hit_of, is_above_at, tests_at}
 use Rattle.covstore.specs.Fewer.{AreWith, IsTallyWithout, LosesTest}
 use Rattle.covstore.specs.KeyOrders.{code_branch_cmp, code_branch_exact, code_branch_total}

@@ -1,7 +1,6 @@
 -- The points of a test are taken out one by one: what is kept meanwhile, and the tally of it.
-use Rattle.std.proofs.Common.{◌≡◌, Bool, true, false, Option, Some, None, List, [], ◌∷◌, refl, sym, ap, ◌∙◌, subst}
+use Rattle.std.proofs.Common.{◌≡◌, Bool, Some, List, [], ◌∷◌, sym, ap, ◌∙◌, subst}
 use Rattle.std.specs.declared.cmp.Ordering.{Ordering}
-use Rattle.std.specs.Ordering.{is_eq}
 use Rattle.std.proofs.lemmas.Option.{none-some}
 use Rattle.covstore.specs.declared.kept.Tally.{Tally}
 use Rattle.covstore.specs.declared.sums.Tests.{Tests}

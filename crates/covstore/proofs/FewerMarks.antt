@@ -1,11 +1,8 @@
 -- What is kept of a file without one of its tests: it exists, and its totals are those of its tallies.
-use Rattle.std.proofs.Common.{◌≡◌, ℕ, List, ◌∷◌, map, sym, ◌∙◌}
+use Rattle.std.proofs.Common.{◌≡◌, ℕ, List, ◌∷◌, map, ◌∙◌}
 use Rattle.std.specs.Cmp.Lexicographic.{slice_cmp}
 use Rattle.std.specs.Ordering.{nat_cmp}
-use Rattle.covline.specs.Points.{BranchPoint}
 use Rattle.covstore.specs.declared.kept.Tally.{Tally}
-use Rattle.covstore.specs.declared.sums.LineSum.{LineSum}
-use Rattle.covstore.specs.declared.sums.Tests.{Tests}
 use Rattle.covstore.specs.Changes.{IsTallyOf}
 use Rattle.covstore.specs.Drops.{AreMarks}
 use Rattle.covstore.specs.Fewer.{AreHolders, totals_by, with_lines}

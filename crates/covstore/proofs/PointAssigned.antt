@@ -1,18 +1,14 @@
 -- A value, or none, written into the slot of a key: what is held of the keys then.
-use Rattle.std.proofs.Common.{◌≡◌, ℕ, zero, suc, ◌<◌, true, false, Option, Some, None, List, [], ◌∷◌, ◌++◌, length, get_or, take, drop, set, refl, sym, ap, ◌∙◌, append_assoc, subst, arith}
+use Rattle.std.proofs.Common.{◌≡◌, ℕ, zero, suc, ◌<◌, Option, Some, None, List, [], ◌∷◌, ◌++◌, length, get_or, take, drop, set, refl, sym, ap, ◌∙◌, append_assoc, subst, arith}
 use Rattle.std.specs.Cmp.{IsTotalOrder}
 use Rattle.std.specs.declared.cmp.Ordering.{Ordering}
 use Rattle.std.specs.declared.cmp.Ordering.TheVariants.{Less, Equal, Greater}
 use Rattle.std.specs.List.{AllByRecursion}
-use Rattle.std.specs.Map.{lookup}
-use Rattle.std.specs.Option.{is_some}
-use Rattle.std.specs.Ordering.{is_eq, is_gt, is_lt}
-use Rattle.std.proofs.lemmas.Bool.{false≢true}
-use Rattle.covstore.specs.Asked.{IsAsked, asked_by_order}
+use Rattle.std.specs.Ordering.{is_gt, is_lt}
+use Rattle.covstore.specs.Asked.{asked_by_order}
 use Rattle.covstore.specs.Assigned.{assigned, with_slot, without}
-use Rattle.covstore.specs.Coming.{coming_of, column_of, with_column}
-use Rattle.covstore.specs.PointsData.{PointsData}
-use Rattle.covstore.specs.Puts.{ArePairs, value_of}
+use Rattle.covstore.specs.Coming.{column_of, with_column}
+use Rattle.covstore.specs.Puts.{value_of}
 use Rattle.covstore.specs.Slots.{AreSlots, IsAscending, IsGap, IsPlace, before, filled, page_at, slot_at, slots_of, value_at}
 use Rattle.covstore.proofs.Comings.{nothing_coming}
 use Rattle.covstore.proofs.Filled.{filled_put}

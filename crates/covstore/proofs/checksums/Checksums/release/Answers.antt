@@ -1,4 +1,4 @@
-use Rattle.std.proofs.Common.{◌≡◌, ◌∙◌, List, Some, true, ap, sym, ℕ}
+use Rattle.std.proofs.Common.{◌≡◌, ◌∙◌, List, true, ap, sym, ℕ}
 use Rattle.std.specs.Option.{is_some}
 use Rattle.std.specs.Ordering.{nat_cmp}
 use Rattle.covstore.specs.Assigned.{assigned}

@@ -2,7 +2,7 @@ use Rattle.std.proofs.Common.{◌≡◌, ◌∙◌, List, Some, ap, refl, subst,
 use Rattle.covstore.specs.declared.sums.Tests.{Tests}
 use Rattle.covstore.specs.Assigned.{assigned}
 use Rattle.covstore.specs.Changes.{IsTallyOf}
-use Rattle.covstore.specs.Fewer.{IsTallyAt, counts_without, fewer_of}
+use Rattle.covstore.specs.Fewer.{counts_without, fewer_of}
 use Rattle.covstore.specs.PointsData.{PointsData}
 use Rattle.covstore.specs.Puts.{value_of}
 use Rattle.covstore.proofs.FewerTally.{can_be_less_at, tally_less_at}
