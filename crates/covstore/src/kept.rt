@@ -55,6 +55,7 @@ impl Tally {
         requires { CanBeLess self before after }
         ensures { IsLess self before after result }
     {
+        // No point is hit for the first time by that, so hit or not differs only where it is hit no more.
         let stays = after.is_some();
         let stays_hit = Tests::is_hit(Some(before)) == Tests::is_hit(after);
         Tally {
@@ -64,7 +65,7 @@ impl Tally {
     }
 }
 
-/// The tally of the points so far, and where the last of them stood.
+/// A walk over the points of a test: the tally without those that were passed, and where the last of them stood.
 #[derive(Clone, Copy)]
 pub(crate) struct Walk {
     pub tally: Tally,
