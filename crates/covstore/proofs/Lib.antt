@@ -66,6 +66,13 @@ pub mod StepsTexts
 pub mod StepsCounts
 pub mod StepsKept
 pub mod StepsMore
+pub mod Assigned
+pub mod Fewer
+pub mod FewerTally
+pub mod FewerLoops
+pub mod FewerKeys
+pub mod FewerHolders
+pub mod FewerMarks
 pub mod SeenTests
 pub mod SeenStore
 pub mod Settled
@@ -86,6 +93,7 @@ pub mod ComingWhole
 pub mod Filled
 pub mod PointPlaces
 pub mod PointTakes
+pub mod PointAssigned
 pub mod ComingGrowth
 pub mod Alike
 pub mod AlikeContents

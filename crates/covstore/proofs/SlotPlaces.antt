@@ -35,7 +35,7 @@ page_here [] j slot e = absurd cc
 page_here (first ∷ page) zero slot e = let same : first ≡ slot = cc in ap (λ slot. slot ∷ page) same
 page_here (first ∷ page) (suc j) slot e = page_here page j slot e
 
-column_set : {K V : Type 0} (page : List (K × Option V)) (j : ℕ) (slot : K × Option V) (value : Option V) → slice_get page j ≡ Some slot
+pub column_set : {K V : Type 0} (page : List (K × Option V)) (j : ℕ) (slot : K × Option V) (value : Option V) → slice_get page j ≡ Some slot
     → with_column page (set (column_of page) j value) ≡ take j page ++ (slot.0, value) ∷ drop (suc j) page
 column_set [] j slot value e = absurd cc
 column_set (first ∷ page) zero slot value e = let same : first ≡ slot = cc in ap (λ rest. (first.0, value) ∷ rest) (own page) ∙ ap (λ (slot : _). (slot.0, value) ∷ page) same

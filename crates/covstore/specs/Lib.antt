@@ -33,5 +33,7 @@ pub mod Asked
 pub mod Slots
 pub mod SlotPlace
 pub mod Coming
+pub mod Assigned
 pub mod Without
+pub mod Fewer
 pub mod Drops

@@ -2,6 +2,7 @@
 
 ghost use Rattle.std.specs.Prelude.{◌≡◌, ◌<◌, ◌^◌, [], true, Some, is_some, option_map, IfErr, IfSome, OnOk};
 ghost use Rattle.covstore.specs.Checksums.{IsToldOf, IsHeldToo, KeepsTexts, StayTexts, held_more};
+ghost use Rattle.covstore.specs.Fewer.{held_less, one_less};
 ghost use Rattle.covstore.specs.Puts.{put, value_of};
 ghost use Rattle.covstore.specs.declared.stop.Stop.TheVariants as stops;
 ghost use Rattle.std.specs.Ordering.{nat_cmp};
@@ -126,6 +127,18 @@ impl<A: Allocator + Copy> Checksums<A> {
 }
 
 impl<A: Allocator> Checksums<A> {
+    /// A test less holds the checksum of a line. Nothing else is to come then. Takes no memory.
+    pub(crate) fn release(&mut self, line: u64)
+        requires { is_some (value_of nat_cmp line self.old.held) ≡ true }
+        ensures held { self.new.held ≡ held_less line self.old.held }
+        ensures coming { self.new.coming ≡ self.new.held }
+        ensures texts { self.new.texts ≡ self.old.texts }
+    {
+        if let Some(tests) = self.holders.held(line) {
+            self.holders.exchange(line, one_less(tests));
+        }
+    }
+
     /// The checksum of a line, where one is kept.
     pub(crate) fn text(&self, line: u64) -> Option<&[u8]>
         ensures { option_map (λ text. text.now) result ≡ value_of nat_cmp line self.now.texts }
@@ -135,4 +148,11 @@ impl<A: Allocator> Checksums<A> {
             None => None,
         }
     }
+}
+
+/// How many tests hold a checksum where one less does; none where that was the only one.
+fn one_less(tests: u64) -> Option<u64>
+    ensures { result ≡ one_less tests }
+{
+    if tests > 1 { Some(tests - 1) } else { None }
 }

@@ -6,6 +6,7 @@ ghost use Rattle.covstore.specs.Counts.{found_of, hit_of};
 ghost use Rattle.covstore.specs.Puts.{value_of};
 
 use crate::points::{Asked, Key, Points};
+use crate::slots::Place;
 use crate::sums::Tests;
 use std::alloc::{AllocError, Allocator};
 use std::marker::Model;
@@ -44,6 +45,31 @@ impl Change {
 pub(crate) struct Tally {
     pub found: u64,
     pub hit: u64,
+}
+
+impl Tally {
+    ghost use Rattle.covstore.specs.Fewer.{CanBeLess, IsLess};
+
+    /// The tally where a point's numbers fall: it is found and hit no more where it was.
+    fn less(self, before: Tests, after: Option<Tests>) -> Tally
+        requires { CanBeLess self before after }
+        ensures { IsLess self before after result }
+    {
+        // No point is hit for the first time by that, so hit or not differs only where it is hit no more.
+        let stays = after.is_some();
+        let stays_hit = Tests::is_hit(Some(before)) == Tests::is_hit(after);
+        Tally {
+            found: if stays { self.found } else { self.found - 1 },
+            hit: if stays_hit { self.hit } else { self.hit - 1 },
+        }
+    }
+}
+
+/// A walk over the points of a test: the tally without those that were passed, and where the last of them stood.
+#[derive(Clone, Copy)]
+pub(crate) struct Walk {
+    pub tally: Tally,
+    place: Place,
 }
 
 /// For each point of a kind in how many tests of a file it is, as it is and as it is to be. Contracts see the points.
@@ -142,5 +168,53 @@ impl<K: Key + Drop, A: Allocator + Copy> Kept<K, A> {
         ensures hit { result.hit ≡ hit_of self.now.coming }
     {
         self.coming
+    }
+}
+
+impl<K: Key, A: Allocator> Kept<K, A> {
+    ghost use Rattle.std.specs.Prelude.{List};
+    ghost use Rattle.covstore.specs.declared.sums.Tests.{Tests};
+    ghost use Rattle.covstore.specs.Changes.{IsTallyOf};
+    ghost use Rattle.covstore.specs.Fewer.{CanLose, IsTallyAt, counts_without};
+
+    /// A test less has the point, above 0 or not. Nothing else is to come then. Takes no memory.
+    pub(crate) fn remove<Q: Asked<K, A>>(&mut self, asked: Q, was_above: bool)
+        requires { CanLose was_above (value_of K.cmp (Q.named asked) self.old.held) }
+        ensures held { self.new.held ≡ counts_without K.cmp (Q.named asked) was_above self.old.held }
+        ensures coming { self.new.coming ≡ self.new.held }
+    {
+        if let Some(before) = self.counts.held(asked) {
+            let after = before.fewer(was_above);
+            self.held = self.held.less(before, after);
+            self.coming = self.held;
+            self.counts.exchange(asked, after);
+        }
+    }
+
+    /// A walk that has passed no point yet.
+    pub(crate) fn walk(&self) -> Walk
+        ensures { IsTallyOf self.now.held result.tally }
+    {
+        Walk {
+            tally: self.held,
+            place: Place::first(),
+        }
+    }
+
+    /// The tally of what is counted where a test less has the point, by the numbers that the point has now.
+    pub(crate) fn pass<Q: Asked<K, A>>(&self, walk: Walk, asked: Q, was_above: bool) -> Walk
+        requires lose { CanLose was_above (value_of K.cmp (Q.named asked) self.now.held) }
+        requires at { (others : List (K × Tests)) × IsTallyAt K.cmp (Q.named asked) self.now.held others walk.tally }
+        ensures { (others : List (K × Tests)) → IsTallyAt K.cmp (Q.named asked) self.now.held others walk.tally → IsTallyOf (counts_without K.cmp (Q.named asked) was_above others) result.tally }
+    {
+        let (held, place) = self.counts.held_at(asked, walk.place);
+        let Some(before) = held else {
+            return walk;
+        };
+        let after = before.fewer(was_above);
+        Walk {
+            tally: walk.tally.less(before, after),
+            place,
+        }
     }
 }

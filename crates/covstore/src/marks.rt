@@ -1,9 +1,17 @@
 //! What is kept of a file beside its tests.
 
 ghost use Rattle.std.specs.Prelude.{◌≡◌};
+ghost use Rattle.covstore.specs.Fewer.{totals_by};
+
+mod drops;
 
 use crate::checksums::Checksums;
-use crate::kept::Kept;
+use crate::kept::{Kept, Tally};
+use crate::marks::drops::{
+    branches_without, drop_branches, drop_checksums, drop_functions, drop_lines, functions_without,
+    lines_without,
+};
+use crate::test::Test;
 use crate::totals::Totals;
 use covline::{BranchPoint, Bytes};
 use std::alloc::Allocator;
@@ -19,7 +27,11 @@ pub(crate) struct Marks<A: Allocator> {
 
 impl<A: Allocator + Copy> Marks<A> {
     ghost use Rattle.covstore.specs.MarksView.{marks_coming, marks_held, no_marks};
-    ghost use Rattle.covstore.specs.Marks.{marks_totals};
+    ghost use Rattle.std.specs.Prelude.{List, ◌∷◌};
+    ghost use Rattle.covstore.specs.Drops.{AreMarks};
+    ghost use Rattle.covstore.specs.Marks.{MarksData, marks_totals};
+    ghost use Rattle.covstore.specs.Sums.{TestData};
+    ghost use Rattle.covstore.specs.TestView.{test_held};
 
     /// No tests, and no points.
     pub(crate) fn new(alloc: A) -> Marks<A>
@@ -60,16 +72,49 @@ impl<A: Allocator + Copy> Marks<A> {
     pub(crate) fn totals(&self) -> Totals
         ensures { result ≡ marks_totals (marks_coming self.now) }
     {
-        let lines = self.lines.coming();
-        let functions = self.functions.coming();
-        let branches = self.branches.coming();
-        Totals {
-            lf: lines.found,
-            lh: lines.hit,
-            ff: functions.found,
-            fh: functions.hit,
-            bf: branches.found,
-            bh: branches.hit,
-        }
+        totals_of(
+            self.lines.coming(),
+            self.functions.coming(),
+            self.branches.coming(),
+        )
+    }
+
+    /// A test with these points is gone. Nothing else is to come after it. Takes no memory.
+    pub(crate) fn drop_points(&mut self, points: &Test<A>)
+        requires { (others : List TestData) × AreMarks (test_held points.now ∷ others) (marks_held self.old) }
+        ensures held { (others : List TestData) → AreMarks (test_held points.now ∷ others) (marks_held self.old) → AreMarks others (marks_held self.new) }
+        ensures texts { (marks_held self.new).texts ≡ (marks_held self.old).texts }
+        ensures coming { marks_coming self.new ≡ marks_held self.new }
+    {
+        drop_lines(&mut self.lines, &points.lines);
+        drop_functions(&mut self.functions, &points.functions);
+        drop_branches(&mut self.branches, &points.branches);
+        drop_checksums(&mut self.checksums, &points.lines);
+    }
+
+    /// The file's totals where a test with these points is gone. Takes no memory.
+    pub(crate) fn totals_without(&self, points: &Test<A>) -> Totals
+        requires { (others : List TestData) × AreMarks (test_held points.now ∷ others) (marks_held self.now) }
+        ensures { (others : List TestData) (rest : MarksData) → AreMarks (test_held points.now ∷ others) (marks_held self.now) → AreMarks others rest → result ≡ marks_totals rest }
+    {
+        totals_of(
+            lines_without(&self.lines, &points.lines),
+            functions_without(&self.functions, &points.functions),
+            branches_without(&self.branches, &points.branches),
+        )
+    }
+}
+
+/// The totals of a file, by the tallies of its points.
+fn totals_of(lines: Tally, functions: Tally, branches: Tally) -> Totals
+    ensures { result ≡ totals_by lines functions branches }
+{
+    Totals {
+        lf: lines.found,
+        lh: lines.hit,
+        ff: functions.found,
+        fh: functions.hit,
+        bf: branches.found,
+        bh: branches.hit,
     }
 }

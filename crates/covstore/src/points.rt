@@ -52,12 +52,20 @@ impl<K: Key, V, A: Allocator + Copy> Points<K, V, A> {
 
 impl<K: Key, V, A: Allocator> Points<K, V, A> {
     ghost use Rattle.std.specs.Prelude.{◌≡◌, ◌↔◌, [], IsTrue};
+    ghost use Rattle.covstore.specs.Puts.{ArePairs};
 
     /// The filled slots in order, each key with its value.
     pub(crate) fn filled(&self) -> Filled<'_, K, V, A>
         ensures { result ≡ self.now.held }
     {
         self.slots.filled()
+    }
+
+    /// Tells, for a proof alone, that the filled slots ascend.
+    pub(crate) fn are_whole(&self)
+        ensures { ArePairs K.cmp self.now.held }
+    {
+        self.slots.are_whole();
     }
 
     /// Whether no slot is filled.
@@ -82,7 +90,8 @@ impl<K: Key, V: Drop, A: Allocator> Points<K, V, A> {
 }
 
 impl<K: Key, V: Copy, A: Allocator> Points<K, V, A> {
-    ghost use Rattle.std.specs.Prelude.{◌≡◌};
+    ghost use Rattle.std.specs.Prelude.{◌≡◌, true, is_some};
+    ghost use Rattle.covstore.specs.Assigned.{assigned};
     ghost use Rattle.covstore.specs.Puts.{ArePairs, value_of};
 
     /// The value that is to come for what is asked for: the one that it has now, where none was put in.
@@ -101,6 +110,41 @@ impl<K: Key, V: Copy, A: Allocator> Points<K, V, A> {
                 self.cursor = place;
                 None
             }
+        }
+    }
+
+    /// The value that what is asked for has now, and the place to look at first for the next one.
+    pub(crate) fn held_at<Q: Asked<K, A>>(&self, asked: Q, guess: Place) -> (Option<V>, Place)
+        ensures value { result.0 ≡ value_of K.cmp (Q.named asked) self.now.held }
+        ensures whole { ArePairs K.cmp self.now.held }
+    {
+        match self.slots.find(asked, guess) {
+            Ok(place) => (self.slots.value_at(place), place),
+            Err(place) => (None, place),
+        }
+    }
+
+    /// The value that what is asked for has now.
+    pub(crate) fn held<Q: Asked<K, A>>(&mut self, asked: Q) -> Option<V>
+        ensures value { result ≡ value_of K.cmp (Q.named asked) self.old.held }
+        ensures same { self.new ≡ self.old }
+        ensures whole { ArePairs K.cmp self.old.held }
+    {
+        let (value, place) = self.held_at(asked, self.cursor);
+        self.cursor = place;
+        value
+    }
+
+    /// Exchanges the value of what is asked for, or takes it out. Nothing else is to come then. Needs no memory.
+    pub(crate) fn exchange<Q: Asked<K, A>>(&mut self, asked: Q, value: Option<V>)
+        requires { is_some (value_of K.cmp (Q.named asked) self.old.held) ≡ true }
+        ensures now { self.new.held ≡ assigned K.cmp (Q.named asked) value self.old.held }
+        ensures coming { self.new.coming ≡ self.new.held }
+    {
+        self.coming.clear();
+        if let Ok(place) = self.slots.find(asked, self.cursor) {
+            self.cursor = place;
+            self.slots.write(place, value);
         }
     }
 

@@ -4,11 +4,12 @@
 //! last key, and a slot on it, by a binary search; a walk in order costs no search, where each place is the guess for
 //! the next one. What stands above knows the list of all slots and what a place is, and not how the pages are cut.
 
-ghost use Rattle.std.specs.Prelude.{◌≡◌, ◌↔◌, ◌+◌, ◌^◌, ◌<◌, None, [], ◌∷◌, ◌++◌, IfErr, IfOk, OnErr, OnOk, length, option_map};
+ghost use Rattle.std.specs.Prelude.{◌≡◌, ◌↔◌, ◌+◌, ◌^◌, ◌<◌, None, [], ◌∷◌, ◌++◌, IfErr, IfOk, OnErr, OnOk, length, option_map, slice_set};
 ghost use Rattle.std.specs.declared.cmp.Ordering.TheVariants.{Less};
 ghost use Rattle.std.specs.List.{AllByRecursion};
 ghost use Rattle.covstore.specs.Slots.{AreSlots, IsAscending, IsCut, IsGap, IsPlace, behind, ends_before, filled, is_before, lead, order_at, page_at, slot_at, slots_of, value_at, with_empty, with_page_split};
 ghost use Rattle.covstore.specs.Coming.{column_of, with_column, with_page};
+ghost use Rattle.covstore.specs.Assigned.{with_slot};
 ghost use Rattle.covstore.specs.SlotPlace.{at};
 
 pub(crate) mod coming;
@@ -237,6 +238,15 @@ impl<K: Key, V: Copy, A: Allocator> Slots<K, V, A> {
     {
         fill_page(&mut self.pages[number], column);
     }
+
+    /// Writes a value, or none, into the slot at a place.
+    pub(crate) fn write(&mut self, place: Place, value: Option<V>)
+        requires page { place.page < length self.old }
+        requires slot { place.index < length (page_at self.old place.page) }
+        ensures { self.new ≡ with_slot (at place) value self.old }
+    {
+        write_slot(&mut self.pages[place.page], place.index, value);
+    }
 }
 
 impl<K: Key + Drop, V: Drop, A: Allocator + Copy> Slots<K, V, A> {
@@ -322,4 +332,12 @@ fn fill_page<K, V: Copy>(page: &mut [(K, Option<V>)], column: &[Option<V>])
     for index in 0..column.len() {
         page[index].1 = column[index];
     }
+}
+
+/// Writes a value, or none, into a slot of one page.
+fn write_slot<K, V: Copy>(page: &mut [(K, Option<V>)], index: usize, value: Option<V>)
+    requires { index < length page.old }
+    ensures { page.new ≡ with_column page.old (slice_set (column_of page.old) index value) }
+{
+    page[index].1 = value;
 }

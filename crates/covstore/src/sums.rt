@@ -33,6 +33,32 @@ pub(crate) struct Tests {
     pub hit: u64,
 }
 
+impl Tests {
+    ghost use Rattle.covstore.specs.Fewer.{HaveOne, fewer_tests, is_hit};
+
+    /// Whether there are tests, and one of them has the point above 0.
+    pub(crate) fn is_hit(held: Option<Tests>) -> bool
+        ensures { result ≡ is_hit held }
+    {
+        held.is_some_and(|tests| tests.hit > 0)
+    }
+
+    /// The numbers where a test less has the point, above 0 or not; none where it was the only one.
+    pub(crate) fn fewer(self, was_above: bool) -> Option<Tests>
+        requires { HaveOne was_above self }
+        ensures { result ≡ fewer_tests was_above self }
+    {
+        if self.tests <= 1 {
+            return None;
+        }
+        let hit = if was_above { self.hit - 1 } else { self.hit };
+        Some(Tests {
+            tests: self.tests - 1,
+            hit,
+        })
+    }
+}
+
 impl LineSum {
     /// Whether the line is there, with a count above 0.
     pub(crate) fn is_hit(held: Option<LineSum>) -> bool
