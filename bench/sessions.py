@@ -10,6 +10,9 @@ A kind is a way to make tracefiles of a size, and the sizes:
   files      one tracefile of so many files of three lines
   tests      so many tests of one file of 100 lines, a tracefile each
   one-line   so many tracefiles of one line each, behind one section of 1,000,000 lines that has it
+  drop-one   so many tests of one file of 100 lines, then 2,000 times one of them is dropped and handed in again
+  drop-all   so many files of three lines, all of them of two tests, then five times one of these is dropped and handed in
+             again
 """
 import os
 import random
@@ -78,6 +81,24 @@ def one_line(size):
         yield section("unit", "/src/large.c", [(number * 97 + 1, 1)])
 
 
+def drop_one(size):
+    texts = list(tests(size))
+    yield from texts
+    for turn in range(2_000):
+        number = turn * 7 % size
+        yield f"drop unit_{number}"
+        yield texts[number]
+
+
+def drop_all(size):
+    unit = next(files(size))
+    yield unit
+    yield unit.replace("TN:unit", "TN:system")
+    for _ in range(5):
+        yield "drop unit"
+        yield unit
+
+
 KINDS = {
     "adding": (adding, (1, 4, 16, 64)),
     "eight": (eight, (8, 60)),
@@ -87,6 +108,8 @@ KINDS = {
     "files": (files, (25_000, 100_000)),
     "tests": (tests, (250, 1_000)),
     "one-line": (one_line, (2_500, 10_000)),
+    "drop-one": (drop_one, (250, 1_000)),
+    "drop-all": (drop_all, (2_500, 10_000)),
 }
 
 
@@ -109,21 +132,30 @@ def same_report(told, wanted):
     """Whether a session printed this report: what stands behind its answers, up to the line with a point."""
     with open(told, "rb") as text:
         said = text.read().split(b"\n")
-    said = [line for line in said if not line.startswith(b"accepted ")]
+    said = [line for line in said if not line.startswith((b"accepted ", b"dropped "))]
     with open(wanted, "rb") as text:
         return b"\n".join(said[:-2] + [b""]) == text.read()
 
 
 def write(kind, size, session, folder):
-    """Writes a session, and its tracefiles where a folder is given; tells how long and how many they are."""
+    """Writes a session, and its tracefiles where a folder is given; tells how long they are, and how many. What is handed in
+    again behind a drop is in these already, and counts by its length alone."""
     length = number = 0
+    is_again = False
     with open(session, "w") as to:
         for text in KINDS[kind][0](size):
+            if text.startswith("drop "):
+                to.write(f"{text}\n")
+                is_again = True
+                continue
             to.write(f"trace\n{text}.\n")
+            length += len(text)
+            if is_again:
+                continue
             if folder and number < 1000:
                 with open(f"{folder}/{number}.info", "w") as info:
                     info.write(text)
-            length, number = length + len(text), number + 1
+            number += 1
         to.write("report\n")
     print(length, number)
 
