@@ -1,15 +1,17 @@
 -- The table without the rows of a test.
-use Rattle.std.specs.Prelude.{ℕ, Bool, List}
+use Rattle.std.specs.Prelude.{ℕ, Bool, not, List, length, map, filter}
 use Rattle.std.specs.Str.{bytes_eq}
 use Rattle.covline.specs.Row.{Row}
-use Rattle.covstore.specs.Table.{Table}
+use Rattle.covstore.specs.Table.{Table, all_rows}
+use Rattle.covstore.specs.Value.{keys_of}
 
 abbrev pub is_of_test : List ℕ → Row → Bool
 is_of_test test row = bytes_eq row.test test
 
--- STUB
+-- its members stay, also those that have no row any more
 abbrev pub without_test : List ℕ → Table → Table
-without_test test table = table
+without_test test table = map (filter (λ row. not (is_of_test test row))) table
 
+-- of how many different files and tests the rows of a test are
 abbrev pub sections_of_test : List ℕ → Table → ℕ
-sections_of_test test table = 0
+sections_of_test test table = length (keys_of (filter (is_of_test test) (all_rows table)))

@@ -86,7 +86,6 @@ impl<A: Allocator + Copy> Store<A> {
     ghost use Rattle.covstore.specs.FileView.{with_file};
     ghost use Rattle.covstore.specs.Table.{Table, all_rows, clash_at};
     ghost use Rattle.covstore.specs.Totals.{AreTotals, totals_of};
-    ghost use Rattle.covstore.specs.Without.{sections_of_test, without_test};
 
     /// A store that holds nothing. Takes no memory.
     pub fn new(alloc: A) -> Store<A>
@@ -268,24 +267,6 @@ impl<A: Allocator + Copy> Store<A> {
         ensures rows { (table : Table) → StandsFor self.now table → result ≡ list_any (λ row. bytes_eq row.test test.now) (all_rows table) }
     {
         self.files.values().any(|file| file.has_test(test))
-    }
-
-    /// In how many sections the test stands, and the totals that `drop_test` would leave. Takes no memory.
-    pub fn after_drop(&self, _test: &[u8]) -> (u64, Totals)
-        ensures sections { (table : Table) → StandsFor self.now table → result.0 ≡ sections_of_test _test.now table }
-        ensures totals { (table : Table) → StandsFor self.now table → result.1 ≡ totals_of (content_at (without_test _test.now table)) }
-        ensures bounds { AreTotals result.1 }
-    {
-        (0, self.totals())
-    }
-
-    /// Drops all rows of a test: its points go, and what other tests have stays. Tells in how many sections it stood.
-    /// Takes no memory.
-    pub fn drop_test(&mut self, _test: &[u8]) -> u64
-        ensures sections { (table : Table) → StandsFor self.old table → result ≡ sections_of_test _test.now table }
-        ensures stands { (table : Table) → StandsFor self.old table → StandsFor self.new (without_test _test.now table) }
-    {
-        0
     }
 
     /// The totals over all files and tests. Takes no memory.
