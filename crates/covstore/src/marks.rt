@@ -4,6 +4,7 @@ ghost use Rattle.std.specs.Prelude.{◌≡◌};
 
 use crate::checksums::Checksums;
 use crate::kept::Kept;
+use crate::test::Test;
 use crate::totals::Totals;
 use covline::{BranchPoint, Bytes};
 use std::alloc::Allocator;
@@ -19,7 +20,11 @@ pub(crate) struct Marks<A: Allocator> {
 
 impl<A: Allocator + Copy> Marks<A> {
     ghost use Rattle.covstore.specs.MarksView.{marks_coming, marks_held, no_marks};
-    ghost use Rattle.covstore.specs.Marks.{marks_totals};
+    ghost use Rattle.std.specs.Prelude.{List, ◌∷◌};
+    ghost use Rattle.covstore.specs.Drops.{AreMarks};
+    ghost use Rattle.covstore.specs.Marks.{MarksData, marks_totals};
+    ghost use Rattle.covstore.specs.Sums.{TestData};
+    ghost use Rattle.covstore.specs.TestView.{test_held};
 
     /// No tests, and no points.
     pub(crate) fn new(alloc: A) -> Marks<A>
@@ -71,5 +76,23 @@ impl<A: Allocator + Copy> Marks<A> {
             bf: branches.found,
             bh: branches.hit,
         }
+    }
+
+    /// A test with these points is gone. Nothing else is to come after it. Takes no memory.
+    pub(crate) fn drop_points(&mut self, points: &Test<A>)
+        requires { (others : List TestData) × AreMarks (test_held points.now ∷ others) (marks_held self.old) }
+        ensures held { (others : List TestData) → AreMarks (test_held points.now ∷ others) (marks_held self.old) → AreMarks others (marks_held self.new) }
+        ensures texts { (marks_held self.new).texts ≡ (marks_held self.old).texts }
+        ensures coming { marks_coming self.new ≡ marks_held self.new }
+    {
+        self.forget();
+    }
+
+    /// The file's totals where a test with these points is gone. Takes no memory.
+    pub(crate) fn totals_without(&self, points: &Test<A>) -> Totals
+        requires { (others : List TestData) × AreMarks (test_held points.now ∷ others) (marks_held self.now) }
+        ensures { (others : List TestData) (rest : MarksData) → AreMarks (test_held points.now ∷ others) (marks_held self.now) → AreMarks others rest → result ≡ marks_totals rest }
+    {
+        self.totals()
     }
 }
