@@ -87,3 +87,5 @@ pub mod Filled
 pub mod PointPlaces
 pub mod PointTakes
 pub mod ComingGrowth
+pub mod DropsRetain
+pub mod DropsMaps

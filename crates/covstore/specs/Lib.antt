@@ -35,3 +35,4 @@ pub mod SlotPlace
 pub mod Coming
 pub mod Without
 pub mod Drops
+pub mod Dropped
