@@ -89,3 +89,5 @@ pub mod PointTakes
 pub mod ComingGrowth
 pub mod DropsRetain
 pub mod DropsMaps
+pub mod DropsTests
+pub mod DropsKept

@@ -30,7 +30,7 @@ impl<A: Allocator + Copy> File<A> {
     ghost use Rattle.covstore.specs.MapsView.{IsSettledBut};
     ghost use Rattle.covstore.specs.RefuseView.{refuse_data};
     ghost use Rattle.covstore.specs.SectionAdds.{RefusedIn};
-    ghost use Rattle.covstore.specs.State.{IsWholeFile, file_totals, has_points_of};
+    ghost use Rattle.covstore.specs.State.{FileData, IsWholeFile, file_totals, has_points_of};
 
     /// No tests.
     pub(crate) fn new(alloc: A) -> File<A>
@@ -151,6 +151,17 @@ impl<A: Allocator + Copy> File<A> {
     {
         if let Some(points) = self.tests.remove(test) {
             self.marks.drop_points(&points);
+        }
+    }
+
+    /// The file's totals where the test is gone. Takes no memory.
+    pub(crate) fn totals_without(&self, test: &[u8]) -> Totals
+        requires { IsWholeFile (file_held self.now) }
+        ensures { (after : FileData) → IsWithoutTest test.now (file_held self.now) after → result ≡ file_totals after }
+    {
+        match self.tests.get(test) {
+            Some(points) => self.marks.totals_without(points),
+            None => self.marks.totals_now(),
         }
     }
 }

@@ -95,4 +95,21 @@ impl<A: Allocator + Copy> Marks<A> {
     {
         self.totals()
     }
+
+    /// The file's totals as they are.
+    pub(crate) fn totals_now(&self) -> Totals
+        ensures { result ≡ marks_totals (marks_held self.now) }
+    {
+        let lines = self.lines.held();
+        let functions = self.functions.held();
+        let branches = self.branches.held();
+        Totals {
+            lf: lines.found,
+            lh: lines.hit,
+            ff: functions.found,
+            fh: functions.hit,
+            bf: branches.found,
+            bh: branches.hit,
+        }
+    }
 }
