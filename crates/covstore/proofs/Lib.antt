@@ -91,3 +91,4 @@ pub mod DropsRetain
 pub mod DropsMaps
 pub mod DropsTests
 pub mod DropsKept
+pub mod WithoutContent

@@ -159,9 +159,9 @@ impl<A: Allocator + Copy> File<A> {
         requires { IsWholeFile (file_held self.now) }
         ensures { (after : FileData) → IsWithoutTest test.now (file_held self.now) after → result ≡ file_totals after }
     {
-        match self.tests.get(test) {
-            Some(points) => self.marks.totals_without(points),
-            None => self.marks.totals_now(),
+        if let Some(points) = self.tests.get(test) {
+            return self.marks.totals_without(points);
         }
+        self.marks.totals_now()
     }
 }

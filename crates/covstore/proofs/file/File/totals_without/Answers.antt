@@ -5,6 +5,7 @@ use Rattle.covstore.specs.MarksView.{marks_held}
 use Rattle.covstore.specs.TestView.{test_held}
 use Rattle.covstore.proofs.DropsKept.{marks_after, marks_first, marks_in, points_of_all, totals_unfound}
 use Rattle.covstore.proofs.MapNames.{names_with, value_of_named}
+use Rattle.covstore.proofs.WithoutContent.{content_without}
 use Rattle.covstore.proofs.Settled.{file_name}
 use Rattle.covstore.proofs.file.File.totals_without.Goals as goal
 
@@ -25,9 +26,9 @@ returns-in-Some g c = λ after is.
     c.totals_without.ensures (points_of_all (tests_without test tests)) (marks_in after) (marks_first test (test_held c.in-Some.points.now) tests (marks_held c.args.self.now.marks) c.requires found)
     (marks_after test (file_held c.args.self.now) after is)
 
-pub returns-in-None : goal.returns-in-None
-returns-in-None g c = λ after is.
+pub returns : goal.returns
+returns g c = λ after is.
     let entries = c.args.self.now.tests.entries in
     let test = c.args.test.now in
-    let none = value_of_named file_name test_held test entries ∙ ap (option_map test_held) (sym c.in-None.ensures.value) in
+    let none = value_of_named file_name test_held test entries ∙ ap (option_map test_held) (sym c.in_default.ensures.value) in
     c.totals_now.ensures ∙ totals_unfound test (file_held c.args.self.now) c.requires none after is
