@@ -92,3 +92,5 @@ pub mod DropsMaps
 pub mod DropsTests
 pub mod DropsKept
 pub mod WithoutContent
+pub mod WithoutState
+pub mod DropsRest
