@@ -94,3 +94,4 @@ pub mod DropsKept
 pub mod WithoutContent
 pub mod WithoutState
 pub mod DropsRest
+pub mod WithoutSections

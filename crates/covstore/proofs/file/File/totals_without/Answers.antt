@@ -7,6 +7,7 @@ use Rattle.covstore.proofs.DropsKept.{marks_after, marks_first, marks_in, points
 use Rattle.covstore.proofs.MapNames.{names_with, value_of_named}
 use Rattle.covstore.proofs.WithoutState.{store_without}
 use Rattle.covstore.proofs.DropsRest.{files_without}
+use Rattle.covstore.proofs.WithoutSections.{count_in_files}
 use Rattle.covstore.proofs.Settled.{file_name}
 use Rattle.covstore.proofs.file.File.totals_without.Goals as goal
 
