@@ -95,3 +95,4 @@ pub mod WithoutContent
 pub mod WithoutState
 pub mod DropsRest
 pub mod WithoutSections
+pub mod DropsLoop

@@ -1,13 +1,15 @@
 //! A test that goes from the files of a store.
 
-ghost use Rattle.std.specs.Prelude.{◌≡◌, ℕ, List, true};
+ghost use Rattle.std.specs.Prelude.{◌≡◌, ℕ, List, true, count_by};
 ghost use Rattle.std.specs.List.{AllByRecursion};
 ghost use Rattle.covstore.specs.Dropped.{AreWithoutTest, IsWithoutTest};
+ghost use Rattle.covstore.specs.Exchanged.{FitTotals};
 ghost use Rattle.covstore.specs.FileView.{file_held};
 ghost use Rattle.covstore.specs.MapsView.{AreSettledBut, IsSettledBut, files_held};
-ghost use Rattle.covstore.specs.State.{IsWholeFile};
+ghost use Rattle.covstore.specs.State.{FileData, IsWholeFile, has_points_of, totals_in};
 
 use crate::file::File;
+use crate::totals::Totals;
 use std::alloc::Allocator;
 use std::collections::BTreeMap;
 
@@ -29,4 +31,23 @@ pub(crate) fn drop_from_files<K: Ord + Drop, A: Allocator + Copy>(
         file.drop_test(test);
         true
     });
+}
+
+/// In how many files the test has points, and the totals of all files where it is gone.
+pub(crate) fn count_without<A: Allocator + Copy>(
+    files: &BTreeMap<Vec<u8, A>, File<A>, A>,
+    test: &[u8],
+) -> (u64, Totals)
+    requires whole { AllByRecursion (λ pair. IsWholeFile pair.1) (files_held (λ name. name.items) files.now.entries) }
+    requires fits { (after : List (List ℕ × FileData)) × AreWithoutTest test.now (files_held (λ name. name.items) files.now.entries) after × FitTotals (totals_in after) }
+    ensures sections { result.0 ≡ count_by (λ pair. has_points_of test.now pair.1) (files_held (λ name. name.items) files.now.entries) }
+    ensures totals { (after : List (List ℕ × FileData)) → AreWithoutTest test.now (files_held (λ name. name.items) files.now.entries) after → result.1 ≡ totals_in after }
+{
+    let mut sections = 0;
+    let mut totals = Totals::none();
+    for (_, file) in files.iter() {
+        sections += file.has_test(test) as u64;
+        totals = totals.plus(file.totals_without(test));
+    }
+    (sections, totals)
 }

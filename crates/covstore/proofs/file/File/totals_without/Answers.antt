@@ -5,9 +5,6 @@ use Rattle.covstore.specs.MarksView.{marks_held}
 use Rattle.covstore.specs.TestView.{test_held}
 use Rattle.covstore.proofs.DropsKept.{marks_after, marks_first, marks_in, points_of_all, totals_unfound}
 use Rattle.covstore.proofs.MapNames.{names_with, value_of_named}
-use Rattle.covstore.proofs.WithoutState.{store_without}
-use Rattle.covstore.proofs.DropsRest.{files_without}
-use Rattle.covstore.proofs.WithoutSections.{count_in_files}
 use Rattle.covstore.proofs.Settled.{file_name}
 use Rattle.covstore.proofs.file.File.totals_without.Goals as goal
 
