@@ -96,3 +96,4 @@ pub mod WithoutState
 pub mod DropsRest
 pub mod WithoutSections
 pub mod DropsLoop
+pub mod WithoutStores

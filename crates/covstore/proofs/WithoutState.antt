@@ -97,6 +97,14 @@ module _ (test : List ℕ) where
   all_whole (pair ∷ pairs) [] are = absurd are
   all_whole (pair ∷ pairs) (later ∷ laters) are = (are.1.whole, all_whole pairs laters are.2)
 
+  -- ---- the checksums that are left are of those that were there
+
+  pub held_before : (rows : List Row) (held : Checksum) → Contains (checksums_in (rows_without test rows)) held → Contains (checksums_in rows) held
+  held_before rows held i =
+      let row = In-unflat checksum_of_row (rows_without test rows) held (In-from (checksums_in (rows_without test rows)) held i) in
+      let own = In-unfilter (λ r. not (is_of_test test r)) rows row.0 row.1 in
+      Contains-from (checksums_in rows) held (In-flat checksum_of_row rows row.0 held own.0 row.2)
+
   -- ---- the state
 
   module _ (rows : List Row) (files after : List (List ℕ × FileData)) (state : IsStateOf rows files) (are : AreWithoutTest test files after) where
@@ -113,25 +121,19 @@ module _ (test : List ℕ) where
         points_of_others key.test apart (value_of (slice_cmp nat_cmp) key.file files) (value_of (slice_cmp nat_cmp) key.file after) found
         ∙ state.points key ∙ ap test_of (sym (items_of_others test key rows e))
 
-    held_before : (held : Checksum) → Contains (checksums_in (rows_without test rows)) held → Contains (checksums_in rows) held
-    held_before held i =
-        let row = In-unflat checksum_of_row (rows_without test rows) held (In-from (checksums_in (rows_without test rows)) held i) in
-        let own = In-unfilter (λ r. not (is_of_test test r)) rows row.0 row.1 in
-        Contains-from (checksums_in rows) held (In-flat checksum_of_row rows row.0 held own.0 row.2)
-
     pub state_without : IsStateOf (rows_without test rows) after
     state_without = record {
       ascending = names_ascend files after are state.ascending;
       points = λ key. points_by key (bytes_eq key.test test) refl;
       texts = λ held i.
           text_stays held.line (value_of (slice_cmp nat_cmp) held.file files) (value_of (slice_cmp nat_cmp) held.file after) (found_without held.file files after are)
-          ∙ state.texts held (held_before held i);
+          ∙ state.texts held (held_before rows held i);
       whole = all_whole files after are;
     }
 
   -- ---- the store
 
-  fewer : (table : Table) → AllByRecursion (λ rows. length rows ≤ most_items) table → AllByRecursion (λ rows. length rows ≤ most_items) (without_test test table)
+  pub fewer : (table : Table) → AllByRecursion (λ rows. length rows ≤ most_items) table → AllByRecursion (λ rows. length rows ≤ most_items) (without_test test table)
   fewer [] all = tt
   fewer (rows ∷ table) all =
       (omega (arith, all.0, length-filter (λ row. not (is_of_test test row)) rows, count_by-le-length (λ row. not (is_of_test test row)) rows), fewer table all.1)
