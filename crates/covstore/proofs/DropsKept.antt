@@ -1,26 +1,22 @@
 -- What is kept of a file, whose tests are counted in whatever order they stand; and the file without one of them.
-use Rattle.std.proofs.Common.{◌≡◌, ℕ, Bool, nat_lt, if◌then◌else◌, Option, Some, None, List, [], ◌∷◌, ◌++◌, map, refl, sym, ap, ◌∙◌, subst}
+use Rattle.std.proofs.Common.{◌≡◌, ℕ, Bool, nat_lt, if◌then◌else◌, Some, None, List, [], ◌∷◌, ◌++◌, map, refl, sym, ap, ◌∙◌, subst}
 use Rattle.std.specs.Cmp.Lexicographic.{slice_cmp}
 use Rattle.std.specs.declared.cmp.Ordering.{Ordering}
 use Rattle.std.specs.Ordering.{nat_cmp}
 use Rattle.std.proofs.lemmas.List.{map-append}
-use Rattle.covline.specs.Points.{BranchPoint}
-use Rattle.covstore.specs.declared.sums.FunctionSum.{FunctionSum}
-use Rattle.covstore.specs.declared.sums.LineSum.{LineSum}
-use Rattle.covstore.specs.declared.sums.Taken.{Taken}
 use Rattle.covstore.specs.declared.sums.Tests.{Tests}
 use Rattle.covstore.specs.Counts.{AreCounts, found_of, hit_of, is_above_at}
 use Rattle.covstore.specs.Drops.{AreMarks}
 use Rattle.covstore.specs.Dropped.{IsWithoutTest, tests_without}
-use Rattle.covstore.specs.Marks.{MarksData, file_with, marks_totals}
+use Rattle.covstore.specs.Marks.{MarksData, file_with}
 use Rattle.covstore.specs.Puts.{value_of}
-use Rattle.covstore.specs.State.{AreKept, FileData, IsWholeFile, branch_above, file_totals, function_above, has_checksum, holders_at, holding, line_above, tests_in}
+use Rattle.covstore.specs.State.{AreKept, FileData, IsWholeFile, branch_above, file_totals, function_above, has_checksum, holders_at, line_above, tests_in}
 use Rattle.covstore.specs.Sums.{TestData}
 use Rattle.covstore.specs.Value.{branch_cmp}
 use Rattle.covstore.proofs.AddsPlace.{kept_beside}
 use Rattle.covstore.proofs.Ascend.{IsExactOrder}
 use Rattle.covstore.proofs.Counts.{count_by-between, tests_at-between}
-use Rattle.covstore.proofs.DropsTests.{IsBetween, between, none_of_others, others, others_ascend, others_of_none}
+use Rattle.covstore.proofs.DropsTests.{IsBetween, between, others, others_ascend, others_of_none}
 use Rattle.covstore.proofs.Orders.{branches_order, lines_order, names_order}
 use Rattle.covstore.proofs.Puts.{same_pairs}
 use Rattle.covstore.proofs.TotalsKinds.{same_totals}

@@ -16,7 +16,7 @@ use Rattle.covstore.specs.Drops.{AreMarks}
 use Rattle.covstore.specs.Dropped.{AreWithoutTest, IsWithoutTest, tests_without}
 use Rattle.covstore.specs.Marks.{MarksData, file_with}
 use Rattle.covstore.specs.Puts.{ArePairs, value_of}
-use Rattle.covstore.specs.State.{AreKept, FileData, IsWholeFile, branch_above, function_above, has_checksum, holders_at, holding, line_above}
+use Rattle.covstore.specs.State.{FileData, IsWholeFile, branch_above, function_above, has_checksum, holders_at, holding, line_above}
 use Rattle.covstore.specs.Sums.{TestData}
 use Rattle.covstore.specs.Value.{branch_cmp}
 use Rattle.covstore.proofs.Ascend.{IsExactOrder}

@@ -1,5 +1,5 @@
 -- What a table without a test adds up to: the sections of the other tests. And of how many sections a test is.
-use Rattle.std.proofs.Common.{◌≡◌, ℕ, ◌+◌, Bool, true, false, cond, not, List, [], ◌∷◌, ◌++◌, length, map, filter, refl, sym, ap, ◌∙◌, subst, inl, inr, arith}
+use Rattle.std.proofs.Common.{◌≡◌, ℕ, ◌+◌, Bool, true, false, cond, not, List, [], ◌∷◌, ◌++◌, length, map, filter, refl, sym, ap, ◌∙◌}
 use Rattle.std.specs.declared.cmp.Ordering.{Ordering}
 use Rattle.std.specs.declared.cmp.Ordering.TheVariants.{Less}
 use Rattle.std.specs.List.{AllByRecursion, count_by}
@@ -17,7 +17,6 @@ use Rattle.covstore.specs.Without.{is_of_test, sections_of_test, without_test}
 use Rattle.covstore.proofs.Ascend.{IsExactOrder, In-ascending, In-to_ascending, ascending_sorted, one_sorted}
 use Rattle.covstore.proofs.ContentsLists.{In-filter, In-unfilter}
 use Rattle.covstore.proofs.ContentsSections.{own_key}
-use Rattle.covstore.proofs.Members.{In}
 use Rattle.covstore.proofs.Orders.{keys_order}
 
 -- ---- lists of which some members are picked

@@ -1,5 +1,5 @@
 -- The state of rows, of which those of a test are gone: each file is without the test.
-use Rattle.std.proofs.Common.{◌≡◌, ℕ, ◌≤◌, Bool, true, false, not, Option, Some, None, List, [], ◌∷◌, ◌++◌, length, map, filter, refl, sym, ap, ◌∙◌, subst, inl, inr, cond, arith}
+use Rattle.std.proofs.Common.{◌≡◌, ℕ, ◌≤◌, Bool, true, false, not, Option, Some, None, List, [], ◌∷◌, length, filter, refl, sym, ap, ◌∙◌, subst, cond, arith}
 use Rattle.std.specs.Prelude.{Contains}
 use Rattle.std.specs.Cmp.Lexicographic.{slice_cmp}
 use Rattle.std.specs.declared.cmp.Ordering.TheVariants.{Less}
@@ -11,11 +11,11 @@ use Rattle.std.proofs.lemmas.List.{length-map}
 use Rattle.std.proofs.lemmas.List.Sums.{count_by-le-length, length-filter}
 use Rattle.std.proofs.lemmas.Slice.Eq.{bytes_eq-Decides}
 use Rattle.covline.specs.Lawful.{most_items}
-use Rattle.covline.specs.Row.{ItemData, Row}
+use Rattle.covline.specs.Row.{Row}
 use Rattle.covstore.specs.declared.totals.Totals.{Totals}
 use Rattle.covstore.specs.Adds.{SmallRow}
 use Rattle.covstore.specs.Clash.{Checksum, checksum_of_row, checksums_in}
-use Rattle.covstore.specs.Dropped.{AreWithoutTest, IsWithoutTest, tests_without}
+use Rattle.covstore.specs.Dropped.{AreWithoutTest, IsWithoutTest}
 use Rattle.covstore.specs.MapsView.{IsStore}
 use Rattle.covstore.specs.Puts.{ArePairs, value_of}
 use Rattle.covstore.specs.State.{FileData, IsStateOf, IsWholeFile, points_at, points_in, points_or_none, text_in, totals_in}
@@ -26,7 +26,6 @@ use Rattle.covstore.specs.Without.{is_of_test, without_test}
 use Rattle.covstore.proofs.AddsPlace.{state_agrees}
 use Rattle.covstore.proofs.ContentsLists.{In-flat, In-unfilter, In-unflat}
 use Rattle.covstore.proofs.DropsTests.{none_of_others, value_of_others}
-use Rattle.covstore.proofs.MapNames.{bytes_apart}
 use Rattle.covstore.proofs.Members.{Contains-from, In-from}
 use Rattle.covstore.proofs.WithoutContent.{All-picked, items_of_others, items_of_test, rows_left, rows_without}
 

@@ -22,15 +22,17 @@ pub(crate) fn drop_from_files<K: Ord + Drop, A: Allocator + Copy>(
     ensures held { (name : K → List ℕ) → AreWithoutTest test.now (files_held name files.old.entries) (files_held name files.new.entries) }
     ensures settled { (name : K → List ℕ) (touched : List (List ℕ × List ℕ)) → AreSettledBut name touched files.old.entries → AreSettledBut name touched files.new.entries }
 {
-    files.retain(|_, file|
-        requires { IsWholeFile (file_held file.old) }
-        ensures stays { result ≡ true }
-        ensures held { IsWithoutTest test.entry.now (file_held file.old) (file_held file.new) }
-        ensures settled { (tests : List (List ℕ)) → IsSettledBut tests file.old → IsSettledBut tests file.new }
-    {
-        file.drop_test(test);
-        true
-    });
+    files.retain(
+        |_, file|
+            requires { IsWholeFile (file_held file.old) }
+            ensures stays { result ≡ true }
+            ensures held { IsWithoutTest test.entry.now (file_held file.old) (file_held file.new) }
+            ensures settled { (tests : List (List ℕ)) → IsSettledBut tests file.old → IsSettledBut tests file.new }
+        {
+            file.drop_test(test);
+            true
+        },
+    );
 }
 
 /// In how many files the test has points, and the totals of all files where it is gone.

@@ -1,9 +1,7 @@
-use Rattle.std.proofs.Common.{ℕ, ◌+◌, ◌<◌, ◌^◌, Bool, true, false, cond, Vec, List, [], ◌∷◌, length, refl, sym, ap, ◌∙◌, subst, arith}
+use Rattle.std.proofs.Common.{ℕ, ◌+◌, ◌<◌, ◌^◌, Bool, true, false, cond, Vec, List, [], length, refl, sym, ap, ◌∙◌, subst, arith}
 use Rattle.std.specs.Prelude.{◌≡◌}
 use Rattle.std.proofs.lemmas.List.{length-map}
 use Rattle.covstore.specs.declared.file.File.{File}
-use Rattle.covstore.specs.declared.totals.Totals.{Totals}
-use Rattle.covstore.specs.Exchanged.{together}
 use Rattle.covstore.specs.FileView.{file_held}
 use Rattle.covstore.specs.MapsView.{files_held}
 use Rattle.covstore.specs.State.{FileData, has_points_of}
@@ -24,7 +22,7 @@ loop-file-init g c =
       tt,
       tt,
       subst (λ (pairs : List (Vec ℕ g.row.A.Denot × File g.row.A.Denot)). IsCounted c.args.test.now all (files_held file_name pairs) 0 c.none-totals.result) (sym given)
-      (subst (IsCounted c.args.test.now all all 0) (sym c.none-totals.ensures) (none_counted c.args.test.now all c.requires.whole)),
+          (subst (IsCounted c.args.test.now all all 0) (sym c.none-totals.ensures) (none_counted c.args.test.now all c.requires.whole)),
     )
 
 pub overflow_add-sections : goal.overflow_add-sections
@@ -59,7 +57,7 @@ loop-file-preserved g c =
       tt,
       tt,
       subst (λ (n : ℕ). IsCounted c.args.test.now all left (c.loop-file.sections + n) c.plus-totals.result) (sym own)
-      (subst (IsCounted c.args.test.now all left (c.loop-file.sections + cond (has_points_of c.args.test.now (file_held c.in-Some.file.now)) 1 0)) (sym c.plus-totals.ensures) later),
+          (subst (IsCounted c.args.test.now all left (c.loop-file.sections + cond (has_points_of c.args.test.now (file_held c.in-Some.file.now)) 1 0)) (sym c.plus-totals.ensures) later),
     )
 
 -- no file is left

@@ -1,8 +1,6 @@
-use Rattle.std.proofs.Common.{◌≡◌, ℕ, List, rules, sym, subst}
+use Rattle.std.proofs.Common.{rules, sym, subst}
 use Rattle.covstore.specs.declared.file.File.{File}
-use Rattle.covstore.specs.Dropped.{IsWithoutTest}
 use Rattle.covstore.specs.FileView.{file_held}
-use Rattle.covstore.specs.MapsView.{IsSettledBut}
 use Rattle.covstore.specs.State.{IsWholeFile}
 use Rattle.covstore.proofs.DropsMaps.{All-between, IsWritten, written_held, written_settled}
 use Rattle.covstore.proofs.DropsRetain.{AreWritten, all_written}

@@ -1,4 +1,4 @@
-use Rattle.std.proofs.Common.{ℕ, List, option_map, sym, ap, ◌∙◌}
+use Rattle.std.proofs.Common.{option_map, sym, ap, ◌∙◌}
 use Rattle.covstore.specs.Dropped.{tests_without}
 use Rattle.covstore.specs.FileView.{file_held}
 use Rattle.covstore.specs.MarksView.{marks_held}
