@@ -13,7 +13,7 @@ use crate::totals::Totals;
 use std::alloc::Allocator;
 use std::collections::BTreeMap;
 
-/// The test goes from every file. A file stays where its last test goes.
+/// The test goes from every file. A file whose last test goes stays, without tests. Takes no memory.
 pub(crate) fn drop_from_files<K: Ord + Drop, A: Allocator + Copy>(
     files: &mut BTreeMap<K, File<A>, A>,
     test: &[u8],
@@ -22,6 +22,7 @@ pub(crate) fn drop_from_files<K: Ord + Drop, A: Allocator + Copy>(
     ensures held { (name : K → List ℕ) → AreWithoutTest test.now (files_held name files.old.entries) (files_held name files.new.entries) }
     ensures settled { (name : K → List ℕ) (touched : List (List ℕ × List ℕ)) → AreSettledBut name touched files.old.entries → AreSettledBut name touched files.new.entries }
 {
+    // A walk over the values would not say what it leaves of them.
     files.retain(
         |_, file|
             requires { IsWholeFile (file_held file.old) }
@@ -35,7 +36,7 @@ pub(crate) fn drop_from_files<K: Ord + Drop, A: Allocator + Copy>(
     );
 }
 
-/// In how many files the test has points, and the totals of all files where it is gone.
+/// In how many files the test has points, and the totals of all files where it is gone. Takes no memory.
 pub(crate) fn count_without<A: Allocator + Copy>(
     files: &BTreeMap<Vec<u8, A>, File<A>, A>,
     test: &[u8],
@@ -48,8 +49,9 @@ pub(crate) fn count_without<A: Allocator + Copy>(
     let mut sections = 0;
     let mut totals = Totals::none();
     for (_, file) in files.iter() {
-        sections += file.has_test(test) as u64;
-        totals = totals.plus(file.totals_without(test));
+        let (has_points, rest) = file.without_test(test);
+        sections += u64::from(has_points);
+        totals = totals.plus(rest);
     }
     (sections, totals)
 }

@@ -1,6 +1,6 @@
 //! A file of the store: its tests, and what is kept of them.
 
-ghost use Rattle.std.specs.Prelude.{◌≡◌, ℕ, List, [], ◌∷◌, ◌++◌, map, IfErr, IfOk, IsTrue, OnErr, OnOk};
+ghost use Rattle.std.specs.Prelude.{◌≡◌, ℕ, List, [], ◌∷◌, ◌++◌, map, IfErr, IfOk, OnErr, OnOk};
 
 use crate::marks::Marks;
 use crate::refuse::Refuse;
@@ -154,14 +154,15 @@ impl<A: Allocator + Copy> File<A> {
         }
     }
 
-    /// The file's totals where the test is gone. Takes no memory.
-    pub(crate) fn totals_without(&self, test: &[u8]) -> Totals
+    /// Whether the test has points now, and the file's totals where it is gone. Takes no memory.
+    pub(crate) fn without_test(&self, test: &[u8]) -> (bool, Totals)
         requires { IsWholeFile (file_held self.now) }
-        ensures { (after : FileData) → IsWithoutTest test.now (file_held self.now) after → result ≡ file_totals after }
+        ensures has_points { result.0 ≡ has_points_of test.now (file_held self.now) }
+        ensures totals { (after : FileData) → IsWithoutTest test.now (file_held self.now) after → result.1 ≡ file_totals after }
     {
         if let Some(points) = self.tests.get(test) {
-            return self.marks.totals_without(points);
+            return (!points.is_empty(), self.marks.totals_without(points));
         }
-        self.marks.totals_now()
+        (false, self.marks.totals_now())
     }
 }
