@@ -19,18 +19,6 @@ use Rattle.covstore.proofs.Orders.{branches_order, lines_order, names_order}
 pub holders_of_lines : (test : TestData) (others : List TestData) (holders : List (ℕ × ℕ)) → ((line : ℕ) → value_of nat_cmp line holders ≡ holders_at line (test ∷ others)) → AreHolders (with_lines test.lines ∷ others) holders
 holders_of_lines test others holders are line = are line ∙ by_lines test others line
 
--- what is kept of the other tests exists
-pub rest_of_marks : (test : TestData) (others : List TestData) (marks : MarksData) → ArePairs nat_cmp test.lines → ArePairs (slice_cmp nat_cmp) test.functions → ArePairs branch_cmp test.branches
-    → AreMarks (test ∷ others) marks → (rest : MarksData) × AreMarks others rest
-rest_of_marks test others marks lines functions branches are =
-    let rest_lines = rest_of_counts lines_order test.lines (map (λ (t : TestData). t.lines) others) marks.lines lines are.lines in
-    let rest_functions = rest_of_counts names_order test.functions (map (λ (t : TestData). t.functions) others) marks.functions functions are.functions in
-    let rest_branches = rest_of_counts branches_order test.branches (map (λ (t : TestData). t.branches) others) marks.branches branches are.branches in
-    let rest_holders = rest_of_holders test.lines others marks.holders lines (holders_of_lines test others marks.holders are.holders) in (
-      record { lines = rest_lines.0; functions = rest_functions.0; branches = rest_branches.0; holders = rest_holders.0; texts = marks.texts },
-      record { lines = rest_lines.1; functions = rest_functions.1; branches = rest_branches.1; holders = rest_holders.1 },
-    )
-
 pub totals_are : (marks : MarksData) (lines functions branches : Tally) → IsTallyOf marks.lines lines → IsTallyOf marks.functions functions → IsTallyOf marks.branches branches
     → totals_by lines functions branches ≡ marks_totals marks
 totals_are marks lines functions branches l f b = λ i. record { lf = l.found i; lh = l.hit i; ff = f.found i; fh = f.hit i; bf = b.found i; bh = b.hit i }

@@ -97,3 +97,13 @@ pub mod PointAssigned
 pub mod ComingGrowth
 pub mod Alike
 pub mod AlikeContents
+pub mod DropsRetain
+pub mod DropsMaps
+pub mod DropsTests
+pub mod DropsKept
+pub mod WithoutContent
+pub mod WithoutState
+pub mod DropsRest
+pub mod WithoutSections
+pub mod DropsLoop
+pub mod WithoutStores

@@ -80,7 +80,7 @@ module _ {K : Type 0} (name : K → List ℕ) (key : List ℕ) where
     map_written f v w [] same found = refl
     map_written f v w (e ∷ es) same found = map_written_at f v w e es (has_name e.0) same found (map_written f v w es same)
 
-is_eq-flipped : (a b : List ℕ) → is_eq (slice_cmp nat_cmp a b) ≡ is_eq (slice_cmp nat_cmp b a)
+pub is_eq-flipped : (a b : List ℕ) → is_eq (slice_cmp nat_cmp a b) ≡ is_eq (slice_cmp nat_cmp b a)
 is_eq-flipped a b = ap is_eq (nat_list_cmp_total.antisymm a b) ∙ flipped (slice_cmp nat_cmp b a)
   where
     flipped : (order : Ordering) → is_eq (ordering_reverse order) ≡ is_eq order

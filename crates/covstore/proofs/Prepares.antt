@@ -22,7 +22,7 @@ use Rattle.covstore.proofs.TotalsDifferent.{are_totals}
 
 -- ---- how many rows there are
 
-rows_in_table : (table : Table) → AllByRecursion (λ rows. length rows ≤ most_items) table → length (all_rows table) ≤ length table * most_items
+pub rows_in_table : (table : Table) → AllByRecursion (λ rows. length rows ≤ most_items) table → length (all_rows table) ≤ length table * most_items
 rows_in_table [] small = omega arith
 rows_in_table (rows ∷ table) small = omega (arith, length-append rows (all_rows table), small.0, rows_in_table table small.1)
 

@@ -29,3 +29,19 @@ exchanged whole before after = record {
   bf = whole.bf - before.bf + after.bf;
   bh = whole.bh - before.bh + after.bh;
 }
+
+abbrev pub no_totals : Totals
+no_totals = record { lf = 0; lh = 0; ff = 0; fh = 0; bf = 0; bh = 0 }
+
+-- both together
+abbrev pub together : Totals → Totals → Totals
+together a b = record { lf = a.lf + b.lf; lh = a.lh + b.lh; ff = a.ff + b.ff; fh = a.fh + b.fh; bf = a.bf + b.bf; bh = a.bh + b.bh }
+
+-- each total fits
+pub record FitTotals (totals : Totals) : Type 0 where
+  pub lf : totals.lf < 2 ^ 64
+  pub lh : totals.lh < 2 ^ 64
+  pub ff : totals.ff < 2 ^ 64
+  pub fh : totals.fh < 2 ^ 64
+  pub bf : totals.bf < 2 ^ 64
+  pub bh : totals.bh < 2 ^ 64

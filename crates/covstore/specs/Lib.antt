@@ -37,3 +37,4 @@ pub mod Assigned
 pub mod Without
 pub mod Fewer
 pub mod Drops
+pub mod Dropped

@@ -1,6 +1,6 @@
 //! A file of the store: its tests, and what is kept of them.
 
-ghost use Rattle.std.specs.Prelude.{◌≡◌, ℕ, List, [], ◌∷◌, ◌++◌, map, IfErr, IfOk, IsTrue, OnErr, OnOk};
+ghost use Rattle.std.specs.Prelude.{◌≡◌, ℕ, List, [], ◌∷◌, ◌++◌, map, IfErr, IfOk, OnErr, OnOk};
 
 use crate::marks::Marks;
 use crate::refuse::Refuse;
@@ -24,12 +24,13 @@ impl<A: Allocator + Copy> File<A> {
     ghost use Rattle.std.specs.List.{list_any};
     ghost use Rattle.std.specs.Str.{bytes_eq};
     ghost use Rattle.covline.specs.Row.{item_data};
+    ghost use Rattle.covstore.specs.Dropped.{IsWithoutTest};
     ghost use Rattle.covstore.specs.FileAdds.{AddsItems, ClashesIn, HasRoomIn};
     ghost use Rattle.covstore.specs.FileView.{KeepsFile, file_coming, file_held, no_file, with_test};
     ghost use Rattle.covstore.specs.MapsView.{IsSettledBut};
     ghost use Rattle.covstore.specs.RefuseView.{refuse_data};
     ghost use Rattle.covstore.specs.SectionAdds.{RefusedIn};
-    ghost use Rattle.covstore.specs.State.{file_totals, has_points_of};
+    ghost use Rattle.covstore.specs.State.{FileData, IsWholeFile, file_totals, has_points_of};
 
     /// No tests.
     pub(crate) fn new(alloc: A) -> File<A>
@@ -140,5 +141,28 @@ impl<A: Allocator + Copy> File<A> {
             Some(points) => !points.is_empty(),
             None => false,
         }
+    }
+
+    /// The test is gone, with its points. Takes no memory.
+    pub(crate) fn drop_test(&mut self, test: &[u8])
+        requires { IsWholeFile (file_held self.old) }
+        ensures held { IsWithoutTest test.now (file_held self.old) (file_held self.new) }
+        ensures settled { (tests : List (List ℕ)) → IsSettledBut tests self.old → IsSettledBut tests self.new }
+    {
+        if let Some(points) = self.tests.remove(test) {
+            self.marks.drop_points(&points);
+        }
+    }
+
+    /// Whether the test has points now, and the file's totals where it is gone. Takes no memory.
+    pub(crate) fn without_test(&self, test: &[u8]) -> (bool, Totals)
+        requires { IsWholeFile (file_held self.now) }
+        ensures has_points { result.0 ≡ has_points_of test.now (file_held self.now) }
+        ensures totals { (after : FileData) → IsWithoutTest test.now (file_held self.now) after → result.1 ≡ file_totals after }
+    {
+        if let Some(points) = self.tests.get(test) {
+            return (!points.is_empty(), self.marks.totals_without(points));
+        }
+        (false, self.marks.totals_now())
     }
 }

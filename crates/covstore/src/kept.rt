@@ -169,6 +169,14 @@ impl<K: Key + Drop, A: Allocator + Copy> Kept<K, A> {
     {
         self.coming
     }
+
+    /// How many points there are, and how many of them hit.
+    pub(crate) fn held(&self) -> Tally
+        ensures found { result.found ≡ found_of self.now.held }
+        ensures hit { result.hit ≡ hit_of self.now.held }
+    {
+        self.held
+    }
 }
 
 impl<K: Key, A: Allocator> Kept<K, A> {

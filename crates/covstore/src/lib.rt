@@ -29,6 +29,7 @@
 
 mod checksums;
 mod content;
+mod drops;
 mod file;
 mod items;
 mod kept;

@@ -92,6 +92,17 @@ impl<A: Allocator + Copy> Marks<A> {
         drop_checksums(&mut self.checksums, &points.lines);
     }
 
+    /// The file's totals as they are.
+    pub(crate) fn totals_now(&self) -> Totals
+        ensures { result ≡ marks_totals (marks_held self.now) }
+    {
+        totals_of(
+            self.lines.held(),
+            self.functions.held(),
+            self.branches.held(),
+        )
+    }
+
     /// The file's totals where a test with these points is gone. Takes no memory.
     pub(crate) fn totals_without(&self, points: &Test<A>) -> Totals
         requires { (others : List TestData) × AreMarks (test_held points.now ∷ others) (marks_held self.now) }

@@ -3,6 +3,7 @@
 ghost use Rattle.std.specs.Prelude.{◌≡◌, ◌+◌, ◌≤◌, OnOk};
 
 use crate::content::Sections;
+use crate::drops::{count_without, drop_from_files};
 use crate::file::File;
 use crate::plan::Plan;
 use crate::refuse::Refuse;
@@ -86,6 +87,7 @@ impl<A: Allocator + Copy> Store<A> {
     ghost use Rattle.covstore.specs.FileView.{with_file};
     ghost use Rattle.covstore.specs.Table.{Table, all_rows, clash_at};
     ghost use Rattle.covstore.specs.Totals.{AreTotals, totals_of};
+    ghost use Rattle.covstore.specs.Without.{sections_of_test, without_test};
 
     /// A store that holds nothing. Takes no memory.
     pub fn new(alloc: A) -> Store<A>
@@ -267,6 +269,30 @@ impl<A: Allocator + Copy> Store<A> {
         ensures rows { (table : Table) → StandsFor self.now table → result ≡ list_any (λ row. bytes_eq row.test test.now) (all_rows table) }
     {
         self.files.values().any(|file| file.has_test(test))
+    }
+
+    /// In how many sections the test stands, and the totals that `drop_test` would leave. Takes no memory.
+    pub fn after_drop(&self, test: &[u8]) -> (u64, Totals)
+        ensures sections { (table : Table) → StandsFor self.now table → result.0 ≡ sections_of_test test.now table }
+        ensures totals { (table : Table) → StandsFor self.now table → result.1 ≡ totals_of (content_at (without_test test.now table)) }
+        ensures bounds { AreTotals result.1 }
+    {
+        count_without(&self.files, test)
+    }
+
+    /// Drops all rows of a test: its points go, and what other tests have stays. Tells in how many sections it stood. Takes
+    /// no memory.
+    pub fn drop_test(&mut self, test: &[u8]) -> u64
+        ensures sections { (table : Table) → StandsFor self.old table → result ≡ sections_of_test test.now table }
+        ensures stands { (table : Table) → StandsFor self.old table → StandsFor self.new (without_test test.now table) }
+    {
+        // What a plan left that was dropped.
+        self.forget();
+        let (sections, totals) = count_without(&self.files, test);
+        drop_from_files(&mut self.files, test);
+        self.held = totals;
+        self.coming = totals;
+        sections
     }
 
     /// The totals over all files and tests. Takes no memory.

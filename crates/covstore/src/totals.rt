@@ -1,7 +1,7 @@
 //! How many lines, functions and branches there are in all files, and how many of them are hit.
 
 ghost use Rattle.std.specs.Prelude.{◌≡◌};
-ghost use Rattle.covstore.specs.Exchanged.{FitTogether, IsAmong, exchanged};
+ghost use Rattle.covstore.specs.Exchanged.{FitTogether, IsAmong, exchanged, no_totals, together};
 
 /// The totals of a store (geninfo(1): `LF:`, `LH:`, `FNF:`, `FNH:`, `BRF:`, `BRH:`). A point
 /// is found once for each file, over all tests, and hit if some test has it above 0.
@@ -22,6 +22,20 @@ pub struct Totals {
 }
 
 impl Totals {
+    /// Nothing is found.
+    pub(crate) fn none() -> Totals
+        ensures { result ≡ no_totals }
+    {
+        Totals {
+            lf: 0,
+            lh: 0,
+            ff: 0,
+            fh: 0,
+            bf: 0,
+            bh: 0,
+        }
+    }
+
     /// These totals where what counted as `before` counts as `after`.
     pub(crate) fn exchanged(self, before: Totals, after: Totals) -> Totals
         requires part { IsAmong before self }
@@ -35,6 +49,21 @@ impl Totals {
             fh: self.fh - before.fh + after.fh,
             bf: self.bf - before.bf + after.bf,
             bh: self.bh - before.bh + after.bh,
+        }
+    }
+
+    /// These totals and those of others.
+    pub(crate) fn plus(self, more: Totals) -> Totals
+        requires { FitTogether more self }
+        ensures { result ≡ together self more }
+    {
+        Totals {
+            lf: self.lf + more.lf,
+            lh: self.lh + more.lh,
+            ff: self.ff + more.ff,
+            fh: self.fh + more.fh,
+            bf: self.bf + more.bf,
+            bh: self.bh + more.bh,
         }
     }
 }

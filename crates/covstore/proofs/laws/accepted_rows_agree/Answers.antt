@@ -1,4 +1,5 @@
 use Rattle.covstore.proofs.Clashes.{agree_submitted, agree_empty}
+use Rattle.covstore.proofs.WithoutState.{agree_left}
 use Rattle.covstore.proofs.laws.accepted_rows_agree.Goals as goal
 
 pub returns-clause-empty : goal.returns-clause-empty
@@ -6,3 +7,6 @@ returns-clause-empty c = agree_empty
 
 pub returns-clause-accepted : goal.returns-clause-accepted
 returns-clause-accepted c = agree_submitted
+
+pub returns-clause-dropped : goal.returns-clause-dropped
+returns-clause-dropped c = λ table test agree. agree_left test table agree

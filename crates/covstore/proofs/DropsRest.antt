@@ -1,0 +1,159 @@
+-- What is kept of files where a test is gone can be told from what is kept with it: the points of the others, counted again.
+use Rattle.std.proofs.Common.{◌≡◌, ℕ, ◌+◌, ◌≤◌, Bool, true, false, cond, nat_lt, if◌then◌else◌, Option, Some, None, List, [], ◌∷◌, ◌++◌, map, refl, sym, ap, ◌∙◌, ⊎_elim, arith}
+use Rattle.std.specs.Cmp.Lexicographic.{slice_cmp}
+use Rattle.std.specs.declared.cmp.Ordering.{Ordering}
+use Rattle.std.specs.declared.cmp.Ordering.TheVariants.{Less}
+use Rattle.std.specs.List.{AllByRecursion, count_by, flat_map}
+use Rattle.std.specs.Option.{is_some}
+use Rattle.std.specs.Ordering.{is_eq, nat_cmp}
+use Rattle.std.proofs.lemmas.Bool.{cases_Bool, cond-false, cond-true, le-ltb, ltb-false}
+use Rattle.std.proofs.lemmas.List.Sums.{sum_by-cons}
+use Rattle.std.proofs.lemmas.Map.Views.{tells_apart}
+use Rattle.std.proofs.lemmas.Option.{none-some}
+use Rattle.covstore.specs.declared.sums.Tests.{Tests}
+use Rattle.covstore.specs.Counts.{AreCounts, count_above, count_with, is_above_at, tests_at}
+use Rattle.covstore.specs.Drops.{AreMarks}
+use Rattle.covstore.specs.Dropped.{AreWithoutTest, IsWithoutTest, tests_without}
+use Rattle.covstore.specs.Marks.{MarksData, file_with}
+use Rattle.covstore.specs.Puts.{ArePairs, value_of}
+use Rattle.covstore.specs.State.{FileData, IsWholeFile, branch_above, function_above, has_checksum, holders_at, holding, line_above}
+use Rattle.covstore.specs.Sums.{TestData}
+use Rattle.covstore.specs.Value.{branch_cmp}
+use Rattle.covstore.proofs.Ascend.{IsExactOrder}
+use Rattle.covstore.proofs.DropsKept.{marks_first, marks_in, points_of_all, without_found, without_unfound}
+use Rattle.covstore.proofs.Orders.{branches_order, lines_order, names_order}
+use Rattle.covstore.proofs.Puts.{value_of_first, value_of_later}
+
+-- ---- pairs, each with another value, or none
+
+module _ {K V : Type 0} (again : K → Option V) where
+  abbrev pair_of : K → Option V → List (K × V)
+  pair_of key None = []
+  pair_of key (Some value) = (key, value) ∷ []
+
+  abbrev renewed : List (K × V) → List (K × V)
+  renewed pairs = flat_map (λ pair. pair_of pair.0 (again pair.0)) pairs
+
+  All-renewed : (P : K → Type 0) (pairs : List (K × V)) → AllByRecursion (λ pair. P pair.0) pairs → AllByRecursion (λ pair. P pair.0) (renewed pairs)
+  All-renewed P [] all = tt
+  All-renewed P (pair ∷ pairs) all = by (again pair.0) (All-renewed P pairs all.1)
+    where
+      by : (found : Option V) → AllByRecursion (λ pair. P pair.0) (renewed pairs) → AllByRecursion (λ pair. P pair.0) (pair_of pair.0 found ++ renewed pairs)
+      by None rest = rest
+      by (Some value) rest = (all.0, rest)
+
+  module _ {cmp : K → K → Ordering} (o : IsExactOrder cmp) where
+    renewed_ascend : (pairs : List (K × V)) → ArePairs cmp pairs → ArePairs cmp (renewed pairs)
+    renewed_ascend [] sorted = tt
+    renewed_ascend (pair ∷ pairs) sorted = by (again pair.0) (All-renewed (λ next. cmp pair.0 next ≡ Less) pairs sorted.0) (renewed_ascend pairs sorted.1)
+      where
+        by : (found : Option V) → AllByRecursion (λ next. cmp pair.0 next.0 ≡ Less) (renewed pairs) → ArePairs cmp (renewed pairs) → ArePairs cmp (pair_of pair.0 found ++ renewed pairs)
+        by None behind rest = rest
+        by (Some value) behind rest = (behind, rest)
+
+    -- what is found of a key is its new value, where it had one
+    abbrev again_at : K → Option V → Option V
+    again_at key None = None
+    again_at key (Some value) = again key
+
+    none_again : (key : K) (found : Option V) → again key ≡ None → again_at key found ≡ None
+    none_again key None e = refl
+    none_again key (Some value) e = e
+
+    first_again : (key : K) (pair : K × V) (pairs : List (K × V)) (found : Option V) → again key ≡ found → value_of cmp key (renewed pairs) ≡ again_at key (value_of cmp key pairs)
+        → value_of cmp key (pair_of key found ++ renewed pairs) ≡ again key
+    first_again key pair pairs None e rest = rest ∙ none_again key (value_of cmp key pairs) e ∙ sym e
+    first_again key pair pairs (Some value) e rest = value_of_first o key value (renewed pairs) ∙ sym e
+
+    later_again : (key : K) (pair : K × V) (pairs : List (K × V)) (found : Option V) → is_eq (cmp pair.0 key) ≡ false → value_of cmp key (renewed pairs) ≡ again_at key (value_of cmp key pairs)
+        → value_of cmp key (pair_of pair.0 found ++ renewed pairs) ≡ again_at key (value_of cmp key pairs)
+    later_again key pair pairs None apart rest = rest
+    later_again key pair pairs (Some value) apart rest = value_of_later o key (pair.0, value) (renewed pairs) apart ∙ rest
+
+    renewed_value : (key : K) (pairs : List (K × V)) → value_of cmp key (renewed pairs) ≡ again_at key (value_of cmp key pairs)
+    renewed_value key [] = refl
+    renewed_value key (pair ∷ pairs) = by (is_eq (cmp pair.0 key)) refl (renewed_value key pairs)
+      where
+        by : (here : Bool) → is_eq (cmp pair.0 key) ≡ here → value_of cmp key (renewed pairs) ≡ again_at key (value_of cmp key pairs)
+            → value_of cmp key (pair_of pair.0 (again pair.0) ++ renewed pairs) ≡ again_at key (cond (is_eq (cmp pair.0 key)) (Some pair.1) (value_of cmp key pairs))
+        by true same rest =
+            ap (λ (k : K). value_of cmp key (pair_of k (again k) ++ renewed pairs)) (tells_apart o.exact pair.0 key same)
+            ∙ first_again key pair pairs (again key) refl rest
+            ∙ sym (ap (again_at key) (cond-true (is_eq (cmp pair.0 key)) (Some pair.1) (value_of cmp key pairs) same))
+        by false same rest =
+            later_again key pair pairs (again pair.0) same rest
+            ∙ sym (ap (again_at key) (cond-false (is_eq (cmp pair.0 key)) (Some pair.1) (value_of cmp key pairs) same))
+
+    -- so it is the new value, where only such keys have one that had one
+    renewed_is : (key : K) (pairs : List (K × V)) → (value_of cmp key pairs ≡ None → again key ≡ None) → value_of cmp key (renewed pairs) ≡ again key
+    renewed_is key pairs few = renewed_value key pairs ∙ by (value_of cmp key pairs) refl
+      where
+        by : (found : Option V) → value_of cmp key pairs ≡ found → again_at key found ≡ again key
+        by None e = sym (few e)
+        by (Some value) e = refl
+
+-- ---- numbers of tests, of which one goes
+
+none_counted : {X : Type 0} (n : ℕ) (x : X) → (if nat_lt 0 n then Some x else None) ≡ None → n ≤ 0
+none_counted {X} n x none = ⊎_elim {C = n ≤ 0}
+    (λ (e : nat_lt 0 n ≡ true). absurd (none-some x (sym none ∙ cond-true (nat_lt 0 n) (Some x) None e)))
+    (λ (e : nat_lt 0 n ≡ false). ltb-false 0 n e)
+    (cases_Bool (nat_lt 0 n))
+
+counted_none : {X : Type 0} (n : ℕ) (x : X) → n ≤ 0 → (if nat_lt 0 n then Some x else None) ≡ None
+counted_none n x few = cond-false (nat_lt 0 n) (Some x) None (le-ltb 0 n few)
+
+-- what none of the tests has, none of the others has
+none_of_others : {X Y : Type 0} (p : Y → Bool) (first : Y) (others : List Y) (x z : X) → (if nat_lt 0 (count_by p (first ∷ others)) then Some x else None) ≡ None
+    → (if nat_lt 0 (count_by p others) then Some z else None) ≡ None
+none_of_others p first others x z none =
+    counted_none (count_by p others) z (omega (arith, none_counted (count_by p (first ∷ others)) x none, sum_by-cons (λ y. cond {A = ℕ} (p y) 1 0) first others))
+
+rest_counts : {K V : Type 0} {cmp : K → K → Ordering} → IsExactOrder cmp → (is_above : V → Bool) (pairs : List (K × V)) (others : List (List (K × V))) (counts : List (K × Tests))
+    → AreCounts cmp is_above (pairs ∷ others) counts → AreCounts cmp is_above others (renewed (λ key. tests_at cmp is_above key others) counts)
+rest_counts {K} {V} {cmp} o is_above pairs others counts are = record {
+  ascending = renewed_ascend (λ key. tests_at cmp is_above key others) o counts are.ascending;
+  counted = λ key. renewed_is (λ k. tests_at cmp is_above k others) o key counts
+      (λ none. none_of_others (λ ps. is_some (value_of cmp key ps)) pairs others
+      (record { tests = count_with cmp key (pairs ∷ others); hit = count_above cmp is_above key (pairs ∷ others) })
+      (record { tests = count_with cmp key others; hit = count_above cmp is_above key others })
+      (sym (are.counted key) ∙ none));
+}
+
+pub rest_of : (test : TestData) (others : List TestData) (marks : MarksData) → AreMarks (test ∷ others) marks → (rest : MarksData) × (rest.texts ≡ marks.texts) × AreMarks others rest
+rest_of test others marks are = (
+  record {
+    lines = renewed (λ line. tests_at nat_cmp line_above line (map (λ t. t.lines) others)) marks.lines;
+    functions = renewed (λ name. tests_at (slice_cmp nat_cmp) function_above name (map (λ t. t.functions) others)) marks.functions;
+    branches = renewed (λ point. tests_at branch_cmp branch_above point (map (λ t. t.branches) others)) marks.branches;
+    holders = renewed (λ line. holders_at line others) marks.holders;
+    texts = marks.texts;
+  },
+  refl,
+  record {
+    lines = rest_counts lines_order line_above test.lines (map (λ t. t.lines) others) marks.lines are.lines;
+    functions = rest_counts names_order function_above test.functions (map (λ t. t.functions) others) marks.functions are.functions;
+    branches = rest_counts branches_order branch_above test.branches (map (λ t. t.branches) others) marks.branches are.branches;
+    holders = λ line. renewed_is (λ l. holders_at l others) lines_order line marks.holders
+        (λ none. none_of_others (λ t. is_above_at has_checksum (value_of nat_cmp line t.lines)) test others (holding line (test ∷ others)) (holding line others) (sym (are.holders line) ∙ none));
+  },
+)
+
+-- ---- files
+
+-- a whole file can be told without the test
+pub file_without : (name : List ℕ) (tests : List (List ℕ × TestData)) (marks : MarksData) → IsWholeFile (file_with tests marks) → (after : FileData) × IsWithoutTest name (file_with tests marks) after
+file_without name tests marks whole = by (value_of (slice_cmp nat_cmp) name tests) refl
+  where
+    by : (found : Option TestData) → value_of (slice_cmp nat_cmp) name tests ≡ found → (after : FileData) × IsWithoutTest name (file_with tests marks) after
+    by None e = (file_with tests marks, without_unfound name (file_with tests marks) whole e)
+    by (Some points) e =
+        let rest = rest_of points (points_of_all (tests_without name tests)) marks (marks_first name points tests marks whole e) in
+        (file_with (tests_without name tests) rest.0, without_found name points tests marks whole e rest.0 rest.1 rest.2)
+
+pub files_without : (name : List ℕ) (files : List (List ℕ × FileData)) → AllByRecursion (λ pair. IsWholeFile pair.1) files → (after : List (List ℕ × FileData)) × AreWithoutTest name files after
+files_without name [] whole = ([], tt)
+files_without name (pair ∷ files) whole =
+    let one = file_without name pair.1.tests (marks_in pair.1) whole.0 in
+    let rest = files_without name files whole.1 in
+    ((pair.0, one.0) ∷ rest.0, (refl, one.1, rest.1))

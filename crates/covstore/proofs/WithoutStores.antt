@@ -1,0 +1,100 @@
+-- A store without a test: what it stands for, and its totals.
+use Rattle.std.proofs.Common.{◌≡◌, ℕ, ◌≤◌, ◌^◌, not, List, [], ◌∷◌, length, filter, refl, sym, ap, ◌∙◌, subst, arith}
+use Rattle.std.specs.Prelude.{Contains}
+use Rattle.std.specs.List.{AllByRecursion, count_by}
+use Rattle.std.specs.Str.{bytes_eq}
+use Rattle.std.proofs.lemmas.List.{length-map}
+use Rattle.covline.specs.Row.{Row}
+use Rattle.covstore.specs.declared.file.File.{File}
+use Rattle.covstore.specs.declared.totals.Totals.{Totals}
+use Rattle.covstore.specs.Clash.{Checksum, checksums_in}
+use Rattle.covstore.specs.Content.{SectionData, content_at}
+use Rattle.covstore.specs.Dropped.{AreWithoutTest}
+use Rattle.covstore.specs.Exchanged.{FitTotals}
+use Rattle.covstore.specs.FileView.{file_held}
+use Rattle.covstore.specs.MapsView.{IsStore, files_held}
+use Rattle.covstore.specs.State.{FileData, IsWholeFile, has_points_of, sections_of, totals_in}
+use Rattle.covstore.specs.Stored.{StandsFor, StoreData}
+use Rattle.covstore.specs.Table.{Table, all_rows}
+use Rattle.covstore.specs.Totals.{AreTotals, totals_of}
+use Rattle.covstore.specs.Without.{is_of_test, sections_of_test, without_test}
+use Rattle.covstore.proofs.AddsPlace.{state_agrees}
+use Rattle.covstore.proofs.DropsRest.{files_without}
+use Rattle.covstore.proofs.ExchangedFiles.{totals_few}
+use Rattle.covstore.proofs.Prepares.{rows_in_table}
+use Rattle.covstore.proofs.StateSections.{sections_are}
+use Rattle.covstore.proofs.Stores.{store_bounds, store_of, store_sections, store_totals}
+use Rattle.covstore.proofs.WithoutContent.{content_left, content_without, rows_left, rows_without, sections_counted}
+use Rattle.covstore.proofs.WithoutSections.{count_in_files}
+use Rattle.covstore.proofs.WithoutState.{agree_left, fewer, state_without, store_without}
+
+module _ (test : List ℕ) (members : ℕ) (held : Totals) (files : List (List ℕ × FileData)) (is : IsStore members held files) where
+  -- the sections of other tests
+  abbrev of_others : List SectionData → List SectionData
+  of_others sections = filter (λ s. not (bytes_eq s.key.test test)) sections
+
+  module _ (after : List (List ℕ × FileData)) (are : AreWithoutTest test files after) where
+    left : IsStore members (totals_in after) after
+    left = store_without test members held files after is are (totals_in after) refl
+
+    pub sections_left : sections_of after ≡ of_others (sections_of files)
+    sections_left =
+        let state = state_without test (all_rows is.own) files after is.state are in
+        sections_are (rows_without test (all_rows is.own)) after state (state_agrees (rows_without test (all_rows is.own)) after state)
+        ∙ content_left test (all_rows is.own) ∙ ap of_others (sym (store_sections members held files is))
+
+    pub totals_bounds : AreTotals (totals_in after)
+    totals_bounds = store_bounds members (totals_in after) after left
+
+    pub totals_fit : FitTotals (totals_in after)
+    totals_fit =
+        let few : length (all_rows left.own) ≤ 2 ^ 46 = omega (arith, rows_in_table left.own left.small, left.few) in
+        let most = totals_few (all_rows left.own) after left.state in
+        record {
+          lf = omega (arith, few, most.lf);
+          lh = omega (arith, few, most.lh);
+          ff = omega (arith, few, most.ff);
+          fh = omega (arith, few, most.fh);
+          bf = omega (arith, few, most.bf);
+          bh = omega (arith, few, most.bh);
+        }
+
+    -- the totals are those of any table with this content, without the test
+    pub totals_left : (table : Table) → sections_of files ≡ content_at table → totals_in after ≡ totals_of (content_at (without_test test table))
+    totals_left table content =
+        store_totals members (totals_in after) after left ∙ ap totals_of (sections_left ∙ ap of_others content ∙ sym (content_without test table))
+
+    -- the store without the test stands for the table without it
+    pub stands_left : (coming after_coming : List (List ℕ × FileData)) (totals later : Totals) (table : Table) → StandsFor (store_of members files coming totals) table
+        → StandsFor (store_of members after after_coming later) (without_test test table)
+    stands_left coming after_coming totals later table stands = record {
+      content = sections_left ∙ ap of_others stands.content ∙ sym (content_without test table);
+      members = stands.members ∙ sym (length-map table (filter (λ row. not (is_of_test test row))));
+      agree = agree_left table test stands.agree;
+      few = omega (arith, stands.few, length-map table (filter (λ row. not (is_of_test test row))));
+      small = fewer test table stands.small;
+    }
+
+  -- there are such files
+  pub some_left : (after : List (List ℕ × FileData)) × AreWithoutTest test files after × FitTotals (totals_in after)
+  some_left = let found = files_without test files is.state.whole in (found.0, found.1, totals_fit found.0 found.1)
+
+  -- and the test stands in as many sections as there are files with points of it
+  pub sections_with : (table : Table) → sections_of files ≡ content_at table → count_by (λ pair. has_points_of test pair.1) files ≡ sections_of_test test table
+  sections_with table content =
+      count_in_files test files is.state.whole ∙ ap (count_by (λ s. bytes_eq s.key.test test)) content ∙ sym (sections_counted test table)
+
+-- a store with the same content stands for the same tables
+pub stands_too : (store other : StoreData) (table : Table) → other.sections ≡ store.sections → other.members ≡ store.members → StandsFor store table → StandsFor other table
+stands_too store other table sections members stands = record {
+  content = sections ∙ stands.content;
+  members = members ∙ stands.members;
+  agree = stands.agree;
+  few = stands.few;
+  small = stands.small;
+}
+
+-- whole files, by their names or not
+pub whole_files : {K A : Type 0} (name : K → List ℕ) (pairs : List (K × File A)) → AllByRecursion (λ pair. IsWholeFile pair.1) (files_held name pairs) → AllByRecursion (λ pair. IsWholeFile (file_held pair.1)) pairs
+whole_files name [] whole = tt
+whole_files name (pair ∷ pairs) whole = (whole.0, whole_files name pairs whole.1)

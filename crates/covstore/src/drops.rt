@@ -1,0 +1,57 @@
+//! A test that goes from the files of a store.
+
+ghost use Rattle.std.specs.Prelude.{◌≡◌, ℕ, List, true, count_by};
+ghost use Rattle.std.specs.List.{AllByRecursion};
+ghost use Rattle.covstore.specs.Dropped.{AreWithoutTest, IsWithoutTest};
+ghost use Rattle.covstore.specs.Exchanged.{FitTotals};
+ghost use Rattle.covstore.specs.FileView.{file_held};
+ghost use Rattle.covstore.specs.MapsView.{AreSettledBut, IsSettledBut, files_held};
+ghost use Rattle.covstore.specs.State.{FileData, IsWholeFile, has_points_of, totals_in};
+
+use crate::file::File;
+use crate::totals::Totals;
+use std::alloc::Allocator;
+use std::collections::BTreeMap;
+
+/// The test goes from every file. A file whose last test goes stays, without tests. Takes no memory.
+pub(crate) fn drop_from_files<K: Ord + Drop, A: Allocator + Copy>(
+    files: &mut BTreeMap<K, File<A>, A>,
+    test: &[u8],
+)
+    requires { AllByRecursion (λ pair. IsWholeFile (file_held pair.1)) files.old.entries }
+    ensures held { (name : K → List ℕ) → AreWithoutTest test.now (files_held name files.old.entries) (files_held name files.new.entries) }
+    ensures settled { (name : K → List ℕ) (touched : List (List ℕ × List ℕ)) → AreSettledBut name touched files.old.entries → AreSettledBut name touched files.new.entries }
+{
+    // A walk over the values would not say what it leaves of them.
+    files.retain(
+        |_, file|
+            requires { IsWholeFile (file_held file.old) }
+            ensures stays { result ≡ true }
+            ensures held { IsWithoutTest test.entry.now (file_held file.old) (file_held file.new) }
+            ensures settled { (tests : List (List ℕ)) → IsSettledBut tests file.old → IsSettledBut tests file.new }
+        {
+            file.drop_test(test);
+            true
+        },
+    );
+}
+
+/// In how many files the test has points, and the totals of all files where it is gone. Takes no memory.
+pub(crate) fn count_without<A: Allocator + Copy>(
+    files: &BTreeMap<Vec<u8, A>, File<A>, A>,
+    test: &[u8],
+) -> (u64, Totals)
+    requires whole { AllByRecursion (λ pair. IsWholeFile pair.1) (files_held (λ name. name.items) files.now.entries) }
+    requires fits { (after : List (List ℕ × FileData)) × AreWithoutTest test.now (files_held (λ name. name.items) files.now.entries) after × FitTotals (totals_in after) }
+    ensures sections { result.0 ≡ count_by (λ pair. has_points_of test.now pair.1) (files_held (λ name. name.items) files.now.entries) }
+    ensures totals { (after : List (List ℕ × FileData)) → AreWithoutTest test.now (files_held (λ name. name.items) files.now.entries) after → result.1 ≡ totals_in after }
+{
+    let mut sections = 0;
+    let mut totals = Totals::none();
+    for (_, file) in files.iter() {
+        let (has_points, rest) = file.without_test(test);
+        sections += u64::from(has_points);
+        totals = totals.plus(rest);
+    }
+    (sections, totals)
+}
