@@ -9,4 +9,4 @@ pub returns-clause-accepted : goal.returns-clause-accepted
 returns-clause-accepted c = agree_submitted
 
 pub returns-clause-dropped : goal.returns-clause-dropped
-returns-clause-dropped c = λ table test agree. agree_left test table agree
+returns-clause-dropped c = agree_left
