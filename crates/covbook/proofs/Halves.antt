@@ -1,13 +1,14 @@
 -- What is made ready is what the second half of a step asks for.
-use Rattle.std.proofs.Common.{◌≡◌, ℕ, List, length, sym, ap, ◌∙◌, subst}
+use Rattle.std.proofs.Common.{◌≡◌, ℕ, Bool, true, List, length, sym, ap, ◌∙◌, subst}
 use Rattle.covstore.specs.declared.totals.Totals.{Totals}
 use Rattle.covstore.specs.Stored.{StoreData}
 use Rattle.covstore.specs.Table.{Table}
 use Rattle.covstore.specs.Totals.{totals_of}
+use Rattle.covstore.specs.Without.{sections_of_test, without_test}
 use Rattle.covbook.specs.Held.{BookData, SameBook, IsBook}
-use Rattle.covbook.specs.Op.{OpData, AnswerData, EntryData}
+use Rattle.covbook.specs.Op.{OpData, DropTestOp, AnswerData, DroppedAnswer, EntryData}
 use Rattle.covbook.specs.Ready.{ReadyData, ChangeData, HasRoom, IsNextOf, IsPlanned, IsAfter, IsReadyFor}
-use Rattle.covbook.specs.Step.{answer_of, table_after, table_of, totals_at, ops_in, next_entry}
+use Rattle.covbook.specs.Step.{answer_of, answer_to_drop, has_test, table_after, table_after_drop, table_of, totals_at, ops_in, next_entry}
 use Rattle.covbook.proofs.Runs.{shown}
 
 -- a step with this entry, and what it does to the store
@@ -49,3 +50,13 @@ pub next_with : (entries : List EntryData) (job : ℕ) (op : OpData) (answer : A
 next_with entries job op answer after said told =
     let entry : AnswerData → Totals → EntryData = λ a t. record { job = job; op = op; answer = a; after = t } in
     ap (λ (a : AnswerData). entry a after) said ∙ ap (entry (answer_of (table_of (ops_in entries)) op)) told
+
+-- the entry of a test that is dropped, of which a row is
+pub dropped_next : (entries : List EntryData) (job : ℕ) (test : List ℕ) (sections : ℕ) (after : Totals) → has_test (table_of (ops_in entries)) test ≡ true
+    → sections ≡ sections_of_test test (table_of (ops_in entries)) → after ≡ totals_at (without_test test (table_of (ops_in entries)))
+    → record { job = job; op = DropTestOp test; answer = DroppedAnswer sections; after = after } ≡ next_entry entries job (DropTestOp test)
+dropped_next entries job test sections after there counted told =
+    let table = table_of (ops_in entries) in
+    next_with entries job (DropTestOp test) (DroppedAnswer sections) after
+    (ap DroppedAnswer counted ∙ ap (answer_to_drop table test) (sym there))
+    (told ∙ ap (λ (b : Bool). totals_at (table_after_drop table test b)) (sym there))

@@ -156,5 +156,5 @@ module _ (test : List ℕ) where
 pub agree_left : (table : Table) (test : List ℕ) → Agree (checksums_in (all_rows table)) → Agree (checksums_in (all_rows (without_test test table)))
 agree_left table test agree a b i j =
     let before : (sum : Checksum) → Contains (checksums_in (all_rows (without_test test table))) sum → Contains (checksums_in (all_rows table)) sum =
-        λ sum among. held_before test (all_rows table) sum (subst (λ (rows : List Row). Contains (checksums_in rows) sum) (rows_left test table) among) in
+    λ sum among. held_before test (all_rows table) sum (subst (λ (rows : List Row). Contains (checksums_in rows) sum) (rows_left test table) among) in
     agree a b (before a i) (before b j)
