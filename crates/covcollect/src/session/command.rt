@@ -16,6 +16,7 @@ use crate::session::fault::SessionFault;
 use crate::session::output::Output;
 use crate::stream::Sink;
 use covbook::{Book, Op};
+use covline::Bytes;
 use covreport::{PatternFault, Patterns};
 use std::alloc::Allocator;
 pub use word::{Format, Pick, Word, word_of};
@@ -91,6 +92,10 @@ pub fn answer_word<O: Sink, A: Allocator + Copy>(
             Some(patterns) => step(alloc, book, &op_of(pick, patterns), output),
             None => output.say(b"refused TooLong\n"),
         },
+        Word::Drop(test) => {
+            let op = Op::DropTest(Bytes::of(alloc, test)?);
+            step(alloc, book, &op, output)
+        }
         Word::Text(_) => output.say(b"unfinished\n"),
         Word::Other => output.say(b"unknown\n"),
     }
