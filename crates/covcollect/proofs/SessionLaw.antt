@@ -5,7 +5,7 @@ use Rattle.std.proofs.lemmas.Bool.{eqb-true, eqb-false, leb-true, leb-false}
 use Rattle.covline.specs.Row.{SubmissionData}
 use Rattle.covline.specs.Lines.{line_of, pieces_of}
 use Rattle.covread.specs.declared.fault.ReadFault.{ReadFault}
-use Rattle.covbook.specs.Op.{OpData, SubmitOp, ReportOp, ExtractOp, RemoveOp, SummaryOp}
+use Rattle.covbook.specs.Op.{OpData, SubmitOp, DropTestOp, ReportOp, ExtractOp, RemoveOp, SummaryOp}
 use Rattle.covreport.specs.Choice.{most_pattern_bytes}
 use Rattle.covcollect.specs.Command.{Command, Format, Tracefile, Annotated, Announces, IsReadAs, Blank, Ask, RefusePattern, Unknown, Unfinished, AsksFor, IsTooLong, IsBody, AreCommands, space}
 use Rattle.covcollect.specs.Session.{IsSession, session_text}
@@ -73,17 +73,21 @@ pub record IsNoWord (line : List ℕ) : Type 0 where
   pub extract : line ≢ codes "extract"
   pub remove : line ≢ codes "remove"
   pub gcov : line ≢ codes "gcov"
+  pub drop : line ≢ codes "drop"
 
-no_op : (line : List ℕ) → IsNoWord line → (Behind (codes "extract") line → ⊥) → (Behind (codes "remove") line → ⊥) → (op : OpData) → AsksFor op line → ⊥
-no_op line n e r (SubmitOp submission) h = h
-no_op line n e r ReportOp h = n.report h
-no_op line n e r SummaryOp h = n.summary h
-no_op line n e r (ExtractOp []) h = n.extract h
-no_op line n e r (ExtractOp (pattern ∷ [])) h = e (pattern, h.0)
-no_op line n e r (ExtractOp (pattern ∷ other ∷ more)) h = h
-no_op line n e r (RemoveOp []) h = n.remove h
-no_op line n e r (RemoveOp (pattern ∷ [])) h = r (pattern, h.0)
-no_op line n e r (RemoveOp (pattern ∷ other ∷ more)) h = h
+no_op : (line : List ℕ) → IsNoWord line → (Behind (codes "extract") line → ⊥) → (Behind (codes "remove") line → ⊥)
+    → (Behind (codes "drop") line → ⊥) → (op : OpData) → AsksFor op line → ⊥
+no_op line n e r d (SubmitOp submission) h = h
+no_op line n e r d (DropTestOp test) (inl h) = n.drop h.0
+no_op line n e r d (DropTestOp test) (inr h) = d (test, h)
+no_op line n e r d ReportOp h = n.report h
+no_op line n e r d SummaryOp h = n.summary h
+no_op line n e r d (ExtractOp []) h = n.extract h
+no_op line n e r d (ExtractOp (pattern ∷ [])) h = e (pattern, h.0)
+no_op line n e r d (ExtractOp (pattern ∷ other ∷ more)) h = h
+no_op line n e r d (RemoveOp []) h = n.remove h
+no_op line n e r d (RemoveOp (pattern ∷ [])) h = r (pattern, h.0)
+no_op line n e r d (RemoveOp (pattern ∷ other ∷ more)) h = h
 
 no_long : (line : List ℕ) → (Behind (codes "extract") line → ⊥) → (Behind (codes "remove") line → ⊥) → IsTooLong line → ⊥
 no_long line e r (pattern, long, inl is) = e (pattern, is)
@@ -99,18 +103,19 @@ abbrev May : List ℕ → List ℕ → Type 0
 May word line = Behind word line ⊎ (Behind word line → ⊥)
 
 choice_kind : (piece : List ℕ) → IsNoWord (line_of piece) → May (codes "extract") (line_of piece) → May (codes "remove") (line_of piece)
-    → May (codes "gcov") (line_of piece) → Kind piece
-choice_kind piece n (inl e) r g =
+    → May (codes "gcov") (line_of piece) → May (codes "drop") (line_of piece) → Kind piece
+choice_kind piece n (inl e) r g d =
     fit_kind piece e.0 (ExtractOp (e.0 ∷ [])) (leb (length e.0) most_pattern_bytes) refl (λ fits. (e.1, fits)) (λ long. (e.0, long, inl e.1))
-choice_kind piece n (inr e) (inl r) g =
+choice_kind piece n (inr e) (inl r) g d =
     fit_kind piece r.0 (RemoveOp (r.0 ∷ [])) (leb (length r.0) most_pattern_bytes) refl (λ fits. (r.1, fits)) (λ long. (r.0, long, inr r.1))
-choice_kind piece n (inr e) (inr r) (inl g) = inr (Annotated g.0, inr g.1)
-choice_kind piece n (inr e) (inr r) (inr g) = inl (
+choice_kind piece n (inr e) (inr r) (inl g) d = inr (Annotated g.0, inr g.1)
+choice_kind piece n (inr e) (inr r) (inr g) (inl d) = inl (Ask (DropTestOp d.0) ∷ [], ask_run Feed piece (DropTestOp d.0) (inr d.1))
+choice_kind piece n (inr e) (inr r) (inr g) (inr d) = inl (
   Unknown ∷ [],
   unknown_run Feed piece (record {
     some = n.some;
     no_text = no_text (line_of piece) n g;
-    no_op = no_op (line_of piece) n e r;
+    no_op = no_op (line_of piece) n e r d;
     short = no_long (line_of piece) e r;
   }),
 )
@@ -126,21 +131,25 @@ text_kind piece (inr t) (inl h) more = inr (Annotated [], inl (h, refl))
 text_kind piece (inr t) (inr g) more = more t g
 
 word_kind : (piece : List ℕ) → line_of piece ≢ codes "trace" → line_of piece ≢ codes "gcov" → Same (line_of piece) [] → Same (line_of piece) (codes "report")
-    → Same (line_of piece) (codes "summary") → Same (line_of piece) (codes "extract") → Same (line_of piece) (codes "remove") → Kind piece
-word_kind piece t g (inl h) r s e m = inl (Blank ∷ [], blank_run Feed piece h)
-word_kind piece t g (inr n) (inl h) s e m = inl (Ask ReportOp ∷ [], ask_run Feed piece ReportOp h)
-word_kind piece t g (inr n) (inr r) (inl h) e m = inl (Ask SummaryOp ∷ [], ask_run Feed piece SummaryOp h)
-word_kind piece t g (inr n) (inr r) (inr s) (inl h) m = inl (Ask (ExtractOp []) ∷ [], ask_run Feed piece (ExtractOp []) h)
-word_kind piece t g (inr n) (inr r) (inr s) (inr e) (inl h) = inl (Ask (RemoveOp []) ∷ [], ask_run Feed piece (RemoveOp []) h)
-word_kind piece t g (inr n) (inr r) (inr s) (inr e) (inr m) =
-    choice_kind piece (record { some = n; trace = t; report = r; summary = s; extract = e; remove = m; gcov = g })
+    → Same (line_of piece) (codes "summary") → Same (line_of piece) (codes "extract") → Same (line_of piece) (codes "remove")
+    → Same (line_of piece) (codes "drop") → Kind piece
+word_kind piece t g (inl h) r s e m d = inl (Blank ∷ [], blank_run Feed piece h)
+word_kind piece t g (inr n) (inl h) s e m d = inl (Ask ReportOp ∷ [], ask_run Feed piece ReportOp h)
+word_kind piece t g (inr n) (inr r) (inl h) e m d = inl (Ask SummaryOp ∷ [], ask_run Feed piece SummaryOp h)
+word_kind piece t g (inr n) (inr r) (inr s) (inl h) m d = inl (Ask (ExtractOp []) ∷ [], ask_run Feed piece (ExtractOp []) h)
+word_kind piece t g (inr n) (inr r) (inr s) (inr e) (inl h) d = inl (Ask (RemoveOp []) ∷ [], ask_run Feed piece (RemoveOp []) h)
+word_kind piece t g (inr n) (inr r) (inr s) (inr e) (inr m) (inl h) = inl (Ask (DropTestOp []) ∷ [], ask_run Feed piece (DropTestOp []) (inl (h, refl)))
+word_kind piece t g (inr n) (inr r) (inr s) (inr e) (inr m) (inr d) =
+    choice_kind piece (record { some = n; trace = t; report = r; summary = s; extract = e; remove = m; gcov = g; drop = d })
     (behind (codes "extract") (line_of piece)) (behind (codes "remove") (line_of piece)) (behind (codes "gcov") (line_of piece))
+    (behind (codes "drop") (line_of piece))
 
 kind : (piece : List ℕ) → Kind piece
 kind piece =
     text_kind piece (same (line_of piece) (codes "trace")) (same (line_of piece) (codes "gcov"))
     (λ t g. word_kind piece t g (same (line_of piece) []) (same (line_of piece) (codes "report"))
-    (same (line_of piece) (codes "summary")) (same (line_of piece) (codes "extract")) (same (line_of piece) (codes "remove")))
+    (same (line_of piece) (codes "summary")) (same (line_of piece) (codes "extract")) (same (line_of piece) (codes "remove"))
+    (same (line_of piece) (codes "drop")))
 
 -- ---- a text ends with the first line `.`
 

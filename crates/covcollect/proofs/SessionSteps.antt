@@ -7,7 +7,7 @@ use Rattle.std.specs.Option.{IfSome}
 use Rattle.std.specs.Io.KnownBytes.{Consumes, Appends, IsAtEnd, prepend_known, append_known}
 use Rattle.covline.specs.Row.{SubmissionData}
 use Rattle.covline.specs.Lines.{line_feed, before_feed, strip, line_of, pieces_of}
-use Rattle.covbook.specs.Op.{OpData, ReportOp, ExtractOp, RemoveOp, SummaryOp}
+use Rattle.covbook.specs.Op.{OpData, DropTestOp, ReportOp, ExtractOp, RemoveOp, SummaryOp}
 use Rattle.covreport.specs.Choice.{most_pattern_bytes}
 use Rattle.covstore.specs.Table.{Table}
 use Rattle.covbook.specs.Step.{table_of}
@@ -24,7 +24,7 @@ use Rattle.covcollect.specs.declared.session.command.word.Word.{Word}
 use Rattle.covcollect.specs.declared.session.command.word.Word.TheVariants as words
 use Rattle.covread.specs.Outcome.{IsOutcome, most_bytes}
 use Rattle.covread.specs.GcovOutcome as gcov
-use Rattle.covcollect.specs.Command.{Command, Format, Tracefile, Annotated, Announces, IsReadAs, format_of, Blank, Ask, RefusePattern, Submit, Refuse, Unknown, Unfinished, AsksFor, IsTooLong, IsUnknown, AreCommands, ops_of, ops_asked, IsWord, IsWordWith, pick_name, pick_op, asked_by, chosen_by, IsListOf}
+use Rattle.covcollect.specs.Command.{Command, Format, Tracefile, Annotated, Announces, IsReadAs, format_of, Blank, Ask, RefusePattern, Submit, Refuse, Unknown, Unfinished, AsksFor, IsNaming, IsTooLong, IsUnknown, AreCommands, ops_of, ops_asked, IsWord, IsWordWith, pick_name, pick_op, asked_by, chosen_by, IsListOf}
 use Rattle.covcollect.specs.Session.{IsSession, IsWholeSession, text_after, Asks}
 use Rattle.covcollect.specs.Streams.{InputData, OutputData, Moment, Takes, Says, Moves, TakesLine, TakesPieces, EndsAs, turns, unread, line_bytes, line_pieces}
 use Rattle.covcollect.specs.Text.{IsTaken, asked_for, IsAnsweredAs}
@@ -161,6 +161,7 @@ word_run ending piece words.Blank h last = blank_run ending piece h
 word_run ending piece words.Report h last = ask_run ending piece ReportOp h
 word_run ending piece words.Summary h last = ask_run ending piece SummaryOp h
 word_run ending piece (words.Choose pick pattern) h last = choose_run ending piece pick (option_map (λ p. p.now) pattern) h
+word_run ending piece (words.Drop test) h last = ask_run ending piece (DropTestOp test.now) h
 word_run ending piece words.Other h last = unknown_run ending piece h
 word_run ending piece (words.Text format) h last =
     let Q : LineEnd → Type 0 = λ u. IsRun u (piece ∷ []) (Unfinished ∷ []) in
@@ -179,11 +180,16 @@ no_choice [] pattern some h = omega arith
 no_choice (b ∷ bs) None some h = cc
 no_choice (b ∷ bs) (Some pattern) some h = cc
 
+-- nothing names no test
+no_name : (word test : List ℕ) → 0 < length word → IsNaming word test [] → ⊥
+no_name [] test some h = omega arith
+no_name (b ∷ bs) test some (inl h) = let e = h.0 in cc
+no_name (b ∷ bs) test some (inr h) = cc
+
 -- no text follows nothing
 no_text : (format : Format) → Announces format [] → ⊥
 no_text Tracefile h = cc
-no_text (Annotated test) (inl h) = let e = h.0 in cc
-no_text (Annotated test) (inr h) = cc
+no_text (Annotated test) h = no_name (codes "gcov") test (omega arith) h
 
 nothing_run : (word : Word) → IsWord [] word → LineRun Input [] word
 nothing_run words.Blank h = record { commands = []; run = run_none Input; same_text = λ table. refl; same_ops = refl }
@@ -191,6 +197,7 @@ nothing_run words.Report h = absurd (let nothing : ⊥ = cc in nothing)
 nothing_run words.Summary h = absurd (let nothing : ⊥ = cc in nothing)
 nothing_run (words.Choose picks.Extract pattern) h = absurd (no_choice (codes "extract") (option_map (λ p. p.now) pattern) (omega arith) h)
 nothing_run (words.Choose picks.Remove pattern) h = absurd (no_choice (codes "remove") (option_map (λ p. p.now) pattern) (omega arith) h)
+nothing_run (words.Drop test) h = absurd (no_name (codes "drop") test.now (omega arith) h)
 nothing_run (words.Text format) h = absurd (no_text (format_of format) h)
 nothing_run words.Other h = absurd (h.some refl)
 

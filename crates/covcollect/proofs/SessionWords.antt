@@ -1,12 +1,12 @@
 -- What a line of its own asks for: it is read as one command, by its first and its sixth byte and what is behind the
 -- word.
-use Rattle.std.proofs.Common.{◌≡◌, ◌⊎◌, ℕ, zero, suc, ◌<◌, ◌≤◌, Bool, true, false, cond, eqb, leb, length, get_or, take, drop, List, [], ◌∷◌, Option, None, Some, refl, sym, ◌∙◌, ap, subst, arith, inl, inr}
+use Rattle.std.proofs.Common.{◌≡◌, ◌⊎◌, ℕ, zero, suc, ◌<◌, ◌≤◌, Bool, true, false, cond, eqb, leb, length, codes, get_or, take, drop, List, [], ◌∷◌, Option, None, Some, refl, sym, ◌∙◌, ap, subst, arith, inl, inr}
 use Rattle.std.proofs.lemmas.Bool.{le-leb, lt-leb}
 use Rattle.std.proofs.lemmas.List.{take_all}
 use Rattle.memchr.specs.Find.{IsFirstByte, is_byte}
-use Rattle.covbook.specs.Op.{OpData, SubmitOp, ReportOp, ExtractOp, RemoveOp, SummaryOp}
+use Rattle.covbook.specs.Op.{OpData, SubmitOp, DropTestOp, ReportOp, ExtractOp, RemoveOp, SummaryOp}
 use Rattle.covreport.specs.Choice.{most_pattern_bytes}
-use Rattle.covcollect.specs.Command.{Command, Format, Tracefile, Annotated, Announces, Blank, Ask, RefusePattern, Submit, Refuse, Unknown, Unfinished, AsksFor, IsTooLong, IsUnknown, before_space}
+use Rattle.covcollect.specs.Command.{Command, Format, Tracefile, Annotated, Announces, Blank, Ask, RefusePattern, Submit, Refuse, Unknown, Unfinished, AsksFor, IsNaming, IsTooLong, IsUnknown, before_space}
 use Rattle.covcollect.proofs.SessionBytes.{not_true}
 
 -- ---- cut at the first space
@@ -55,7 +55,7 @@ read_at sixth line = read_by (eqb sixth 116) (eqb sixth 114) (eqb sixth 99) (eqb
 -- what a line is read as, whatever else it may be: one that is no command is read as some command too
 abbrev read_line : List ℕ → Command
 read_line [] = Blank
-read_line (b ∷ bs) = cond (eqb b 103) Unfinished (read_at (get_or (b ∷ bs) 5 0) (b ∷ bs))
+read_line (b ∷ bs) = cond (eqb b 103) Unfinished (cond (eqb b 100) (Ask (DropTestOp (drop 4 bs))) (read_at (get_or (b ∷ bs) 5 0) (b ∷ bs)))
 
 short_read : (op : List (List ℕ) → OpData) (pattern : List ℕ) → length pattern ≤ most_pattern_bytes → choice_read op (Some pattern) ≡ Ask (op (pattern ∷ []))
 short_read op pattern h = rw (le-leb (length pattern) most_pattern_bytes h) refl
@@ -63,8 +63,13 @@ short_read op pattern h = rw (le-leb (length pattern) most_pattern_bytes h) refl
 long_read : (op : List (List ℕ) → OpData) (pattern : List ℕ) → most_pattern_bytes < length pattern → choice_read op (Some pattern) ≡ RefusePattern
 long_read op pattern h = rw (lt-leb (length pattern) most_pattern_bytes h) refl
 
+drop_read : (test line : List ℕ) → IsNaming (codes "drop") test line → read_line line ≡ Ask (DropTestOp test)
+drop_read test line (inl h) = ap read_line h.0 ∙ ap (λ (u : List ℕ). Ask (DropTestOp u)) (sym h.1)
+drop_read test line (inr h) = ap read_line h
+
 ask_read : (op : OpData) (line : List ℕ) → AsksFor op line → read_line line ≡ Ask op
 ask_read (SubmitOp submission) line h = absurd h
+ask_read (DropTestOp test) line h = drop_read test line h
 ask_read ReportOp line h = ap read_line h
 ask_read SummaryOp line h = ap read_line h
 ask_read (ExtractOp []) line h = ap read_line h

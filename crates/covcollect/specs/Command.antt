@@ -1,7 +1,7 @@
 -- What a command line asks for, what the text behind a line is, and what the book is asked.
 use Rattle.std.specs.List.{concat, flat_map, AllByRecursion}
 use Rattle.std.specs.Prelude.{◌≡◌, ◌≢◌, ◌⊎◌, ◌<◌, ◌≤◌, ℕ, length, List, [], ◌∷◌, ◌++◌, codes, Ok, Err, ◌==◌, if◌then◌else◌, Result, Option, Some, None, option_map, nat_le}
-use Rattle.covbook.specs.Op.{OpData, SubmitOp, ReportOp, ExtractOp, RemoveOp, SummaryOp}
+use Rattle.covbook.specs.Op.{OpData, SubmitOp, DropTestOp, ReportOp, ExtractOp, RemoveOp, SummaryOp}
 use Rattle.covline.specs.Lines.{line_of}
 use Rattle.covline.specs.Row.{SubmissionData}
 use Rattle.covread.specs.Outcome.{IsOutcome}
@@ -39,9 +39,14 @@ IsChoice word [] line = line ≡ word
 IsChoice word (pattern ∷ []) line = (line ≡ word ++ space ∷ pattern) × (length pattern ≤ most_pattern_bytes)
 IsChoice word (pattern ∷ other ∷ more) line = ⊥
 
--- the line asks the book for a text
+-- a word, and behind a space the name of a test, which may be empty; or the word alone and the empty name
+abbrev pub IsNaming : List ℕ → List ℕ → List ℕ → Type 0
+IsNaming word test line = ((line ≡ word) × (test ≡ [])) ⊎ (line ≡ word ++ space ∷ test)
+
+-- the line asks the book for a text, or to drop a test
 abbrev pub AsksFor : OpData → List ℕ → Type 0
 AsksFor (SubmitOp submission) line = ⊥
+AsksFor (DropTestOp test) line = IsNaming (codes "drop") test line
 AsksFor ReportOp line = line ≡ codes "report"
 AsksFor SummaryOp line = line ≡ codes "summary"
 AsksFor (ExtractOp patterns) line = IsChoice (codes "extract") patterns line
@@ -52,10 +57,6 @@ abbrev pub IsTooLong : List ℕ → Type 0
 IsTooLong line =
     (pattern : List ℕ) × (most_pattern_bytes < length pattern)
     × ((line ≡ codes "extract" ++ space ∷ pattern) ⊎ (line ≡ codes "remove" ++ space ∷ pattern))
-
--- a word, and behind a space the name of a test, which may be empty; or the word alone and the empty name
-abbrev pub IsNaming : List ℕ → List ℕ → List ℕ → Type 0
-IsNaming word test line = ((line ≡ word) × (test ≡ [])) ⊎ (line ≡ word ++ space ∷ test)
 
 -- the format of a text: a tracefile, or gcov's annotated source, whose counts are of this test
 pub data Format : Type 0 where
@@ -167,6 +168,7 @@ IsWord line words.Blank = line ≡ []
 IsWord line words.Report = line ≡ codes "report"
 IsWord line words.Summary = line ≡ codes "summary"
 IsWord line (words.Choose pick pattern) = IsWordWith line (pick_name pick) (option_map (λ p. p.now) pattern)
+IsWord line (words.Drop test) = IsNaming (codes "drop") test.now line
 IsWord line (words.Text format) = Announces (format_of format) line
 IsWord line words.Other = IsUnknown line
 
@@ -188,5 +190,6 @@ asked_by words.Blank = Blank ∷ []
 asked_by words.Report = Ask ReportOp ∷ []
 asked_by words.Summary = Ask SummaryOp ∷ []
 asked_by (words.Choose pick pattern) = chosen_by (pick_op pick) (option_map (λ p. p.now) pattern)
+asked_by (words.Drop test) = Ask (DropTestOp test.now) ∷ []
 asked_by (words.Text format) = Unfinished ∷ []
 asked_by words.Other = Unknown ∷ []

@@ -13,6 +13,7 @@
 //! end_of_record
 //! .
 //! summary
+//! drop
 //! END
 //! ```
 #![tactic(auto)]

@@ -34,7 +34,12 @@ fn text_behind(word: Word<'_>, ending: LineEnd) -> Option<Format<'_>>
     ensures no_text { IfNone result ((format : TextFormat) → word.entry ≡ Word.Text format → ending ≡ LineEnd.Input) }
 {
     match word {
-        Word::Blank | Word::Report | Word::Summary | Word::Choose(_, _) | Word::Other => None,
+        Word::Blank
+        | Word::Report
+        | Word::Summary
+        | Word::Choose(_, _)
+        | Word::Drop(_)
+        | Word::Other => None,
         Word::Text(format) => match ending {
             LineEnd::Feed => Some(format),
             LineEnd::Input => None,

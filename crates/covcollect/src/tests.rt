@@ -15,6 +15,7 @@ use std::test::*;
 mod choosing;
 mod clashes;
 mod commands;
+mod drops;
 mod gcov;
 mod lines;
 mod merging;

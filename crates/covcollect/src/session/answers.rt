@@ -1,7 +1,7 @@
 //! The lines that a session answers.
 
 ghost use Rattle.std.specs.Prelude.{◌≡◌, ◌≢◌, ◌^◌, ◌<◌, codes, decimal, IfOk, IfErr, OnOk, ◌++◌};
-ghost use Rattle.covbook.specs.Op.{AcceptedAnswer, ClashAnswer};
+ghost use Rattle.covbook.specs.Op.{AcceptedAnswer, ClashAnswer, DroppedAnswer};
 ghost use Rattle.covbook.specs.View.{answer_data};
 ghost use Rattle.covcollect.specs.Session.{answer_text, line_fault_name, fault_text, refused_text};
 ghost use Rattle.covcollect.specs.Streams.{Says};
@@ -84,6 +84,17 @@ fn clash_line<A: Allocator>(alloc: A, clash: Clash<'_>) -> Result<Vec<u8, A>, Se
     add_checksum(&mut text, clash.given)?;
     text.extend_from_slice(b"\n")?;
     Ok(text)
+}
+
+// The line that says from how many sections a test was dropped.
+fn dropped_line<A: Allocator>(alloc: A, sections: u64) -> Result<Vec<u8, A>, SessionFault>
+    ensures line { IfOk result (λ line. line.items ≡ answer_text (DroppedAnswer sections)) }
+    ensures fault { IfErr result (λ f. f ≡ session_faults.Memory) }
+{
+    let mut line = Vec::new(alloc);
+    add_number(&mut line, b"dropped ", sections)?;
+    line.extend_from_slice(b"\n")?;
+    Ok(line)
 }
 
 // The name of a line's own fault.
@@ -182,6 +193,11 @@ pub fn say_answer<O: Sink, A: Allocator + Copy>(
             let text = clash_line(alloc, clash)?;
             output.say(text.as_slice())
         }
+        Answer::Dropped { sections } => {
+            let line = dropped_line(alloc, *sections)?;
+            output.say(line.as_slice())
+        }
+        Answer::NoSuchTest => output.say(b"no such test\n"),
         Answer::Text(text) => {
             output.say(text.get().get())?;
             output.say(b".\n")

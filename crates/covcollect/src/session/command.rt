@@ -1,6 +1,7 @@
 //! The commands of one line: what such a line asks for, and the answer to it.
 
 ghost use Rattle.std.specs.Prelude.{◌≡◌, ◌↔◌, ◌^◌, ◌<◌, [], ◌∷◌, ◌++◌, length, ◌≤◌, Err, IfOk, IfErr, IfSome, OnOk, OnErr, option_map};
+ghost use Rattle.covbook.specs.Op.{DropTestOp};
 ghost use Rattle.covbook.specs.Step.{answer_of, most_entries, next_entry, table_of, ops_in};
 ghost use Rattle.covbook.specs.View.{op_data};
 ghost use Rattle.covreport.specs.Choice.{most_pattern_bytes};
@@ -16,6 +17,7 @@ use crate::session::fault::SessionFault;
 use crate::session::output::Output;
 use crate::stream::Sink;
 use covbook::{Book, Op};
+use covline::Bytes;
 use covreport::{PatternFault, Patterns};
 use std::alloc::Allocator;
 pub use word::{Format, Pick, Word, word_of};
@@ -71,6 +73,14 @@ fn op_of<A: Allocator>(pick: Pick, patterns: Patterns<A>) -> Op<A>
     }
 }
 
+// What drops a test.
+fn drop_op<A: Allocator>(alloc: A, test: &[u8]) -> Result<Op<A>, SessionFault>
+    ensures op { IfOk result (λ op. op_data op ≡ DropTestOp test.now) }
+    ensures fault { IfErr result (λ f. f ≡ session_faults.Memory) }
+{
+    Ok(Op::DropTest(Bytes::of(alloc, test)?))
+}
+
 /// Answers a line that is a command of its own.
 pub fn answer_word<O: Sink, A: Allocator + Copy>(
     alloc: A,
@@ -91,6 +101,10 @@ pub fn answer_word<O: Sink, A: Allocator + Copy>(
             Some(patterns) => step(alloc, book, &op_of(pick, patterns), output),
             None => output.say(b"refused TooLong\n"),
         },
+        Word::Drop(test) => {
+            let op = drop_op(alloc, test)?;
+            step(alloc, book, &op, output)
+        }
         Word::Text(_) => output.say(b"unfinished\n"),
         Word::Other => output.say(b"unknown\n"),
     }

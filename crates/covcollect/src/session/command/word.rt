@@ -36,6 +36,8 @@ pub enum Word<'a> {
     Summary,
     /// A choice of files, by the pattern behind the first space where there is one.
     Choose(Pick, Option<&'a [u8]>),
+    /// `drop`, the test with this name is dropped.
+    Drop(&'a [u8]),
     /// `trace` or `gcov`, a text of this format follows.
     Text(Format<'a>),
     /// Something unknown.
@@ -75,6 +77,8 @@ fn word_with_argument(words: &[u8]) -> Word<'_>
         Word::Choose(Pick::Remove, argument)
     } else if name == b"gcov".as_slice() {
         Word::Text(Format::Annotated(test_named(argument)))
+    } else if name == b"drop".as_slice() {
+        Word::Drop(test_named(argument))
     } else {
         Word::Other
     }
