@@ -1,9 +1,7 @@
 //! covcollect, a coverage collector for lcov tracefiles. It reads commands from standard input, a line each, answers
 //! them on standard output, and tells a fault that ends it on standard error and by its exit status.
 //!
-//! What stands in its modules: `stream` is where bytes come from and go to, `session` answers the commands of a
-//! source to a sink, `program` is a session with its exit status and the words of its fault, and `laws` says what
-//! holds of every session. `main` only makes the streams.
+//! `main` only makes the streams; the session is the crate covsession's.
 //!
 //! ```text
 //! $ covcollect <<'END'
@@ -18,13 +16,7 @@
 //! ```
 #![tactic(auto)]
 
-pub mod laws;
-mod program;
-mod session;
-mod stream;
-
-use crate::program::run_session;
-use crate::stream::{FromRead, FromWrite};
+use covsession::{FromRead, FromWrite, run_session};
 use std::io;
 use std::process::ExitCode;
 
@@ -34,6 +26,3 @@ fn main(rt: HostRuntime) -> ExitCode {
     let mut faults = FromWrite::new(rt.stderr());
     ExitCode::from(run_session(rt.alloc(), &mut source, &mut sink, &mut faults))
 }
-
-#[cfg(test)]
-mod tests;

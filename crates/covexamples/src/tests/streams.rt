@@ -1,0 +1,510 @@
+//! Readers and writers that are slow, narrow, failing, holding back or endless.
+
+ghost use Rattle.std.specs.Prelude.{None};
+
+use super::session_end;
+use covsession::session::SessionFault;
+use covsession::{Failed, FromRead, FromWrite, Sink, Source, run_session};
+use std::alloc::Global;
+use std::io::{self, Read, Write};
+use std::test::*;
+
+const INPUT: &[u8] =
+    b"trace\nTN:t\nSF:/a.c\nDA:1,2\nDA:2,0\nLF:2\nLH:1\nend_of_record\n.\nreport\n";
+
+const ANSWER: &[u8] =
+    b"accepted 1 items 2 odd 0\nTN:t\nSF:/a.c\nDA:1,2\nDA:2,0\nLF:2\nLH:1\nend_of_record\n.\n";
+
+/// A reader that gives one byte at each call, and fails after some calls.
+#[derive(Drop)]
+struct Slow<'a> {
+    input: &'a [u8],
+    good_reads: usize,
+    reads: u64,
+    failed: u64,
+}
+
+impl<'a> Source for Slow<'a> {
+    ghost left = { λ s. None };
+
+    ghost reads = { λ s. s.reads };
+
+    ghost failed_reads = { λ s. s.failed };
+
+    fn read(&mut self, buffer: &mut [u8]) -> Result<usize, Failed> {
+        self.reads += 1;
+        if self.good_reads == 0 {
+            self.failed += 1;
+            return Err(Failed);
+        }
+        self.good_reads -= 1;
+        if buffer.is_empty() {
+            return Ok(0);
+        }
+        let input = self.input;
+        match input.split_first() {
+            Some((first, rest)) => {
+                buffer[0] = *first;
+                self.input = rest;
+                Ok(1)
+            }
+            None => Ok(0),
+        }
+    }
+}
+
+/// A writer that takes one byte at each call, and fails after some calls.
+#[derive(Drop)]
+struct Narrow {
+    output: Vec<u8>,
+    good_writes: usize,
+    failed: u64,
+}
+
+impl Sink for Narrow {
+    ghost written = { λ s. None };
+
+    ghost failed_writes = { λ s. s.failed };
+
+    fn write(&mut self, bytes: &[u8]) -> Result<usize, Failed> {
+        if bytes.is_empty() {
+            return Ok(0);
+        }
+        if self.good_writes == 0 || self.output.push(bytes[0]).is_err() {
+            self.failed += 1;
+            return Err(Failed);
+        }
+        self.good_writes -= 1;
+        Ok(1)
+    }
+
+    fn flush(&mut self) -> Result<(), Failed> {
+        Ok(())
+    }
+}
+
+/// How a session on the small text ends after so many good reads and writes, and how much it wrote of its answer.
+fn by_bytes(
+    alloc: Global,
+    good_reads: usize,
+    good_writes: usize,
+) -> (Result<(), SessionFault>, usize, bool) {
+    let mut source = Slow {
+        input: INPUT,
+        good_reads,
+        reads: 0,
+        failed: 0,
+    };
+    let mut sink = Narrow {
+        output: Vec::new(alloc),
+        good_writes,
+        failed: 0,
+    };
+    let ended = session_end(alloc, &mut source, &mut sink);
+    let written = sink.output.as_slice();
+    (ended, written.len(), ANSWER.starts_with(written))
+}
+
+#[test]
+fn one_byte_at_a_time(rt: HostRuntime) {
+    let all = ANSWER.len();
+    assert_eq!(rt; by_bytes(rt.alloc(), 1000, 1000), (Ok(()), all, true));
+}
+
+#[test]
+fn failing_reads_and_writes(rt: HostRuntime) {
+    let read = Err(SessionFault::Read);
+    let write = Err(SessionFault::Write);
+    assert_eq!(rt;
+        by_bytes(rt.alloc(), 0, 1000),
+        (read, 0, true),
+        "the first read"
+    );
+    assert_eq!(rt;
+        by_bytes(rt.alloc(), 40, 1000),
+        (read, 0, true),
+        "a read in the text"
+    );
+    assert_eq!(rt;
+        by_bytes(rt.alloc(), 59, 1000),
+        (read, 25, true),
+        "a read behind the text"
+    );
+    assert_eq!(rt;
+        by_bytes(rt.alloc(), 1000, 0),
+        (write, 0, true),
+        "the first write"
+    );
+    assert_eq!(rt;
+        by_bytes(rt.alloc(), 1000, 30),
+        (write, 30, true),
+        "a later write"
+    );
+}
+
+/// A writer that holds all bytes back until they are sent on.
+#[derive(Drop)]
+struct Holding {
+    held: Vec<u8>,
+    sent: usize,
+    can_send: bool,
+    failed: u64,
+}
+
+impl Sink for Holding {
+    ghost written = { λ s. None };
+
+    ghost failed_writes = { λ s. s.failed };
+
+    fn write(&mut self, bytes: &[u8]) -> Result<usize, Failed> {
+        if bytes.is_empty() {
+            return Ok(0);
+        }
+        match self.held.extend_from_slice(bytes) {
+            Ok(()) => Ok(bytes.len()),
+            Err(_) => {
+                self.failed += 1;
+                Err(Failed)
+            }
+        }
+    }
+
+    fn flush(&mut self) -> Result<(), Failed> {
+        if !self.can_send {
+            self.failed += 1;
+            return Err(Failed);
+        }
+        self.sent = self.held.len();
+        Ok(())
+    }
+}
+
+/// How a session on the small text ends over a writer that holds back, and whether its answer was sent on.
+fn by_flushes(alloc: Global, can_send: bool) -> (Result<(), SessionFault>, bool) {
+    let mut source = FromRead::new(INPUT);
+    let mut sink = Holding {
+        held: Vec::new(alloc),
+        sent: 0,
+        can_send,
+        failed: 0,
+    };
+    let ended = session_end(alloc, &mut source, &mut sink);
+    let sent = sink.sent == ANSWER.len() && sink.held.as_slice() == ANSWER;
+    (ended, sent)
+}
+
+#[test]
+fn a_writer_that_holds_back(rt: HostRuntime) {
+    assert_eq!(rt; by_flushes(rt.alloc(), true), (Ok(()), true));
+    assert_eq!(rt;
+        by_flushes(rt.alloc(), false),
+        (Err(SessionFault::Write), false)
+    );
+}
+
+/// A writer of std that can't send on.
+#[derive(Drop)]
+struct Stuck;
+
+impl Write for Stuck {
+    fn write(&mut self, bytes: &[u8]) -> io::Result<usize> {
+        Ok(bytes.len())
+    }
+
+    fn flush(&mut self) -> io::Result<()> {
+        Err(io::Error::from(io::ErrorKind::BrokenPipe))
+    }
+}
+
+#[test]
+fn a_writer_that_cannot_send_on(rt: HostRuntime) {
+    let mut source = FromRead::new(INPUT);
+    let mut sink = FromWrite::new(Stuck);
+    assert_eq!(rt;
+        session_end(rt.alloc(), &mut source, &mut sink),
+        Err(SessionFault::Write)
+    );
+}
+
+/// A reader and writer of std whose first call fails, unless one failed before.
+#[derive(Drop)]
+struct FailsOnce {
+    failed: bool,
+}
+
+impl Read for FailsOnce {
+    fn read(&mut self, _buffer: &mut [u8]) -> io::Result<usize> {
+        if self.failed {
+            return Ok(0);
+        }
+        self.failed = true;
+        Err(io::Error::from(io::ErrorKind::Interrupted))
+    }
+}
+
+impl Write for FailsOnce {
+    fn write(&mut self, bytes: &[u8]) -> io::Result<usize> {
+        if self.failed {
+            return Ok(bytes.len());
+        }
+        self.failed = true;
+        Err(io::Error::from(io::ErrorKind::Interrupted))
+    }
+
+    fn flush(&mut self) -> io::Result<()> {
+        Ok(())
+    }
+}
+
+/// A call of std that failed, of whatever kind its error is, isn't made again.
+#[test]
+fn a_failed_call_is_not_made_again(rt: HostRuntime) {
+    let mut source = FromRead::new(FailsOnce { failed: false });
+    let mut sink = FromWrite::new(FailsOnce { failed: true });
+    assert_eq!(rt;
+        session_end(rt.alloc(), &mut source, &mut sink),
+        Err(SessionFault::Read)
+    );
+    let mut source = FromRead::new(INPUT);
+    let mut sink = FromWrite::new(FailsOnce { failed: false });
+    assert_eq!(rt;
+        session_end(rt.alloc(), &mut source, &mut sink),
+        Err(SessionFault::Write)
+    );
+}
+
+/// A reader of a text that is made as it is read: first bytes, so many others, and what follows.
+#[derive(Drop)]
+struct Long<'a> {
+    before: &'a [u8],
+    filling: usize,
+    after: &'a [u8],
+    reads: u64,
+}
+
+impl<'a> Source for Long<'a> {
+    ghost left = { λ s. None };
+
+    ghost reads = { λ s. s.reads };
+
+    ghost failed_reads = { λ s. 0 };
+
+    fn read(&mut self, buffer: &mut [u8]) -> Result<usize, Failed> {
+        self.reads += 1;
+        if buffer.is_empty() {
+            return Ok(0);
+        }
+        if let Some((first, rest)) = self.before.split_first() {
+            buffer[0] = *first;
+            self.before = rest;
+            return Ok(1);
+        }
+        if self.filling > 0 {
+            let count = self.filling.min(buffer.len());
+            buffer[..count].fill(b'x');
+            self.filling -= count;
+            return Ok(count);
+        }
+        let Some((first, rest)) = self.after.split_first() else {
+            return Ok(0);
+        };
+        buffer[0] = *first;
+        self.after = rest;
+        Ok(1)
+    }
+}
+
+/// How a session ends on these bytes, so many others behind them in the same line, and `after`; and whether it wrote
+/// just this.
+fn long_line(
+    alloc: Global,
+    before: &[u8],
+    bytes: usize,
+    after: &[u8],
+    wanted: &[u8],
+) -> (Result<(), SessionFault>, bool) {
+    let mut output: Vec<u8> = Vec::new(alloc);
+    let ended = {
+        let mut source = Long {
+            before,
+            filling: bytes,
+            after,
+            reads: 0,
+        };
+        let mut sink = FromWrite::new(&mut output);
+        session_end(alloc, &mut source, &mut sink)
+    };
+    (ended, output.as_slice() == wanted)
+}
+
+#[test]
+fn longest_texts(rt: HostRuntime) {
+    let texts: [(&str, &[u8], usize, &[u8], &[u8]); 2] = [
+        (
+            "the limit",
+            b"trace\n",
+            67_108_863,
+            b"\n.\nreport\n",
+            b"accepted 1 items 0 odd 0\n.\n",
+        ),
+        (
+            "above it, and a short text behind",
+            b"trace\n",
+            67_108_864,
+            b"\n.\ntrace\nSF:/a.c\nend_of_record\n.\nreport\n",
+            b"refused TooLong\naccepted 1 items 0 odd 0\n.\n",
+        ),
+    ];
+    for (name, before, bytes, after, wanted) in texts {
+        assert_eq!(rt;
+            long_line(rt.alloc(), before, bytes, after, wanted),
+            (Ok(()), true),
+            "{name}"
+        );
+    }
+}
+
+#[test]
+fn long_lines(rt: HostRuntime) {
+    let texts: [(&str, &[u8], usize, &[u8], &[u8]); 2] = [
+        (
+            "a long command",
+            b"report",
+            1_000_000,
+            b"\nreport\n",
+            b"unknown\n.\n",
+        ),
+        (
+            "a long line that seems to end the text",
+            b"trace\n.",
+            1_000_000,
+            b"\n.\n",
+            b"accepted 1 items 0 odd 0\n",
+        ),
+    ];
+    for (name, before, bytes, after, wanted) in texts {
+        assert_eq!(rt;
+            long_line(rt.alloc(), before, bytes, after, wanted),
+            (Ok(()), true),
+            "{name}"
+        );
+    }
+}
+
+#[test]
+fn a_writer_that_is_full(rt: HostRuntime) {
+    let mut room = [0; 10];
+    let mut source = FromRead::new(INPUT);
+    let mut sink = FromWrite::new(room.as_mut_slice());
+    assert_eq!(rt;
+        session_end(rt.alloc(), &mut source, &mut sink),
+        Err(SessionFault::Write)
+    );
+}
+
+/// A reader of the same command over and over, made as it is read.
+#[derive(Drop)]
+struct Repeated {
+    commands: u64,
+    reads: u64,
+}
+
+impl Source for Repeated {
+    ghost left = { λ s. None };
+
+    ghost reads = { λ s. s.reads };
+
+    ghost failed_reads = { λ s. 0 };
+
+    fn read(&mut self, buffer: &mut [u8]) -> Result<usize, Failed> {
+        self.reads += 1;
+        if self.commands == 0 {
+            return Ok(0);
+        }
+        self.commands -= 1;
+        let line = b"summary\n";
+        let count = line.len().min(buffer.len());
+        buffer[..count].copy_from_slice(&line[..count]);
+        Ok(count)
+    }
+}
+
+/// A writer that counts bytes.
+#[derive(Drop)]
+struct Counting {
+    bytes: u64,
+}
+
+impl Sink for Counting {
+    ghost written = { λ s. None };
+
+    ghost failed_writes = { λ s. 0 };
+
+    fn write(&mut self, bytes: &[u8]) -> Result<usize, Failed> {
+        self.bytes = self.bytes.saturating_add(bytes.len() as u64);
+        Ok(bytes.len())
+    }
+
+    fn flush(&mut self) -> Result<(), Failed> {
+        Ok(())
+    }
+}
+
+/// The exit status of a session of so many summaries of nothing, how many bytes it writes, and how many on its fault.
+fn summaries(alloc: Global, commands: u64) -> (u8, u64, u64) {
+    let mut source = Repeated { commands, reads: 0 };
+    let mut sink = Counting { bytes: 0 };
+    let mut faults = Counting { bytes: 0 };
+    let status = run_session(alloc, &mut source, &mut sink, &mut faults);
+    (status, sink.bytes, faults.bytes)
+}
+
+/// A session fills its book with 1,048,576 entries. Each summary of nothing has 112 bytes with the dot behind it; `book full`
+/// is a line of 10 bytes.
+#[test]
+fn a_full_book(rt: HostRuntime) {
+    let most = 1_048_576;
+    let bytes = 117_440_512;
+    assert_eq!(rt; summaries(rt.alloc(), most), (0, bytes, 0));
+    assert_eq!(rt; summaries(rt.alloc(), most + 1), (3, bytes, 10));
+}
+
+/// The exit status of the program after so many good reads and writes, and whether it says these words of its fault.
+fn end_of(alloc: Global, good_reads: usize, good_writes: usize, words: &[u8]) -> (u8, bool) {
+    let mut source = Slow {
+        input: INPUT,
+        good_reads,
+        reads: 0,
+        failed: 0,
+    };
+    let mut sink = Narrow {
+        output: Vec::new(alloc),
+        good_writes,
+        failed: 0,
+    };
+    let mut said: Vec<u8> = Vec::new(alloc);
+    let status = {
+        let mut faults = FromWrite::new(&mut said);
+        run_session(alloc, &mut source, &mut sink, &mut faults)
+    };
+    (status, said.as_slice() == words)
+}
+
+#[test]
+fn exit_status_and_words(rt: HostRuntime) {
+    let alloc = rt.alloc();
+    assert_eq!(rt; end_of(alloc, 1_000, 1_000, b""), (0, true));
+    assert_eq!(rt; end_of(alloc, 40, 1_000, b"read fault\n"), (1, true));
+    assert_eq!(rt; end_of(alloc, 1_000, 30, b"write fault\n"), (1, true));
+}
+
+#[test]
+fn numbers_of_faults(rt: HostRuntime) {
+    let numbers = [
+        SessionFault::Read.number(),
+        SessionFault::Write.number(),
+        SessionFault::Memory.number(),
+        SessionFault::Full.number(),
+    ];
+    assert_eq!(rt; numbers, [1, 2, 3, 4]);
+}

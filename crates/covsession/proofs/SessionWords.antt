@@ -1,0 +1,143 @@
+-- What a line of its own asks for: it is read as one command, by its first and its sixth byte and what is behind the
+-- word.
+use Rattle.std.proofs.Common.{◌≡◌, ◌⊎◌, ℕ, zero, suc, ◌<◌, ◌≤◌, Bool, true, false, cond, eqb, leb, length, codes, get_or, take, drop, List, [], ◌∷◌, Option, None, Some, refl, sym, ◌∙◌, ap, subst, arith, inl, inr}
+use Rattle.std.proofs.lemmas.Bool.{le-leb, lt-leb}
+use Rattle.std.proofs.lemmas.List.{take_all}
+use Rattle.memchr.specs.Find.{IsFirstByte, is_byte}
+use Rattle.covbook.specs.Op.{OpData, SubmitOp, DropTestOp, ReportOp, ExtractOp, RemoveOp, SummaryOp}
+use Rattle.covreport.specs.Choice.{most_pattern_bytes}
+use Rattle.covsession.specs.Command.{Command, Format, Tracefile, Annotated, Announces, Blank, Ask, RefusePattern, Submit, Refuse, Unknown, Unfinished, AsksFor, IsNaming, IsTooLong, IsUnknown, before_space}
+use Rattle.covsession.proofs.SessionBytes.{not_true}
+
+-- ---- cut at the first space
+
+-- what stands before the first space
+front_of : (xs : List ℕ) (k : ℕ) → k ≤ length xs → ((j : ℕ) → j < k → eqb (get_or xs j 0) 32 ≡ true → ⊥)
+    → (k < length xs → eqb (get_or xs k 0) 32 ≡ true) → before_space xs ≡ take k xs
+front_of [] zero few none here = refl
+front_of [] (suc k) few none here = refl
+front_of (b ∷ bs) zero few none here = rw (here (omega arith)) refl
+front_of (b ∷ bs) (suc k) few none here =
+    rw (not_true (eqb b 32) (none 0 (omega arith)))
+    (ap (λ (ys : List ℕ). b ∷ ys) (front_of bs k (omega arith) (λ j h. none (suc j) (omega arith)) (λ h. here (omega arith))))
+
+pub front_some : (xs : List ℕ) (k : ℕ) → IsFirstByte (is_byte 32) xs (Some k) → before_space xs ≡ take k xs
+front_some xs k h = let at : k < length xs = h.0.high in front_of xs k (omega arith) (λ j l. h.0.before j (omega arith) l) (λ l. h.1)
+
+pub front_none : (xs : List ℕ) → IsFirstByte (is_byte 32) xs None → xs ≡ before_space xs
+front_none xs h =
+    sym (front_of xs (length xs) (omega arith) (λ j l. h j (omega arith) (omega arith)) (λ l. absurd (omega arith)) ∙ take_all (length xs) xs (omega arith))
+
+-- ---- a line is at most one command
+
+-- a pattern stands behind a space
+abbrev behind_space : List ℕ → Option (List ℕ)
+behind_space [] = None
+behind_space (b ∷ pattern) = Some pattern
+
+-- a choice of files, unless its pattern is too long
+abbrev choice_read : (List (List ℕ) → OpData) → Option (List ℕ) → Command
+choice_read op None = Ask (op [])
+choice_read op (Some pattern) = cond (leb (length pattern) most_pattern_bytes) (Ask (op (pattern ∷ []))) RefusePattern
+
+-- the command of the word that the line begins with
+abbrev read_by : (is_report is_summary is_extract is_remove : Bool) → List ℕ → Command
+read_by true s e r line = Ask ReportOp
+read_by false true e r line = Ask SummaryOp
+read_by false false true r line = choice_read ExtractOp (behind_space (drop 7 line))
+read_by false false false true line = choice_read RemoveOp (behind_space (drop 6 line))
+read_by false false false false line = Unfinished
+
+-- the sixth bytes of the words without a test differ: t, r, c, e, and none in `trace`
+abbrev read_at : ℕ → List ℕ → Command
+read_at sixth line = read_by (eqb sixth 116) (eqb sixth 114) (eqb sixth 99) (eqb sixth 101) line
+
+-- what a line is read as, whatever else it may be: one that is no command is read as some command too
+abbrev read_line : List ℕ → Command
+read_line [] = Blank
+read_line (b ∷ bs) = cond (eqb b 103) Unfinished (cond (eqb b 100) (Ask (DropTestOp (drop 4 bs))) (read_at (get_or (b ∷ bs) 5 0) (b ∷ bs)))
+
+short_read : (op : List (List ℕ) → OpData) (pattern : List ℕ) → length pattern ≤ most_pattern_bytes → choice_read op (Some pattern) ≡ Ask (op (pattern ∷ []))
+short_read op pattern h = rw (le-leb (length pattern) most_pattern_bytes h) refl
+
+long_read : (op : List (List ℕ) → OpData) (pattern : List ℕ) → most_pattern_bytes < length pattern → choice_read op (Some pattern) ≡ RefusePattern
+long_read op pattern h = rw (lt-leb (length pattern) most_pattern_bytes h) refl
+
+drop_read : (test line : List ℕ) → IsNaming (codes "drop") test line → read_line line ≡ Ask (DropTestOp test)
+drop_read test line (inl h) = ap read_line h.0 ∙ ap (λ (u : List ℕ). Ask (DropTestOp u)) (sym h.1)
+drop_read test line (inr h) = ap read_line h
+
+ask_read : (op : OpData) (line : List ℕ) → AsksFor op line → read_line line ≡ Ask op
+ask_read (SubmitOp submission) line h = absurd h
+ask_read (DropTestOp test) line h = drop_read test line h
+ask_read ReportOp line h = ap read_line h
+ask_read SummaryOp line h = ap read_line h
+ask_read (ExtractOp []) line h = ap read_line h
+ask_read (ExtractOp (pattern ∷ [])) line h = ap read_line h.0 ∙ short_read ExtractOp pattern h.1
+ask_read (ExtractOp (pattern ∷ other ∷ more)) line h = absurd h
+ask_read (RemoveOp []) line h = ap read_line h
+ask_read (RemoveOp (pattern ∷ [])) line h = ap read_line h.0 ∙ short_read RemoveOp pattern h.1
+ask_read (RemoveOp (pattern ∷ other ∷ more)) line h = absurd h
+
+too_long_read : (line : List ℕ) → IsTooLong line → read_line line ≡ RefusePattern
+too_long_read line (pattern, long, inl is) = ap read_line is ∙ long_read ExtractOp pattern long
+too_long_read line (pattern, long, inr is) = ap read_line is ∙ long_read RemoveOp pattern long
+
+-- a command of one line
+abbrev pub IsSingle : List ℕ → Command → Type 0
+IsSingle line Blank = line ≡ []
+IsSingle line (Ask op) = AsksFor op line
+IsSingle line RefusePattern = IsTooLong line
+IsSingle line Unknown = IsUnknown line
+IsSingle line (Submit submission) = ⊥
+IsSingle line (Refuse fault) = ⊥
+IsSingle line Unfinished = ⊥
+
+-- it is unknown, or what the line is read as
+abbrev IsRead : List ℕ → Command → Type 0
+IsRead line c = ((c ≡ Unknown) × IsUnknown line) ⊎ ((IsUnknown line → ⊥) × (read_line line ≡ c))
+
+single_read : (line : List ℕ) (c : Command) → IsSingle line c → IsRead line c
+single_read line Blank h = inr (λ u. u.some h, ap read_line h)
+single_read line (Ask op) h = inr (λ u. u.no_op op h, ask_read op line h)
+single_read line RefusePattern h = inr (λ u. u.short h, too_long_read line h)
+single_read line Unknown h = inl (refl, h)
+single_read line (Submit submission) h = absurd h
+single_read line (Refuse fault) h = absurd h
+single_read line Unfinished h = absurd h
+
+both_read : (line : List ℕ) (c d : Command) → IsRead line c → IsRead line d → d ≡ c
+both_read line c d (inl h) (inl k) = k.0 ∙ sym h.0
+both_read line c d (inl h) (inr k) = absurd (k.0 h.1)
+both_read line c d (inr h) (inl k) = absurd (h.0 k.1)
+both_read line c d (inr h) (inr k) = sym k.1 ∙ h.1
+
+pub single_unique : (line : List ℕ) (c d : Command) → IsSingle line c → IsSingle line d → d ≡ c
+single_unique line c d h k = both_read line c d (single_read line c h) (single_read line d k)
+
+-- a text follows no such line: it is read as a text that doesn't end
+text_read : (format : Format) (line : List ℕ) → Announces format line → read_line line ≡ Unfinished
+text_read Tracefile line h = ap read_line h
+text_read (Annotated test) line (inl h) = ap read_line h.0
+text_read (Annotated test) line (inr h) = ap read_line h
+
+single_text : (line : List ℕ) (d : Command) (format : Format) → IsSingle line d → IsRead line d → Announces format line → ⊥
+single_text line d format k (inl h) a = h.1.no_text format a
+single_text line d format k (inr h) a =
+    let P : Command → Type 0 = λ u. IsSingle line u in
+    let same : d ≡ Unfinished = sym h.1 ∙ text_read format line a in subst P same k
+
+pub not_text : (line : List ℕ) (d : Command) (format : Format) → IsSingle line d → Announces format line → ⊥
+not_text line d format k a = single_text line d format k (single_read line d k) a
+
+-- a line announces one format: by its first byte and what stands behind the fifth
+abbrev format_read : List ℕ → Format
+format_read line = cond (eqb (get_or line 0 0) 103) (Annotated (drop 5 line)) Tracefile
+
+announced : (format : Format) (line : List ℕ) → Announces format line → format_read line ≡ format
+announced Tracefile line h = ap format_read h
+announced (Annotated test) line (inl h) = ap format_read h.0 ∙ ap (λ (u : List ℕ). Annotated u) (sym h.1)
+announced (Annotated test) line (inr h) = ap format_read h
+
+pub one_format : (line : List ℕ) (x y : Format) → Announces x line → Announces y line → y ≡ x
+one_format line x y h k = sym (announced y line k) ∙ announced x line h

@@ -1,0 +1,27 @@
+use Rattle.std.proofs.Common.{ap, subst}
+use Rattle.covbook.specs.Step.{ops_in}
+use Rattle.covsession.specs.Streams.{moment}
+use Rattle.covsession.specs.Run.{TakesCommand}
+use Rattle.covsession.specs.declared.session.text.LineEnd.{LineEnd}
+use Rattle.covsession.proofs.SessionSteps.{so_far_none, so_far_more, so_far_done}
+use Rattle.covsession.proofs.session.answer_all.Goals as goal
+
+pub loop-book-init : goal.loop-book-init
+loop-book-init g c =
+    so_far_none (moment c.args.input.now c.args.output.now) (ops_in c.new-book.result.entries) (ap ops_in c.new-book.ensures)
+
+pub loop-book-preserved : goal.loop-book-preserved
+loop-book-preserved g c =
+    let m = moment c.args.input.now c.args.output.now in
+    let n = moment c.loop-book.input c.loop-book.output in
+    let o = moment c.answer_command.new.input c.answer_command.new.output in
+    let P : LineEnd → Type 0 = λ e. TakesCommand n o (ops_in c.loop-book.book.entries) (ops_in c.answer_command.new.book.entries) e in
+    so_far_more m n o (ops_in c.loop-book.book.entries) (ops_in c.answer_command.new.book.entries) c.loop-book.invariant (subst P c.in-Feed.is c.in_ok-answer_command.ensures.takes)
+
+pub returns-in-Input : goal.returns-in-Input
+returns-in-Input g c =
+    let m = moment c.args.input.now c.args.output.now in
+    let n = moment c.loop-book.input c.loop-book.output in
+    let o = moment c.answer_command.new.input c.answer_command.new.output in
+    let P : LineEnd → Type 0 = λ e. TakesCommand n o (ops_in c.loop-book.book.entries) (ops_in c.answer_command.new.book.entries) e in
+    so_far_done m n o (ops_in c.loop-book.book.entries) (ops_in c.answer_command.new.book.entries) c.loop-book.invariant (subst P c.in-Input.is c.in_ok-answer_command.ensures.takes)

@@ -1,0 +1,33 @@
+use Rattle.std.proofs.Common.{◌++◌, ◌∙◌}
+use Rattle.covsession.specs.Streams.{moment}
+use Rattle.covsession.proofs.SessionMoves.{line_end, line_on, line_on-line, line_on-turns, collected_on, taken_whole, taken_all}
+use Rattle.covsession.proofs.session.input.Input.take_line.Goals as goal
+
+pub returns-then-branch-clause-taken : goal.returns-then-branch-clause-taken
+returns-then-branch-clause-taken g c =
+    let m = moment c.args.self.now c.args.output.now in
+    let n = moment c.loop-self.self c.loop-self.output in
+    let o = moment c.fill.new.self c.fill.new.output in
+    let i = c.loop-self.invariant in
+    let t = c.in_ok-take_part.ensures in (
+      i.0 ++ t.taken.0,
+      line_end m n o c.take_part.new.self i.0 t.taken.0 i.1 t.taken.1 i.2 c.in_ok-fill.ensures.moves
+          (taken_whole _ _ _ _ c.if-branch.true t.taken.2) t.kept i.3 c.in_ok-fill.ensures.fewer,
+      λ before now h. collected_on c.take_part.new.text before now i.0 t.taken.0 (t.taken.3 before (now ++ i.0) (i.4 before now h)),
+    )
+
+pub loop-self-preserved : goal.loop-self-preserved
+loop-self-preserved g c =
+    let m = moment c.args.self.now c.args.output.now in
+    let n = moment c.loop-self.self c.loop-self.output in
+    let o = moment c.fill.new.self c.fill.new.output in
+    let i = c.loop-self.invariant in
+    let t = c.in_ok-take_part.ensures in
+    let all = taken_all _ _ _ _ c.if-branch.false t.taken.2 in (
+      i.0 ++ t.taken.0,
+      line_on-line i.0 t.taken.0 i.1 t.taken.1,
+      line_on m n o c.take_part.new.self i.0 t.taken.0 i.2 c.in_ok-fill.ensures.moves all.0 all.1 t.kept,
+      line_on-turns c.args.self.now c.loop-self.self c.fill.new.self c.take_part.new.self all.1 t.kept c.in_ok-fill.ensures.fewer i.3,
+      λ before now h. collected_on c.take_part.new.text before now i.0 t.taken.0 (t.taken.3 before (now ++ i.0) (i.4 before now h)),
+      t.limit ∙ i.5,
+    )

@@ -1,0 +1,28 @@
+-- What the program tells of a session's end: an exit status, and words where it ended in a fault.
+use Rattle.std.specs.Prelude.{ℕ, List, [], Result, Ok, Err, codes}
+use Rattle.covsession.specs.Session.{said}
+use Rattle.covsession.specs.declared.session.fault.SessionFault.{SessionFault}
+use Rattle.covsession.specs.declared.session.fault.SessionFault.TheVariants.{Read, Write, Memory, Full}
+
+-- the exit status of a fault: 1 where a stream failed, 3 where there was no room
+abbrev pub fault_status : SessionFault → ℕ
+fault_status Read = 1
+fault_status Write = 1
+fault_status Memory = 3
+fault_status Full = 3
+
+abbrev pub words_of_fault : SessionFault → List ℕ
+words_of_fault Read = codes "read fault"
+words_of_fault Write = codes "write fault"
+words_of_fault Memory = codes "out of memory"
+words_of_fault Full = codes "book full"
+
+-- the exit status of a session that ended so
+abbrev pub end_status : Result (Unit {0}) SessionFault → ℕ
+end_status (Ok done) = 0
+end_status (Err fault) = fault_status fault
+
+-- what is said of it: nothing where it ended well, and a line on its fault
+abbrev pub end_words : Result (Unit {0}) SessionFault → List ℕ
+end_words (Ok done) = []
+end_words (Err fault) = said (words_of_fault fault)

@@ -1,0 +1,61 @@
+-- How a session goes on from one command to the next.
+use Rattle.std.specs.Io.KnownBytes.{IsAtEnd}
+use Rattle.std.specs.Prelude.{◌≡◌, ◌≤◌, ℕ, List, [], ◌∷◌, ◌++◌}
+use Rattle.covbook.specs.Op.{OpData}
+use Rattle.covbook.specs.Step.{table_of}
+use Rattle.covline.specs.Lines.{pieces_of, line_of}
+use Rattle.covsession.specs.Command.{Command, Format, Announces, AreCommands, ops_of}
+use Rattle.covsession.specs.Session.{text_after, Asks}
+use Rattle.covsession.specs.Streams.{Moment, unread, turns, Moves, AreCut, TakesPieces}
+use Rattle.covsession.specs.declared.session.text.LineEnd.{LineEnd}
+use Rattle.covsession.specs.declared.session.text.LineEnd.TheVariants.{Feed, Input}
+
+-- the pieces are these commands and no others, whatever follows behind a line feed, and nothing behind the end
+abbrev pub GoOn : LineEnd → List (List ℕ) → List Command → Type 0
+GoOn Feed pieces commands = (rest : List (List ℕ)) (more : List Command) → AreCommands rest more → AreCommands (pieces ++ rest) (commands ++ more)
+GoOn Input pieces commands = AreCommands pieces commands
+
+abbrev pub GoOnOnly : LineEnd → List (List ℕ) → List Command → Type 0
+GoOnOnly Feed pieces commands =
+    (rest : List (List ℕ)) (others : List Command) → AreCommands (pieces ++ rest) others
+    → (more : List Command) × (others ≡ commands ++ more) × AreCommands rest more
+GoOnOnly Input pieces commands = (others : List Command) → AreCommands pieces others → others ≡ commands
+
+pub record IsRun (ending : LineEnd) (pieces : List (List ℕ)) (commands : List Command) : Type 0 where
+  pub are : GoOn ending pieces commands
+  pub only : GoOnOnly ending pieces commands
+
+-- the text behind a line that announces this format was taken and answered
+pub record TakesText (format : Format) (m n : Moment) (before after : List OpData) (ending : LineEnd) : Type 0 where
+  pub pieces : List (List ℕ)
+  pub commands : List Command
+  pub taken : TakesPieces m n pieces ending (text_after (table_of before) commands)
+  pub asks : Asks commands before after
+  pub run : (first : List ℕ) → Announces format (line_of first) → IsRun ending (first ∷ pieces) commands
+
+-- a command was taken and answered; none behind the last line
+pub record TakesCommand (m n : Moment) (before after : List OpData) (ending : LineEnd) : Type 0 where
+  pub pieces : List (List ℕ)
+  pub commands : List Command
+  pub taken : TakesPieces m n pieces ending (text_after (table_of before) commands)
+  pub asks : Asks commands before after
+  pub run : IsRun ending pieces commands
+
+-- so far these commands were taken and answered
+pub record IsSoFar (m n : Moment) (history : List OpData) : Type 0 where
+  pub bytes : List ℕ
+  pub pieces : List (List ℕ)
+  pub commands : List Command
+  pub moves : Moves m n bytes (text_after [] commands)
+  pub cut : AreCut Feed bytes pieces
+  pub run : IsRun Feed pieces commands
+  pub asked : history ≡ ops_of commands
+  pub fewer : turns n.input ≤ turns m.input
+
+-- all commands of the input were taken and answered
+pub record IsDone (m n : Moment) : Type 0 where
+  pub bytes : List ℕ
+  pub commands : List Command
+  pub moves : Moves m n bytes (text_after [] commands)
+  pub run : IsRun Input (pieces_of bytes) commands
+  pub ended : IsAtEnd (unread n.input)

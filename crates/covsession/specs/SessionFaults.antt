@@ -1,0 +1,17 @@
+-- A session's faults: their numbers, which are the same from the first day on, and what a fault of the book is among them.
+use Rattle.std.specs.Prelude.{ℕ}
+use Rattle.covbook.specs.declared.book.BookFault.{BookFault}
+use Rattle.covbook.specs.declared.book.BookFault.TheVariants as book_faults
+use Rattle.covsession.specs.declared.session.fault.SessionFault.{SessionFault}
+use Rattle.covsession.specs.declared.session.fault.SessionFault.TheVariants.{Read, Write, Memory, Full}
+
+abbrev pub fault_number : SessionFault → ℕ
+fault_number Read = 1
+fault_number Write = 2
+fault_number Memory = 3
+fault_number Full = 4
+
+-- a book that is full is told as such
+abbrev pub of_book : BookFault → SessionFault
+of_book book_faults.Full = Full
+of_book book_faults.Memory = Memory

@@ -1,0 +1,98 @@
+-- A text behind a line `trace` or `gcov`: how it is collected, taken, read and answered.
+use Rattle.std.specs.List.{concat}
+use Rattle.std.specs.Prelude.{◌≡◌, ◌⊎◌, ◌<◌, ◌≤◌, ℕ, Bool, false, length, List, [], ◌∷◌, ◌++◌, codes, Ok, Err, ◌-◌, ◌^◌, ◌==◌, min, if◌then◌else◌, take, Result}
+use Rattle.covline.specs.Lines.{line_of, carriage_return}
+use Rattle.covline.specs.Row.{SubmissionData}
+use Rattle.covread.specs.Outcome.{most_bytes}
+use Rattle.covread.specs.declared.fault.ReadFault.{ReadFault}
+use Rattle.covread.specs.declared.fault.ReadFault.TheVariants as faults
+use Rattle.covsession.specs.Command.{Command, Format, IsBody, IsReadAs, Submit, Refuse, Unfinished}
+use Rattle.covsession.specs.Streams.{AreCut}
+use Rattle.covsession.specs.declared.session.text.LineEnd.{LineEnd}
+use Rattle.covsession.specs.declared.session.text.LineEnd.TheVariants.{Feed, Input}
+use Rattle.covsession.specs.declared.session.text.LineSoFar.{LineSoFar}
+use Rattle.covsession.specs.declared.session.text.LineSoFar.TheVariants.{Nothing, Dot, Other}
+use Rattle.covsession.specs.declared.session.text.Taken.{Taken}
+use Rattle.covsession.specs.declared.session.text.Taken.TheVariants as taken
+use Rattle.covsession.specs.declared.session.text.Taken.TheVariants.{Whole, TooLong}
+use Rattle.covsession.specs.declared.session.text.Text.{Text}
+
+-- a line that was begun, after one byte more: it may still be the line that ends a text
+abbrev pub line_with : LineSoFar → ℕ → LineSoFar
+line_with Nothing b = if b == 46 then Dot else Other
+line_with Dot b = if b == carriage_return then Dot else Other
+line_with Other b = Other
+
+-- the same after some bytes more
+abbrev pub line_after : LineSoFar → List ℕ → LineSoFar
+line_after so_far [] = so_far
+line_after so_far (b ∷ bs) = line_after (line_with so_far b) bs
+
+-- so much was collected of a text whose whole lines are those before: at most the limit is kept
+pub record IsCollected (limit : ℕ) (kept : List ℕ) (total begins : ℕ) (line : LineSoFar) (before now : List ℕ) : Type 0 where
+  pub keeps : kept ≡ take limit (before ++ now)
+  pub all : total ≡ min (length (before ++ now)) (2 ^ 64 - 1)
+  pub start : begins ≡ min (length before) (2 ^ 64 - 1)
+  pub so_far : line ≡ line_after Nothing now
+
+-- so much is collected of it
+abbrev pub HasCollected : {A : Type 0} → Text A → List ℕ → List ℕ → Type 0
+HasCollected text before now = IsCollected text.limit text.kept.items text.total text.begins text.line before now
+
+-- the first byte is a dot
+abbrev pub starts_with_dot : List ℕ → Bool
+starts_with_dot [] = false
+starts_with_dot (b ∷ bs) = b == 46
+
+-- these bytes are whole lines, whatever follows, and none of them is the line that ends a text
+pub record AreLines (bytes : List ℕ) : Type 0 where
+  pub body : List (List ℕ)
+  pub joined : concat body ≡ bytes
+  pub none_last : IsBody body
+  pub cut : AreCut Feed bytes body
+
+-- what was taken is this text, which is kept unless it is too long
+abbrev pub IsTextOf : {A : Type 0} → List ℕ → Taken A → Type 0
+IsTextOf text (Whole kept) = (kept.items ≡ text) × (length text ≤ most_bytes)
+IsTextOf text TooLong = most_bytes < length text
+IsTextOf text taken.Unfinished = ⊥
+
+-- the pieces behind a line: a text and its last line
+abbrev pub IsTextTaken : {A : Type 0} → List (List ℕ) → Taken A → Type 0
+IsTextTaken pieces taken =
+    (body : List (List ℕ)) × (last : List ℕ) × (pieces ≡ body ++ last ∷ []) × IsBody body × (line_of last ≡ codes ".")
+    × IsTextOf (concat body) taken
+
+-- they are a text that was taken so, or all the rest of the input
+abbrev pub IsTaken : {A : Type 0} → List (List ℕ) → LineEnd → Taken A → Type 0
+IsTaken pieces ending (Whole kept) = IsTextTaken pieces (Whole kept)
+IsTaken pieces ending TooLong = (body : List (List ℕ)) × (last : List ℕ) × (pieces ≡ body ++ last ∷ []) × IsBody body × (line_of last ≡ codes ".")
+    × (most_bytes < length (concat body))
+IsTaken pieces ending taken.Unfinished = IsBody pieces × (ending ≡ Input)
+
+-- the command that a text is, by what it is read as
+abbrev pub asked_for : Result SubmissionData ReadFault → List Command
+asked_for (Ok submission) = Submit submission ∷ []
+asked_for (Err fault) = Refuse fault ∷ []
+
+-- a fault that is told of a text: memory that ran out isn't one
+abbrev pub IsTold : ReadFault → Type 0
+IsTold faults.Memory = ⊥
+IsTold fault = Unit {0}
+
+-- the answer of a reader is what the text is read as, or memory ran out
+abbrev pub AnswersAs : Format → List ℕ → Result SubmissionData ReadFault → Type 0
+AnswersAs format text answer = (answer ≡ Err faults.Memory) ⊎ IsReadAs format text answer
+
+-- a reader's answer is told: not that memory ran out
+abbrev pub IsToldAnswer : Result SubmissionData ReadFault → Type 0
+IsToldAnswer (Ok submission) = Unit {0}
+IsToldAnswer (Err fault) = IsTold fault
+
+-- what was taken of a text of this format is these commands
+abbrev pub IsAnsweredAs : {A : Type 0} → Format → Taken A → List Command → Type 0
+IsAnsweredAs format (Whole kept) commands =
+    (outcome : Result SubmissionData ReadFault) × (commands ≡ asked_for outcome) × IsReadAs format kept.items outcome
+    × ((other : Result SubmissionData ReadFault) → IsReadAs format kept.items other → other ≡ outcome)
+IsAnsweredAs format TooLong commands = commands ≡ Refuse faults.TooLong ∷ []
+IsAnsweredAs format taken.Unfinished commands = commands ≡ Unfinished ∷ []

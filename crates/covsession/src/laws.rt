@@ -1,0 +1,38 @@
+//! Laws of what a session is asked and writes, as functions that do nothing: their contracts are the laws.
+
+ghost use Rattle.std.specs.Prelude.{◌≡◌, ◌≢◌, ℕ, List};
+ghost use Rattle.std.specs.List.{AllByRecursion};
+ghost use Rattle.covline.specs.Lines.{pieces_of};
+ghost use Rattle.covread.specs.declared.fault.ReadFault.TheVariants as read_faults;
+ghost use Rattle.covsession.specs.Command.{Command, Refuse, AreCommands};
+ghost use Rattle.covsession.specs.Session.{IsSession};
+
+use covline::lines_are_the_text;
+use covread::{each_gcov_text_has_one_outcome, each_text_has_one_outcome};
+
+/// Each input asks for exactly one list of commands.
+pub fn each_input_is_one_list_of_commands()
+    ensures some { (input : List ℕ) → (commands : List Command) × AreCommands (pieces_of input) commands }
+    ensures one { (input : List ℕ) (x y : List Command) → AreCommands (pieces_of input) x → AreCommands (pieces_of input) y → x ≡ y }
+{
+    each_text_has_one_outcome();
+    each_gcov_text_has_one_outcome();
+}
+
+/// Each input has exactly one session text.
+pub fn each_input_has_one_session_text()
+    ensures some { (input : List ℕ) → (output : List ℕ) × IsSession input output }
+    ensures one { (input x y : List ℕ) → IsSession input x → IsSession input y → x ≡ y }
+{
+    each_text_has_one_outcome();
+    each_gcov_text_has_one_outcome();
+}
+
+/// No text is refused for the name of its test, which comes from one line and so is always good, and none for want of
+/// memory, which ends a session instead.
+pub fn no_session_refuses_a_test()
+    ensures { (input : List ℕ) (commands : List Command) → AreCommands (pieces_of input) commands
+        → AllByRecursion (λ command. (command ≢ Refuse read_faults.BadTest) × (command ≢ Refuse read_faults.Memory)) commands }
+{
+    lines_are_the_text();
+}

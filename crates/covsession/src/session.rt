@@ -1,0 +1,120 @@
+//! One session: commands in, answers out.
+
+ghost use Rattle.std.specs.Prelude.{◌≡◌, ℕ, ◌+◌, ◌^◌, ◌<◌, ◌≤◌, length, List, Err, IfOk, OnOk, IfSome, IfNone};
+ghost use Rattle.std.specs.Io.KnownBytes.{Appends};
+ghost use Rattle.covbook.specs.Step.{most_entries, ops_in};
+ghost use Rattle.covsession.specs.declared.session.command.word.Format.{Format as TextFormat};
+ghost use Rattle.covsession.specs.Session.{IsSession, IsWholeSession};
+ghost use Rattle.covsession.specs.Streams.{moment, CanCall};
+ghost use Rattle.covsession.specs.Run.{TakesCommand, IsDone};
+ghost use Rattle.covsession.specs.declared.session.fault.SessionFault.TheVariants as faults;
+
+mod answers;
+pub(crate) mod command;
+mod fault;
+mod input;
+mod lines;
+pub(crate) mod output;
+mod submit;
+mod text;
+
+use crate::session::command::{Format, Word, answer_word, word_of};
+use crate::session::input::Input;
+use crate::session::output::Output;
+use crate::session::submit::{Given, answer_given, take_text};
+use crate::session::text::{LineEnd, Text};
+use crate::stream::{Sink, Source};
+use covbook::Book;
+pub use fault::SessionFault;
+use std::alloc::Allocator;
+
+// The format of the text that follows a line, where one does.
+fn text_behind(word: Word<'_>, ending: LineEnd) -> Option<Format<'_>>
+    ensures text { IfSome result (λ format. (word.entry ≡ Word.Text format) × (ending ≡ LineEnd.Feed)) }
+    ensures no_text { IfNone result ((format : TextFormat) → word.entry ≡ Word.Text format → ending ≡ LineEnd.Input) }
+{
+    match word {
+        Word::Blank
+        | Word::Report
+        | Word::Summary
+        | Word::Choose(_, _)
+        | Word::Drop(_)
+        | Word::Other => None,
+        Word::Text(format) => match ending {
+            LineEnd::Feed => Some(format),
+            LineEnd::Input => None,
+        },
+    }
+}
+
+// Answers the next command.
+fn answer_command<I: Source, O: Sink, A: Allocator + Copy>(
+    alloc: A,
+    book: &mut Book<A>,
+    input: &mut Input<'_, I, A>,
+    output: &mut Output<'_, O, A>,
+) -> Result<LineEnd, SessionFault>
+    requires { CanCall (moment input.old output.old) }
+    ensures takes { IfOk result (λ ending. TakesCommand (moment input.old output.old) (moment input.new output.new)
+        (ops_in book.old.entries) (ops_in book.new.entries) ending) }
+    ensures full { result ≡ Err faults.Full → length book.old.entries ≡ most_entries }
+{
+    let mut line = Text::new(alloc, usize::MAX);
+    let ending = input.take_line(&mut line, output)?;
+    let word = word_of(line.whole());
+    if let Some(format) = text_behind(word, ending) {
+        let (taken, ended) = take_text(alloc, input, output)?;
+        answer_given(alloc, book, Given { format, taken }, output)?;
+        return Ok(ended);
+    }
+    answer_word(alloc, book, word, output)?;
+    Ok(ending)
+}
+
+// Answers all commands.
+fn answer_all<I: Source, O: Sink, A: Allocator + Copy>(
+    alloc: A,
+    input: &mut Input<'_, I, A>,
+    output: &mut Output<'_, O, A>,
+) -> Result<(), SessionFault>
+    requires { CanCall (moment input.old output.old) }
+    ensures { OnOk result (IsDone (moment input.old output.old) (moment input.new output.new)) }
+{
+    let mut book = Book::new(alloc);
+    loop {
+        match answer_command(alloc, &mut book, input, output)? {
+            LineEnd::Feed => {}
+            LineEnd::Input => return Ok(()),
+        }
+    }
+}
+
+/// Runs one book, with job 0, on the commands of the source, and writes the answers to the sink. A text of more than
+/// 67,108,864 bytes isn't kept. At most 65,536 bytes of output wait: more is written at once, and all of it before each
+/// read and at the end.
+pub fn session<I: Source, O: Sink, A: Allocator + Copy>(
+    alloc: A,
+    source: &mut I,
+    sink: &mut O,
+) -> Result<(), SessionFault>
+    requires reads { I.reads source.old < 2 ^ 62 }
+    requires failed_reads { I.failed_reads source.old < 2 ^ 62 }
+    requires failed_writes { O.failed_writes sink.old < 2 ^ 62 }
+    // The whole input was read, and its session text written and nothing else.
+    ensures whole { OnOk result (IsWholeSession (I.left source.old) (I.left source.new) (O.written sink.old) (O.written sink.new)) }
+    // No other output was possible.
+    ensures only { OnOk result (IfSome (I.left source.old) (λ input. (output : List ℕ) → IsSession input output
+        → Appends (O.written sink.old) (O.written sink.new) output)) }
+    // No call of it failed, and it made at most 4,294,967,296 reads.
+    ensures no_failed_read { OnOk result (I.failed_reads source.new ≡ I.failed_reads source.old) }
+    ensures no_failed_write { OnOk result (O.failed_writes sink.new ≡ O.failed_writes sink.old) }
+    ensures few_reads { OnOk result (I.reads source.new ≤ I.reads source.old + 2 ^ 32) }
+{
+    let mut input = Input::new(alloc, source)?;
+    let mut output = Output::new(alloc, sink);
+    answer_all(alloc, &mut input, &mut output)?;
+    output.finish()?;
+    input.into_source();
+    output.into_sink();
+    Ok(())
+}

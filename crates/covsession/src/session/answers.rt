@@ -1,0 +1,206 @@
+//! The lines that a session answers.
+
+ghost use Rattle.std.specs.Prelude.{◌≡◌, ◌≢◌, ◌^◌, ◌<◌, codes, decimal, IfOk, IfErr, OnOk, ◌++◌};
+ghost use Rattle.covbook.specs.Op.{AcceptedAnswer, ClashAnswer, DroppedAnswer};
+ghost use Rattle.covbook.specs.View.{answer_data};
+ghost use Rattle.covsession.specs.Session.{answer_text, line_fault_name, fault_text, refused_text};
+ghost use Rattle.covsession.specs.Streams.{Says};
+ghost use Rattle.covsession.specs.declared.session.fault.SessionFault.TheVariants as session_faults;
+
+use crate::session::fault::SessionFault;
+use crate::session::output::Output;
+use crate::stream::Sink;
+use covbook::Answer;
+use covline::LineFault;
+use covread::ReadFault;
+use itoa::Buffer;
+use std::alloc::Allocator;
+
+// Appends words and a number behind them.
+fn add_number<A: Allocator>(
+    line: &mut Vec<u8, A>,
+    words: &[u8],
+    number: u64,
+) -> Result<(), SessionFault>
+    ensures added { OnOk result (line.new.items ≡ line.old.items ++ (words.now ++ decimal number)) }
+    ensures fault { IfErr result (λ f. f ≡ session_faults.Memory) }
+{
+    line.extend_from_slice(words)?;
+    line.extend_from_slice(Buffer::new().format(number).as_bytes())?;
+    Ok(())
+}
+
+// Appends a space and a checksum.
+fn add_checksum<A: Allocator>(line: &mut Vec<u8, A>, checksum: &[u8]) -> Result<(), SessionFault>
+    ensures added { OnOk result (line.new.items ≡ line.old.items ++ (codes " " ++ checksum.now)) }
+    ensures fault { IfErr result (λ f. f ≡ session_faults.Memory) }
+{
+    line.extend_from_slice(b" ")?;
+    line.extend_from_slice(checksum)?;
+    Ok(())
+}
+
+// The line that says that a submission was accepted.
+fn accepted_line<A: Allocator>(
+    alloc: A,
+    number: u64,
+    items: u64,
+    odd: u64,
+) -> Result<Vec<u8, A>, SessionFault>
+    ensures line { IfOk result (λ line. line.items ≡ answer_text (AcceptedAnswer number items odd)) }
+    ensures fault { IfErr result (λ f. f ≡ session_faults.Memory) }
+{
+    let mut line = Vec::new(alloc);
+    add_number(&mut line, b"accepted ", number)?;
+    add_number(&mut line, b" items ", items)?;
+    add_number(&mut line, b" odd ", odd)?;
+    line.extend_from_slice(b"\n")?;
+    Ok(line)
+}
+
+// Where a submission clashes, with the checksum that is held and the given one.
+#[derive(Clone, Copy)]
+struct Clash<'a> {
+    file: &'a [u8],
+    line: u64,
+    held: &'a [u8],
+    given: &'a [u8],
+}
+
+// The line that says that a submission clashes.
+fn clash_line<A: Allocator>(alloc: A, clash: Clash<'_>) -> Result<Vec<u8, A>, SessionFault>
+    ensures line { IfOk result (λ text. text.items ≡ answer_text (ClashAnswer (record {
+      file = clash.entry.file.now;
+      line = clash.entry.line;
+      held = clash.entry.held.now;
+      given = clash.entry.given.now;
+    }))) }
+    ensures fault { IfErr result (λ f. f ≡ session_faults.Memory) }
+{
+    let mut text = Vec::from_slice(alloc, b"clash ")?;
+    text.extend_from_slice(clash.file)?;
+    add_number(&mut text, b" ", clash.line)?;
+    add_checksum(&mut text, clash.held)?;
+    add_checksum(&mut text, clash.given)?;
+    text.extend_from_slice(b"\n")?;
+    Ok(text)
+}
+
+// The line that says from how many sections a test was dropped.
+fn dropped_line<A: Allocator>(alloc: A, sections: u64) -> Result<Vec<u8, A>, SessionFault>
+    ensures line { IfOk result (λ line. line.items ≡ answer_text (DroppedAnswer sections)) }
+    ensures fault { IfErr result (λ f. f ≡ session_faults.Memory) }
+{
+    let mut line = Vec::new(alloc);
+    add_number(&mut line, b"dropped ", sections)?;
+    line.extend_from_slice(b"\n")?;
+    Ok(line)
+}
+
+// The name of a line's own fault.
+fn line_fault_text(fault: LineFault) -> &'static [u8]
+    ensures { result.now ≡ line_fault_name fault }
+{
+    match fault {
+        LineFault::BadLine => b"BadLine",
+        LineFault::NumberTooLarge => b"NumberTooLarge",
+        LineFault::EmptyPath => b"EmptyPath",
+    }
+}
+
+// A name, and the number of the line.
+fn text_at<A: Allocator>(alloc: A, name: &[u8], at: u64) -> Result<Vec<u8, A>, SessionFault>
+    ensures words { IfOk result (λ text. text.items ≡ name.now ++ codes " at " ++ decimal at) }
+    ensures fault { IfErr result (λ f. f ≡ session_faults.Memory) }
+{
+    let mut text = Vec::from_slice(alloc, name)?;
+    add_number(&mut text, b" at ", at)?;
+    Ok(text)
+}
+
+// A name alone.
+fn text_alone<A: Allocator>(alloc: A, name: &[u8]) -> Result<Vec<u8, A>, SessionFault>
+    ensures words { IfOk result (λ text. text.items ≡ name.now) }
+    ensures fault { IfErr result (λ f. f ≡ session_faults.Memory) }
+{
+    Ok(Vec::from_slice(alloc, name)?)
+}
+
+// What a fault is called, with its line where it has one.
+fn fault_words<A: Allocator>(alloc: A, fault: ReadFault) -> Result<Vec<u8, A>, SessionFault>
+    ensures words { IfOk result (λ text. text.items ≡ fault_text fault) }
+    ensures fault { IfErr result (λ f. f ≡ session_faults.Memory) }
+{
+    match fault {
+        ReadFault::TooLong => text_alone(alloc, b"TooLong"),
+        ReadFault::Line { at, fault } => text_at(alloc, line_fault_text(fault), at),
+        ReadFault::Outside { at } => text_at(alloc, b"Outside", at),
+        ReadFault::Inside { at } => text_at(alloc, b"Inside", at),
+        ReadFault::OpenEnd => text_alone(alloc, b"OpenEnd"),
+        ReadFault::BadMark { at } => text_at(alloc, b"BadMark", at),
+        ReadFault::NoSource { at } => text_at(alloc, b"NoSource", at),
+        ReadFault::Percent { at } => text_at(alloc, b"Percent", at),
+        ReadFault::Instances { at } => text_at(alloc, b"Instances", at),
+        ReadFault::Misplaced { at } => text_at(alloc, b"Misplaced", at),
+        ReadFault::LostFunction => text_alone(alloc, b"LostFunction"),
+        ReadFault::BadTest => text_alone(alloc, b"BadTest"),
+        ReadFault::Memory => text_alone(alloc, b"Memory"),
+    }
+}
+
+/// The line that says why a text was refused.
+pub fn refused_line<A: Allocator + Copy>(
+    alloc: A,
+    fault: ReadFault,
+) -> Result<Vec<u8, A>, SessionFault>
+    ensures line { IfOk result (λ line. line.items ≡ refused_text fault) }
+    ensures fault { IfErr result (λ f. f ≡ session_faults.Memory) }
+{
+    let words = fault_words(alloc, fault)?;
+    let mut line = Vec::from_slice(alloc, b"refused ")?;
+    line.extend_from_slice(words.as_slice())?;
+    line.extend_from_slice(b"\n")?;
+    Ok(line)
+}
+
+/// Says an answer of the book.
+pub fn say_answer<O: Sink, A: Allocator + Copy>(
+    alloc: A,
+    answer: &Answer<A>,
+    output: &mut Output<'_, O, A>,
+) -> Result<(), SessionFault>
+    requires { output.old.failed_writes < 2 ^ 63 }
+    ensures says { OnOk result (Says output.old output.new (answer_text (answer_data answer.now))) }
+    ensures fault { IfErr result (λ f. f ≢ session_faults.Full) }
+{
+    match answer {
+        Answer::Accepted { number, items, odd } => {
+            let line = accepted_line(alloc, *number, *items, *odd)?;
+            output.say(line.as_slice())
+        }
+        Answer::Clash {
+            file,
+            line,
+            held,
+            given,
+        } => {
+            let clash = Clash {
+                file: file.get(),
+                line: *line,
+                held: held.get(),
+                given: given.get(),
+            };
+            let text = clash_line(alloc, clash)?;
+            output.say(text.as_slice())
+        }
+        Answer::Dropped { sections } => {
+            let line = dropped_line(alloc, *sections)?;
+            output.say(line.as_slice())
+        }
+        Answer::NoSuchTest => output.say(b"no such test\n"),
+        Answer::Text(text) => {
+            output.say(text.get().get())?;
+            output.say(b".\n")
+        }
+    }
+}

@@ -1,0 +1,111 @@
+//! The commands of one line: what such a line asks for, and the answer to it.
+
+ghost use Rattle.std.specs.Prelude.{◌≡◌, ◌↔◌, ◌^◌, ◌<◌, [], ◌∷◌, ◌++◌, length, ◌≤◌, Err, IfOk, IfErr, IfSome, OnOk, OnErr, option_map};
+ghost use Rattle.covbook.specs.Op.{DropTestOp};
+ghost use Rattle.covbook.specs.Step.{answer_of, most_entries, next_entry, table_of, ops_in};
+ghost use Rattle.covbook.specs.View.{op_data};
+ghost use Rattle.covreport.specs.Choice.{most_pattern_bytes};
+ghost use Rattle.covsession.specs.Command.{asked_by, pick_op, IsListOf};
+ghost use Rattle.covsession.specs.Session.{answer_text, text_after, Asks};
+ghost use Rattle.covsession.specs.Streams.{Says};
+ghost use Rattle.covsession.specs.declared.session.fault.SessionFault.TheVariants as session_faults;
+
+mod word;
+
+use crate::session::answers::say_answer;
+use crate::session::fault::SessionFault;
+use crate::session::output::Output;
+use crate::stream::Sink;
+use covbook::{Book, Op};
+use covline::Bytes;
+use covreport::{PatternFault, Patterns};
+use std::alloc::Allocator;
+pub use word::{Format, Pick, Word, word_of};
+
+/// The job that a session's entries have.
+const SESSION_JOB: u32 = 0;
+
+/// One step of the book, with job 0, and its answer.
+pub fn step<O: Sink, A: Allocator + Copy>(
+    alloc: A,
+    book: &mut Book<A>,
+    op: &Op<A>,
+    output: &mut Output<'_, O, A>,
+) -> Result<(), SessionFault>
+    requires { output.old.failed_writes < 2 ^ 63 }
+    ensures said { OnOk result (Says output.old output.new (answer_text (answer_of (table_of (ops_in book.old.entries)) (op_data op.now)))) }
+    ensures asked { OnOk result (ops_in book.new.entries ≡ ops_in book.old.entries ++ op_data op.now ∷ []) }
+    ensures entry { OnOk result (book.new.entries ≡ book.old.entries ++ next_entry book.old.entries 0 (op_data op.now) ∷ []) }
+    ensures full { (result ≡ Err session_faults.Full) ↔ (length book.old.entries ≡ most_entries) }
+{
+    let receipt = book.step(alloc, SESSION_JOB, op)?;
+    say_answer(alloc, &receipt.answer, output)
+}
+
+// The list of a command's pattern, or of none; and none where the pattern is too long.
+fn patterns_of<A: Allocator + Copy>(
+    alloc: A,
+    pattern: Option<&[u8]>,
+) -> Result<Option<Patterns<A>>, SessionFault>
+    ensures list { IfOk result (λ r. IsListOf (option_map (λ p. p.now) pattern.entry) r) }
+    ensures fault { IfErr result (λ f. f ≡ session_faults.Memory) }
+    // Memory runs out only where a pattern is copied, and so behind the test of its length.
+    ensures short { OnErr result (IfSome pattern.entry (λ p. length p.now ≤ most_pattern_bytes)) }
+{
+    let mut patterns = Patterns::new(alloc);
+    let Some(pattern) = pattern else {
+        return Ok(Some(patterns));
+    };
+    match patterns.add(alloc, pattern) {
+        Ok(()) => Ok(Some(patterns)),
+        Err(PatternFault::TooMany | PatternFault::TooLong) => Ok(None),
+        Err(PatternFault::Memory) => Err(SessionFault::Memory),
+    }
+}
+
+// What a choice of files asks the book.
+fn op_of<A: Allocator>(pick: Pick, patterns: Patterns<A>) -> Op<A>
+    ensures { op_data result ≡ pick_op pick patterns }
+{
+    match pick {
+        Pick::Extract => Op::Extract(patterns),
+        Pick::Remove => Op::Remove(patterns),
+    }
+}
+
+// What drops a test.
+fn drop_op<A: Allocator>(alloc: A, test: &[u8]) -> Result<Op<A>, SessionFault>
+    ensures op { IfOk result (λ op. op_data op ≡ DropTestOp test.now) }
+    ensures fault { IfErr result (λ f. f ≡ session_faults.Memory) }
+{
+    Ok(Op::DropTest(Bytes::of(alloc, test)?))
+}
+
+/// Answers a line that is a command of its own.
+pub fn answer_word<O: Sink, A: Allocator + Copy>(
+    alloc: A,
+    book: &mut Book<A>,
+    word: Word<'_>,
+    output: &mut Output<'_, O, A>,
+) -> Result<(), SessionFault>
+    requires { output.old.failed_writes < 2 ^ 63 }
+    ensures asks { OnOk result (Asks (asked_by word.entry) (ops_in book.old.entries) (ops_in book.new.entries)) }
+    ensures says { OnOk result (Says output.old output.new (text_after (table_of (ops_in book.old.entries)) (asked_by word.entry))) }
+    ensures full { result ≡ Err session_faults.Full → length book.old.entries ≡ most_entries }
+{
+    match word {
+        Word::Blank => output.say(b""),
+        Word::Report => step(alloc, book, &Op::Report, output),
+        Word::Summary => step(alloc, book, &Op::Summary, output),
+        Word::Choose(pick, pattern) => match patterns_of(alloc, pattern)? {
+            Some(patterns) => step(alloc, book, &op_of(pick, patterns), output),
+            None => output.say(b"refused TooLong\n"),
+        },
+        Word::Drop(test) => {
+            let op = drop_op(alloc, test)?;
+            step(alloc, book, &op, output)
+        }
+        Word::Text(_) => output.say(b"unfinished\n"),
+        Word::Other => output.say(b"unknown\n"),
+    }
+}

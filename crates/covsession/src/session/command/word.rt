@@ -1,0 +1,106 @@
+//! What a command line asks for.
+
+ghost use Rattle.std.specs.Prelude.{◌≡◌, ◌≢◌, ℕ, List, [], codes, option_map};
+ghost use Rattle.covline.specs.Lines.{strip};
+ghost use Rattle.covsession.specs.Command.{before_space, IsNaming, IsWord, IsWordWith};
+
+use covline::without_returns;
+use memchr::memchr;
+
+/// Which files a pattern chooses.
+#[derive(Clone, Copy)]
+pub enum Pick {
+    /// `extract`, those that match; none without a pattern.
+    Extract,
+    /// `remove`, those that don't match; all without a pattern.
+    Remove,
+}
+
+/// The format of a text that follows a line.
+#[derive(Clone, Copy)]
+pub enum Format<'a> {
+    /// A tracefile (geninfo(1) of LCOV 1.x).
+    Tracefile,
+    /// gcov's annotated source (gcov(1)), whose counts are of this test.
+    Annotated(&'a [u8]),
+}
+
+/// What a command line asks for.
+#[derive(Clone, Copy)]
+pub enum Word<'a> {
+    /// Nothing: the line is blank.
+    Blank,
+    /// `report`, the merged tracefile.
+    Report,
+    /// `summary`, how much is hit.
+    Summary,
+    /// A choice of files, by the pattern behind the first space where there is one.
+    Choose(Pick, Option<&'a [u8]>),
+    /// `drop`, the test with this name is dropped.
+    Drop(&'a [u8]),
+    /// `trace` or `gcov`, a text of this format follows.
+    Text(Format<'a>),
+    /// Something unknown.
+    Other,
+}
+
+/// What a line asks for.
+pub fn word_of(line: &[u8]) -> Word<'_>
+    ensures { IsWord (strip line.now) result }
+{
+    let words = without_returns(line);
+    if words.is_empty() {
+        Word::Blank
+    } else if words == b"report".as_slice() {
+        Word::Report
+    } else if words == b"summary".as_slice() {
+        Word::Summary
+    } else if words == b"trace".as_slice() {
+        Word::Text(Format::Tracefile)
+    } else {
+        word_with_argument(words)
+    }
+}
+
+/// What a line asks for that isn't one of the words which stand alone.
+fn word_with_argument(words: &[u8]) -> Word<'_>
+    requires some { words.now ≢ [] }
+    requires no_report { words.now ≢ codes "report" }
+    requires no_summary { words.now ≢ codes "summary" }
+    requires no_trace { words.now ≢ codes "trace" }
+    ensures { IsWord words.now result }
+{
+    let (name, argument) = split_at_space(words);
+    if name == b"extract".as_slice() {
+        Word::Choose(Pick::Extract, argument)
+    } else if name == b"remove".as_slice() {
+        Word::Choose(Pick::Remove, argument)
+    } else if name == b"gcov".as_slice() {
+        Word::Text(Format::Annotated(test_named(argument)))
+    } else if name == b"drop".as_slice() {
+        Word::Drop(test_named(argument))
+    } else {
+        Word::Other
+    }
+}
+
+/// The test that is named behind a word, where a space stands there; else the one with the empty name.
+fn test_named(argument: Option<&[u8]>) -> &[u8]
+    ensures { (line word : List ℕ) → IsWordWith line word (option_map (λ p. p.now) argument.entry) → IsNaming word result.now line }
+{
+    match argument {
+        Some(test) => test,
+        None => b"",
+    }
+}
+
+/// What stands before the first space, and what behind it, where there is one.
+fn split_at_space(words: &[u8]) -> (&[u8], Option<&[u8]>)
+    ensures name { result.0.now ≡ before_space words.now }
+    ensures whole { IsWordWith words.now result.0.now (option_map (λ p. p.now) result.1) }
+{
+    match memchr(b' ', words) {
+        Some(at) => (&words[..at], Some(&words[at + 1..])),
+        None => (words, None),
+    }
+}

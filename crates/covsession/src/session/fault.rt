@@ -1,0 +1,66 @@
+//! Why a session ends early.
+
+use covbook::BookFault;
+use covline::Memory;
+use std::alloc::AllocError;
+
+/// Why a session ended before its input.
+#[derive(Clone, Copy, Debug, PartialEq, Eq)]
+pub enum SessionFault {
+    /// A read failed, or more than 2^32 reads were needed.
+    Read = 1,
+    /// A write failed, or took none of some bytes.
+    Write = 2,
+    /// A growth was refused.
+    Memory = 3,
+    /// The history has no room for another entry.
+    Full = 4,
+}
+
+impl SessionFault {
+    ghost use Rattle.std.specs.Prelude.{◌≡◌};
+    ghost use Rattle.covsession.specs.SessionFaults.{fault_number};
+
+    /// The number of the fault, from 1.
+    pub fn number(self) -> u32
+        ensures { result ≡ fault_number self }
+    {
+        self as u32
+    }
+}
+
+impl From<AllocError> for SessionFault {
+    ghost use Rattle.std.specs.Prelude.{◌≡◌};
+    ghost use Rattle.covsession.specs.declared.session.fault.SessionFault.TheVariants as faults;
+
+    ghost from_gives = { λ _ f. f ≡ faults.Memory };
+
+    fn from(_refused: AllocError) -> SessionFault {
+        SessionFault::Memory
+    }
+}
+
+impl From<Memory> for SessionFault {
+    ghost use Rattle.std.specs.Prelude.{◌≡◌};
+    ghost use Rattle.covsession.specs.declared.session.fault.SessionFault.TheVariants as faults;
+
+    ghost from_gives = { λ _ f. f ≡ faults.Memory };
+
+    fn from(_refused: Memory) -> SessionFault {
+        SessionFault::Memory
+    }
+}
+
+impl From<BookFault> for SessionFault {
+    ghost use Rattle.std.specs.Prelude.{◌≡◌};
+    ghost use Rattle.covsession.specs.SessionFaults.{of_book};
+
+    ghost from_gives = { λ fault f. f ≡ of_book fault };
+
+    fn from(fault: BookFault) -> SessionFault {
+        match fault {
+            BookFault::Full => SessionFault::Full,
+            BookFault::Memory => SessionFault::Memory,
+        }
+    }
+}

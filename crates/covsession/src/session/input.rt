@@ -1,0 +1,216 @@
+//! The input of a session: a block of bytes that was read, and the source of further ones.
+
+ghost use Rattle.std.specs.Prelude.{◌≡◌, ◌≢◌, ◌⊎◌, ℕ, ◌-◌, ◌+◌, ◌^◌, ◌<◌, ◌≤◌, List, [], ◌∷◌, ◌++◌, length, take, drop, IfOk, IfErr, OnOk, OnErr};
+ghost use Rattle.std.specs.Io.KnownBytes.{IsAtEnd};
+ghost use Rattle.covline.specs.Lines.{before_feed, line_feed};
+ghost use Rattle.covsession.specs.Streams.{unread, turns, moment, CanRead, CanCall, Takes, Moves, TakesPart, TakesLine};
+ghost use Rattle.covsession.specs.Text.{AreLines, HasCollected};
+ghost use Rattle.covsession.specs.declared.session.fault.SessionFault.TheVariants as session_faults;
+
+use crate::session::fault::SessionFault;
+use crate::session::lines::whole_lines;
+use crate::session::output::Output;
+use crate::session::text::{LineEnd, Text};
+use crate::stream::{Sink, Source};
+use memchr::memchr;
+use std::alloc::Allocator;
+use std::marker::Model;
+
+/// How many bytes one read asks for.
+const BLOCK_BYTES: usize = 65_536;
+
+/// How many reads a session makes at the most.
+const MOST_READS: u64 = 4_294_967_296;
+
+/// Bytes that were read and are still to be taken, and the source that is read when there are none. Contracts see
+/// both, and how many reads were made and may follow.
+#[derive(Drop)]
+pub struct Input<'s, I: Source, A: Allocator> {
+    bytes: Vec<u8, A>,
+    from: usize,
+    to: usize,
+    reads_left: u64,
+    source: &'s mut I,
+}
+
+impl<'s, I: Source, A: Allocator> Model for Input<'s, I, A> {
+    ghost use Rattle.std.specs.Prelude.{◌≡◌, ◌≤◌, take, drop, length};
+    ghost use Rattle.covsession.specs.Streams.{InputData};
+
+    ghost Value = { InputData };
+
+    ghost view = { λ i. record {
+      pending = drop i.from (take i.to i.bytes.items);
+      left = I.left i.source.now;
+      reads_left = i.reads_left;
+      reads = I.reads i.source.now;
+      failed_reads = I.failed_reads i.source.now;
+      source = i.source.ghost_name;
+    } };
+
+    ghost invariant = { λ i. (i.from ≤ i.to) × (i.to ≤ 65536) × (length i.bytes.items ≡ 65536) };
+}
+
+impl<'s, I: Source, A: Allocator> Input<'s, I, A> {
+    /// The input from this source, before the first read.
+    pub fn new(alloc: A, source: &'s mut I) -> Result<Input<'s, I, A>, SessionFault>
+        ensures empty { IfOk result (λ i. i.pending ≡ []) }
+        ensures fresh { IfOk result (λ i. i.reads_left ≡ 2 ^ 32) }
+        ensures left { IfOk result (λ i. i.left ≡ I.left source.old) }
+        ensures reads { IfOk result (λ i. i.reads ≡ I.reads source.old) }
+        ensures failed { IfOk result (λ i. i.failed_reads ≡ I.failed_reads source.old) }
+        ensures same { IfOk result (λ i. i.source ≡ source.entry.ghost_name) }
+        ensures fault { IfErr result (λ f. f ≡ session_faults.Memory) }
+    {
+        Ok(Input {
+            bytes: vec![in alloc; 0; BLOCK_BYTES]?,
+            from: 0,
+            to: 0,
+            reads_left: MOST_READS,
+            source,
+        })
+    }
+
+    /// Gives the source back.
+    pub fn into_source(self) -> &'s mut I
+        ensures left { I.left result.now ≡ self.entry.left }
+        ensures reads { I.reads result.now ≡ self.entry.reads }
+        ensures failed { I.failed_reads result.now ≡ self.entry.failed_reads }
+        ensures same { result.ghost_name ≡ self.entry.source }
+    {
+        let Input { bytes, source, .. } = self;
+        drop(bytes);
+        source
+    }
+
+    // The bytes that are still to be taken.
+    fn pending(&self) -> &[u8]
+        ensures { result.now ≡ self.now.pending }
+    {
+        &self.bytes[self.from..self.to]
+    }
+
+    // How many bytes stand before the first line feed: all, where there is none.
+    fn feed_at(&self) -> usize
+        ensures front { before_feed self.now.pending ≡ take result self.now.pending }
+        ensures bound { result ≤ length self.now.pending }
+        ensures feed { result < length self.now.pending → drop result self.now.pending ≡ line_feed ∷ drop (result + 1) self.now.pending }
+    {
+        let pending = self.pending();
+        match memchr(b'\n', pending) {
+            Some(at) => at,
+            None => pending.len(),
+        }
+    }
+
+    // Takes so many bytes.
+    fn take(&mut self, count: usize)
+        requires { count ≤ length self.old.pending }
+        ensures { self.new ≡ record self.old { pending = drop count self.old.pending } }
+    {
+        self.from += count;
+    }
+
+    // Reads the next block, after the last one was taken and all that was said was written: the read may have to wait
+    // for the one who is answered.
+    fn read<O: Sink>(&mut self, output: &Output<'_, O, A>) -> Result<(), SessionFault>
+        requires taken { self.old.pending ≡ [] }
+        requires answered { output.now.waiting ≡ [] }
+        requires few { CanRead self.old }
+        ensures took { OnOk result (Takes self.old self.new []) }
+        ensures ended { OnOk result (self.new.pending ≡ [] → IsAtEnd self.new.left) }
+        ensures fewer { OnOk result (turns self.new < turns self.old) }
+        ensures fault { IfErr result (λ f. f ≡ session_faults.Read) }
+        // It fails only where no read is left, or one failed.
+        ensures cause { OnErr result ((self.old.reads_left ≡ 0) ⊎ (self.new.failed_reads ≡ self.old.failed_reads + 1)) }
+    {
+        if self.reads_left == 0 {
+            return Err(SessionFault::Read);
+        }
+        let Ok(count) = self.source.read(self.bytes.as_mut_slice()) else {
+            return Err(SessionFault::Read);
+        };
+        self.reads_left -= 1;
+        self.from = 0;
+        self.to = count;
+        Ok(())
+    }
+
+    // Sees to it that some byte is there to be taken, unless the source is at its end. What waits is written before
+    // a read.
+    fn fill<O: Sink>(&mut self, output: &mut Output<'_, O, A>) -> Result<(), SessionFault>
+        requires { CanCall (moment self.old output.old) }
+        ensures moves { OnOk result (Moves (moment self.old output.old) (moment self.new output.new) [] []) }
+        ensures ended { OnOk result (self.new.pending ≡ [] → IsAtEnd (unread self.new)) }
+        ensures fewer { OnOk result (turns self.new ≤ turns self.old) }
+        ensures shown { OnOk result (self.old.pending ≡ [] → output.new.waiting ≡ []) }
+        ensures fault { IfErr result (λ f. f ≢ session_faults.Full) }
+    {
+        if !self.pending().is_empty() {
+            return Ok(());
+        }
+        output.put_out()?;
+        self.read(output)
+    }
+
+    // Takes what is there of a line, and answers whether that is all of it, the line feed too.
+    fn take_part(&mut self, text: &mut Text<A>) -> Result<bool, SessionFault>
+        ensures taken { IfOk result (λ whole. (part : List ℕ) × (before_feed part ≡ part)
+            × TakesPart whole self.old.pending part self.new.pending
+            × ((before : List ℕ) → (now : List ℕ) → HasCollected text.old before now → HasCollected text.new before (now ++ part))) }
+        ensures limit { OnOk result (text.new.limit ≡ text.old.limit) }
+        ensures kept { OnOk result (self.new ≡ record self.old { pending = self.new.pending }) }
+        ensures fault { IfErr result (λ f. f ≡ session_faults.Memory) }
+    {
+        let count = self.feed_at();
+        let pending = self.pending();
+        if count < pending.len() {
+            text.add(&pending[..count])?;
+            self.take(count + 1);
+            return Ok(true);
+        }
+        text.add(pending)?;
+        self.take(count);
+        Ok(false)
+    }
+
+    /// Takes the whole lines of a text that are there, up to one that begins with a dot. No line was begun.
+    pub fn take_lines(&mut self, text: &mut Text<A>) -> Result<(), SessionFault>
+        ensures taken { OnOk result ((lines : List ℕ) × AreLines lines × (self.old.pending ≡ lines ++ self.new.pending)
+            × ((before : List ℕ) → HasCollected text.old before [] → HasCollected text.new (before ++ lines) [])) }
+        ensures limit { OnOk result (text.new.limit ≡ text.old.limit) }
+        ensures kept { OnOk result (self.new ≡ record self.old { pending = self.new.pending }) }
+        ensures fewer { OnOk result (turns self.new ≤ turns self.old) }
+        ensures fault { IfErr result (λ f. f ≡ session_faults.Memory) }
+    {
+        let pending = self.pending();
+        let count = whole_lines(pending);
+        text.add_lines(&pending[..count])?;
+        self.take(count);
+        Ok(())
+    }
+
+    /// Takes a line, and answers how it ended.
+    pub fn take_line<O: Sink>(
+        &mut self,
+        text: &mut Text<A>,
+        output: &mut Output<'_, O, A>,
+    ) -> Result<LineEnd, SessionFault>
+        requires { CanCall (moment self.old output.old) }
+        ensures taken { IfOk result (λ ending. (line : List ℕ)
+            × TakesLine (moment self.old output.old) (moment self.new output.new) line ending
+            × ((before : List ℕ) → (now : List ℕ) → HasCollected text.old before now → HasCollected text.new before (now ++ line))) }
+        ensures limit { OnOk result (text.new.limit ≡ text.old.limit) }
+        ensures fault { IfErr result (λ f. f ≢ session_faults.Full) }
+    {
+        loop {
+            self.fill(output)?;
+            if self.pending().is_empty() {
+                return Ok(LineEnd::Input);
+            }
+            if self.take_part(text)? {
+                return Ok(LineEnd::Feed);
+            }
+        }
+    }
+}

@@ -1,0 +1,30 @@
+//! The lines of a text that are taken at once.
+
+ghost use Rattle.std.specs.Prelude.{◌≡◌, ◌≤◌, length, take};
+ghost use Rattle.covsession.specs.Text.{AreLines, starts_with_dot};
+
+use memchr::{memmem, memrchr};
+
+/// Whether the first byte is a dot.
+fn begins_with_dot(bytes: &[u8]) -> bool
+    ensures { result ≡ starts_with_dot bytes.now }
+{
+    matches!(bytes, [b'.', ..])
+}
+
+/// How many bytes in front are whole lines, up to the first line that begins with a dot: none of them ends a text.
+pub fn whole_lines(bytes: &[u8]) -> usize
+    ensures bound { result ≤ length bytes.now }
+    ensures lines { AreLines (take result bytes.now) }
+{
+    if begins_with_dot(bytes) {
+        return 0;
+    }
+    match memmem::find(bytes, b"\n.") {
+        Some(feed) => feed + 1,
+        None => match memrchr(b'\n', bytes) {
+            Some(last) => last + 1,
+            None => 0,
+        },
+    }
+}

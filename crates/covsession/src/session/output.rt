@@ -1,0 +1,123 @@
+//! The output of a session: what it says is collected, and written in large pieces.
+
+ghost use Rattle.std.specs.Prelude.{◌≡◌, ◌≢◌, ◌^◌, ◌+◌, ◌<◌, ◌≤◌, [], length, IfErr, OnOk, OnErr};
+ghost use Rattle.std.specs.Io.KnownBytes.{Appends};
+ghost use Rattle.covsession.specs.Streams.{Says};
+ghost use Rattle.covsession.specs.declared.session.fault.SessionFault.TheVariants as session_faults;
+
+use crate::session::fault::SessionFault;
+use crate::stream::Sink;
+use std::alloc::Allocator;
+use std::marker::Model;
+
+/// How many bytes wait at the most before they are written.
+const MOST_WAITING: usize = 65_536;
+
+/// Bytes that wait to be written, and the sink that they are written to. Contracts see both, and how many calls of
+/// the sink failed.
+#[derive(Drop)]
+pub struct Output<'s, O: Sink, A: Allocator> {
+    waiting: Vec<u8, A>,
+    sink: &'s mut O,
+}
+
+impl<'s, O: Sink, A: Allocator> Model for Output<'s, O, A> {
+    ghost use Rattle.covsession.specs.Streams.{OutputData};
+
+    ghost Value = { OutputData };
+
+    ghost view = { λ o. record {
+      waiting = o.waiting.items;
+      written = O.written o.sink.now;
+      failed_writes = O.failed_writes o.sink.now;
+      sink = o.sink.ghost_name;
+    } };
+}
+
+impl<'s, O: Sink, A: Allocator> Output<'s, O, A> {
+    /// The output to this sink; nothing waits.
+    pub fn new(alloc: A, sink: &'s mut O) -> Output<'s, O, A>
+        ensures empty { result.waiting ≡ [] }
+        ensures written { result.written ≡ O.written sink.old }
+        ensures failed { result.failed_writes ≡ O.failed_writes sink.old }
+        ensures same { result.sink ≡ sink.entry.ghost_name }
+    {
+        Output {
+            waiting: Vec::new(alloc),
+            sink,
+        }
+    }
+
+    /// Gives the sink back. What waits is lost.
+    pub fn into_sink(self) -> &'s mut O
+        ensures written { O.written result.now ≡ self.entry.written }
+        ensures failed { O.failed_writes result.now ≡ self.entry.failed_writes }
+        ensures same { result.ghost_name ≡ self.entry.sink }
+    {
+        let Output { waiting, sink } = self;
+        drop(waiting);
+        sink
+    }
+
+    /// Writes the bytes that wait.
+    pub fn put_out(&mut self) -> Result<(), SessionFault>
+        requires { self.old.failed_writes < 2 ^ 63 }
+        ensures says { OnOk result (Says self.old self.new []) }
+        ensures emptied { OnOk result (self.new.waiting ≡ []) }
+        ensures fault { IfErr result (λ f. f ≡ session_faults.Write) }
+    {
+        put_bytes(self.waiting.as_slice(), self.sink)?;
+        self.waiting.clear();
+        Ok(())
+    }
+
+    /// Says the bytes: they wait, or are written with all that waits. At most 65,536 bytes wait then.
+    pub fn say(&mut self, bytes: &[u8]) -> Result<(), SessionFault>
+        requires { self.old.failed_writes < 2 ^ 63 }
+        ensures says { OnOk result (Says self.old self.new bytes.now) }
+        ensures few { OnOk result (length self.new.waiting ≤ 65536) }
+        ensures fault { IfErr result (λ f. f ≢ session_faults.Full) }
+    {
+        if bytes.len() >= MOST_WAITING {
+            self.put_out()?;
+            return put_bytes(bytes, self.sink);
+        }
+        self.waiting.extend_from_slice(bytes)?;
+        if self.waiting.len() > MOST_WAITING {
+            return self.put_out();
+        }
+        Ok(())
+    }
+
+    /// Writes the bytes that wait, and has the sink send on all that it took.
+    pub fn finish(&mut self) -> Result<(), SessionFault>
+        requires { self.old.failed_writes < 2 ^ 63 }
+        ensures says { OnOk result (Says self.old self.new []) }
+        ensures emptied { OnOk result (self.new.waiting ≡ []) }
+        ensures fault { IfErr result (λ f. f ≡ session_faults.Write) }
+    {
+        self.put_out()?;
+        match self.sink.flush() {
+            Ok(()) => Ok(()),
+            Err(_) => Err(SessionFault::Write),
+        }
+    }
+}
+
+/// Writes the bytes, by as many calls as it takes.
+pub fn put_bytes<O: Sink>(bytes: &[u8], sink: &mut O) -> Result<(), SessionFault>
+    requires { O.failed_writes sink.old < 2 ^ 63 }
+    ensures written { OnOk result (Appends (O.written sink.old) (O.written sink.new) bytes.now) }
+    ensures failed { OnOk result (O.failed_writes sink.new ≡ O.failed_writes sink.old) }
+    ensures one { OnErr result (O.failed_writes sink.new ≡ O.failed_writes sink.old + 1) }
+    ensures fault { IfErr result (λ f. f ≡ session_faults.Write) }
+{
+    let mut at = 0;
+    while at < bytes.len() {
+        let Ok(taken) = sink.write(&bytes[at..]) else {
+            return Err(SessionFault::Write);
+        };
+        at += taken;
+    }
+    Ok(())
+}

@@ -1,0 +1,161 @@
+//! A text behind a line `trace` or `gcov`: it is taken, read and submitted, or refused.
+
+ghost use Rattle.std.specs.Prelude.{◌≡◌, ◌≢◌, ℕ, ◌^◌, ◌<◌, length, List, [], Result, Err, IfOk, IfErr, OnOk};
+ghost use Rattle.covline.specs.Row.{SubmissionData};
+ghost use Rattle.covbook.specs.Step.{most_entries, table_of, ops_in};
+ghost use Rattle.covread.specs.declared.fault.ReadFault.{ReadFault as Fault};
+ghost use Rattle.covread.specs.declared.fault.ReadFault.TheVariants as read_faults;
+ghost use Rattle.covread.specs.Outcome.{IsOrMemory};
+ghost use Rattle.covsession.specs.Command.{Command, format_of, IsReadAs};
+ghost use Rattle.covsession.specs.Session.{refused_text, text_after, Asks};
+ghost use Rattle.covsession.specs.Streams.{moment, CanCall, Says, TakesPieces};
+ghost use Rattle.covsession.specs.Text.{asked_for, AnswersAs, IsAnsweredAs, IsTaken, IsTold, IsToldAnswer};
+ghost use Rattle.covsession.specs.declared.session.fault.SessionFault.TheVariants as session_faults;
+
+use crate::session::answers::refused_line;
+use crate::session::command::{Format, step};
+use crate::session::fault::SessionFault;
+use crate::session::input::Input;
+use crate::session::output::Output;
+use crate::session::text::{LineEnd, Taken, Text};
+use crate::stream::{Sink, Source};
+use covbook::{Book, Op, SubRef};
+use covline::Submission;
+use covread::{MOST_BYTES, ReadFault, read_gcov, read_trace};
+use std::alloc::Allocator;
+
+/// Takes the lines of a text, up to a line `.`, and answers what they are and how the last line ended.
+pub fn take_text<I: Source, O: Sink, A: Allocator>(
+    alloc: A,
+    input: &mut Input<'_, I, A>,
+    output: &mut Output<'_, O, A>,
+) -> Result<(Taken<A>, LineEnd), SessionFault>
+    requires { CanCall (moment input.old output.old) }
+    ensures taken { IfOk result (λ r. (pieces : List (List ℕ))
+        × TakesPieces (moment input.old output.old) (moment input.new output.new) pieces r.1 []
+        × IsTaken pieces r.1 r.0) }
+    ensures fault { IfErr result (λ f. f ≢ session_faults.Full) }
+{
+    let mut text = Text::new(alloc, MOST_BYTES);
+    loop {
+        input.take_lines(&mut text)?;
+        let ending = input.take_line(&mut text, output)?;
+        if text.is_last() {
+            return Ok((text.body(), ending));
+        }
+        match ending {
+            LineEnd::Feed => text.next_line()?,
+            LineEnd::Input => return Ok((Taken::Unfinished, LineEnd::Input)),
+        }
+    }
+}
+
+// A fault that isn't told of a text ends the session: memory that ran out.
+fn told(fault: ReadFault) -> Result<(), SessionFault>
+    ensures told { OnOk result (IsTold fault) }
+    ensures fault { IfErr result (λ f. (fault ≡ read_faults.Memory) × (f ≡ session_faults.Memory)) }
+{
+    match fault {
+        ReadFault::TooLong
+        | ReadFault::Line { .. }
+        | ReadFault::Outside { .. }
+        | ReadFault::Inside { .. }
+        | ReadFault::OpenEnd
+        | ReadFault::BadMark { .. }
+        | ReadFault::NoSource { .. }
+        | ReadFault::Percent { .. }
+        | ReadFault::Instances { .. }
+        | ReadFault::Misplaced { .. }
+        | ReadFault::LostFunction
+        | ReadFault::BadTest => Ok(()),
+        ReadFault::Memory => Err(SessionFault::Memory),
+    }
+}
+
+// Says why a text was refused.
+fn refuse<O: Sink, A: Allocator + Copy>(
+    alloc: A,
+    fault: ReadFault,
+    output: &mut Output<'_, O, A>,
+) -> Result<(), SessionFault>
+    requires { output.old.failed_writes < 2 ^ 63 }
+    ensures says { OnOk result (Says output.old output.new (refused_text fault)) }
+    ensures fault { IfErr result (λ f. f ≢ session_faults.Full) }
+{
+    let line = refused_line(alloc, fault)?;
+    output.say(line.as_slice())
+}
+
+// Reads a text of this format.
+fn read_as<A: Allocator + Copy>(
+    alloc: A,
+    format: Format<'_>,
+    text: &[u8],
+) -> Result<Submission<A>, ReadFault>
+    ensures answers { AnswersAs (format_of format.entry) text.now result }
+    ensures only { (outcome : Result SubmissionData Fault) → IsReadAs (format_of format.entry) text.now outcome → IsOrMemory result outcome }
+{
+    match format {
+        Format::Tracefile => read_trace(alloc, text),
+        Format::Annotated(test) => read_gcov(alloc, test, text),
+    }
+}
+
+// Submits what a text says, or says why it is refused.
+fn submit<O: Sink, A: Allocator + Copy>(
+    alloc: A,
+    book: &mut Book<A>,
+    read: Result<Submission<A>, ReadFault>,
+    output: &mut Output<'_, O, A>,
+) -> Result<(), SessionFault>
+    requires { output.old.failed_writes < 2 ^ 63 }
+    ensures told { OnOk result (IsToldAnswer read) }
+    ensures asks { OnOk result (Asks (asked_for read) (ops_in book.old.entries) (ops_in book.new.entries)) }
+    ensures says { OnOk result (Says output.old output.new (text_after (table_of (ops_in book.old.entries)) (asked_for read))) }
+    ensures full { result ≡ Err session_faults.Full → length book.old.entries ≡ most_entries }
+{
+    match read {
+        Ok(submission) => {
+            let op = Op::Submit(SubRef::of(alloc, submission)?);
+            step(alloc, book, &op, output)
+        }
+        Err(fault) => {
+            told(fault)?;
+            refuse(alloc, fault, output)
+        }
+    }
+}
+
+/// What was taken behind a line that a text of this format follows.
+#[derive(Drop)]
+pub struct Given<'a, A: Allocator> {
+    /// The text's format.
+    pub format: Format<'a>,
+    /// What was taken.
+    pub taken: Taken<A>,
+}
+
+/// Answers what was taken of a text. A whole one is let go as soon as it is read.
+pub fn answer_given<O: Sink, A: Allocator + Copy>(
+    alloc: A,
+    book: &mut Book<A>,
+    given: Given<'_, A>,
+    output: &mut Output<'_, O, A>,
+) -> Result<(), SessionFault>
+    requires { output.old.failed_writes < 2 ^ 63 }
+    ensures answered { OnOk result ((commands : List Command) × IsAnsweredAs (format_of given.entry.format) given.entry.taken commands
+        × Asks commands (ops_in book.old.entries) (ops_in book.new.entries)
+        × Says output.old output.new (text_after (table_of (ops_in book.old.entries)) commands)) }
+    ensures full { result ≡ Err session_faults.Full → length book.old.entries ≡ most_entries }
+{
+    let Given { format, taken } = given;
+    match taken {
+        Taken::Whole(text) => {
+            let read = read_as(alloc, format, text.as_slice());
+            drop(text);
+            submit(alloc, book, read, output)
+        }
+        Taken::TooLong => refuse(alloc, ReadFault::TooLong, output),
+        Taken::Unfinished => output.say(b"unfinished\n"),
+    }
+}

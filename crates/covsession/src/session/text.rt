@@ -1,0 +1,203 @@
+//! A text, or a command line, while it is collected part by part.
+
+ghost use Rattle.std.specs.Prelude.{◌≡◌, ◌↔◌, ℕ, List, [], ◌∷◌, ◌++◌, take, IsTrue, IfErr, OnOk};
+ghost use Rattle.covline.specs.Lines.{line_feed};
+ghost use Rattle.covread.specs.Outcome.{most_bytes};
+ghost use Rattle.covsession.specs.Text.{line_after, line_with, HasCollected, IsTextOf};
+ghost use Rattle.covsession.specs.declared.session.fault.SessionFault.TheVariants as session_faults;
+
+use crate::session::fault::SessionFault;
+use std::alloc::Allocator;
+
+/// How a line ended.
+#[derive(Clone, Copy)]
+pub enum LineEnd {
+    /// With a line feed.
+    Feed,
+    /// With the input.
+    Input,
+}
+
+/// What a line is so far: whether it may be the one that ends a text.
+#[derive(Clone, Copy)]
+pub enum LineSoFar {
+    /// It has no byte yet.
+    Nothing,
+    /// A dot, and perhaps carriage returns.
+    Dot,
+    /// Something else.
+    Other,
+}
+
+/// What a line is after one byte more.
+pub fn with_byte(so_far: LineSoFar, byte: u8) -> LineSoFar
+    ensures { result ≡ line_with so_far byte }
+{
+    match so_far {
+        LineSoFar::Nothing => {
+            if byte == b'.' {
+                LineSoFar::Dot
+            } else {
+                LineSoFar::Other
+            }
+        }
+        LineSoFar::Dot => {
+            if byte == b'\r' {
+                LineSoFar::Dot
+            } else {
+                LineSoFar::Other
+            }
+        }
+        LineSoFar::Other => LineSoFar::Other,
+    }
+}
+
+/// What a line is after some bytes more.
+pub fn with_bytes(so_far: LineSoFar, bytes: &[u8]) -> LineSoFar
+    ensures { result ≡ line_after so_far bytes.now }
+{
+    let mut line = so_far;
+    for byte in bytes {
+        if let LineSoFar::Other = line {
+            return LineSoFar::Other;
+        }
+        line = with_byte(line, *byte);
+    }
+    line
+}
+
+/// What was taken of a text.
+#[derive(Drop)]
+pub enum Taken<A: Allocator> {
+    /// The whole text, up to its last line.
+    Whole(Vec<u8, A>),
+    /// It has more bytes than a text may have, and isn't kept.
+    TooLong,
+    /// The input ended before it.
+    Unfinished,
+}
+
+/// Bytes that are collected, and kept up to a limit.
+#[derive(Drop)]
+pub struct Text<A: Allocator> {
+    /// The first bytes, at most as many as the limit.
+    pub kept: Vec<u8, A>,
+    /// How many bytes are kept at the most.
+    pub limit: usize,
+    /// How many bytes there were, kept or not.
+    pub total: u64,
+    /// How many of them stand before the line that was begun.
+    pub begins: u64,
+    /// What the line that was begun is so far.
+    pub line: LineSoFar,
+}
+
+impl<A: Allocator> Text<A> {
+    /// No bytes yet.
+    pub fn new(alloc: A, limit: usize) -> Text<A>
+        ensures empty { HasCollected result [] [] }
+        ensures limit { result.limit ≡ limit }
+    {
+        Text {
+            kept: Vec::new(alloc),
+            limit,
+            total: 0,
+            begins: 0,
+            line: LineSoFar::Nothing,
+        }
+    }
+
+    // Keeps what the limit allows.
+    fn keep(&mut self, part: &[u8]) -> Result<(), SessionFault>
+        ensures kept { OnOk result ((all : List ℕ) → self.old.kept.items ≡ take self.old.limit all
+            → self.new.kept.items ≡ take self.old.limit (all ++ part.now)) }
+        ensures limit { OnOk result (self.new.limit ≡ self.old.limit) }
+        ensures begins { OnOk result (self.new.begins ≡ self.old.begins) }
+        ensures line { OnOk result (self.new.line ≡ self.old.line) }
+        ensures total { OnOk result (self.new.total ≡ self.old.total) }
+        ensures fault { IfErr result (λ f. f ≡ session_faults.Memory) }
+    {
+        let room = self.limit.saturating_sub(self.kept.len());
+        let count = part.len().min(room);
+        self.kept.extend_from_slice(&part[..count])?;
+        Ok(())
+    }
+
+    /// Takes a part of the line that was begun.
+    pub fn add(&mut self, part: &[u8]) -> Result<(), SessionFault>
+        ensures collected { OnOk result ((before : List ℕ) → (now : List ℕ)
+            → HasCollected self.old before now
+            → HasCollected self.new before (now ++ part.now)) }
+        ensures limit { OnOk result (self.new.limit ≡ self.old.limit) }
+        ensures fault { IfErr result (λ f. f ≡ session_faults.Memory) }
+    {
+        self.keep(part)?;
+        self.total = self.total.saturating_add(part.len() as u64);
+        self.line = with_bytes(self.line, part);
+        Ok(())
+    }
+
+    /// Ends the line that was begun by a line feed, and begins the next.
+    pub fn next_line(&mut self) -> Result<(), SessionFault>
+        ensures collected { OnOk result ((before : List ℕ) → (now : List ℕ)
+            → HasCollected self.old before now
+            → HasCollected self.new (before ++ (now ++ line_feed ∷ [])) []) }
+        ensures limit { OnOk result (self.new.limit ≡ self.old.limit) }
+        ensures fault { IfErr result (λ f. f ≡ session_faults.Memory) }
+    {
+        self.keep(b"\n")?;
+        self.total = self.total.saturating_add(1);
+        self.begins = self.total;
+        self.line = LineSoFar::Nothing;
+        Ok(())
+    }
+
+    /// Takes whole lines, before a line was begun.
+    pub fn add_lines(&mut self, lines: &[u8]) -> Result<(), SessionFault>
+        ensures collected { OnOk result ((before : List ℕ) → HasCollected self.old before [] → HasCollected self.new (before ++ lines.now) []) }
+        ensures limit { OnOk result (self.new.limit ≡ self.old.limit) }
+        ensures fault { IfErr result (λ f. f ≡ session_faults.Memory) }
+    {
+        self.keep(lines)?;
+        self.total = self.total.saturating_add(lines.len() as u64);
+        self.begins = self.total;
+        Ok(())
+    }
+
+    /// All bytes, where there is no limit to keep.
+    pub fn whole(&self) -> &[u8]
+        ensures { (before : List ℕ) → (now : List ℕ) → self.now.limit ≡ usize.MAX → HasCollected self.now before now
+            → result.now ≡ before ++ now }
+    {
+        self.kept.as_slice()
+    }
+
+    /// Whether the line that was begun is the one that ends a text, if it ends here.
+    pub fn is_last(&self) -> bool
+        ensures { IsTrue result ↔ self.now.line ≡ LineSoFar.Dot }
+    {
+        match self.line {
+            LineSoFar::Dot => true,
+            LineSoFar::Nothing | LineSoFar::Other => false,
+        }
+    }
+
+    /// The text is all that stands before the line that was begun.
+    pub fn body(self) -> Taken<A>
+        requires { self.limit ≡ most_bytes }
+        ensures { (before : List ℕ) → (now : List ℕ) → HasCollected self before now → IsTextOf before result }
+    {
+        let Text {
+            kept,
+            limit,
+            begins,
+            ..
+        } = self;
+        if begins > limit as u64 {
+            return Taken::TooLong;
+        }
+        let mut text = kept;
+        text.truncate(begins as usize);
+        Taken::Whole(text)
+    }
+}
