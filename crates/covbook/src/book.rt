@@ -122,7 +122,8 @@ impl<A: Allocator + Copy> Book<A> {
     }
 
     /// The first half of a step: all that can be refused. The operation is answered and its entry made, with room for it
-    /// and, for a submission, a plan of the store; the history and the table stay as they are, whatever is answered.
+    /// and, for a submission, a plan of the store; for a test that is dropped, in how many sections it stands and the totals
+    /// without it. The history and the table stay as they are, whatever is answered.
     /// `finish` does the rest, where the book is as it is left here; a step that is dropped is none.
     pub fn ready(&mut self, alloc: A, job: u32, op: &Op<A>) -> Result<Ready<A>, BookFault>
         ensures same { SameBook self.old self.new }
@@ -137,7 +138,7 @@ impl<A: Allocator + Copy> Book<A> {
         Ok(self.made_ready(alloc, job, op)?)
     }
 
-    /// The second half of a step: its entry is appended, and what is planned is held. Takes no memory.
+    /// The second half of a step: its entry is appended, and what is planned is held, or the test dropped. Takes no memory.
     pub fn finish(&mut self, ready: Ready<A>) -> Receipt<A>
         requires { IsReadyOf self.old ready }
         ensures receipt { receipt_data result ≡ receipt_of (length self.old.entries) (next_entry self.old.entries ready.entry.job ready.entry.op) }
