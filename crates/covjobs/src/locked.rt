@@ -34,8 +34,9 @@ impl<L: Name, A: Allocator + Copy> Locked<L, A> {
     ghost use Rattle.covbook.specs.declared.book.BookFault.TheVariants as faults;
     ghost use Rattle.covbook.specs.View.{op_data};
     ghost use Rattle.covbook.specs.EntryView.{receipt_data};
-    ghost use Rattle.covbook.specs.Step.{IsLegal, next_entry, receipt_of, most_entries};
-    ghost use Rattle.covjobs.specs.Seat.{after_call, calls_in};
+    ghost use Rattle.covbook.specs.Step.{next_entry, most_entries};
+    ghost use Rattle.covjobs.specs.Call.{IsToldBehind};
+    ghost use Rattle.covjobs.specs.Seat.{after_call};
 
     /// An empty book, whose calls nobody has counted yet.
     pub(crate) fn new(book: Book<A>, count: Count<L>, rest: Share<L>) -> Locked<L, A>
@@ -56,7 +57,7 @@ impl<L: Name, A: Allocator + Copy> Locked<L, A> {
         seat: &mut Seat<L>,
         op: &Op<A>,
     ) -> Result<Receipt<A>, BookFault>
-        ensures receipt { IfOk result (λ r. receipt_data r ≡ receipt_of (length self.old) (next_entry self.old seat.old.job (op_data op.now))) }
+        ensures told { IfOk result (λ r. IsToldBehind self.old seat.old.job (op_data op.now) (receipt_data r)) }
         ensures entry { OnOk result (self.new ≡ self.old ++ next_entry self.old seat.old.job (op_data op.now) ∷ []) }
         ensures seat { MatchResult result (λ r. seat.new ≡ after_call seat.old r.place) (λ _. seat.new ≡ seat.old) }
         ensures seen { IfOk result (λ r. seat.old.seen ≤ r.place) }

@@ -80,11 +80,13 @@ pub fn open_book<L: Name, A: Allocator + Copy>(
 impl<L: Name, A: Allocator + Copy> Shared<L, A> {
     ghost use Rattle.std.specs.Prelude.{◌≡◌, ◌≤◌, IfOk, MatchResult};
     ghost use Rattle.covbook.specs.View.{op_data};
+    ghost use Rattle.covbook.specs.EntryView.{receipt_data};
+    ghost use Rattle.covjobs.specs.Call.{IsTold};
     ghost use Rattle.covjobs.specs.Seat.{after_call};
 
-    /// One step of the book by the seat's job. Waits for the lock, and holds it for the step alone. `Full` is answered where
-    /// the history is full, and where it is shorter than what the seat has seen, which no seat of this book meets. After a
-    /// refusal the book's history and content and the seat are as they were.
+    /// One step of the book by the seat's job, answered as the table answers it behind a legal history. Waits for the lock, and
+    /// holds it for the step alone. `Full` is answered where the history is full, and where it is shorter than what the seat has
+    /// seen, which no seat of this book meets. After a refusal the book's history and content and the seat are as they were.
     pub fn perform<R: Wait>(
         &self,
         rt: &R,
@@ -93,6 +95,7 @@ impl<L: Name, A: Allocator + Copy> Shared<L, A> {
         op: &Op<A>,
     ) -> Result<Done<A>, BookFault>
         ensures asked { IfOk result (λ d. op_data d.receipt.op ≡ op_data op.now) }
+        ensures told { IfOk result (λ d. IsTold seat.old.job (op_data op.now) (receipt_data d.receipt)) }
         ensures seen { IfOk result (λ d. seat.old.seen ≤ d.receipt.place) }
         ensures seat { MatchResult result (λ d. seat.new ≡ after_call seat.old d.receipt.place) (λ _. seat.new ≡ seat.old) }
     {
