@@ -59,16 +59,24 @@ fn check_text(rt: &impl Abort, receipt: &Receipt, place: u64, text: &[u8]) {
     }
 }
 
+/// Whether the entry is an accepted submission, with the number after this one.
+fn has_next_number(entry: &Entry, number_before: u64) -> bool {
+    match &entry.answer {
+        Answer::Accepted { number, .. } => {
+            *number > number_before && *number - number_before == 1
+        }
+        _ => false,
+    }
+}
+
 /// How many of the first entries are accepted submissions, each with the number of its place from 1 on.
-fn accepted_first(entries: &[Entry]) -> u64 {
-    let mut accepted = 0;
-    for entry in entries {
-        match &entry.answer {
-            Answer::Accepted { number, .. } if *number == accepted + 1 => accepted += 1,
-            _ => return accepted,
+fn accepted_first(entries: &[Entry]) -> usize {
+    for (place, entry) in entries.iter().enumerate() {
+        if !has_next_number(entry, place as u64) {
+            return place;
         }
     }
-    accepted
+    entries.len()
 }
 
 /// Behind the threads the first job asks for the report twice.
