@@ -1,5 +1,5 @@
 -- A step under the lock, told by the history that lay there before it.
-use Rattle.std.proofs.Common.{◌≡◌, ◌⊎◌, inl, inr, ℕ, ◌<◌, ◌≤◌, List, [], ◌∷◌, ◌++◌, length, Result, Ok, Err, arith, subst}
+use Rattle.std.proofs.Common.{◌≡◌, ◌⊎◌, inl, inr, ℕ, ◌<◌, ◌≤◌, List, [], ◌∷◌, ◌++◌, Result, Ok, Err, arith, subst}
 use Rattle.covbook.specs.Op.{OpData, EntryData}
 use Rattle.covbook.specs.Step.{next_entry, most_entries}
 
@@ -8,8 +8,8 @@ pub entry_behind : (history ready after : List EntryData) (job asker : ℕ) (op 
     → after ≡ ready ++ next_entry ready job op ∷ [] → after ≡ history ++ next_entry history asker asked ∷ []
 entry_behind history ready after job asker op asked same is_job is_op grown =
     subst (λ (h : List EntryData). after ≡ h ++ next_entry h asker asked ∷ []) same
-      (subst (λ (j : ℕ). after ≡ ready ++ next_entry ready j asked ∷ []) is_job
-        (subst (λ (o : OpData). after ≡ ready ++ next_entry ready job o ∷ []) is_op grown))
+    (subst (λ (j : ℕ). after ≡ ready ++ next_entry ready j asked ∷ []) is_job
+    (subst (λ (o : OpData). after ≡ ready ++ next_entry ready job o ∷ []) is_op grown))
 
 pub ok_is_no_err : {T E : Type 0} (value : T) (fault : E) → ◌≡◌ {A = Result T E} (Ok value) (Err fault) → ⊥
 ok_is_no_err value fault is = cc

@@ -43,7 +43,10 @@ fn ask_at_once<L: Name + Send + Sync, R: Threads + Wait + Abort + Sync>(
 ) {
     thread::scope(thread::scope_env(), rt, |scope| {
         for seat in seats {
-            if scope.spawn(move || ask_often(rt, alloc, book, seat, op)).is_err() {
+            if scope
+                .spawn(move || ask_often(rt, alloc, book, seat, op))
+                .is_err()
+            {
                 panic!(rt; "no thread");
             }
         }

@@ -118,10 +118,24 @@ fn in_turn<L: Name, R: Wait + Abort + AllocGlobal>(rt: &R, start: Start) -> Resu
     let alloc = rt.alloc();
     let (book, seats) = open::<L>(alloc, start)?;
     let mut seats = seats.into_vec();
-    check_bytes(rt, shown(alloc, seats.as_slice())?.as_slice(), &[0, 0, 0, 1, 0, 0]);
-    let text = answered(rt, alloc, &book, seats.as_mut_slice(), asked(alloc)?.as_slice())?;
+    check_bytes(
+        rt,
+        shown(alloc, seats.as_slice())?.as_slice(),
+        &[0, 0, 0, 1, 0, 0],
+    );
+    let text = answered(
+        rt,
+        alloc,
+        &book,
+        seats.as_mut_slice(),
+        asked(alloc)?.as_slice(),
+    )?;
     check_bytes(rt, text.as_slice(), RECEIPTS);
-    check_bytes(rt, shown(alloc, seats.as_slice())?.as_slice(), &[0, 3, 5, 1, 3, 6]);
+    check_bytes(
+        rt,
+        shown(alloc, seats.as_slice())?.as_slice(),
+        &[0, 3, 5, 1, 3, 6],
+    );
     match close(book, seats) {
         Ok(entries) => check_bytes(rt, told(alloc, &entries)?.as_slice(), ENTRIES),
         Err(_back) => panic!(rt; "a seat is missing"),

@@ -1,4 +1,4 @@
-use Rattle.std.proofs.Common.{◌≡◌, ◌≤◌, ℕ, arith}
+use Rattle.std.proofs.Common.{arith}
 use Rattle.covjobs.specs.declared.name.OpenFault.TheVariants as faults
 use Rattle.covjobs.proofs.Steps.{ok_is_no_err}
 use Rattle.covjobs.proofs.name.Start.new.Goals as goal

@@ -1,4 +1,4 @@
-use Rattle.std.proofs.Common.{arith, subst, ◌≡◌, ◌≤◌, length}
+use Rattle.std.proofs.Common.{arith, subst}
 use Rattle.covjobs.specs.Handed.{AllAreSeated}
 use Rattle.covjobs.specs.Shared.{SharedData}
 use Rattle.covjobs.proofs.Seated.{all_need_seats}
