@@ -1,6 +1,6 @@
 //! The book: what a table of counts was asked, in order, and what it answered.
 
-use crate::entry::{Entry, Receipt};
+use crate::entry::{Entries, Entry, Receipt};
 use crate::history::History;
 use crate::op::{Answer, Op};
 use crate::ready::{Change, Ready};
@@ -329,6 +329,17 @@ impl<A: Allocator + Copy> Book<A> {
             }
             Op::Summary => summary_text(alloc, &self.store.totals()),
         }
+    }
+}
+
+impl<A: Allocator> Book<A> {
+    ghost use Rattle.std.specs.Prelude.{◌≡◌};
+
+    /// The entries of the book, which is given up. Takes no memory.
+    pub fn into_entries(self) -> Entries<A>
+        ensures { result ≡ self.entries }
+    {
+        self.history.into_entries()
     }
 }
 

@@ -72,6 +72,13 @@ impl<A: Allocator> Entries<A> {
         }
     }
 
+    /// The list of these entries. Takes no memory.
+    pub(crate) fn of(entries: Vec<Entry<A>, A>) -> Entries<A>
+        ensures { result ≡ map entry_data entries.items }
+    {
+        Entries { entries }
+    }
+
     /// Appends an entry. A refusal gives it up and leaves the list as it was.
     pub fn push(&mut self, entry: Entry<A>) -> Result<(), Memory>
         ensures ok { OnOk result (self.new ≡ self.old ++ entry_data entry ∷ []) }

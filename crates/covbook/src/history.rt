@@ -1,6 +1,6 @@
 //! The history of a book, and the room that it has.
 
-use crate::entry::{Entry, MOST_ENTRIES, Receipt};
+use crate::entry::{Entries, Entry, MOST_ENTRIES, Receipt};
 use covline::Memory;
 use std::alloc::Allocator;
 use std::marker::Model;
@@ -71,6 +71,13 @@ impl<A: Allocator> History<A> {
         ensures { self.new.entries ≡ self.old.entries ++ entry_data entry ∷ [] }
     {
         self.entries.push_reserved(entry);
+    }
+
+    /// The entries, given up without memory.
+    pub(crate) fn into_entries(self) -> Entries<A>
+        ensures { result ≡ self.entries }
+    {
+        Entries::of(self.entries)
     }
 }
 

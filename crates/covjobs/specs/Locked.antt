@@ -1,0 +1,12 @@
+-- What holds of a shared book whenever its lock is free.
+use Rattle.std.specs.Prelude.{◌≡◌, ℕ, List, length}
+use Rattle.covbook.specs.Op.{EntryData}
+use Rattle.covbook.specs.Step.{IsLegal}
+
+-- the history is legal, and the count of the calls is the number of its entries; the share beside it, which no seat has, has
+-- no part of the count
+pub record IsLocked (entries : List EntryData) (total parts amount : ℕ) : Type 0 where
+  pub legal : IsLegal entries
+  pub counted : total ≡ length entries
+  pub no_part : parts ≡ 0
+  pub no_amount : amount ≡ 0

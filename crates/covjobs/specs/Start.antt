@@ -1,0 +1,19 @@
+-- What a shared book is made of.
+use Rattle.std.specs.Prelude.{◌≡◌, ℕ, ◌≤◌, List, []}
+use Rattle.covbook.specs.Op.{EntryData}
+
+-- the name of a book to come, and how many jobs share it
+pub record StartData : Type 0 where
+  pub name : ℕ
+  pub jobs : ℕ
+
+-- so many jobs may share a book
+pub record AreJobs (jobs : ℕ) : Type 0 where
+  pub some : 1 ≤ jobs
+  pub few : jobs ≤ 64
+
+-- there may be so many jobs, the count of the calls has a part for each of them, and nothing is in the book yet
+pub record IsStart (jobs parts : ℕ) (entries : List EntryData) : Type 0 where
+  pub bounds : AreJobs jobs
+  pub parts_are : parts ≡ jobs
+  pub empty : entries ≡ []

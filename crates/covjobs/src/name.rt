@@ -1,0 +1,108 @@
+//! What a shared book is made of, and how it is named.
+
+use covbook::Book;
+use covline::Memory;
+use std::alloc::{Allocator, Global};
+use std::marker::{Brand, Model};
+use std::sync::ledger::{Blank, Ledger};
+use thiserror::Error;
+
+/// How many jobs share one book at the most.
+pub const MOST_JOBS: u32 = 64;
+
+/// The name of a shared book. Its seats have the same name, and a seat of another name isn't of this book. It has no
+/// functions: a caller makes a `Start`, and does the rest in a function over `L: Name`, called at `Brand`, which there names
+/// that start.
+pub trait Name: Ledger {}
+
+impl Name for Brand {}
+
+/// Why no book is opened.
+#[derive(Clone, Copy, Debug, PartialEq, Eq, Error)]
+pub enum OpenFault {
+    /// There are no jobs, or more than 64. This is tested first.
+    #[error("BadJobs")]
+    BadJobs = 1,
+    /// A growth was refused.
+    #[error("out of memory")]
+    Memory = 2,
+}
+
+impl OpenFault {
+    ghost use Rattle.std.specs.Prelude.{◌≡◌};
+    ghost use Rattle.covjobs.specs.OpenFault.{open_number};
+
+    /// The number of the fault, from 1.
+    pub fn number(self) -> u32
+        ensures { result ≡ open_number self }
+    {
+        self as u32
+    }
+}
+
+impl From<Memory> for OpenFault {
+    ghost use Rattle.std.specs.Prelude.{◌≡◌};
+    ghost use Rattle.covjobs.specs.declared.name.OpenFault.TheVariants as faults;
+
+    ghost from_gives = { λ _ e. e ≡ faults.Memory };
+
+    fn from(_refused: Memory) -> OpenFault {
+        OpenFault::Memory
+    }
+}
+
+/// What a shared book is made of: an empty book, and the count of its calls. Contracts see its name, and how many jobs share
+/// it.
+#[derive(Drop)]
+pub struct Start<A: Allocator = Global> {
+    jobs: u32,
+    count: Blank,
+    book: Book<A>,
+}
+
+impl<A: Allocator> Model for Start<A> {
+    ghost use Rattle.covjobs.specs.Start.{StartData, IsStart};
+
+    ghost Value = { StartData };
+
+    ghost view = { λ a. record { name = a.count.name; jobs = a.jobs } };
+
+    ghost invariant = { λ a. IsStart a.jobs a.count.parts a.book.entries };
+}
+
+impl<A: Allocator + Copy> Start<A> {
+    ghost use Rattle.std.specs.Prelude.{◌≡◌, ◌↔◌, [], IfOk, Err};
+    ghost use Rattle.covjobs.specs.declared.name.OpenFault.TheVariants as faults;
+    ghost use Rattle.covjobs.specs.Start.{AreJobs};
+
+    /// What a book for so many jobs is made of.
+    pub fn new(alloc: A, jobs: u32) -> Result<Start<A>, OpenFault>
+        ensures jobs { IfOk result (λ s. s.jobs ≡ jobs) }
+        ensures bad { (result ≡ Err faults.BadJobs) ↔ (AreJobs jobs → ⊥) }
+    {
+        if jobs == 0 || jobs > MOST_JOBS {
+            return Err(OpenFault::BadJobs);
+        }
+        Ok(Start {
+            jobs,
+            count: Blank::new(u64::from(jobs)),
+            book: Book::new(alloc),
+        })
+    }
+}
+
+impl<A: Allocator> Start<A> {
+    ghost use Rattle.std.specs.Prelude.{◌≡◌, []};
+    ghost use Rattle.covjobs.specs.Start.{AreJobs};
+
+    /// How many jobs there are, the count without a call, and the empty book.
+    pub(crate) fn into_parts(self) -> (u32, Blank, Book<A>)
+        ensures jobs { result.0 ≡ self.jobs }
+        ensures bounds { AreJobs self.jobs }
+        ensures name { result.1.name ≡ self.name }
+        ensures parts { result.1.parts ≡ self.jobs }
+        ensures book { result.2.entries ≡ [] }
+    {
+        (self.jobs, self.count, self.book)
+    }
+}

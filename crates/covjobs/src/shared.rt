@@ -1,0 +1,130 @@
+//! The book that threads share.
+
+use crate::handed::{Seats, seats_for};
+use crate::locked::Locked;
+use crate::name::{Name, Start};
+use crate::seat::Seat;
+use covbook::{BookFault, Entries, Op, Receipt};
+use covline::Memory;
+use std::alloc::{Allocator, Global};
+use std::marker::Model;
+use std::sync::{Mutex, Wait};
+use thiserror::Error;
+
+/// A book under a lock, which threads share by reference. Contracts see how many jobs it is for.
+#[derive(Drop)]
+pub struct Shared<L: Name, A: Allocator = Global> {
+    jobs: u32,
+    locked: Mutex<Locked<L, A>>,
+}
+
+impl<L: Name, A: Allocator> Model for Shared<L, A> {
+    ghost use Rattle.std.specs.Prelude.{◌≡◌};
+    ghost use Rattle.covjobs.specs.Shared.{SharedData};
+
+    ghost Value = { SharedData };
+
+    ghost view = { λ a. record { jobs = a.jobs } };
+
+    ghost invariant = { λ a. a.jobs ≡ L.parts };
+}
+
+/// What a call that succeeded is answered.
+#[derive(Drop)]
+pub struct Done<A: Allocator = Global> {
+    pub receipt: Receipt<A>,
+}
+
+/// Why a book isn't closed.
+#[derive(Clone, Copy, Debug, PartialEq, Eq, Error)]
+pub enum CloseFault {
+    /// Fault 1: the seat of this job isn't handed in, and those of all lower ones are.
+    #[error("Missing {job}")]
+    Missing { job: u32 },
+}
+
+impl CloseFault {
+    ghost use Rattle.std.specs.Prelude.{◌≡◌};
+    ghost use Rattle.covjobs.specs.CloseFault.{close_number};
+
+    /// The number of the fault, from 1.
+    pub fn number(self) -> u32
+        ensures { result ≡ close_number self }
+    {
+        match self {
+            CloseFault::Missing { job: _ } => 1,
+        }
+    }
+}
+
+ghost use Rattle.std.specs.Prelude.{◌≡◌, IfOk};
+ghost use Rattle.covjobs.specs.Seat.{first_seats};
+
+/// Opens an empty book, with a seat for each job from 0 on. A refusal gives the start up.
+pub fn open_book<L: Name, A: Allocator + Copy>(
+    alloc: A,
+    start: Start<A>,
+) -> Result<(Shared<L, A>, Seats<L, A>), Memory>
+    requires name { start.name ≡ L.name }
+    requires jobs { start.jobs ≡ L.parts }
+    ensures jobs { IfOk result (λ r. r.0.jobs ≡ start.jobs) }
+    ensures seats { IfOk result (λ r. r.1 ≡ first_seats start.jobs) }
+{
+    let (jobs, count, book) = start.into_parts();
+    let (count, mut all) = count.open::<L>();
+    let seats = seats_for(alloc, jobs, &mut all)?;
+    let locked = Mutex::new(Locked::new(book, count, all));
+    Ok((Shared { jobs, locked }, seats))
+}
+
+impl<L: Name, A: Allocator + Copy> Shared<L, A> {
+    ghost use Rattle.std.specs.Prelude.{◌≡◌, ◌≤◌, IfOk, MatchResult};
+    ghost use Rattle.covbook.specs.View.{op_data};
+    ghost use Rattle.covbook.specs.EntryView.{receipt_data};
+    ghost use Rattle.covjobs.specs.Call.{IsTold};
+    ghost use Rattle.covjobs.specs.Seat.{after_call};
+
+    /// One step of the book by the seat's job, answered as the table answers it behind a legal history. Waits for the lock, and
+    /// holds it for the step alone. `Full` is answered where the history is full, and where it is shorter than what the seat has
+    /// seen, which no seat of this book meets. After a refusal the book's history and content and the seat are as they were.
+    pub fn perform<R: Wait>(
+        &self,
+        rt: &R,
+        alloc: A,
+        seat: &mut Seat<L>,
+        op: &Op<A>,
+    ) -> Result<Done<A>, BookFault>
+        ensures asked { IfOk result (λ d. op_data d.receipt.op ≡ op_data op.now) }
+        ensures told { IfOk result (λ d. IsTold seat.old.job (op_data op.now) (receipt_data d.receipt)) }
+        ensures seen { IfOk result (λ d. seat.old.seen ≤ d.receipt.place) }
+        ensures seat { MatchResult result (λ d. seat.new ≡ after_call seat.old d.receipt.place) (λ _. seat.new ≡ seat.old) }
+    {
+        let receipt = self.locked.lock(rt).step(alloc, seat, op)?;
+        Ok(Done { receipt })
+    }
+}
+
+impl<L: Name, A: Allocator> Shared<L, A> {
+    ghost use Rattle.std.specs.Prelude.{◌≡◌, length, IfOk, MatchResult};
+    ghost use Rattle.covbook.specs.Step.{IsLegal};
+    ghost use Rattle.covjobs.specs.Seat.{calls_in};
+    ghost use Rattle.covjobs.specs.Handed.{AllAreSeated, IsLeastMissing};
+    ghost use Rattle.covjobs.specs.CloseFault.{told_job};
+
+    /// Closes the book and gives its history, where the seat of each job is handed in. Else all is handed back, with the least
+    /// job whose seat is missing. Waits for nobody, and takes no memory.
+    pub fn close(
+        self,
+        seats: Seats<L, A>,
+    ) -> Result<Entries<A>, (Shared<L, A>, Seats<L, A>, CloseFault)>
+        ensures seated { MatchResult result (λ _. AllAreSeated self.jobs seats) (λ back. IsLeastMissing self.jobs seats (told_job back.2)) }
+        ensures history { IfOk result (λ entries. IsLegal entries) }
+        ensures calls { IfOk result (λ entries. length entries ≡ calls_in seats) }
+        ensures back { MatchResult result (λ _. Unit {0}) (λ back. (back.0 ≡ self) × (back.1 ≡ seats)) }
+    {
+        if let Some(job) = seats.missing(self.jobs) {
+            return Err((self, seats, CloseFault::Missing { job }));
+        }
+        Ok(self.locked.into_inner().into_entries(seats))
+    }
+}

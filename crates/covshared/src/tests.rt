@@ -1,0 +1,16 @@
+//! The book that threads share. What is wanted was worked out by hand from the formats, never taken from an output.
+
+use std::process::Abort;
+use std::test::*;
+
+mod calls;
+mod closing;
+mod jobs;
+mod said;
+mod threads;
+mod turns;
+
+/// The bytes are as wanted. The tests compare here, since each comparison in a test's own body is proved there.
+fn check_bytes(rt: &impl Abort, given: &[u8], wanted: &[u8]) {
+    assert_eq!(rt; given, wanted);
+}

@@ -1,0 +1,49 @@
+//! Calls without what they promise: a test looks at values, and its proof is quicker that knows nothing of them.
+
+ghost use Rattle.std.specs.Prelude.{◌≡◌};
+
+use covbook::{BookFault, Entries, Op, Receipt, SubRef};
+use covjobs::{CloseFault, Name, OpenFault, Seat, Seats, Shared, Start, open_book};
+use covline::{Bytes, Memory};
+use covread::read_trace;
+use std::alloc::Global;
+use std::sync::Wait;
+use std::test::*;
+
+pub(super) fn start(alloc: Global, jobs: u32) -> Result<Start, OpenFault> {
+    Start::new(alloc, jobs)
+}
+
+pub(super) fn open<L: Name>(alloc: Global, start: Start) -> Result<(Shared<L>, Seats<L>), Memory>
+    requires name { start.name ≡ L.name }
+    requires jobs { start.jobs ≡ L.parts }
+{
+    open_book::<L, Global>(alloc, start)
+}
+
+pub(super) fn perform<L: Name, R: Wait>(
+    rt: &R,
+    alloc: Global,
+    book: &Shared<L>,
+    seat: &mut Seat<L>,
+    op: &Op,
+) -> Result<Receipt, BookFault> {
+    Ok(book.perform(rt, alloc, seat, op)?.receipt)
+}
+
+pub(super) fn close<L: Name>(
+    book: Shared<L>,
+    seats: Vec<Seat<L>>,
+) -> Result<Entries, (Shared<L>, Seats<L>, CloseFault)> {
+    book.close(Seats::of(seats))
+}
+
+/// The operation that submits the text.
+pub(super) fn submit(alloc: Global, text: &[u8]) -> Result<Op, Fail> {
+    Ok(Op::Submit(SubRef::of(alloc, read_trace(alloc, text)?)?))
+}
+
+/// The operation that drops the test.
+pub(super) fn drop_of(alloc: Global, test: &[u8]) -> Result<Op, Memory> {
+    Ok(Op::DropTest(Bytes::of(alloc, test)?))
+}

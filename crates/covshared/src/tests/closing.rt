@@ -1,0 +1,71 @@
+//! Books that are closed with a seat missing.
+
+ghost use Rattle.std.specs.Prelude.{◌≡◌};
+
+use super::calls::{close, open, perform, start};
+use covbook::Op;
+use covjobs::{CloseFault, Name, Seat, Shared, Start};
+use std::alloc::Global;
+use std::marker::Brand;
+use std::process::Abort;
+use std::sync::Wait;
+use std::test::*;
+
+/// The book isn't closed, since the seat of this job is missing, and is handed back with the seats.
+fn close_without<L: Name>(
+    rt: &impl Abort,
+    book: Shared<L>,
+    seats: Vec<Seat<L>>,
+    job: u32,
+) -> (Shared<L>, Vec<Seat<L>>) {
+    match close(book, seats) {
+        Ok(_entries) => panic!(rt; "no seat is missing"),
+        Err((book, seats, fault)) => {
+            assert_eq!(rt; fault, CloseFault::Missing { job });
+            (book, seats.into_vec())
+        }
+    }
+}
+
+/// The first of the seats can be used.
+fn check_usable<L: Name, R: Wait + Abort + AllocGlobal>(
+    rt: &R,
+    book: &Shared<L>,
+    seats: &mut [Seat<L>],
+) -> Result<(), Fail> {
+    match seats.first_mut() {
+        Some(seat) => {
+            perform(rt, rt.alloc(), book, seat, &Op::Summary)?;
+            assert_eq!(rt; (seat.job(), seat.calls()), (0, 1));
+        }
+        None => panic!(rt; "no seat"),
+    }
+    Ok(())
+}
+
+/// Of two seats the second is kept back, then both are, and then both are handed in.
+fn kept_back<L: Name, R: Wait + Abort + AllocGlobal>(rt: &R, start: Start) -> Result<(), Fail>
+    requires name { start.name ≡ L.name }
+    requires jobs { start.jobs ≡ L.parts }
+{
+    let alloc = rt.alloc();
+    let (book, seats) = open::<L>(alloc, start)?;
+    let mut seats = seats.into_vec();
+    let last = seats.pop();
+    let (book, mut seats) = close_without(rt, book, seats, 1);
+    check_usable(rt, &book, seats.as_mut_slice())?;
+    let (book, _none) = close_without(rt, book, Vec::new(alloc), 0);
+    if let Some(seat) = last {
+        seats.push(seat)?;
+    }
+    match close(book, seats) {
+        Ok(entries) => assert_eq!(rt; entries.get().len(), 1),
+        Err(_back) => panic!(rt; "a seat is missing"),
+    }
+    Ok(())
+}
+
+#[test]
+fn seats_kept_back(rt: HostRuntime) -> Result<(), Fail> {
+    kept_back::<Brand, _>(&rt, start(rt.alloc(), 2)?)
+}

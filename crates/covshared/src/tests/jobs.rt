@@ -1,0 +1,29 @@
+//! How many jobs share a book.
+
+use super::calls::start;
+use covjobs::{CloseFault, OpenFault};
+use std::alloc::Global;
+use std::test::*;
+
+/// Whether a book can't be for so many jobs.
+fn is_bad(alloc: Global, jobs: u32) -> bool {
+    match start(alloc, jobs) {
+        Ok(_start) => false,
+        Err(fault) => fault == OpenFault::BadJobs,
+    }
+}
+
+#[test]
+fn numbers_of_jobs(rt: HostRuntime) {
+    assert!(rt; is_bad(rt.alloc(), 0));
+    assert!(rt; !is_bad(rt.alloc(), 1));
+    assert!(rt; !is_bad(rt.alloc(), 64));
+    assert!(rt; is_bad(rt.alloc(), 65));
+}
+
+#[test]
+fn numbers_of_faults(rt: HostRuntime) {
+    assert_eq!(rt; OpenFault::BadJobs.number(), 1);
+    assert_eq!(rt; OpenFault::Memory.number(), 2);
+    assert_eq!(rt; CloseFault::Missing { job: 7 }.number(), 1);
+}

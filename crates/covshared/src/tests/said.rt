@@ -1,0 +1,64 @@
+//! What was answered, in bytes.
+
+use covbook::{Answer, Entry, Op, Receipt};
+use std::alloc::AllocError;
+
+/// Appends a number below 10 and a space.
+fn put_digit(text: &mut Vec<u8>, number: u64) -> Result<(), AllocError> {
+    text.push(b'0' + (number % 10) as u8)?;
+    text.push(b' ')?;
+    Ok(())
+}
+
+/// Appends the word of an operation.
+fn put_op(text: &mut Vec<u8>, op: &Op) -> Result<(), AllocError> {
+    let word: &[u8] = match op {
+        Op::Submit(_) => b"submit: ",
+        Op::DropTest(_) => b"drop: ",
+        Op::Report => b"report: ",
+        Op::Extract(_) => b"extract: ",
+        Op::Remove(_) => b"remove: ",
+        Op::Summary => b"summary: ",
+    };
+    text.extend_from_slice(word)
+}
+
+/// Appends an answer, with its numbers or its text.
+fn put_answer(text: &mut Vec<u8>, answer: &Answer) -> Result<(), AllocError> {
+    match answer {
+        Answer::Accepted { number, items, odd } => {
+            text.extend_from_slice(b"accepted ")?;
+            put_digit(text, *number)?;
+            put_digit(text, *items)?;
+            put_digit(text, *odd)?;
+        }
+        Answer::Clash { .. } => text.extend_from_slice(b"clash")?,
+        Answer::Dropped { sections } => put_digit(text, *sections)?,
+        Answer::NoSuchTest => text.extend_from_slice(b"no such test")?,
+        Answer::Text(printed) => text.extend_from_slice(printed.get().get())?,
+    }
+    text.push(b'\n')?;
+    Ok(())
+}
+
+/// Appends the place, the operation and the answer of a receipt.
+pub(super) fn put_receipt(text: &mut Vec<u8>, receipt: &Receipt) -> Result<(), AllocError> {
+    put_digit(text, receipt.place)?;
+    put_op(text, &receipt.op)?;
+    put_answer(text, &receipt.answer)
+}
+
+/// Appends the job, the operation and the answer of an entry.
+fn put_entry(text: &mut Vec<u8>, entry: &Entry) -> Result<(), AllocError> {
+    put_digit(text, u64::from(entry.job))?;
+    put_op(text, &entry.op)?;
+    put_answer(text, &entry.answer)
+}
+
+/// Appends all entries.
+pub(super) fn put_entries(text: &mut Vec<u8>, entries: &[Entry]) -> Result<(), AllocError> {
+    for entry in entries {
+        put_entry(text, entry)?;
+    }
+    Ok(())
+}

@@ -1,0 +1,126 @@
+//! Four threads at one book.
+
+ghost use Rattle.std.specs.Prelude.{◌≡◌};
+
+use super::calls::{close, open, perform, start, submit};
+use super::check_bytes;
+use covbook::{Answer, Entry, Op, Receipt};
+use covjobs::{Name, Seat, Shared, Start};
+use std::alloc::Global;
+use std::marker::Brand;
+use std::process::Abort;
+use std::sync::Wait;
+use std::test::*;
+use std::thread;
+use std::thread::Threads;
+
+const SMALL: &[u8] = b"TN:t\nSF:/a.c\nDA:1,2\nDA:2,0\nLF:2\nLH:1\nend_of_record\n";
+
+const MERGED: &[u8] = b"TN:t\nSF:/a.c\nDA:1,400\nDA:2,0\nLF:2\nLH:1\nend_of_record\n";
+
+/// The job asks this fifty times.
+fn ask_often<L: Name, R: Wait + Abort>(
+    rt: &R,
+    alloc: Global,
+    book: &Shared<L>,
+    seat: &mut Seat<L>,
+    op: &Op,
+) {
+    for _time in 0..50 {
+        if perform(rt, alloc, book, seat, op).is_err() {
+            panic!(rt; "a step is refused");
+        }
+    }
+}
+
+/// Each job asks this fifty times, in a thread of its own.
+fn ask_at_once<L: Name + Send + Sync, R: Threads + Wait + Abort + Sync>(
+    rt: &R,
+    alloc: Global,
+    book: &Shared<L>,
+    seats: &mut [Seat<L>],
+    op: &Op,
+) {
+    thread::scope(thread::scope_env(), rt, |scope| {
+        for seat in seats {
+            if scope
+                .spawn(move || ask_often(rt, alloc, book, seat, op))
+                .is_err()
+            {
+                panic!(rt; "no thread");
+            }
+        }
+    });
+}
+
+/// The receipt has this place and this text.
+fn check_text(rt: &impl Abort, receipt: &Receipt, place: u64, text: &[u8]) {
+    assert_eq!(rt; receipt.place, place);
+    match &receipt.answer {
+        Answer::Text(printed) => check_bytes(rt, printed.get().get(), text),
+        _ => panic!(rt; "no text"),
+    }
+}
+
+/// Whether the entry is an accepted submission, with the number after this one.
+fn has_next_number(entry: &Entry, number_before: u64) -> bool {
+    match &entry.answer {
+        Answer::Accepted { number, .. } => {
+            *number > number_before && *number - number_before == 1
+        }
+        _ => false,
+    }
+}
+
+/// How many of the first entries are accepted submissions, each with the number of its place from 1 on.
+fn accepted_first(entries: &[Entry]) -> usize {
+    for (place, entry) in entries.iter().enumerate() {
+        if !has_next_number(entry, place as u64) {
+            return place;
+        }
+    }
+    entries.len()
+}
+
+/// Behind the threads the first job asks for the report twice.
+fn check_reports<L: Name, R: Wait + Abort + AllocGlobal>(
+    rt: &R,
+    book: &Shared<L>,
+    seats: &mut [Seat<L>],
+) -> Result<(), Fail> {
+    if let Some(seat) = seats.first_mut() {
+        for place in 200..202u64 {
+            let receipt = perform(rt, rt.alloc(), book, seat, &Op::Report)?;
+            check_text(rt, &receipt, place, MERGED);
+        }
+    }
+    Ok(())
+}
+
+fn at_once<L: Name + Send + Sync, R: Threads + Wait + Abort + AllocGlobal + Sync>(
+    rt: &R,
+    start: Start,
+) -> Result<(), Fail>
+    requires name { start.name ≡ L.name }
+    requires jobs { start.jobs ≡ L.parts }
+{
+    let alloc = rt.alloc();
+    let (book, seats) = open::<L>(alloc, start)?;
+    let mut seats = seats.into_vec();
+    let small = submit(alloc, SMALL)?;
+    ask_at_once(rt, alloc, &book, seats.as_mut_slice(), &small);
+    check_reports(rt, &book, seats.as_mut_slice())?;
+    match close(book, seats) {
+        Ok(entries) => {
+            assert_eq!(rt; entries.get().len(), 202);
+            assert_eq!(rt; accepted_first(entries.get()), 200);
+        }
+        Err(_back) => panic!(rt; "a seat is missing"),
+    }
+    Ok(())
+}
+
+#[test]
+fn four_threads(rt: HostRuntime) -> Result<(), Fail> {
+    at_once::<Brand, _>(&rt, start(rt.alloc(), 4)?)
+}
