@@ -1,9 +1,7 @@
 -- A history gathered from what each job kept of it: when its entries are a merge of the jobs' logs, and the first fault where
 -- they aren't.
-use Rattle.std.specs.Prelude.{◌≡◌, ◌≢◌, ℕ, ◌+◌, ◌<◌, ◌≤◌, ◌⊎◌, List, [], ◌∷◌, ◌++◌, length, map, eqb, slice_get, IsSomeAnd}
-use Rattle.std.specs.List.{All, Contains, IsDistinct, flat_map}
-use Rattle.std.specs.List.Sorted.{IsStrictlySortedBy}
-use Rattle.std.specs.Ordering.{nat_cmp}
+use Rattle.std.specs.Prelude.{◌≡◌, ◌≢◌, ℕ, ◌+◌, ◌<◌, ◌≤◌, ◌⊎◌, List, [], ◌∷◌, ◌++◌, length, map, slice_get, IsSomeAnd}
+use Rattle.std.specs.List.{AllByRecursion, Contains, flat_map}
 use Rattle.covbook.specs.declared.gather_fault.GatherFault.{GatherFault}
 use Rattle.covbook.specs.declared.gather_fault.GatherFault.TheVariants.{Stranger, Differs, Backwards, Missing, SameJob}
 use Rattle.covbook.specs.Op.{EntryData, ReceiptData}
@@ -21,6 +19,18 @@ places_of log = map (λ (r : ReceiptData). r.place) log.receipts
 abbrev pub places_in : List LogData → List ℕ
 places_in logs = flat_map places_of logs
 
+abbrev pub jobs_of : List LogData → List ℕ
+jobs_of logs = map (λ (log : LogData). log.job) logs
+
+-- each number is below all later ones; and no number comes twice
+abbrev pub Rise : List ℕ → Type 0
+Rise [] = Unit {0}
+Rise (x ∷ xs) = AllByRecursion (λ (y : ℕ). x < y) xs × Rise xs
+
+abbrev pub Differ : List ℕ → Type 0
+Differ [] = Unit {0}
+Differ (x ∷ xs) = AllByRecursion (λ (y : ℕ). x ≢ y) xs × Differ xs
+
 -- at a receipt's place stands an entry of this job
 abbrev pub IsOfJob : List EntryData → ℕ → ReceiptData → Type 0
 IsOfJob entries job r = IsSomeAnd (slice_get entries r.place) (λ (e : EntryData). e.job ≡ job)
@@ -31,15 +41,15 @@ IsReceiptOf entries r = IsSomeAnd (slice_get entries r.place) (λ (e : EntryData
 
 -- a log is of a history: its places rise, and its receipts are those of entries of its job
 pub record IsLogOf (entries : List EntryData) (log : LogData) : Type 0 where
-  pub rise : IsStrictlySortedBy nat_cmp (places_of log)
-  pub own : All (IsOfJob entries log.job) log.receipts
-  pub same : All (IsReceiptOf entries) log.receipts
+  pub rise : Rise (places_of log)
+  pub own : AllByRecursion (IsOfJob entries log.job) log.receipts
+  pub same : AllByRecursion (IsReceiptOf entries) log.receipts
 
 -- entries are a merge of logs: no two logs are of the same job, each is of the history, and each entry is in one of them. It
 -- is in no other, since the entries of others are of other jobs
 pub record IsMerge (entries : List EntryData) (logs : List LogData) : Type 0 where
-  pub jobs : IsDistinct eqb (map (λ (log : LogData). log.job) logs)
-  pub logs : All (IsLogOf entries) logs
+  pub differ : Differ (jobs_of logs)
+  pub kept : AllByRecursion (IsLogOf entries) logs
   pub whole : (place : ℕ) → place < length entries → Contains (places_in logs) place
 
 -- what has to hold, and the fault where it doesn't
@@ -59,10 +69,11 @@ abbrev pub FirstFails : List {1} Claim → GatherFault → Type 0
 FirstFails [] fault = ⊥
 FirstFails (c ∷ claims) fault = ((c.holds → ⊥) × (fault ≡ c.fault)) ⊎ (c.holds × FirstFails claims fault)
 
--- each log's job is another one than those of the logs before
-abbrev pub job_claims : List ℕ → List LogData → List {1} Claim
-job_claims before [] = []
-job_claims before (log ∷ logs) = claim (All (λ job. job ≢ log.job) before) (SameJob (length before)) ∷ job_claims (before ++ log.job ∷ []) logs
+-- each log, from this number on: its job is none of those of the logs before
+abbrev pub job_claims : (number : ℕ) → List ℕ → List LogData → List {1} Claim
+job_claims number before [] = []
+job_claims number before (log ∷ logs) =
+    claim (AllByRecursion (λ (job : ℕ). job ≢ log.job) before) (SameJob number) ∷ job_claims (number + 1) (before ++ log.job ∷ []) logs
 
 -- a receipt of a log: an entry of the job stands at its place, with its operation and answer, and the place is above that of
 -- the receipt before (`least` is the least that is)
@@ -86,7 +97,7 @@ entry_claims logs place (e ∷ entries) = claim (Contains (places_in logs) place
 
 -- all that makes entries a merge of logs, in the order in which faults are told
 abbrev pub merge_claims : List EntryData → List LogData → List {1} Claim
-merge_claims entries logs = job_claims [] logs ++ log_claims entries 0 logs ++ entry_claims logs 0 entries
+merge_claims entries logs = job_claims 0 [] logs ++ log_claims entries 0 logs ++ entry_claims logs 0 entries
 
 -- the fault that is told of entries and logs
 abbrev pub IsGatherFault : List EntryData → List LogData → GatherFault → Type 0

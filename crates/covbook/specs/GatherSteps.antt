@@ -1,10 +1,8 @@
 -- What the private steps of a gathering tell.
-use Rattle.std.specs.Prelude.{◌≡◌, ℕ, ◌<◌, ◌≤◌, List, Option, Result, MatchOption, MatchResult, eqb, ltb}
-use Rattle.std.specs.List.{AllByRecursion, Contains, count_by}
-use Rattle.std.specs.List.Sorted.{IsStrictlySortedBy}
-use Rattle.std.specs.Ordering.{nat_cmp}
+use Rattle.std.specs.Prelude.{◌≡◌, ℕ, ◌+◌, ◌<◌, ◌≤◌, cond, List, [], ◌∷◌, Option, Result, MatchOption, MatchResult, eqb, ltb}
+use Rattle.std.specs.List.{AllByRecursion, Contains}
 use Rattle.covbook.specs.declared.gather_fault.GatherFault.{GatherFault}
-use Rattle.covbook.specs.Gather.{LogData, places_of, places_in, Claim, AllHold, FirstFails}
+use Rattle.covbook.specs.Gather.{LogData, Rise, places_of, places_in, Claim, AllHold, FirstFails}
 
 -- all claims hold, or this is the fault of the first that doesn't
 abbrev pub Tells : {T : Type 0} → Result T GatherFault → List {1} Claim → Type 0
@@ -12,14 +10,16 @@ Tells {T} result claims = MatchResult result (λ (x : T). AllHold claims) (λ (f
 
 -- how many of the places are this one, and how many are below it
 abbrev pub times : ℕ → List ℕ → ℕ
-times place places = count_by (λ (p : ℕ). eqb place p) places
+times place [] = 0
+times place (p ∷ places) = cond (eqb place p) 1 0 + times place places
 
 abbrev pub below : ℕ → List ℕ → ℕ
-below place places = count_by (λ (p : ℕ). ltb p place) places
+below place [] = 0
+below place (p ∷ places) = cond (ltb p place) 1 0 + below place places
 
 -- in each log the places rise, and no place is told twice
 pub record AreApart (logs : List LogData) : Type 0 where
-  pub rise : AllByRecursion (λ (log : LogData). IsStrictlySortedBy nat_cmp (places_of log)) logs
+  pub rise : AllByRecursion (λ (log : LogData). Rise (places_of log)) logs
   pub once : (place : ℕ) → times place (places_in logs) ≤ 1
 
 -- all places below this many are told; or this is the least that isn't

@@ -1,6 +1,6 @@
 //! Gathering: the entries of a history against what each job kept of it.
 
-ghost use Rattle.std.specs.Prelude.{◌≡◌, ◌≢◌, ◌↔◌, ℕ, ◌+◌, [], Err, IfOk, IsOk, IsTrue, map};
+ghost use Rattle.std.specs.Prelude.{◌≡◌, ◌≢◌, ◌↔◌, ◌+◌, [], Err, IfOk, IsOk, IsTrue, map};
 ghost use Rattle.std.specs.List.{All};
 ghost use Rattle.covbook.specs.declared.gather_fault.GatherFault.{GatherFault};
 ghost use Rattle.covbook.specs.EntryView.{entry_data, receipt_data};
@@ -31,7 +31,7 @@ pub fn gather<A: Allocator>(entries: &[Entry<A>], logs: &[JobLog<A>]) -> Result<
 
 /// Whether each log's job is another one than those of the logs before.
 fn check_jobs<A: Allocator>(logs: &[JobLog<A>]) -> Result<(), GatherFault>
-    ensures { Tells result (job_claims [] (map log_data logs.now)) }
+    ensures { Tells result (job_claims 0 [] (map log_data logs.now)) }
 {
     for (number, log) in logs.iter().enumerate() {
         if !is_new_job(log.job, &logs[..number]) {
@@ -43,7 +43,7 @@ fn check_jobs<A: Allocator>(logs: &[JobLog<A>]) -> Result<(), GatherFault>
 
 /// Whether none of the logs is of this job.
 fn is_new_job<A: Allocator>(job: u32, logs: &[JobLog<A>]) -> bool
-    ensures { IsTrue result ↔ All (λ (other : ℕ). other ≢ job) (map (λ log. log.job) logs.now) }
+    ensures { IsTrue result ↔ All (λ log. log.job ≢ job) logs.now }
 {
     logs.iter().all(|log| log.job != job)
 }
@@ -59,7 +59,11 @@ fn check_logs<A: Allocator>(entries: &[Entry<A>], logs: &[JobLog<A>]) -> Result<
 }
 
 /// Whether the receipts of the log with this number are those of its entries, and their places rise.
-fn check_receipts<A: Allocator>(entries: &[Entry<A>], number: usize, log: &JobLog<A>) -> Result<(), GatherFault>
+fn check_receipts<A: Allocator>(
+    entries: &[Entry<A>],
+    number: usize,
+    log: &JobLog<A>,
+) -> Result<(), GatherFault>
     ensures { Tells result (receipt_claims (map entry_data entries.now) (log_data log.now).job number 0 0 (log_data log.now).receipts) }
 {
     let receipts = log.receipts.get();

@@ -1,9 +1,7 @@
 //! The places that logs tell.
 
 ghost use Rattle.std.specs.Prelude.{◌≡◌, map};
-ghost use Rattle.std.specs.List.Sorted.{IsStrictlySortedBy};
-ghost use Rattle.std.specs.Ordering.{nat_cmp};
-ghost use Rattle.covbook.specs.Gather.{places_in, places_of};
+ghost use Rattle.covbook.specs.Gather.{Rise, places_in, places_of};
 ghost use Rattle.covbook.specs.GatherSteps.{AreApart, TellsLeast, below};
 ghost use Rattle.covbook.specs.LogView.{log_data};
 
@@ -47,7 +45,7 @@ fn receipts_below<A: Allocator>(logs: &[JobLog<A>], place: u64) -> u64
 
 /// How many receipts of the log tell a place below this one, found by halves, as its places rise.
 fn log_below<A: Allocator>(log: &JobLog<A>, place: u64) -> u64
-    requires { IsStrictlySortedBy nat_cmp (places_of (log_data log.now)) }
+    requires { Rise (places_of (log_data log.now)) }
     ensures { result ≡ below place (places_of (log_data log.now)) }
 {
     let receipts = log.receipts.get();
