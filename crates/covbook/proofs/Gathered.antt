@@ -1,7 +1,6 @@
 -- What a gathering tells of entries and logs as a whole.
-use Rattle.std.proofs.Common.{◌≡◌, ℕ, ◌<◌, ◌≤◌, List, [], ◌++◌, Result, Ok, Err, IsOk, Some, None, length, refl, ap, subst, arith}
+use Rattle.std.proofs.Common.{◌≡◌, ℕ, List, [], ◌++◌, Result, Ok, Err, IsOk, Some, None, length, refl, ap, subst, arith}
 use Rattle.std.specs.Prelude.{◌↔◌}
-use Rattle.std.specs.List.{Contains}
 use Rattle.std.proofs.lemmas.Bool.{false≢true}
 use Rattle.covbook.specs.declared.gather_fault.GatherFault.{GatherFault}
 use Rattle.covbook.specs.declared.gather_fault.GatherFault.TheVariants.{Missing}

@@ -1,12 +1,11 @@
 -- All claims on logs hold exactly where the entries are a merge of the logs.
-use Rattle.std.proofs.Common.{◌≡◌, ℕ, ◌+◌, ◌<◌, ◌≤◌, List, [], ◌∷◌, ◌++◌, length, map, sym, refl, ap, ◌∙◌, inl, inr, subst, arith}
-use Rattle.std.specs.Prelude.{◌≢◌, ◌⊎◌}
+use Rattle.std.proofs.Common.{◌≡◌, ℕ, ◌+◌, ◌<◌, ◌≤◌, List, [], ◌∷◌, ◌++◌, length, map, sym, ap, inl, inr, subst, arith}
+use Rattle.std.specs.Prelude.{◌≢◌}
 use Rattle.std.specs.List.{AllByRecursion, Contains}
 use Rattle.std.proofs.lemmas.Bool.{cases_eq}
-use Rattle.covbook.specs.declared.gather_fault.GatherFault.{GatherFault}
 use Rattle.covbook.specs.declared.gather_fault.GatherFault.TheVariants.{Missing}
 use Rattle.covbook.specs.Op.{EntryData, ReceiptData}
-use Rattle.covbook.specs.Gather.{LogData, jobs_of, places_of, places_in, Rise, Differ, IsOfJob, IsReceiptOf, IsLogOf, IsMerge, AllHold, FirstFails, job_claims, receipt_claims, log_claims, entry_claims, merge_claims}
+use Rattle.covbook.specs.Gather.{LogData, jobs_of, places_in, Rise, Differ, IsOfJob, IsReceiptOf, IsLogOf, IsMerge, AllHold, FirstFails, job_claims, receipt_claims, log_claims, entry_claims, merge_claims}
 use Rattle.covbook.proofs.Claims.{all_join, all_left, all_right}
 use Rattle.covbook.proofs.PlaceCounts.{all_weaker, all_both, all_any, all_joined, all_before, all_behind}
 

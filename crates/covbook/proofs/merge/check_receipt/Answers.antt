@@ -1,4 +1,4 @@
-use Rattle.std.proofs.Common.{◌<◌, length, map, sym}
+use Rattle.std.proofs.Common.{◌<◌, length, sym}
 use Rattle.std.proofs.lemmas.Bool.{ltb-true}
 use Rattle.covbook.specs.EntryView.{entry_data, receipt_data}
 use Rattle.covbook.proofs.Checked.{found_at, receipt_is}

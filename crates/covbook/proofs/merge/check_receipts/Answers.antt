@@ -1,4 +1,4 @@
-use Rattle.std.proofs.Common.{◌≡◌, List, Ok, Err, drop, map, sym, subst}
+use Rattle.std.proofs.Common.{List, Ok, Err, map, sym, subst}
 use Rattle.std.proofs.lemmas.List.{drop_all}
 use Rattle.std.proofs.lemmas.Result.{err_from_is_err_and}
 use Rattle.covbook.specs.declared.entry.Receipt.{Receipt}

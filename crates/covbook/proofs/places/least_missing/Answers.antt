@@ -1,4 +1,4 @@
-use Rattle.std.proofs.Common.{◌≡◌, ℕ, suc, ◌+◌, ◌-◌, ◌/◌, ◌<◌, ◌≤◌, map, sym, ◌∙◌, subst, arith}
+use Rattle.std.proofs.Common.{◌≡◌, ℕ, suc, ◌+◌, ◌-◌, ◌/◌, ◌<◌, map, sym, ◌∙◌, subst, arith}
 use Rattle.covbook.specs.Gather.{places_in}
 use Rattle.covbook.specs.GatherSteps.{below}
 use Rattle.covbook.specs.LogView.{log_data}
