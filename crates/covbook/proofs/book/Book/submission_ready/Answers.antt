@@ -1,4 +1,5 @@
 use Rattle.std.proofs.Common.{sym, ap, ◌+◌, ◌∙◌}
+use Rattle.covstore.specs.Table.{Table}
 use Rattle.covbook.specs.Op.{SubmitOp, AcceptedAnswer}
 use Rattle.covbook.specs.Step.{table_of, totals_at, ops_in}
 use Rattle.covbook.proofs.Halves.{next_with}
