@@ -4,3 +4,10 @@ pub mod Halves
 pub mod Told
 pub mod Versions
 pub mod Orders
+pub mod Claims
+pub mod PlaceCounts
+pub mod Merged
+pub mod Once
+pub mod LogPlaces
+pub mod Checked
+pub mod Gathered

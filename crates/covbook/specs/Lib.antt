@@ -9,3 +9,7 @@ pub mod Texts
 pub mod Refusal
 pub mod ChangeView
 pub mod Order
+pub mod GatherFault
+pub mod Gather
+pub mod GatherSteps
+pub mod LogView

@@ -1,7 +1,9 @@
 //! Laws of the definitions that this crate's contracts cite. The functions do nothing: the contract is the law.
 
-ghost use Rattle.std.specs.Prelude.{◌≡◌, List, [], ◌∷◌, ◌++◌, map, Contains};
-ghost use Rattle.covbook.specs.Op.{OpData, SubmitOp, ClashAnswer};
+ghost use Rattle.std.specs.Prelude.{◌≡◌, ◌↔◌, List, [], ◌∷◌, ◌++◌, map, Contains};
+ghost use Rattle.covbook.specs.declared.gather_fault.GatherFault.{GatherFault};
+ghost use Rattle.covbook.specs.Gather.{AllHold, IsGatherFault, IsMerge, LogData, merge_claims};
+ghost use Rattle.covbook.specs.Op.{EntryData, OpData, SubmitOp, ClashAnswer};
 ghost use Rattle.covbook.specs.Order.{submissions_in, AreTheSame, AreAgreeing, OnlySubmitsAndAsks};
 ghost use Rattle.covbook.specs.Step.{answer_of, answers_to, table_after, table_of, totals_at, totals_to};
 ghost use Rattle.covbook.specs.Texts.{IsText};
@@ -41,3 +43,11 @@ pub fn order_does_not_matter()
     the_first_clash_is_told();
     order_of_submissions_does_not_matter();
 }
+
+/// The claims on entries and logs, one after another, all hold exactly where the entries are a merge of the logs. Where one
+/// doesn't, one fault alone is the first.
+pub fn claims_make_a_merge()
+    ensures merge { (entries : List EntryData) (logs : List LogData) → AllHold (merge_claims entries logs) ↔ IsMerge entries logs }
+    ensures fault { (entries : List EntryData) (logs : List LogData) (some other : GatherFault) → IsGatherFault entries logs some → IsGatherFault entries logs other → some ≡ other }
+    ensures none { (entries : List EntryData) (logs : List LogData) (fault : GatherFault) → IsGatherFault entries logs fault → ¬ IsMerge entries logs }
+{}

@@ -7,6 +7,9 @@
 //! A caller with something to do in between takes a step in two halves: `Book::ready` makes all that can be refused, and what
 //! it makes tells the totals behind the step (`Ready::after`); `Book::finish` takes the step, and no memory.
 //!
+//! Several jobs that share a book keep their receipts, each in a `JobLog`; `gather` tells whether the history is a merge of
+//! these logs, or the first fault.
+//!
 //! A sketch, which no test runs:
 //!
 //! ```text
@@ -21,14 +24,21 @@
 
 mod book;
 mod entry;
+mod gather_fault;
 mod history;
 pub mod laws;
+mod log;
+mod merge;
 mod op;
+mod places;
 mod ready;
 mod shared;
 
 pub use book::{Book, BookFault};
 pub use entry::{Entries, Entry, MOST_ENTRIES, Receipt, Receipts};
+pub use gather_fault::GatherFault;
+pub use log::{JobLog, Logs};
+pub use merge::gather;
 pub use op::{Answer, Op};
 pub use ready::Ready;
 pub use shared::{SubRef, TextRef};

@@ -41,6 +41,66 @@ impl<A: Allocator + Copy> Op<A> {
     }
 }
 
+impl<A: Allocator> Op<A> {
+    ghost use Rattle.std.specs.Prelude.{◌≡◌, ◌↔◌, IsTrue};
+    ghost use Rattle.covbook.specs.Op.{SubmitOp, DropTestOp, ExtractOp, RemoveOp};
+    ghost use Rattle.covbook.specs.View.{op_data};
+
+    /// Whether the other operation asks the same, whatever memory the two share. Takes no memory.
+    pub fn is_same(&self, other: &Op<A>) -> bool
+        ensures { IsTrue result ↔ (op_data self.now ≡ op_data other.now) }
+    {
+        match self {
+            Op::Submit(submission) => other.is_submit(submission),
+            Op::DropTest(test) => other.is_drop_test(test),
+            Op::Report => matches!(other, Op::Report),
+            Op::Extract(patterns) => other.is_extract(patterns),
+            Op::Remove(patterns) => other.is_remove(patterns),
+            Op::Summary => matches!(other, Op::Summary),
+        }
+    }
+
+    /// Whether this adds an equal submission.
+    fn is_submit(&self, submission: &SubRef<A>) -> bool
+        ensures { IsTrue result ↔ (SubmitOp submission.now ≡ op_data self.now) }
+    {
+        match self {
+            Op::Submit(own) => submission.is_same(own),
+            _ => false,
+        }
+    }
+
+    /// Whether this drops the test.
+    fn is_drop_test(&self, test: &Bytes<A>) -> bool
+        ensures { IsTrue result ↔ (DropTestOp test.now ≡ op_data self.now) }
+    {
+        match self {
+            Op::DropTest(own) => test.is_same(own),
+            _ => false,
+        }
+    }
+
+    /// Whether this prints what matches equal patterns.
+    fn is_extract(&self, patterns: &Patterns<A>) -> bool
+        ensures { IsTrue result ↔ (ExtractOp patterns.now ≡ op_data self.now) }
+    {
+        match self {
+            Op::Extract(own) => patterns.is_same(own),
+            _ => false,
+        }
+    }
+
+    /// Whether this prints what matches none of equal patterns.
+    fn is_remove(&self, patterns: &Patterns<A>) -> bool
+        ensures { IsTrue result ↔ (RemoveOp patterns.now ≡ op_data self.now) }
+    {
+        match self {
+            Op::Remove(own) => patterns.is_same(own),
+            _ => false,
+        }
+    }
+}
+
 /// What an operation was answered.
 #[derive(Drop)]
 pub enum Answer<A: Allocator = Global> {
@@ -99,6 +159,84 @@ impl<A: Allocator + Copy> Answer<A> {
             }),
             Answer::NoSuchTest => Ok(Answer::NoSuchTest),
             Answer::Text(text) => Ok(Answer::Text(text.copy()?)),
+        }
+    }
+}
+
+impl<A: Allocator> Answer<A> {
+    ghost use Rattle.std.specs.Prelude.{◌≡◌, ◌↔◌, IsTrue};
+    ghost use Rattle.covbook.specs.Op.{AcceptedAnswer, ClashAnswer, DroppedAnswer, TextAnswer};
+    ghost use Rattle.covbook.specs.View.{answer_data};
+
+    /// Whether the other answer says the same, whatever memory the two share. Takes no memory.
+    pub fn is_same(&self, other: &Answer<A>) -> bool
+        ensures { IsTrue result ↔ (answer_data self.now ≡ answer_data other.now) }
+    {
+        match self {
+            Answer::Accepted { number, items, odd } => other.is_accepted(*number, *items, *odd),
+            Answer::Clash {
+                file,
+                line,
+                held,
+                given,
+            } => other.is_clash(file, *line, held, given),
+            Answer::Dropped { sections } => other.is_dropped(*sections),
+            Answer::NoSuchTest => matches!(other, Answer::NoSuchTest),
+            Answer::Text(text) => other.is_text(text),
+        }
+    }
+
+    /// Whether this accepts with these numbers.
+    fn is_accepted(&self, number: u64, items: u64, odd: u64) -> bool
+        ensures { IsTrue result ↔ (AcceptedAnswer number items odd ≡ answer_data self.now) }
+    {
+        match *self {
+            Answer::Accepted {
+                number: own_number,
+                items: own_items,
+                odd: own_odd,
+            } => number == own_number && items == own_items && odd == own_odd,
+            _ => false,
+        }
+    }
+
+    /// Whether this tells a clash of this line, with equal texts.
+    fn is_clash(&self, file: &Bytes<A>, line: u64, held: &Bytes<A>, given: &Bytes<A>) -> bool
+        ensures { IsTrue result ↔ (ClashAnswer (record { file = file.now; line = line; held = held.now; given = given.now }) ≡ answer_data self.now) }
+    {
+        match self {
+            Answer::Clash {
+                file: own_file,
+                line: own_line,
+                held: own_held,
+                given: own_given,
+            } => {
+                line == *own_line
+                    && file.is_same(own_file)
+                    && held.is_same(own_held)
+                    && given.is_same(own_given)
+            },
+            _ => false,
+        }
+    }
+
+    /// Whether this tells of so many dropped sections.
+    fn is_dropped(&self, sections: u64) -> bool
+        ensures { IsTrue result ↔ (DroppedAnswer sections ≡ answer_data self.now) }
+    {
+        match *self {
+            Answer::Dropped { sections: own } => sections == own,
+            _ => false,
+        }
+    }
+
+    /// Whether this is an equal text.
+    fn is_text(&self, text: &TextRef<A>) -> bool
+        ensures { IsTrue result ↔ (TextAnswer text.now ≡ answer_data self.now) }
+    {
+        match self {
+            Answer::Text(own) => text.is_same(own),
+            _ => false,
         }
     }
 }

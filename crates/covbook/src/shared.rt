@@ -61,7 +61,7 @@ impl<A: Allocator> Model for SubRef<A> {
 }
 
 impl<A: Allocator> SubRef<A> {
-    ghost use Rattle.std.specs.Prelude.{◌≡◌, IfOk};
+    ghost use Rattle.std.specs.Prelude.{◌≡◌, ◌↔◌, IfOk, IsTrue};
 
     /// The submission, to be shared. A refusal gives it up.
     pub fn of(alloc: A, submission: Submission<A>) -> Result<SubRef<A>, Memory>
@@ -77,6 +77,13 @@ impl<A: Allocator> SubRef<A> {
         ensures { result.now ≡ self.now }
     {
         self.shared.get()
+    }
+
+    /// Whether the submissions are the same by what they say, shared or not. Takes no memory.
+    pub fn is_same(&self, other: &SubRef<A>) -> bool
+        ensures { IsTrue result ↔ (self.now ≡ other.now) }
+    {
+        self.get().is_same(other.get())
     }
 
     /// One more owner of the same submission.
@@ -104,7 +111,7 @@ impl<A: Allocator> Model for TextRef<A> {
 }
 
 impl<A: Allocator> TextRef<A> {
-    ghost use Rattle.std.specs.Prelude.{◌≡◌, IfOk};
+    ghost use Rattle.std.specs.Prelude.{◌≡◌, ◌↔◌, IfOk, IsTrue};
 
     /// The text, to be shared. A refusal gives it up.
     pub fn of(alloc: A, text: Bytes<A>) -> Result<TextRef<A>, Memory>
@@ -120,6 +127,13 @@ impl<A: Allocator> TextRef<A> {
         ensures { result.now ≡ self.now }
     {
         self.shared.get()
+    }
+
+    /// Whether the texts are the same by what they say, shared or not. Takes no memory.
+    pub fn is_same(&self, other: &TextRef<A>) -> bool
+        ensures { IsTrue result ↔ (self.now ≡ other.now) }
+    {
+        self.get().is_same(other.get())
     }
 
     /// One more owner of the same text.

@@ -1,4 +1,5 @@
 pub mod Copied
+pub mod Alike
 pub mod CountedLines
 pub mod GoodTexts
 pub mod Cut

@@ -1,4 +1,4 @@
-ghost use Rattle.std.specs.Prelude.{◌≡◌, IfOk, OnOk, OnErr, IsOk, ◌++◌, [], length, take};
+ghost use Rattle.std.specs.Prelude.{◌≡◌, ◌↔◌, IfOk, OnOk, OnErr, IsOk, IsTrue, ◌++◌, [], length, take};
 
 use crate::memory::Memory;
 use std::alloc::{Allocator, Global};
@@ -66,6 +66,13 @@ impl<A: Allocator> Bytes<A> {
         ensures { self.new ≡ take len self.old }
     {
         self.text.truncate(len);
+    }
+
+    /// Whether the other text has the same bytes. Takes no memory.
+    pub fn is_same(&self, other: &Bytes<A>) -> bool
+        ensures { IsTrue result ↔ (self.now ≡ other.now) }
+    {
+        self.get() == other.get()
     }
 
     /// An equal text, in memory of its own.

@@ -1,5 +1,7 @@
 //! Items, and the list of them.
 
+ghost use Rattle.std.specs.Prelude.{◌≡◌, ◌↔◌, IsTrue};
+
 use crate::bytes::Bytes;
 use crate::memory::Memory;
 use crate::point::BranchPoint;
@@ -85,6 +87,91 @@ impl<A: Allocator> Item<A> {
             Item::Line { count, .. } | Item::Func { count, .. } => count > 0,
             Item::Branch { taken, .. } => taken.is_some_and(|times| times > 0),
         }
+    }
+}
+
+impl<A: Allocator> Item<A> {
+    ghost use Rattle.std.specs.Prelude.{◌≡◌, ◌↔◌, IsTrue};
+    ghost use Rattle.covline.specs.Row.{LineItem, FuncItem, BranchItem, item_data};
+
+    /// Whether the other item says the same. Takes no memory.
+    pub fn is_same(&self, other: &Item<A>) -> bool
+        ensures { IsTrue result ↔ (item_data self.now ≡ item_data other.now) }
+    {
+        match self {
+            Item::Line {
+                line,
+                count,
+                checksum,
+            } => other.is_line(*line, *count, checksum),
+            Item::Func { name, line, count } => other.is_function(name, *line, *count),
+            Item::Branch {
+                line,
+                block,
+                branch,
+                taken,
+            } => other.is_branch(*line, *block, *branch, *taken),
+        }
+    }
+
+    /// Whether this is the item of this line, with this count and checksum.
+    fn is_line(&self, line: u64, count: u64, checksum: &Option<Bytes<A>>) -> bool
+        ensures { IsTrue result ↔ (LineItem line count checksum.now ≡ item_data self.now) }
+    {
+        match self {
+            Item::Line {
+                line: own_line,
+                count: own_count,
+                checksum: own_checksum,
+            } => {
+                line == *own_line && count == *own_count && is_same_checksum(checksum, own_checksum)
+            },
+            Item::Func { .. } | Item::Branch { .. } => false,
+        }
+    }
+
+    /// Whether this is the item of this function, with this start line and count.
+    fn is_function(&self, name: &Bytes<A>, line: u64, count: u64) -> bool
+        ensures { IsTrue result ↔ (FuncItem name.now line count ≡ item_data self.now) }
+    {
+        match self {
+            Item::Func {
+                name: own_name,
+                line: own_line,
+                count: own_count,
+            } => line == *own_line && count == *own_count && name.is_same(own_name),
+            Item::Line { .. } | Item::Branch { .. } => false,
+        }
+    }
+
+    /// Whether this is the item of this branch, taken as often.
+    fn is_branch(&self, line: u64, block: u64, branch: u64, taken: Option<u64>) -> bool
+        ensures { IsTrue result ↔ (BranchItem line block branch taken ≡ item_data self.now) }
+    {
+        match self {
+            Item::Branch {
+                line: own_line,
+                block: own_block,
+                branch: own_branch,
+                taken: own_taken,
+            } => {
+                line == *own_line
+                    && block == *own_block
+                    && branch == *own_branch
+                    && taken == *own_taken
+            },
+            Item::Line { .. } | Item::Func { .. } => false,
+        }
+    }
+}
+
+/// Whether two checksums are equal, or both are missing.
+fn is_same_checksum<A: Allocator>(left: &Option<Bytes<A>>, right: &Option<Bytes<A>>) -> bool
+    ensures { IsTrue result ↔ (left.now ≡ right.now) }
+{
+    match left {
+        Some(text) => right.as_ref().is_some_and(|other| text.is_same(other)),
+        None => right.is_none(),
     }
 }
 
@@ -180,7 +267,7 @@ impl<A: Allocator + Copy> Items<A> {
 }
 
 impl<A: Allocator> Items<A> {
-    ghost use Rattle.std.specs.Prelude.{◌≡◌, ◌<◌, ◌++◌, List, [], ◌∷◌, OnOk, OnErr, length, map};
+    ghost use Rattle.std.specs.Prelude.{◌≡◌, ◌↔◌, ◌<◌, ◌++◌, List, [], ◌∷◌, IsTrue, OnOk, OnErr, length, map};
     ghost use Rattle.covline.specs.Row.{ItemData, item_data, with_start};
     ghost use Rattle.covline.specs.Lawful.{AllFit64};
 
@@ -217,6 +304,23 @@ impl<A: Allocator> Items<A> {
         ensures { result ≡ length self.now }
     {
         self.items.len()
+    }
+
+    /// Whether the other list has equal items in the same order. Takes no memory.
+    pub fn is_same(&self, other: &Items<A>) -> bool
+        ensures { IsTrue result ↔ (self.now ≡ other.now) }
+    {
+        let items = self.get();
+        let others = other.get();
+        if items.len() != others.len() {
+            return false;
+        }
+        for (index, item) in items.iter().enumerate() {
+            if !item.is_same(&others[index]) {
+                return false;
+            }
+        }
+        true
     }
 
     /// Lets unused room go: for a list that is finished.

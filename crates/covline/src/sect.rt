@@ -33,6 +33,20 @@ impl<A: Allocator + Copy> Sect<A> {
     }
 }
 
+impl<A: Allocator> Sect<A> {
+    ghost use Rattle.std.specs.Prelude.{◌≡◌, ◌↔◌, IsTrue};
+    ghost use Rattle.covline.specs.SectView.{sect_data};
+
+    /// Whether the other section says the same of the same test and file. Takes no memory.
+    pub fn is_same(&self, other: &Sect<A>) -> bool
+        ensures { IsTrue result ↔ (sect_data self.now ≡ sect_data other.now) }
+    {
+        self.test.is_same(&other.test)
+            && self.file.is_same(&other.file)
+            && self.items.is_same(&other.items)
+    }
+}
+
 /// A list of sections. Contracts see what the sections say.
 #[derive(Drop)]
 pub struct Sects<A: Allocator = Global> {
@@ -75,7 +89,7 @@ impl<A: Allocator + Copy> Sects<A> {
 }
 
 impl<A: Allocator> Sects<A> {
-    ghost use Rattle.std.specs.Prelude.{◌≡◌, ◌++◌, [], ◌∷◌, OnOk, OnErr, map};
+    ghost use Rattle.std.specs.Prelude.{◌≡◌, ◌↔◌, ◌++◌, [], ◌∷◌, IsTrue, OnOk, OnErr, map};
     ghost use Rattle.covline.specs.SectView.{sect_data};
 
     /// The empty list.
@@ -94,6 +108,23 @@ impl<A: Allocator> Sects<A> {
     {
         self.sects.push(sect)?;
         Ok(())
+    }
+
+    /// Whether the other list has equal sections in the same order. Takes no memory.
+    pub fn is_same(&self, other: &Sects<A>) -> bool
+        ensures { IsTrue result ↔ (self.now ≡ other.now) }
+    {
+        let sects = self.get();
+        let others = other.get();
+        if sects.len() != others.len() {
+            return false;
+        }
+        for (index, sect) in sects.iter().enumerate() {
+            if !sect.is_same(&others[index]) {
+                return false;
+            }
+        }
+        true
     }
 
     /// Lets unused room of the list itself go: for a list that is finished.

@@ -70,7 +70,7 @@ impl<A: Allocator + Copy> Submission<A> {
 }
 
 impl<A: Allocator> Submission<A> {
-    ghost use Rattle.std.specs.Prelude.{◌≡◌, ◌↔◌, IfOk, IfErr, IsOk, map};
+    ghost use Rattle.std.specs.Prelude.{◌≡◌, ◌↔◌, IfOk, IfErr, IsOk, IsTrue, map};
     ghost use Rattle.covline.specs.Row.{items_in};
     ghost use Rattle.covline.specs.SectView.{sect_data};
     ghost use Rattle.covline.specs.Lawful.{IsLawful, IsRefusedAs};
@@ -99,6 +99,13 @@ impl<A: Allocator> Submission<A> {
     {
         let items = count_items(sects.get()).unwrap_or(0);
         Submission { sects, items, odd }
+    }
+
+    /// Whether the other submission says the same, with as many odd lines. Takes no memory.
+    pub fn is_same(&self, other: &Submission<A>) -> bool
+        ensures { IsTrue result ↔ (self.now ≡ other.now) }
+    {
+        self.odd == other.odd && self.sects.is_same(&other.sects)
     }
 
     /// The sections, in the order of the text.

@@ -129,8 +129,25 @@ impl<A: Allocator + Copy> Patterns<A> {
 }
 
 impl<A: Allocator> Patterns<A> {
-    ghost use Rattle.std.specs.Prelude.{◌≡◌};
+    ghost use Rattle.std.specs.Prelude.{◌≡◌, ◌↔◌, IsTrue};
     ghost use Rattle.covreport.specs.Choice.{any_matches};
+
+    /// Whether the other list has equal patterns in the same order. Takes no memory.
+    pub fn is_same(&self, other: &Patterns<A>) -> bool
+        ensures { IsTrue result ↔ (self.now ≡ other.now) }
+    {
+        let patterns = self.patterns.as_slice();
+        let others = other.patterns.as_slice();
+        if patterns.len() != others.len() {
+            return false;
+        }
+        for (index, pattern) in patterns.iter().enumerate() {
+            if !pattern.is_same(&others[index]) {
+                return false;
+            }
+        }
+        true
+    }
 
     /// Whether at least one of the patterns matches the whole path. Takes no memory.
     pub fn any_matches(&self, path: &[u8]) -> bool

@@ -8,6 +8,7 @@ mod annotated;
 mod books;
 mod calls;
 mod drops;
+mod gather;
 mod limits;
 mod maps;
 mod records;

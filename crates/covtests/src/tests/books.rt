@@ -1,6 +1,6 @@
 //! Calls of covbook that no session shows: receipts, entries, copies, and the length of a history.
 
-use super::calls::{bytes_of, entries, list_of, read, step, totals};
+use super::calls::{bytes_of, copied_answer, copied_op, entries, list_of, read, step, totals};
 use covbook::{Answer, Book, BookFault, Entries, Entry, Op, Receipt, Receipts, SubRef, TextRef};
 use covline::Memory;
 use covstore::Totals;
@@ -64,7 +64,7 @@ fn check_copies(
     receipt: &Receipt,
     wanted: Wanted<'_>,
 ) -> Result<(), Fail> {
-    let op = copied(rt.alloc(), &receipt.op)?;
+    let op = copied_op(rt.alloc(), &receipt.op)?;
     let answer = copied_answer(rt.alloc(), &receipt.answer)?;
     check_words(rt, &op, &answer, wanted);
     Ok(())
@@ -102,14 +102,6 @@ fn check_step(
     check_copies(rt, &receipt, wanted)?;
     check_last(rt, entries(book), before, job, wanted);
     Ok(())
-}
-
-fn copied(alloc: Global, op: &Op) -> Result<Op, Memory> {
-    op.copy(alloc)
-}
-
-fn copied_answer(alloc: Global, answer: &Answer) -> Result<Answer, Memory> {
-    answer.copy(alloc)
 }
 
 /// The operation that submits the text.

@@ -1,7 +1,7 @@
 //! Calls of the crates below without what they promise: a test looks at values, and its proof is quicker that knows nothing
 //! of them.
 
-use covbook::{Book, BookFault, Entry, Op, Receipt};
+use covbook::{Answer, Book, BookFault, Entry, GatherFault, JobLog, Op, Receipt};
 use covline::{BadSubmission, Bytes, Item, Items, Memory, Sect, Sects, Submission, TraceLine};
 use covread::{ReadFault, read_gcov, read_trace};
 use covreport::{PatternFault, Patterns, matches};
@@ -119,6 +119,26 @@ pub(super) fn entries(book: &Book) -> &[Entry] {
 
 pub(super) fn totals(book: &Book) -> Totals {
     book.totals()
+}
+
+pub(super) fn gathered(entries: &[Entry], logs: &[JobLog]) -> Result<(), GatherFault> {
+    covbook::gather(entries, logs)
+}
+
+pub(super) fn copied_op(alloc: Global, op: &Op) -> Result<Op, Memory> {
+    op.copy(alloc)
+}
+
+pub(super) fn copied_answer(alloc: Global, answer: &Answer) -> Result<Answer, Memory> {
+    answer.copy(alloc)
+}
+
+pub(super) fn is_same_op(one: &Op, other: &Op) -> bool {
+    one.is_same(other)
+}
+
+pub(super) fn is_same_answer(one: &Answer, other: &Answer) -> bool {
+    one.is_same(other)
 }
 
 /// The list of the patterns, which stand between bars.

@@ -1,0 +1,101 @@
+-- What the steps over logs and receipts tell, one after another.
+use Rattle.std.proofs.Common.{◌≡◌, ℕ, zero, suc, ◌+◌, ◌<◌, ◌≤◌, List, [], ◌∷◌, ◌++◌, Option, Some, None, Result, length, get_or, take, drop, map, sym, refl, ap, ◌∙◌, inl, subst, arith}
+use Rattle.std.specs.Prelude.{◌≢◌, slice_get, IsSomeAnd, option_map}
+use Rattle.std.specs.List.{All, AllByRecursion}
+use Rattle.std.proofs.lemmas.List.{take_more, map-append}
+use Rattle.std.proofs.lemmas.List.Elements.{All-from_recursion, recursion_from_All}
+use Rattle.covbook.specs.declared.entry.Receipt.{Receipt}
+use Rattle.covbook.specs.declared.gather_fault.GatherFault.{GatherFault}
+use Rattle.covbook.specs.declared.gather_fault.GatherFault.TheVariants.{SameJob}
+use Rattle.covbook.specs.declared.log.JobLog.{JobLog}
+use Rattle.covbook.specs.Op.{EntryData, ReceiptData}
+use Rattle.covbook.specs.EntryView.{receipt_data}
+use Rattle.covbook.specs.Gather.{LogData, AllHold, FirstFails, claim, claims_of, job_claims, receipt_claims, log_claims}
+use Rattle.covbook.specs.GatherSteps.{Tells}
+use Rattle.covbook.specs.LogView.{log_data}
+use Rattle.covbook.specs.Step.{receipt_of}
+use Rattle.covbook.proofs.Claims.{first_left, rest_is, tells_behind}
+use Rattle.covbook.proofs.PlaceCounts.{all_mapped, all_unmapped}
+
+pub found_at : {X : Type 0} (xs : List X) (i : ℕ) (x : X) → i < length xs → x ≡ get_or xs i x → slice_get xs i ≡ Some x
+found_at [] i x within is = absurd (omega (arith, within))
+found_at (y ∷ ys) zero x within is = ap (λ z. Some z) (sym is)
+found_at (y ∷ ys) (suc i) x within is = found_at ys i x (omega (arith, within)) is
+
+no_some : {X : Type 0} (x : X) → None ≡ Some x → ⊥
+no_some x e = cc
+
+mapped_get : {X Y : Type 0} (f : X → Y) (xs : List X) (i : ℕ) (x : X) → slice_get xs i ≡ Some x → slice_get (map f xs) i ≡ Some (f x)
+mapped_get f [] i x e = absurd (no_some x e)
+mapped_get f (y ∷ ys) zero x e = ap (option_map f) e
+mapped_get f (y ∷ ys) (suc i) x e = mapped_get f ys i x e
+
+-- ---- jobs
+
+abbrev jobs : {A : Type 0} → List (JobLog A) → List ℕ
+jobs {A} logs = map (λ (l : JobLog A). l.job) logs
+
+jobs_more : {A : Type 0} (logs : List (JobLog A)) (i : ℕ) (log : JobLog A) → i < length logs → log ≡ get_or logs i log → jobs (take (i + 1) logs) ≡ jobs (take i logs) ++ log.job ∷ []
+jobs_more {A} logs i log within is =
+    ap (λ (ls : List (JobLog A)). jobs ls) (take_more logs i log within) ∙ map-append (λ (l : JobLog A). l.job) (take i logs) (get_or logs i log ∷ [])
+    ∙ ap (λ (l : JobLog A). jobs (take i logs) ++ l.job ∷ []) (sym is)
+
+pub job_on : {A : Type 0} (logs : List (JobLog A)) (i : ℕ) (log : JobLog A) → i < length logs → log ≡ get_or logs i log → All (λ (l : JobLog A). l.job ≢ log.job) (take i logs)
+    → (r : Result (Unit {0}) GatherFault) → Tells r (job_claims (i + 1) (map (λ (l : JobLog A). l.job) (take (i + 1) logs)) (map log_data (drop (i + 1) logs)))
+    → Tells r (job_claims i (map (λ (l : JobLog A). l.job) (take i logs)) (map log_data (drop i logs)))
+job_on {A} logs i log within is news r told =
+    let before = jobs (take i logs) in
+    let rest : List LogData = map log_data (drop (i + 1) logs) in
+    let later : Tells r (job_claims (i + 1) (before ++ log.job ∷ []) rest) = subst (λ (js : List ℕ). Tells r (job_claims (i + 1) js rest)) (jobs_more logs i log within is) told in
+    let other : ℕ → Type 0 = λ job. job ≢ log.job in
+    let all : AllByRecursion other before = all_mapped other (λ (l : JobLog A). l.job) (take i logs) (recursion_from_All (λ (l : JobLog A). l.job ≢ log.job) (take i logs) news) in
+    subst (λ (ls : List (JobLog A)). Tells r (job_claims i before (map log_data ls))) (sym (rest_is logs i log within is))
+    (tells_behind r (claim (AllByRecursion other before) (SameJob i) ∷ []) (job_claims (i + 1) (before ++ log.job ∷ []) rest) (all, tt) later)
+
+pub job_stops : {A : Type 0} (logs : List (JobLog A)) (i : ℕ) (log : JobLog A) → i < length logs → log ≡ get_or logs i log → (All (λ (l : JobLog A). l.job ≢ log.job) (take i logs) → ⊥)
+    → FirstFails (job_claims i (map (λ (l : JobLog A). l.job) (take i logs)) (map log_data (drop i logs))) (SameJob i)
+job_stops {A} logs i log within is seen =
+    let other : ℕ → Type 0 = λ job. job ≢ log.job in
+    let old : AllByRecursion other (jobs (take i logs)) → ⊥ = λ all. seen (All-from_recursion (λ (l : JobLog A). l.job ≢ log.job) (take i logs) (all_unmapped other (λ (l : JobLog A). l.job) (take i logs) all)) in
+    subst (λ (ls : List (JobLog A)). FirstFails (job_claims i (jobs (take i logs)) (map log_data ls)) (SameJob i)) (sym (rest_is logs i log within is)) (inl (old, refl))
+
+-- ---- logs
+
+pub log_on : {A : Type 0} (entries : List EntryData) (logs : List (JobLog A)) (i : ℕ) (log : JobLog A) → i < length logs → log ≡ get_or logs i log
+    → AllHold (receipt_claims entries (log_data log).job i 0 0 (log_data log).receipts) → (r : Result (Unit {0}) GatherFault)
+    → Tells r (log_claims entries (i + 1) (map log_data (drop (i + 1) logs))) → Tells r (log_claims entries i (map log_data (drop i logs)))
+log_on {A} entries logs i log within is all r told =
+    subst (λ (ls : List (JobLog A)). Tells r (log_claims entries i (map log_data ls))) (sym (rest_is logs i log within is))
+    (tells_behind r (receipt_claims entries (log_data log).job i 0 0 (log_data log).receipts) (log_claims entries (i + 1) (map log_data (drop (i + 1) logs))) all told)
+
+pub log_stops : {A : Type 0} (entries : List EntryData) (logs : List (JobLog A)) (i : ℕ) (log : JobLog A) (f : GatherFault) → i < length logs → log ≡ get_or logs i log
+    → FirstFails (receipt_claims entries (log_data log).job i 0 0 (log_data log).receipts) f → FirstFails (log_claims entries i (map log_data (drop i logs))) f
+log_stops {A} entries logs i log f within is fails =
+    subst (λ (ls : List (JobLog A)). FirstFails (log_claims entries i (map log_data ls)) f) (sym (rest_is logs i log within is))
+    (first_left (receipt_claims entries (log_data log).job i 0 0 (log_data log).receipts) (log_claims entries (i + 1) (map log_data (drop (i + 1) logs))) f fails)
+
+-- ---- receipts
+
+-- an entry of the job, with the receipt's operation and answer
+pub receipt_is : {X : Type 0} (f : X → EntryData) (entries : List X) (entry : X) (job log index least : ℕ) (receipt : ReceiptData) → slice_get entries receipt.place ≡ Some entry
+    → (f entry).job ≡ job → receipt_of receipt.place (f entry) ≡ receipt → least ≤ receipt.place → AllHold (claims_of (map f entries) job log index least receipt)
+receipt_is {X} f entries entry job log index least receipt at own same low =
+    let there = sym (mapped_get f entries receipt.place entry at) in (
+      subst (λ (o : Option EntryData). IsSomeAnd o (λ (e : EntryData). e.job ≡ job)) there own,
+      (subst (λ (o : Option EntryData). IsSomeAnd o (λ (e : EntryData). receipt_of receipt.place e ≡ receipt)) there same, (low, tt)),
+    )
+
+pub receipt_on : {A : Type 0} (entries : List EntryData) (job log least next : ℕ) (receipts : List (Receipt A)) (i : ℕ) (receipt : Receipt A) → i < length receipts → receipt ≡ get_or receipts i receipt
+    → AllHold (claims_of entries job log i least (receipt_data receipt)) → next ≡ receipt.place + 1 → (r : Result (Unit {0}) GatherFault)
+    → Tells r (receipt_claims entries job log (i + 1) next (map receipt_data (drop (i + 1) receipts))) → Tells r (receipt_claims entries job log i least (map receipt_data (drop i receipts)))
+receipt_on {A} entries job log least next receipts i receipt within is all above r told =
+    let rest : List ReceiptData = map receipt_data (drop (i + 1) receipts) in
+    subst (λ (rs : List (Receipt A)). Tells r (receipt_claims entries job log i least (map receipt_data rs))) (sym (rest_is receipts i receipt within is))
+    (tells_behind r (claims_of entries job log i least (receipt_data receipt)) (receipt_claims entries job log (i + 1) (receipt.place + 1) rest) all
+    (subst (λ (n : ℕ). Tells r (receipt_claims entries job log (i + 1) n rest)) above told))
+
+pub receipt_stops : {A : Type 0} (entries : List EntryData) (job log least : ℕ) (receipts : List (Receipt A)) (i : ℕ) (receipt : Receipt A) (f : GatherFault) → i < length receipts → receipt ≡ get_or receipts i receipt
+    → FirstFails (claims_of entries job log i least (receipt_data receipt)) f → FirstFails (receipt_claims entries job log i least (map receipt_data (drop i receipts))) f
+receipt_stops {A} entries job log least receipts i receipt f within is fails =
+    subst (λ (rs : List (Receipt A)). FirstFails (receipt_claims entries job log i least (map receipt_data rs)) f) (sym (rest_is receipts i receipt within is))
+    (first_left (claims_of entries job log i least (receipt_data receipt)) (receipt_claims entries job log (i + 1) (receipt.place + 1) (map receipt_data (drop (i + 1) receipts))) f fails)

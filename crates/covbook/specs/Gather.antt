@@ -1,0 +1,104 @@
+-- A history gathered from what each job kept of it: when its entries are a merge of the jobs' logs, and the first fault where
+-- they aren't.
+use Rattle.std.specs.Prelude.{◌≡◌, ◌≢◌, ℕ, ◌+◌, ◌<◌, ◌≤◌, ◌⊎◌, List, [], ◌∷◌, ◌++◌, length, map, slice_get, IsSomeAnd}
+use Rattle.std.specs.List.{AllByRecursion, Contains, flat_map}
+use Rattle.covbook.specs.declared.gather_fault.GatherFault.{GatherFault}
+use Rattle.covbook.specs.declared.gather_fault.GatherFault.TheVariants.{Stranger, Differs, Backwards, Missing, SameJob}
+use Rattle.covbook.specs.Op.{EntryData, ReceiptData}
+use Rattle.covbook.specs.Step.{receipt_of}
+
+-- a log: the receipts that a job kept, in the order of its calls
+pub record LogData : Type 0 where
+  pub job : ℕ
+  pub receipts : List ReceiptData
+
+-- the places that a log's receipts tell, and those that logs tell
+abbrev pub places_of : LogData → List ℕ
+places_of log = map (λ (r : ReceiptData). r.place) log.receipts
+
+abbrev pub places_in : List LogData → List ℕ
+places_in logs = flat_map places_of logs
+
+abbrev pub jobs_of : List LogData → List ℕ
+jobs_of logs = map (λ (log : LogData). log.job) logs
+
+-- each number is below all later ones; and no number comes twice
+abbrev pub Rise : List ℕ → Type 0
+Rise [] = Unit {0}
+Rise (x ∷ xs) = AllByRecursion (λ (y : ℕ). x < y) xs × Rise xs
+
+abbrev pub Differ : List ℕ → Type 0
+Differ [] = Unit {0}
+Differ (x ∷ xs) = AllByRecursion (λ (y : ℕ). x ≢ y) xs × Differ xs
+
+-- at a receipt's place stands an entry of this job
+abbrev pub IsOfJob : List EntryData → ℕ → ReceiptData → Type 0
+IsOfJob entries job r = IsSomeAnd (slice_get entries r.place) (λ (e : EntryData). e.job ≡ job)
+
+-- at a receipt's place stands an entry with the receipt's operation and answer
+abbrev pub IsReceiptOf : List EntryData → ReceiptData → Type 0
+IsReceiptOf entries r = IsSomeAnd (slice_get entries r.place) (λ (e : EntryData). receipt_of r.place e ≡ r)
+
+-- a log is of a history: its places rise, and its receipts are those of entries of its job
+pub record IsLogOf (entries : List EntryData) (log : LogData) : Type 0 where
+  pub rise : Rise (places_of log)
+  pub own : AllByRecursion (IsOfJob entries log.job) log.receipts
+  pub same : AllByRecursion (IsReceiptOf entries) log.receipts
+
+-- entries are a merge of logs: no two logs are of the same job, each is of the history, and each entry is in one of them. It
+-- is in no other, since the entries of others are of other jobs
+pub record IsMerge (entries : List EntryData) (logs : List LogData) : Type 0 where
+  pub differ : Differ (jobs_of logs)
+  pub kept : AllByRecursion (IsLogOf entries) logs
+  pub whole : (place : ℕ) → place < length entries → Contains (places_in logs) place
+
+-- what has to hold, and the fault where it doesn't
+pub record Claim : Type 1 where
+  pub holds : Type 0
+  pub fault : GatherFault
+
+abbrev pub claim : Type 0 → GatherFault → Claim
+claim holds fault = record { holds = holds; fault = fault }
+
+-- all claims hold, and the fault of the first one that doesn't
+abbrev pub AllHold : List {1} Claim → Type 0
+AllHold [] = Unit {0}
+AllHold (c ∷ claims) = c.holds × AllHold claims
+
+abbrev pub FirstFails : List {1} Claim → GatherFault → Type 0
+FirstFails [] fault = ⊥
+FirstFails (c ∷ claims) fault = ((c.holds → ⊥) × (fault ≡ c.fault)) ⊎ (c.holds × FirstFails claims fault)
+
+-- each log, from this number on: its job is none of those of the logs before
+abbrev pub job_claims : (number : ℕ) → List ℕ → List LogData → List {1} Claim
+job_claims number before [] = []
+job_claims number before (log ∷ logs) =
+    claim (AllByRecursion (λ (job : ℕ). job ≢ log.job) before) (SameJob number) ∷ job_claims (number + 1) (before ++ log.job ∷ []) logs
+
+-- a receipt of a log: an entry of the job stands at its place, with its operation and answer, and the place is above that of
+-- the receipt before (`least` is the least that is)
+abbrev pub claims_of : List EntryData → (job log index least : ℕ) → ReceiptData → List {1} Claim
+claims_of entries job log index least r =
+    claim (IsOfJob entries job r) (Stranger log index) ∷ claim (IsReceiptOf entries r) (Differs log index) ∷ claim (least ≤ r.place) (Backwards log index) ∷ []
+
+-- the receipts of a log, from this index on, and the logs, from this number on
+abbrev pub receipt_claims : List EntryData → (job log index least : ℕ) → List ReceiptData → List {1} Claim
+receipt_claims entries job log index least [] = []
+receipt_claims entries job log index least (r ∷ receipts) = claims_of entries job log index least r ++ receipt_claims entries job log (index + 1) (r.place + 1) receipts
+
+abbrev pub log_claims : List EntryData → (number : ℕ) → List LogData → List {1} Claim
+log_claims entries number [] = []
+log_claims entries number (log ∷ logs) = receipt_claims entries log.job number 0 0 log.receipts ++ log_claims entries (number + 1) logs
+
+-- each entry, from this place on, is in a log
+abbrev pub entry_claims : List LogData → (place : ℕ) → List EntryData → List {1} Claim
+entry_claims logs place [] = []
+entry_claims logs place (e ∷ entries) = claim (Contains (places_in logs) place) (Missing place) ∷ entry_claims logs (place + 1) entries
+
+-- all that makes entries a merge of logs, in the order in which faults are told
+abbrev pub merge_claims : List EntryData → List LogData → List {1} Claim
+merge_claims entries logs = job_claims 0 [] logs ++ log_claims entries 0 logs ++ entry_claims logs 0 entries
+
+-- the fault that is told of entries and logs
+abbrev pub IsGatherFault : List EntryData → List LogData → GatherFault → Type 0
+IsGatherFault entries logs fault = FirstFails (merge_claims entries logs) fault

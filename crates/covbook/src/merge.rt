@@ -1,0 +1,110 @@
+//! Gathering: the entries of a history against what each job kept of it.
+
+ghost use Rattle.std.specs.Prelude.{◌≡◌, ◌≢◌, ◌↔◌, ◌+◌, [], Err, IfOk, IsOk, IsTrue, map};
+ghost use Rattle.std.specs.List.{All};
+ghost use Rattle.covbook.specs.declared.gather_fault.GatherFault.{GatherFault};
+ghost use Rattle.covbook.specs.EntryView.{entry_data, receipt_data};
+ghost use Rattle.covbook.specs.Gather.{IsGatherFault, IsMerge, claims_of, job_claims, log_claims, receipt_claims};
+ghost use Rattle.covbook.specs.GatherSteps.{Tells};
+ghost use Rattle.covbook.specs.LogView.{log_data};
+ghost use Rattle.covbook.specs.Step.{receipt_of};
+
+use crate::entry::{Entry, Receipt};
+use crate::gather_fault::GatherFault;
+use crate::log::JobLog;
+use crate::places::least_missing;
+use std::alloc::Allocator;
+
+/// Says yes exactly where the entries are a merge of the logs: the logs' jobs differ, in each log the places rise, each receipt
+/// is that of an entry of the log's job, and each entry is in a log. Else tells the first fault. Takes no memory.
+pub fn gather<A: Allocator>(entries: &[Entry<A>], logs: &[JobLog<A>]) -> Result<(), GatherFault>
+    ensures merge { IsOk result ↔ IsMerge (map entry_data entries.now) (map log_data logs.now) }
+    ensures fault { (fault : GatherFault) → (result ≡ Err fault) ↔ IsGatherFault (map entry_data entries.now) (map log_data logs.now) fault }
+{
+    check_jobs(logs)?;
+    check_logs(entries, logs)?;
+    match least_missing(entries.len() as u64, logs) {
+        Some(place) => Err(GatherFault::Missing { place }),
+        None => Ok(()),
+    }
+}
+
+/// Whether each log's job is another one than those of the logs before.
+fn check_jobs<A: Allocator>(logs: &[JobLog<A>]) -> Result<(), GatherFault>
+    ensures { Tells result (job_claims 0 [] (map log_data logs.now)) }
+{
+    for (number, log) in logs.iter().enumerate() {
+        if !is_new_job(log.job, &logs[..number]) {
+            return Err(GatherFault::SameJob { log: number });
+        }
+    }
+    Ok(())
+}
+
+/// Whether none of the logs is of this job.
+fn is_new_job<A: Allocator>(job: u32, logs: &[JobLog<A>]) -> bool
+    ensures { IsTrue result ↔ All (λ log. log.job ≢ job) logs.now }
+{
+    logs.iter().all(|log| log.job != job)
+}
+
+/// Whether all receipts of all logs are those of the log's entries, and their places rise.
+fn check_logs<A: Allocator>(entries: &[Entry<A>], logs: &[JobLog<A>]) -> Result<(), GatherFault>
+    ensures { Tells result (log_claims (map entry_data entries.now) 0 (map log_data logs.now)) }
+{
+    for (number, log) in logs.iter().enumerate() {
+        check_receipts(entries, number, log)?;
+    }
+    Ok(())
+}
+
+/// Whether the receipts of the log with this number are those of its entries, and their places rise.
+fn check_receipts<A: Allocator>(
+    entries: &[Entry<A>],
+    number: usize,
+    log: &JobLog<A>,
+) -> Result<(), GatherFault>
+    ensures { Tells result (receipt_claims (map entry_data entries.now) (log_data log.now).job number 0 0 (log_data log.now).receipts) }
+{
+    let receipts = log.receipts.get();
+    let mut least = 0;
+    for (index, receipt) in receipts.iter().enumerate() {
+        least = check_receipt(entries, log.job, number, index, least, receipt)?;
+    }
+    Ok(())
+}
+
+/// Whether the receipt is that of an entry of the job, and its place at least this one. Tells the least place that the next
+/// receipt may have.
+fn check_receipt<A: Allocator>(
+    entries: &[Entry<A>],
+    job: u32,
+    log: usize,
+    index: usize,
+    least: u64,
+    receipt: &Receipt<A>,
+) -> Result<u64, GatherFault>
+    ensures told { Tells result (claims_of (map entry_data entries.now) job log index least (receipt_data receipt.now)) }
+    ensures next { IfOk result (λ n. n ≡ receipt.now.place + 1) }
+{
+    let Some(entry) = entries.get(receipt.place as usize) else {
+        return Err(GatherFault::Stranger { log, index });
+    };
+    if entry.job != job {
+        return Err(GatherFault::Stranger { log, index });
+    }
+    if !is_receipt_of(receipt, entry) {
+        return Err(GatherFault::Differs { log, index });
+    }
+    if receipt.place < least {
+        return Err(GatherFault::Backwards { log, index });
+    }
+    Ok(receipt.place + 1)
+}
+
+/// Whether the receipt tells the operation and the answer of the entry.
+fn is_receipt_of<A: Allocator>(receipt: &Receipt<A>, entry: &Entry<A>) -> bool
+    ensures { IsTrue result ↔ (receipt_of receipt.now.place (entry_data entry.now) ≡ receipt_data receipt.now) }
+{
+    entry.op.is_same(&receipt.op) && entry.answer.is_same(&receipt.answer)
+}

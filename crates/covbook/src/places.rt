@@ -1,0 +1,53 @@
+//! The places that logs tell.
+
+ghost use Rattle.std.specs.Prelude.{◌≡◌, map};
+ghost use Rattle.covbook.specs.Gather.{Rise, places_in, places_of};
+ghost use Rattle.covbook.specs.GatherSteps.{AreApart, TellsLeast, below};
+ghost use Rattle.covbook.specs.LogView.{log_data};
+
+use crate::log::JobLog;
+use std::alloc::Allocator;
+
+/// The least place below `count` that no receipt of the logs tells, if there is one. No place is told twice; so all below a
+/// place are told where as many are, and the least that isn't is found by halves.
+pub(crate) fn least_missing<A: Allocator>(count: u64, logs: &[JobLog<A>]) -> Option<u64>
+    requires { AreApart (map log_data logs.now) }
+    ensures { TellsLeast result count (places_in (map log_data logs.now)) }
+{
+    if receipts_below(logs, count) == count {
+        return None;
+    }
+    // all below `told` are told, and one below `beyond` isn't
+    let mut told = 0;
+    let mut beyond = count;
+    while told + 1 < beyond {
+        let middle = told + (beyond - told) / 2;
+        if receipts_below(logs, middle) == middle {
+            told = middle;
+        } else {
+            beyond = middle;
+        }
+    }
+    Some(told)
+}
+
+/// How many receipts of the logs tell a place below this one.
+fn receipts_below<A: Allocator>(logs: &[JobLog<A>], place: u64) -> u64
+    requires { AreApart (map log_data logs.now) }
+    ensures { result ≡ below place (places_in (map log_data logs.now)) }
+{
+    let mut count = 0;
+    for log in logs {
+        count += log_below(log, place);
+    }
+    count
+}
+
+/// How many receipts of the log tell a place below this one, found by halves, as its places rise.
+fn log_below<A: Allocator>(log: &JobLog<A>, place: u64) -> u64
+    requires { Rise (places_of (log_data log.now)) }
+    ensures { result ≡ below place (places_of (log_data log.now)) }
+{
+    let receipts = log.receipts.get();
+    receipts.partition_point(|receipt| receipt.place < place) as u64
+}

@@ -1,0 +1,294 @@
+//! A history of six calls, and what is told of it and of what two jobs kept.
+
+use super::calls::{
+    bytes_of, copied_answer, copied_op, entries, gathered, is_same_answer, is_same_op, list_of,
+    step,
+};
+use super::maps::submit;
+use super::push_line;
+use covbook::{Answer, Book, Entry, GatherFault, JobLog, Logs, Op, Receipt, Receipts, TextRef};
+use std::alloc::Global;
+use std::process::Abort;
+use std::test::*;
+
+const SMALL: &[u8] = b"TN:t\nSF:/a.c\nDA:1,2\nDA:2,0\nLF:2\nLH:1\nend_of_record\n";
+
+/// Jobs 0 and 1 ask in turn: both submit the same, 0 asks for a summary, 1 drops a test that isn't there, 0 asks for a report
+/// and 1 for a summary.
+fn six_calls(alloc: Global) -> Result<Book, Fail> {
+    let mut book = Book::new(alloc);
+    let small = submit(alloc, SMALL)?;
+    step(alloc, &mut book, 0, &small)?;
+    step(alloc, &mut book, 1, &small)?;
+    step(alloc, &mut book, 0, &Op::Summary)?;
+    let drop = Op::DropTest(bytes_of(alloc, b"x")?);
+    step(alloc, &mut book, 1, &drop)?;
+    step(alloc, &mut book, 0, &Op::Report)?;
+    step(alloc, &mut book, 1, &Op::Summary)?;
+    Ok(book)
+}
+
+/// The number that a digit is.
+fn number_of(digit: u8) -> u8 {
+    digit.wrapping_sub(b'0')
+}
+
+/// The entry at the place that the digit tells.
+fn entry_at<'e>(rt: &impl Abort, entries: &'e [Entry], digit: u8) -> &'e Entry {
+    match entries.get(usize::from(number_of(digit))) {
+        Some(entry) => entry,
+        None => panic!(rt; "no entry {digit}"),
+    }
+}
+
+/// The text of the answer with another first byte.
+fn other_text(alloc: Global, answer: &Answer) -> Result<Answer, Fail> {
+    let mut text = Vec::new(alloc);
+    if let Answer::Text(printed) = answer {
+        text.extend_from_slice(printed.get().get())?;
+    }
+    if let Some(first) = text.first_mut() {
+        *first = b'?';
+    }
+    let text = TextRef::of(alloc, bytes_of(alloc, &text)?)?;
+    Ok(Answer::Text(text))
+}
+
+/// The receipt that a word of three signs tells: its place, the entry whose operation it has, and that whose answer it has. In
+/// the place of the last, `!` is the operation's entry with another text.
+fn receipt_of(
+    rt: &(impl Abort + AllocGlobal),
+    entries: &[Entry],
+    word: &[u8],
+) -> Result<Receipt, Fail> {
+    let alloc = rt.alloc();
+    let [place, op, answer] = word else {
+        panic!(rt; "no receipt {word:?}");
+    };
+    let asked = entry_at(rt, entries, *op);
+    let answer = match *answer {
+        b'!' => other_text(alloc, &asked.answer)?,
+        digit => copied_answer(alloc, &entry_at(rt, entries, digit).answer)?,
+    };
+    Ok(Receipt {
+        place: u64::from(number_of(*place)),
+        op: copied_op(alloc, &asked.op)?,
+        answer,
+    })
+}
+
+/// The log that a line tells: its job, and behind it the words of its receipts.
+fn log_of(
+    rt: &(impl Abort + AllocGlobal),
+    entries: &[Entry],
+    words: &[u8],
+) -> Result<JobLog, Fail> {
+    let mut job = 0;
+    let mut receipts = Receipts::new(rt.alloc());
+    for word in words.split(|byte| *byte == b' ') {
+        match *word {
+            [digit] => job = u32::from(number_of(digit)),
+            _ => receipts.push(receipt_of(rt, entries, word)?)?,
+        }
+    }
+    Ok(JobLog { job, receipts })
+}
+
+/// What is told of entries and logs, in words.
+fn told(alloc: Global, entries: &[Entry], logs: &[JobLog]) -> Result<String, Fail> {
+    let words = match gathered(entries, logs) {
+        Ok(()) => format!(in alloc; "yes")?,
+        Err(fault) => match fault {
+            GatherFault::Stranger { log, index } => format!(in alloc; "Stranger {log} {index}")?,
+            GatherFault::Differs { log, index } => format!(in alloc; "Differs {log} {index}")?,
+            GatherFault::Backwards { log, index } => format!(in alloc; "Backwards {log} {index}")?,
+            GatherFault::Missing { place } => format!(in alloc; "Missing {place}")?,
+            GatherFault::SameJob { log } => format!(in alloc; "SameJob {log}")?,
+        },
+    };
+    Ok(words)
+}
+
+/// The entries and these logs are told of as wanted.
+fn check_told(
+    rt: &(impl Abort + AllocGlobal),
+    entries: &[Entry],
+    logs: &[JobLog],
+    name: &[u8],
+    wanted: &[u8],
+) -> Result<(), Fail> {
+    let told = told(rt.alloc(), entries, logs)?;
+    if told.as_bytes() != wanted {
+        let name: Result<String, _> = String::from_utf8_lossy(rt.alloc(), name);
+        panic!(rt; "{name:?}: told {told:?}");
+    }
+    Ok(())
+}
+
+/// Checks examples, one behind the other: a line for each log, then what is to be told of the entries and these logs, in a line
+/// that begins with `> `, and one that begins with `= ` ends it and is its name.
+fn check_all(
+    rt: &(impl Abort + AllocGlobal),
+    entries: &[Entry],
+    examples: &[u8],
+) -> Result<(), Fail> {
+    let mut logs = Logs::new(rt.alloc());
+    let mut wanted = b"".as_slice();
+    for line in examples.split(|byte| *byte == b'\n') {
+        if let Some(name) = line.strip_prefix(b"= ") {
+            check_told(rt, entries, logs.get(), name, wanted)?;
+            logs = Logs::new(rt.alloc());
+        } else if let Some(words) = line.strip_prefix(b"> ") {
+            wanted = words;
+        } else {
+            logs.push(log_of(rt, entries, line)?)?;
+        }
+    }
+    Ok(())
+}
+
+#[test]
+fn what_two_jobs_kept(rt: HostRuntime) -> Result<(), Fail> {
+    let book = six_calls(rt.alloc())?;
+    check_all(
+        &rt,
+        entries(&book),
+        b"0 000 222 444
+1 111 333 555
+> yes
+= all that they kept
+0 000 222 444
+2
+1 111 333 555
+> yes
+= a third job that kept nothing
+0 000 222 444
+1 111 333 55!
+> Differs 1 2
+= another byte in a text
+0 000 222 424
+1 111 333 555
+> Differs 0 2
+= another operation
+0 222 000 444
+1 111 333 555
+> Backwards 0 1
+= two receipts exchanged
+0 000 000 222 444
+1 111 333 555
+> Backwards 0 1
+= a receipt kept twice
+0 000 222 444
+1 111 555
+> Missing 3
+= a receipt left out
+0 444
+1 111
+> Missing 0
+= many receipts left out
+1 111 333 555
+> Missing 0
+= a log left out
+> Missing 0
+= no logs
+0 000 222 444
+1 111 333 655
+> Stranger 1 2
+= a place behind the last entry
+0 100 222 444
+1 111 333 555
+> Stranger 0 0
+= a place of the other job
+0 000 222 444
+0 111 333 555
+> SameJob 1
+= two logs of one job
+0 622
+1 100
+1
+> SameJob 2
+= jobs come before receipts",
+    )?;
+    check_all(&rt, &[], b"> yes\n= nothing at all\n1\n> yes\n= no calls")
+}
+
+/// The operation or the answer that a word and a text tell.
+fn is_same(
+    rt: &(impl Abort + AllocGlobal),
+    word: &[u8],
+    one: &[u8],
+    other: &[u8],
+) -> Result<bool, Fail> {
+    match word {
+        b"text" => Ok(is_same_answer(&text_of(rt.alloc(), one)?, &text_of(rt.alloc(), other)?)),
+        b"clash" => Ok(is_same_answer(&clash_of(rt.alloc(), one)?, &clash_of(rt.alloc(), other)?)),
+        _ => Ok(is_same_op(&op_of(rt, word, one)?, &op_of(rt, word, other)?)),
+    }
+}
+
+fn text_of(alloc: Global, text: &[u8]) -> Result<Answer, Fail> {
+    let text = TextRef::of(alloc, bytes_of(alloc, text)?)?;
+    Ok(Answer::Text(text))
+}
+
+/// A clash at line 1 of `/a.c`, where `k` was held.
+fn clash_of(alloc: Global, given: &[u8]) -> Result<Answer, Fail> {
+    Ok(Answer::Clash {
+        file: bytes_of(alloc, b"/a.c")?,
+        line: 1,
+        held: bytes_of(alloc, b"k")?,
+        given: bytes_of(alloc, given)?,
+    })
+}
+
+/// The operation of this name: of one that submits the lines of a section of `/a.c`, where a semicolon ends each.
+fn op_of(rt: &(impl Abort + AllocGlobal), name: &[u8], text: &[u8]) -> Result<Op, Fail> {
+    let alloc = rt.alloc();
+    match name {
+        b"submit" => submit(alloc, &section_of(alloc, text)?),
+        b"drop" => Ok(Op::DropTest(bytes_of(alloc, text)?)),
+        b"extract" => Ok(Op::Extract(list_of(alloc, text)?)),
+        b"remove" => Ok(Op::Remove(list_of(alloc, text)?)),
+        _ => panic!(rt; "no operation {name:?}"),
+    }
+}
+
+/// A section of `/a.c` with these lines, where a semicolon ends each.
+fn section_of(alloc: Global, lines: &[u8]) -> Result<Vec<u8>, Fail> {
+    let mut text = Vec::from_slice(alloc, b"TN:t\nSF:/a.c\n")?;
+    for line in lines.split(|byte| *byte == b';') {
+        push_line(&mut text, line)?;
+    }
+    push_line(&mut text, b"end_of_record")?;
+    Ok(text)
+}
+
+/// Each operation and answer is the same as another of the same text, and not as one of a text with another byte.
+#[test]
+fn a_byte_differs(rt: HostRuntime) -> Result<(), Fail> {
+    let examples = b"submit DA:1,2 DA:1,3
+submit DA:1,2,k DA:1,2,l
+submit FN:3,f;FNDA:2,f FN:3,g;FNDA:2,g
+submit BRDA:1,0,0,4 BRDA:1,0,0,-
+submit DA:1,2;DA:2,2 DA:1,2;DA:3,2
+drop t u
+extract /a|/b /a|/c
+remove /a|/b /a|/c
+text a b
+clash k l";
+    for line in examples.split(|byte| *byte == b'\n') {
+        check_pair(&rt, line)?;
+    }
+    Ok(())
+}
+
+/// What the line names is the same for its first text twice, and not for its two texts.
+fn check_pair(rt: &(impl Abort + AllocGlobal), line: &[u8]) -> Result<(), Fail> {
+    let mut words = line.split(|byte| *byte == b' ');
+    let (Some(name), Some(one), Some(other)) = (words.next(), words.next(), words.next()) else {
+        panic!(rt; "no pair {line:?}");
+    };
+    let answers = (is_same(rt, name, one, one)?, is_same(rt, name, one, other)?);
+    assert_eq!(rt; answers, (true, false));
+    Ok(())
+}
