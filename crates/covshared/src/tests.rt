@@ -6,6 +6,7 @@ use std::test::*;
 mod calls;
 mod closing;
 mod jobs;
+mod kept;
 mod said;
 mod threads;
 mod turns;

@@ -2,7 +2,9 @@
 
 ghost use Rattle.std.specs.Prelude.{◌≡◌};
 
-use covbook::{BookFault, Entries, Op, Receipt, SubRef};
+use covbook::{
+    Answer, BookFault, Entries, Entry, GatherFault, JobLog, Op, Receipt, SubRef, gather,
+};
 use covjobs::{CloseFault, Name, OpenFault, Seat, Seats, Shared, Start, open_book};
 use covline::{Bytes, Memory};
 use covread::read_trace;
@@ -46,4 +48,12 @@ pub(super) fn submit(alloc: Global, text: &[u8]) -> Result<Op, Fail> {
 /// The operation that drops the test.
 pub(super) fn drop_of(alloc: Global, test: &[u8]) -> Result<Op, Memory> {
     Ok(Op::DropTest(Bytes::of(alloc, test)?))
+}
+
+pub(super) fn gathered(entries: &[Entry], logs: &[JobLog]) -> Result<(), GatherFault> {
+    gather(entries, logs)
+}
+
+pub(super) fn copied(alloc: Global, answer: &Answer) -> Result<Answer, Memory> {
+    answer.copy(alloc)
 }

@@ -2,9 +2,10 @@
 
 ghost use Rattle.std.specs.Prelude.{◌≡◌};
 
-use super::calls::{close, open, perform, start, submit};
+use super::calls::{close, gathered, open, perform, start, submit};
 use super::check_bytes;
-use covbook::{Answer, Entry, Op, Receipt};
+use super::turns::SMALL;
+use covbook::{Answer, Entry, JobLog, Op, Receipt, Receipts};
 use covjobs::{Name, Seat, Shared, Start};
 use std::alloc::Global;
 use std::marker::Brand;
@@ -14,22 +15,29 @@ use std::test::*;
 use std::thread;
 use std::thread::Threads;
 
-const SMALL: &[u8] = b"TN:t\nSF:/a.c\nDA:1,2\nDA:2,0\nLF:2\nLH:1\nend_of_record\n";
-
 const MERGED: &[u8] = b"TN:t\nSF:/a.c\nDA:1,400\nDA:2,0\nLF:2\nLH:1\nend_of_record\n";
 
-/// The job asks this fifty times.
+/// The job asks this fifty times, and keeps what it is answered.
 fn ask_often<L: Name, R: Wait + Abort>(
     rt: &R,
     alloc: Global,
     book: &Shared<L>,
     seat: &mut Seat<L>,
+    log: &mut JobLog,
     op: &Op,
 ) {
     for _time in 0..50 {
-        if perform(rt, alloc, book, seat, op).is_err() {
-            panic!(rt; "a step is refused");
+        match perform(rt, alloc, book, seat, op) {
+            Ok(receipt) => keep(rt, log, receipt),
+            Err(_fault) => panic!(rt; "a step is refused"),
         }
+    }
+}
+
+/// The log takes the receipt.
+fn keep(rt: &impl Abort, log: &mut JobLog, receipt: Receipt) {
+    if log.receipts.push(receipt).is_err() {
+        panic!(rt; "out of memory");
     }
 }
 
@@ -39,18 +47,31 @@ fn ask_at_once<L: Name + Send + Sync, R: Threads + Wait + Abort + Sync>(
     alloc: Global,
     book: &Shared<L>,
     seats: &mut [Seat<L>],
+    logs: &mut [JobLog],
     op: &Op,
 ) {
     thread::scope(thread::scope_env(), rt, |scope| {
-        for seat in seats {
+        for (seat, log) in seats.iter_mut().zip(logs.iter_mut()) {
             if scope
-                .spawn(move || ask_often(rt, alloc, book, seat, op))
+                .spawn(move || ask_often(rt, alloc, book, seat, log, op))
                 .is_err()
             {
                 panic!(rt; "no thread");
             }
         }
     });
+}
+
+/// A log without receipts for each seat.
+fn empty_logs<L: Name>(alloc: Global, seats: &[Seat<L>]) -> Result<Vec<JobLog>, Fail> {
+    let mut logs = Vec::new(alloc);
+    for seat in seats {
+        logs.push(JobLog {
+            job: seat.job(),
+            receipts: Receipts::new(alloc),
+        })?;
+    }
+    Ok(logs)
 }
 
 /// The receipt has this place and this text.
@@ -87,11 +108,13 @@ fn check_reports<L: Name, R: Wait + Abort + AllocGlobal>(
     rt: &R,
     book: &Shared<L>,
     seats: &mut [Seat<L>],
+    logs: &mut [JobLog],
 ) -> Result<(), Fail> {
-    if let Some(seat) = seats.first_mut() {
+    if let (Some(seat), Some(log)) = (seats.first_mut(), logs.first_mut()) {
         for place in 200..202u64 {
             let receipt = perform(rt, rt.alloc(), book, seat, &Op::Report)?;
             check_text(rt, &receipt, place, MERGED);
+            keep(rt, log, receipt);
         }
     }
     Ok(())
@@ -107,13 +130,22 @@ fn at_once<L: Name + Send + Sync, R: Threads + Wait + Abort + AllocGlobal + Sync
     let alloc = rt.alloc();
     let (book, seats) = open::<L>(alloc, start)?;
     let mut seats = seats.into_vec();
+    let mut logs = empty_logs(alloc, seats.as_slice())?;
     let small = submit(alloc, SMALL)?;
-    ask_at_once(rt, alloc, &book, seats.as_mut_slice(), &small);
-    check_reports(rt, &book, seats.as_mut_slice())?;
+    ask_at_once(
+        rt,
+        alloc,
+        &book,
+        seats.as_mut_slice(),
+        logs.as_mut_slice(),
+        &small,
+    );
+    check_reports(rt, &book, seats.as_mut_slice(), logs.as_mut_slice())?;
     match close(book, seats) {
         Ok(entries) => {
             assert_eq!(rt; entries.get().len(), 202);
             assert_eq!(rt; accepted_first(entries.get()), 200);
+            assert!(rt; gathered(entries.get(), logs.as_slice()).is_ok());
         }
         Err(_back) => panic!(rt; "a seat is missing"),
     }

@@ -13,7 +13,7 @@ use std::process::Abort;
 use std::sync::Wait;
 use std::test::*;
 
-const SMALL: &[u8] = b"TN:t\nSF:/a.c\nDA:1,2\nDA:2,0\nLF:2\nLH:1\nend_of_record\n";
+pub(super) const SMALL: &[u8] = b"TN:t\nSF:/a.c\nDA:1,2\nDA:2,0\nLF:2\nLH:1\nend_of_record\n";
 
 const RECEIPTS: &[u8] = b"\
 0 submit: accepted 1 2 0 
@@ -64,7 +64,7 @@ end_of_record
 ";
 
 /// What the two jobs ask in turn.
-fn asked(alloc: Global) -> Result<Vec<Op>, Fail> {
+pub(super) fn asked(alloc: Global) -> Result<Vec<Op>, Fail> {
     let mut ops = Vec::new(alloc);
     ops.push(submit(alloc, SMALL)?)?;
     ops.push(submit(alloc, SMALL)?)?;
