@@ -140,6 +140,12 @@ same_text table others same (RemoveOp patterns) text = ap (λ (sections : List S
 same_text table others same SummaryOp text = ap (λ (sections : List SectionData). TextAnswer (summary_of (totals_of sections))) same
 same_text table others same other text = absurd text
 
+-- checksums that agree still do where the submissions come in another order
+pub agreement_stays : AgreementStays → (some others : List SubmissionData) → AreTheSame some others → AreAgreeing some → AreAgreeing others
+agreement_stays stays some others same agree =
+    let agree_some : Agree (checksums_in (all_rows (map rows_of some))) = subst (λ (rows : List Row). Agree (checksums_in rows)) (sym (rows_with some)) agree in
+    subst (λ (rows : List Row). Agree (checksums_in rows)) (rows_with others) (stays (map rows_of some) (map rows_of others) (IsPermutation-map rows_of some others same) agree_some)
+
 module _ (none : NoneClashes) (content : ContentStays) (stays : AgreementStays) where
   pub texts_stay : (some others : List OpData) → OnlySubmitsAndAsks some → OnlySubmitsAndAsks others → AreTheSame (submissions_in some) (submissions_in others) → AreAgreeing (submissions_in some)
       → (op : OpData) → IsText op → answer_of (table_of some) op ≡ answer_of (table_of others) op
@@ -148,11 +154,10 @@ module _ (none : NoneClashes) (content : ContentStays) (stays : AgreementStays) 
       let right = submissions_in others in
       let permuted = IsPermutation-map rows_of left right same in
       let agree_left : Agree (checksums_in (all_rows (map rows_of left))) = subst (λ (rows : List Row). Agree (checksums_in rows)) (sym (rows_with left)) agree in
-      let agree_right : AreAgreeing right = subst (λ (rows : List Row). Agree (checksums_in rows)) (rows_with right) (stays (map rows_of left) (map rows_of right) permuted agree_left) in
       same_text (table_of some) (table_of others)
       (ap content_at (table_is none some only agree)
       ∙ content (map rows_of left) (map rows_of right) permuted agree_left
-      ∙ sym (ap content_at (table_is none others only_others agree_right)))
+      ∙ sym (ap content_at (table_is none others only_others (agreement_stays stays left right same agree))))
       op text
 
 -- ---- plain lists of submissions

@@ -31,12 +31,14 @@ pub fn a_run_goes_on()
 {}
 
 /// The order in which submissions come doesn't matter, where their checksums agree: none is refused, the table has the rows
-/// of each, and with the same submissions in another order each text is the same, whatever was asked in between.
+/// of each, and with the same submissions in another order each text is the same, whatever was asked in between. In the other
+/// order they agree too, so none is refused there either.
 pub fn order_does_not_matter()
     ensures accepted { (ops : List OpData) → OnlySubmitsAndAsks ops → AreAgreeing (submissions_in ops) → (clash : ClashData) → ¬ Contains (answers_to ops) (ClashAnswer clash) }
     ensures table { (ops : List OpData) → OnlySubmitsAndAsks ops → AreAgreeing (submissions_in ops) → table_of ops ≡ map rows_of (submissions_in ops) }
     ensures texts { (some others : List OpData) → OnlySubmitsAndAsks some → OnlySubmitsAndAsks others → AreTheSame (submissions_in some) (submissions_in others) → AreAgreeing (submissions_in some) → (op : OpData) → IsText op → answer_of (table_of some) op ≡ answer_of (table_of others) op }
     ensures lists { (some others : List SubmissionData) → AreTheSame some others → AreAgreeing some → (op : OpData) → IsText op → answer_of (table_of (map SubmitOp some)) op ≡ answer_of (table_of (map SubmitOp others)) op }
+    ensures agree { (some others : List SubmissionData) → AreTheSame some others → AreAgreeing some → AreAgreeing others }
 {
     the_first_clash_is_told();
     order_of_submissions_does_not_matter();

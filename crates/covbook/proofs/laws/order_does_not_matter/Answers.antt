@@ -1,4 +1,4 @@
-use Rattle.covbook.proofs.Orders.{none_told, table_is, texts_stay, lists_stay}
+use Rattle.covbook.proofs.Orders.{agreement_stays, none_told, table_is, texts_stay, lists_stay}
 use Rattle.covbook.proofs.laws.order_does_not_matter.Goals as goal
 
 pub returns-clause-accepted : goal.returns-clause-accepted
@@ -12,3 +12,6 @@ returns-clause-texts c = texts_stay c.the_first_clash_is_told.ensures.none c.ord
 
 pub returns-clause-lists : goal.returns-clause-lists
 returns-clause-lists c = lists_stay c.the_first_clash_is_told.ensures.none c.order_of_submissions_does_not_matter.ensures.content c.order_of_submissions_does_not_matter.ensures.agree
+
+pub returns-clause-agree : goal.returns-clause-agree
+returns-clause-agree c = agreement_stays c.order_of_submissions_does_not_matter.ensures.agree
