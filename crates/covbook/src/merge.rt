@@ -16,7 +16,9 @@ use crate::places::least_missing;
 use std::alloc::Allocator;
 
 /// Says yes exactly where the entries are a merge of the logs: the logs' jobs differ, in each log the places rise, each receipt
-/// is that of an entry of the log's job, and each entry is in a log. Else tells the first fault. Takes no memory.
+/// is that of an entry of the log's job, and each entry is in a log. Else tells the first fault (`GatherFault` has their order).
+/// Takes no memory. The time is linear in entries, receipts and the bytes that are compared, but for the logs' jobs, which are
+/// compared each with each.
 pub fn gather<A: Allocator>(entries: &[Entry<A>], logs: &[JobLog<A>]) -> Result<(), GatherFault>
     ensures merge { IsOk result ↔ IsMerge (map entry_data entries.now) (map log_data logs.now) }
     ensures fault { (fault : GatherFault) → (result ≡ Err fault) ↔ IsGatherFault (map entry_data entries.now) (map log_data logs.now) fault }

@@ -212,7 +212,7 @@ fn what_two_jobs_kept(rt: HostRuntime) -> Result<(), Fail> {
     check_all(&rt, &[], b"> yes\n= nothing at all\n1\n> yes\n= no calls")
 }
 
-/// The operation or the answer that a word and a text tell.
+/// Whether the operations or answers of this name that the two texts tell are the same.
 fn is_same(
     rt: &(impl Abort + AllocGlobal),
     word: &[u8],
