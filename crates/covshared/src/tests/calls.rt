@@ -40,6 +40,23 @@ pub(super) fn close<L: Name>(
     book.close(Seats::of(seats))
 }
 
+/// No seats.
+pub(super) fn none<L: Name>(alloc: Global) -> Vec<Seat<L>> {
+    Seats::new(alloc).into_vec()
+}
+
+/// The seats with one more.
+pub(super) fn with<L: Name>(seats: Vec<Seat<L>>, seat: Seat<L>) -> Result<Vec<Seat<L>>, Memory> {
+    let mut seats = Seats::of(seats);
+    seats.push(seat)?;
+    Ok(seats.into_vec())
+}
+
+/// How many seats there are.
+pub(super) fn count_of<L: Name>(seats: &Seats<L>) -> usize {
+    seats.get().len()
+}
+
 /// The operation that submits the text.
 pub(super) fn submit(alloc: Global, text: &[u8]) -> Result<Op, Fail> {
     Ok(Op::Submit(SubRef::of(alloc, read_trace(alloc, text)?)?))

@@ -2,7 +2,7 @@
 
 ghost use Rattle.std.specs.Prelude.{◌≡◌};
 
-use super::calls::{close, open, perform, start};
+use super::calls::{close, count_of, none, open, perform, start, with};
 use covbook::Op;
 use covjobs::{CloseFault, Name, Seat, Shared, Start};
 use std::alloc::Global;
@@ -50,13 +50,14 @@ fn kept_back<L: Name, R: Wait + Abort + AllocGlobal>(rt: &R, start: Start) -> Re
 {
     let alloc = rt.alloc();
     let (book, seats) = open::<L>(alloc, start)?;
+    assert_eq!(rt; count_of(&seats), 2);
     let mut seats = seats.into_vec();
     let last = seats.pop();
     let (book, mut seats) = close_without(rt, book, seats, 1);
     check_usable(rt, &book, seats.as_mut_slice())?;
-    let (book, _none) = close_without(rt, book, Vec::new(alloc), 0);
+    let (book, _none) = close_without(rt, book, none(alloc), 0);
     if let Some(seat) = last {
-        seats.push(seat)?;
+        seats = with(seats, seat)?;
     }
     match close(book, seats) {
         Ok(entries) => assert_eq!(rt; entries.get().len(), 1),
