@@ -6,6 +6,8 @@ ghost use Rattle.covstore.specs.State.{branch_above, function_above, has_checksu
 ghost use Rattle.covstore.specs.Sums.{branch_fits, branch_with, function_with, line_with};
 ghost use Rattle.covstore.specs.Value.{is_taken};
 
+use crate::points::More;
+
 /// A line: the sum of its execution counts, and whether an item has a checksum of it (geninfo(1): `DA:`).
 #[derive(Clone, Copy)]
 pub(crate) struct LineSum {
@@ -24,6 +26,65 @@ pub(crate) struct FunctionSum {
 #[derive(Clone, Copy)]
 pub(crate) struct Taken {
     pub times: Option<u128>,
+}
+
+/// A line's item: its count, and whether it has a checksum.
+#[derive(Clone, Copy)]
+pub(crate) struct LineMore {
+    pub count: u64,
+    pub has_checksum: bool,
+}
+
+impl More<LineSum> for LineMore {
+    ghost fits = { λ more held. IfSome held (λ sum. sum.count + more.count < 2 ^ 128) };
+
+    ghost sum = { λ more held. line_with more.count more.has_checksum held };
+
+    fn with(self, held: Option<LineSum>) -> LineSum
+        requires { IfSome held (λ sum. sum.count + self.count < 2 ^ 128) }
+        ensures { result ≡ line_with self.count self.has_checksum held }
+    {
+        LineSum::with(held, self.count, self.has_checksum)
+    }
+}
+
+/// A function's item: its start line and its count.
+#[derive(Clone, Copy)]
+pub(crate) struct FunctionMore {
+    pub line: u64,
+    pub count: u64,
+}
+
+impl More<FunctionSum> for FunctionMore {
+    ghost fits = { λ more held. IfSome held (λ sum. sum.count + more.count < 2 ^ 128) };
+
+    ghost sum = { λ more held. function_with more.line more.count held };
+
+    fn with(self, held: Option<FunctionSum>) -> FunctionSum
+        requires { IfSome held (λ sum. sum.count + self.count < 2 ^ 128) }
+        ensures { result ≡ function_with self.line self.count held }
+    {
+        FunctionSum::with(held, self.line, self.count)
+    }
+}
+
+/// A branch's item: how often it was taken, none where its block was never executed.
+#[derive(Clone, Copy)]
+pub(crate) struct TakenMore {
+    pub times: Option<u64>,
+}
+
+impl More<Taken> for TakenMore {
+    ghost fits = { λ more held. branch_fits more.times held };
+
+    ghost sum = { λ more held. branch_with more.times held };
+
+    fn with(self, held: Option<Taken>) -> Taken
+        requires { branch_fits self.times held }
+        ensures { result ≡ branch_with self.times held }
+    {
+        Taken::with(held, self.times)
+    }
 }
 
 /// How many tests of a file have a point, and how many have it above 0.

@@ -1,6 +1,7 @@
-//! The keys of points, and what they are looked up by: a number, a branch, or for a name its bytes.
+//! The keys of points, what they are looked up by (a number, a branch, or for a name its bytes), and what is added to
+//! their values.
 
-ghost use Rattle.std.specs.Prelude.{◌≡◌, IfOk};
+ghost use Rattle.std.specs.Prelude.{◌≡◌, Option, IfOk};
 ghost use Rattle.std.specs.declared.cmp.Ordering.{Ordering};
 ghost use Rattle.std.specs.declared.cmp.Ordering.TheVariants.{Equal};
 ghost use Rattle.std.specs.Cmp.{IsTotalOrder};
@@ -34,6 +35,25 @@ pub(crate) trait Asked<K: Key, A: Allocator>: Copy {
     /// The key itself, in memory of its own.
     fn key(self, alloc: A) -> Result<K, AllocError>
         ensures { IfOk result (λ key. key ≡ named self) };
+}
+
+/// What is added to a value, where there may be none yet.
+pub(crate) trait More<V>: Copy {
+    ghost fits: { Self → Option V → Type 0 };
+
+    ghost sum: { Self → Option V → V };
+
+    /// The value with this more.
+    fn with(self, held: Option<V>) -> V
+        requires { fits self held }
+        ensures { result ≡ sum self held };
+}
+
+/// A value before something was added to it, and after.
+#[derive(Clone, Copy)]
+pub(crate) struct Added<V> {
+    pub before: Option<V>,
+    pub after: V,
 }
 
 impl Key for u64 {
