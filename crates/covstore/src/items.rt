@@ -94,11 +94,11 @@ fn add_line<A: Allocator + Copy>(
         },
     )?;
     if let Some(text) = checksum {
-        let is_held = LineSum::is_checked(added.before);
+        let is_held = LineSum::is_checked(&added.before);
         marks.checksums.hold(alloc, line, text, is_held)?;
     }
-    let was_above = LineSum::is_hit(added.before);
-    let change = Change::of(added.before.is_some(), was_above, added.after.count > 0);
+    let was_above = LineSum::is_hit(&added.before);
+    let change = Change::of(added.before.is_some(), was_above, added.after.is_above());
     marks.lines.add(alloc, line, change)?;
     Ok(())
 }

@@ -7,7 +7,7 @@ mod filled;
 mod key;
 
 pub(crate) use crate::points::filled::Filled;
-pub(crate) use crate::points::key::{Added, Asked, Key, More};
+pub(crate) use crate::points::key::{Added, Asked, Key, More, Value, copy_of};
 use crate::slots::coming::Coming;
 use crate::slots::growth::make_slot;
 use crate::slots::{Place, Slots};
@@ -89,7 +89,7 @@ impl<K: Key, V: Drop, A: Allocator> Points<K, V, A> {
     }
 }
 
-impl<K: Key, V: Copy, A: Allocator> Points<K, V, A> {
+impl<K: Key, V: Value, A: Allocator> Points<K, V, A> {
     ghost use Rattle.std.specs.Prelude.{◌≡◌, true, is_some};
     ghost use Rattle.covstore.specs.Assigned.{assigned};
     ghost use Rattle.covstore.specs.Puts.{ArePairs, value_of};
@@ -159,7 +159,7 @@ impl<K: Key, V: Copy, A: Allocator> Points<K, V, A> {
     }
 }
 
-impl<K: Key + Drop, V: Copy, A: Allocator + Copy> Points<K, V, A> {
+impl<K: Key + Drop, V: Value, A: Allocator + Copy> Points<K, V, A> {
     ghost use Rattle.std.specs.Prelude.{◌≡◌, IfOk, OnOk};
     ghost use Rattle.covstore.specs.Puts.{ArePairs, put, value_of};
 

@@ -6,12 +6,13 @@ ghost use Rattle.covstore.specs.State.{branch_above, function_above, has_checksu
 ghost use Rattle.covstore.specs.Sums.{branch_fits, branch_with, function_with, line_with};
 ghost use Rattle.covstore.specs.Value.{is_taken};
 
-use crate::points::More;
+use crate::points::{More, Value};
+use crate::wide::Wide;
 
 /// A line: the sum of its execution counts, and whether an item has a checksum of it (geninfo(1): `DA:`).
-#[derive(Clone, Copy)]
+#[derive(Drop)]
 pub(crate) struct LineSum {
-    pub count: u128,
+    pub count: Wide,
     pub has_checksum: bool,
 }
 
@@ -40,9 +41,9 @@ impl More<LineSum> for LineMore {
 
     ghost sum = { λ more held. line_with more.count more.has_checksum held };
 
-    fn with(self, held: Option<LineSum>) -> LineSum
-        requires { IfSome held (λ sum. sum.count + self.count < 2 ^ 128) }
-        ensures { result ≡ line_with self.count self.has_checksum held }
+    fn with(self, held: &Option<LineSum>) -> LineSum
+        requires { IfSome held.now (λ sum. sum.count + self.count < 2 ^ 128) }
+        ensures { result ≡ line_with self.count self.has_checksum held.now }
     {
         LineSum::with(held, self.count, self.has_checksum)
     }
@@ -60,11 +61,11 @@ impl More<FunctionSum> for FunctionMore {
 
     ghost sum = { λ more held. function_with more.line more.count held };
 
-    fn with(self, held: Option<FunctionSum>) -> FunctionSum
-        requires { IfSome held (λ sum. sum.count + self.count < 2 ^ 128) }
-        ensures { result ≡ function_with self.line self.count held }
+    fn with(self, held: &Option<FunctionSum>) -> FunctionSum
+        requires { IfSome held.now (λ sum. sum.count + self.count < 2 ^ 128) }
+        ensures { result ≡ function_with self.line self.count held.now }
     {
-        FunctionSum::with(held, self.line, self.count)
+        FunctionSum::with(*held, self.line, self.count)
     }
 }
 
@@ -79,11 +80,11 @@ impl More<Taken> for TakenMore {
 
     ghost sum = { λ more held. branch_with more.times held };
 
-    fn with(self, held: Option<Taken>) -> Taken
-        requires { branch_fits self.times held }
-        ensures { result ≡ branch_with self.times held }
+    fn with(self, held: &Option<Taken>) -> Taken
+        requires { branch_fits self.times held.now }
+        ensures { result ≡ branch_with self.times held.now }
     {
-        Taken::with(held, self.times)
+        Taken::with(*held, self.times)
     }
 }
 
@@ -120,33 +121,81 @@ impl Tests {
     }
 }
 
+impl Value for LineSum {
+    fn copy(&self) -> LineSum
+        ensures { result ≡ self.now }
+    {
+        LineSum {
+            count: self.count.copy(),
+            has_checksum: self.has_checksum,
+        }
+    }
+}
+
+impl Value for FunctionSum {
+    fn copy(&self) -> FunctionSum
+        ensures { result ≡ self.now }
+    {
+        *self
+    }
+}
+
+impl Value for Taken {
+    fn copy(&self) -> Taken
+        ensures { result ≡ self.now }
+    {
+        *self
+    }
+}
+
+impl Value for Tests {
+    fn copy(&self) -> Tests
+        ensures { result ≡ self.now }
+    {
+        *self
+    }
+}
+
 impl LineSum {
     /// Whether the line is there, with a count above 0.
-    pub(crate) fn is_hit(held: Option<LineSum>) -> bool
-        ensures { result ≡ is_above_at line_above held }
+    pub(crate) fn is_hit(held: &Option<LineSum>) -> bool
+        ensures { result ≡ is_above_at line_above held.now }
     {
-        held.is_some_and(|sum| sum.count > 0)
+        match held {
+            Some(sum) => sum.is_above(),
+            None => false,
+        }
+    }
+
+    /// Whether the count is above 0.
+    pub(crate) fn is_above(&self) -> bool
+        ensures { result ≡ line_above self.now }
+    {
+        self.count.is_above()
     }
 
     /// Whether the line is there, with a checksum.
-    pub(crate) fn is_checked(held: Option<LineSum>) -> bool
-        ensures { result ≡ is_above_at has_checksum held }
+    pub(crate) fn is_checked(held: &Option<LineSum>) -> bool
+        ensures { result ≡ is_above_at has_checksum held.now }
     {
-        held.is_some_and(|sum| sum.has_checksum)
+        match held {
+            Some(sum) => sum.has_checksum,
+            None => false,
+        }
     }
 
     /// The sum with one count more.
-    pub(crate) fn with(held: Option<LineSum>, count: u64, has_checksum: bool) -> LineSum
-        requires { IfSome held (λ sum. sum.count + count < 2 ^ 128) }
-        ensures { result ≡ line_with count has_checksum held }
+    pub(crate) fn with(held: &Option<LineSum>, count: u64, has_checksum: bool) -> LineSum
+        requires { IfSome held.now (λ sum. sum.count + count < 2 ^ 128) }
+        ensures { result ≡ line_with count has_checksum held.now }
     {
         match held {
             Some(sum) => LineSum {
-                count: sum.count + u128::from(count),
+                count: sum.count.plus(count),
                 has_checksum: sum.has_checksum || has_checksum,
             },
             None => LineSum {
-                count: u128::from(count),
+                count: Wide::of(count),
                 has_checksum,
             },
         }

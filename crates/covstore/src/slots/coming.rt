@@ -6,7 +6,7 @@ ghost use Rattle.covstore.specs.Coming.{AreAscending, AreColumnsOf, IsSplit, IsT
 ghost use Rattle.covstore.specs.SlotPlace.{at};
 ghost use Rattle.covstore.specs.Slots.{lead, page_at, value_at, value_in};
 
-use crate::points::{Added, Key, More};
+use crate::points::{Added, Key, More, Value, copy_of};
 use crate::slots::{HALF, Place, Slots};
 use std::alloc::{AllocError, Allocator};
 use std::marker::Model;
@@ -87,7 +87,7 @@ impl<V: Drop, A: Allocator> Coming<V, A> {
     }
 }
 
-impl<V: Copy, A: Allocator> Coming<V, A> {
+impl<V: Value, A: Allocator> Coming<V, A> {
     /// Sees to it that the page has a column, and tells which one. Nothing else is to come by that.
     fn touch<K: Key>(
         &mut self,
@@ -149,8 +149,8 @@ impl<V: Copy, A: Allocator> Coming<V, A> {
     {
         let index = self.touch(alloc, slots, place.page)?;
         let before = self.value_of(index, place.index);
-        let after = more.with(before);
-        self.columns[index].1[place.index] = Some(after);
+        let after = more.with(&before);
+        self.columns[index].1[place.index] = Some(after.copy());
         Ok(Added { before, after })
     }
 
@@ -173,7 +173,7 @@ impl<V: Copy, A: Allocator> Coming<V, A> {
     {
         match self.columns.get(index) {
             Some(column) => match column.1.get(at) {
-                Some(value) => *value,
+                Some(value) => copy_of(value),
                 None => None,
             },
             None => None,
@@ -181,7 +181,7 @@ impl<V: Copy, A: Allocator> Coming<V, A> {
     }
 }
 
-impl<V: Copy, A: Allocator + Copy> Coming<V, A> {
+impl<V: Value, A: Allocator + Copy> Coming<V, A> {
     /// Makes room for a slot that is put in at a place: nothing is to come into it.
     pub(crate) fn insert_empty(&mut self, place: Place) -> Result<(), AllocError>
         requires { AllByRecursion (λ column. column.0 ≡ place.page → place.index ≤ length column.1) self.old }

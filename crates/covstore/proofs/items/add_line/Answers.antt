@@ -3,7 +3,7 @@ use Rattle.std.specs.Option.{is_some}
 use Rattle.std.specs.Ordering.{nat_cmp}
 use Rattle.covstore.specs.declared.marks.Marks.{Marks}
 use Rattle.covstore.specs.declared.sums.LineSum.{LineSum}
-use Rattle.covstore.specs.Changes.{changed}
+use Rattle.covstore.specs.Changes.{change_of, changed}
 use Rattle.covstore.specs.Checksums.{held_more}
 use Rattle.covstore.specs.Counts.{is_above_at}
 use Rattle.covstore.specs.PointsData.{PointsData}
@@ -26,7 +26,8 @@ returns-clause-counts g c =
     let old = c.args.marks.now in
     let stays = λ (above : is_above_at line_above (value_of nat_cmp line c.args.test.now.lines.coming) ≡ true). ap line_above c.in_ok-added.ensures.after ∙ line_stays count c.is_some-has_checksum.result before (ap (is_above_at line_above) given ∙ above) in
     let puts = c.in_ok-added.ensures.ok in
-    let moves = changed_as nat_cmp line_above line old.lines.coming c.of-change.result c.is_some.result c.is_hit-was_above.result before _ value c.of-change.ensures c.is_some.ensures c.is_hit-was_above.ensures given in
+    let moves = changed_as nat_cmp line_above line old.lines.coming c.of-change.result c.is_some.result c.is_hit-was_above.result before _ value
+    (c.of-change.ensures ∙ ap (change_of c.is_some.result c.is_hit-was_above.result) c.is_above.ensures) c.is_some.ensures c.is_hit-was_above.ensures given in
     elim c.match-checksum.branch [
       | in-Some+in_ok-hold w ↦
           let kept = c.in_ok-add.ensures.ok ∙ ap (λ (m : Marks g.row.A.Denot). changed nat_cmp line c.of-change.result m.lines.coming) w.marks-is ∙ moves in

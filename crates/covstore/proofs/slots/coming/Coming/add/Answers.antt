@@ -1,6 +1,7 @@
 use Rattle.std.proofs.Common.{◌∙◌, ap, sym, subst, set, length, arith, Some}
 use Rattle.std.proofs.Math.ListN.{length-set}
-use Rattle.covstore.specs.Coming.{AreAscending, AreColumnsOf, coming_of}
+use Rattle.covstore.specs.Coming.{AreAscending, AreColumnsOf, coming_of, with_value_at}
+use Rattle.covstore.specs.SlotPlace.{at}
 use Rattle.covstore.proofs.ComingSearch.{columns_changed}
 use Rattle.covstore.proofs.ComingPut.{seen_column, seen_written, columns_written, coming_written}
 use Rattle.covstore.proofs.ComingReads.{value_touched}
@@ -20,8 +21,8 @@ invariant_of-self g c =
     let column = c.index_mut.result.now in
     let same = seen_column (λ column. (column.0, column.1.items)) c.self.inside.columns.items c.touch.new.self t.front (c.args.place.page, t.column) t.back c.in_ok-index.index c.self.view_is t.is t.at column c.index_mut.ensures.value in
     let view = seen_written (λ column. (column.0, column.1.items)) c.self.inside.columns.items c.touch.new.self t.front (c.args.place.page, t.column) t.back c.in_ok-index.index c.self.view_is t.is t.at
-    _ (c.args.place.page, set t.column c.args.place.index (Some c.with-after.result)) (ap (λ column. (column.0, set column.1 c.args.place.index (Some c.with-after.result))) same) in
-    subst AreAscending (sym view) (columns_changed c.args.place.page t.column (set t.column c.args.place.index (Some c.with-after.result)) t.front t.back (subst AreAscending (c.self.view_is ∙ t.is) c.self.invariant))
+    _ (c.args.place.page, set t.column c.args.place.index (Some c.copy.result)) (ap (λ column. (column.0, set column.1 c.args.place.index (Some c.copy.result))) same) in
+    subst AreAscending (sym view) (columns_changed c.args.place.page t.column (set t.column c.args.place.index (Some c.copy.result)) t.front t.back (subst AreAscending (c.self.view_is ∙ t.is) c.self.invariant))
 
 pub returns-clause-columns : goal.returns-clause-columns
 returns-clause-columns g c =
@@ -29,9 +30,9 @@ returns-clause-columns g c =
     let column = c.index_mut.result.now in
     let same = seen_column (λ column. (column.0, column.1.items)) c.self.inside.columns.items c.touch.new.self t.front (c.args.place.page, t.column) t.back c.in_ok-index.index c.self.view_is t.is t.at column c.index_mut.ensures.value in
     let view = seen_written (λ column. (column.0, column.1.items)) c.self.inside.columns.items c.touch.new.self t.front (c.args.place.page, t.column) t.back c.in_ok-index.index c.self.view_is t.is t.at
-    _ (c.args.place.page, set t.column c.args.place.index (Some c.with-after.result)) (ap (λ column. (column.0, set column.1 c.args.place.index (Some c.with-after.result))) same) in
-    subst (AreColumnsOf c.args.slots.now) (sym view) (columns_written c.args.slots.now c.args.place.page t.front t.back t.column (set t.column c.args.place.index (Some c.with-after.result))
-    (length-set t.column c.args.place.index (Some c.with-after.result)) (subst (AreColumnsOf c.args.slots.now) t.is t.columns))
+    _ (c.args.place.page, set t.column c.args.place.index (Some c.copy.result)) (ap (λ column. (column.0, set column.1 c.args.place.index (Some c.copy.result))) same) in
+    subst (AreColumnsOf c.args.slots.now) (sym view) (columns_written c.args.slots.now c.args.place.page t.front t.back t.column (set t.column c.args.place.index (Some c.copy.result))
+    (length-set t.column c.args.place.index (Some c.copy.result)) (subst (AreColumnsOf c.args.slots.now) t.is t.columns))
 
 pub returns-clause-ok : goal.returns-clause-ok
 returns-clause-ok g c =
@@ -39,8 +40,9 @@ returns-clause-ok g c =
     let column = c.index_mut.result.now in
     let same = seen_column (λ column. (column.0, column.1.items)) c.self.inside.columns.items c.touch.new.self t.front (c.args.place.page, t.column) t.back c.in_ok-index.index c.self.view_is t.is t.at column c.index_mut.ensures.value in
     let view = seen_written (λ column. (column.0, column.1.items)) c.self.inside.columns.items c.touch.new.self t.front (c.args.place.page, t.column) t.back c.in_ok-index.index c.self.view_is t.is t.at
-    _ (c.args.place.page, set t.column c.args.place.index (Some c.with-after.result)) (ap (λ column. (column.0, set column.1 c.args.place.index (Some c.with-after.result))) same) in
-    ap (coming_of c.args.slots.now) view ∙ coming_written c.args.slots.now c.args.self.now c.touch.new.self c.args.place.page c.in_ok-index.index c.args.place.index c.with-after.result c.requires.page t
+    _ (c.args.place.page, set t.column c.args.place.index (Some c.copy.result)) (ap (λ column. (column.0, set column.1 c.args.place.index (Some c.copy.result))) same) in
+    ap (coming_of c.args.slots.now) view ∙ coming_written c.args.slots.now c.args.self.now c.touch.new.self c.args.place.page c.in_ok-index.index c.args.place.index c.copy.result c.requires.page t
+    ∙ ap (λ (value : g.row.V.Denot). with_value_at (at c.args.place) value (coming_of c.args.slots.now c.args.self.now)) c.copy.ensures
 
 pub with-after-requires : goal.with-after-requires
 with-after-requires g c =
