@@ -1,7 +1,7 @@
 //! What the items of a file and a test add up to at a point, and in how many tests a file has a point.
 
 ghost use Rattle.std.specs.Prelude.{◌≡◌, ◌+◌, ◌^◌, ◌<◌, IfSome};
-ghost use Rattle.covstore.specs.Counts.{is_above_at};
+ghost use Rattle.covstore.specs.Counts.{is_above_at, tests_more};
 ghost use Rattle.covstore.specs.State.{branch_above, function_above, has_checksum, line_above};
 ghost use Rattle.covstore.specs.Sums.{branch_fits, branch_with, function_with, line_with};
 ghost use Rattle.covstore.specs.Value.{is_taken};
@@ -85,6 +85,34 @@ impl More<Taken> for TakenMore {
         ensures { result ≡ branch_with self.times held.now }
     {
         Taken::with(*held, self.times)
+    }
+}
+
+/// What a test adds to the numbers of a point: whether it has the point now, and whether it has it above 0 for the first
+/// time.
+#[derive(Clone, Copy)]
+pub(crate) struct TestsMore {
+    pub is_new: bool,
+    pub is_hit: bool,
+}
+
+impl More<Tests> for TestsMore {
+    ghost fits = { λ more held. IfSome held (λ tests. (tests.tests < 2 ^ 63) × (tests.hit < 2 ^ 63)) };
+
+    ghost sum = { λ more held. tests_more more.is_new more.is_hit held };
+
+    fn with(self, held: &Option<Tests>) -> Tests
+        requires { IfSome held.now (λ tests. (tests.tests < 2 ^ 63) × (tests.hit < 2 ^ 63)) }
+        ensures { result ≡ tests_more self.is_new self.is_hit held.now }
+    {
+        let (tests, hit) = match held {
+            Some(held) => (held.tests, held.hit),
+            None => (0, 0),
+        };
+        Tests {
+            tests: if self.is_new { tests + 1 } else { tests },
+            hit: if self.is_hit { hit + 1 } else { hit },
+        }
     }
 }
 
