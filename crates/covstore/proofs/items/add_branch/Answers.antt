@@ -2,13 +2,10 @@ use Rattle.std.proofs.Common.{◌<◌, ◌^◌, Option, List, refl, sym, ap, ◌
 use Rattle.std.specs.Option.{IfSome}
 use Rattle.covline.specs.Points.{BranchPoint}
 use Rattle.covline.specs.PointView.{branch_point_data}
-use Rattle.covline.specs.declared.point.BranchPoint as code
 use Rattle.covstore.specs.declared.sums.Taken.{Taken}
 use Rattle.covstore.specs.declared.sums.Tests.{Tests}
 use Rattle.covstore.specs.Changes.{change_of}
 use Rattle.covstore.specs.Counts.{is_above_at}
-use Rattle.covstore.specs.KeyOrders.{code_branch_cmp}
-use Rattle.covstore.specs.PointsData.{PointsData}
 use Rattle.covstore.specs.Puts.{put}
 use Rattle.covstore.specs.State.{branch_above}
 use Rattle.covstore.specs.Sums.{TestData, branch_fits, branch_with}

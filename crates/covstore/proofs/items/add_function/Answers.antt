@@ -1,10 +1,7 @@
-use Rattle.std.proofs.Common.{List, ℕ, refl, ap, ◌∙◌}
+use Rattle.std.proofs.Common.{refl, ap, ◌∙◌}
 use Rattle.std.specs.Cmp.Lexicographic.{slice_cmp}
 use Rattle.std.specs.Ordering.{nat_cmp}
-use Rattle.covstore.specs.declared.sums.FunctionSum.{FunctionSum}
 use Rattle.covstore.specs.Counts.{is_above_at}
-use Rattle.covstore.specs.PointsData.{PointsData}
-use Rattle.covstore.specs.Puts.{put}
 use Rattle.covstore.specs.State.{function_above}
 use Rattle.covstore.proofs.StepsKept.{keeps_function}
 use Rattle.covstore.proofs.StepsCounts.{changed_as, function_stays}

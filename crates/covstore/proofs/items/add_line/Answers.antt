@@ -1,4 +1,4 @@
-use Rattle.std.proofs.Common.{◌≡◌, Bool, true, ℕ, refl, ap, ◌∙◌}
+use Rattle.std.proofs.Common.{◌≡◌, Bool, true, refl, ap, ◌∙◌}
 use Rattle.std.specs.Option.{is_some}
 use Rattle.std.specs.Ordering.{nat_cmp}
 use Rattle.covstore.specs.declared.marks.Marks.{Marks}
@@ -6,8 +6,7 @@ use Rattle.covstore.specs.declared.sums.LineSum.{LineSum}
 use Rattle.covstore.specs.Changes.{change_of, changed}
 use Rattle.covstore.specs.Checksums.{held_more}
 use Rattle.covstore.specs.Counts.{is_above_at}
-use Rattle.covstore.specs.PointsData.{PointsData}
-use Rattle.covstore.specs.Puts.{put, value_of}
+use Rattle.covstore.specs.Puts.{value_of}
 use Rattle.covstore.specs.State.{has_checksum, line_above}
 use Rattle.covstore.specs.Sums.{line_with}
 use Rattle.covstore.specs.TestView.{branches_data}

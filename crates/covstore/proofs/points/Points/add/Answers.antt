@@ -1,10 +1,10 @@
-use Rattle.std.proofs.Common.{◌≡◌, ◌∙◌, ap, sym, subst}
+use Rattle.std.proofs.Common.{◌∙◌, ap, sym, subst}
 use Rattle.std.proofs.lemmas.Result.{IfOk-weaker}
 use Rattle.covstore.specs.Asked.{asked_by_order}
 use Rattle.covstore.specs.Coming.{coming_of}
 use Rattle.covstore.specs.PointsData.{PointsData}
 use Rattle.covstore.specs.Puts.{ArePairs, put, value_of}
-use Rattle.covstore.specs.Slots.{filled, slots_of, value_at}
+use Rattle.covstore.specs.Slots.{filled, slots_of}
 use Rattle.covstore.proofs.ComingWhole.{coming_whole}
 use Rattle.covstore.proofs.Filled.{filled_pairs}
 use Rattle.covstore.proofs.PointPlaces.{coming_found, coming_put, place_within}
