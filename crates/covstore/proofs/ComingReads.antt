@@ -3,7 +3,7 @@ use Rattle.std.proofs.Common.{◌≡◌, ℕ, zero, suc, ◌<◌, Option, List, 
 use Rattle.std.specs.Prelude.{Some, None, option_map, slice_get, nat_lt}
 use Rattle.std.specs.List.{AllByRecursion}
 use Rattle.covstore.specs.Slots.{lead, page_at, value_at, value_in}
-use Rattle.covstore.specs.Coming.{with_column, column_at, page_coming, coming_of, AreAscending, IsColumnOf, AreColumnsOf}
+use Rattle.covstore.specs.Coming.{with_column, column_at, page_coming, coming_of, AreAscending, IsColumnOf, AreColumnsOf, IsTouched}
 use Rattle.covstore.proofs.Leads.{all_back}
 use Rattle.covstore.proofs.Comings.{page_of_coming, column_found, column_missing}
 use Rattle.covstore.proofs.ComingSearch.{columns_front, columns_missing, columns_there}
@@ -62,6 +62,21 @@ module _ {K V : Type 0} (pages : List (List (K × Option V))) (columns : List (�
       let above : AllByRecursion (λ (other : ℕ × List (Option V)). page < other.0) back = rw found (columns_missing page columns ascending (rw found at none)) in
       let missing = ap (column_at page) (sym (take_drop columns index)) ∙ column_missing page front back below above in
       ap (λ page. value_in (option_map (λ slot. slot.1) (slice_get page j))) (sym (coming_page ∙ ap (page_coming (page_at pages page)) missing))
+
+slice_behind : {X : Type 0} (front : List X) (x : X) (back : List X) → slice_get (front ++ x ∷ back) (length front) ≡ Some x
+slice_behind [] x back = refl
+slice_behind (y ∷ front) x back = slice_behind front x back
+
+-- where its page was given a column, it stands there
+pub value_touched : {K V : Type 0} (pages : List (List (K × Option V))) (old new : List (ℕ × List (Option V))) (page index j : ℕ) → page < length pages → (touched : IsTouched pages old new page index) → (value : Option V)
+    → ((column : ℕ × List (Option V)) → slice_get new index ≡ Some column → value ≡ value_in (slice_get column.1 j)) → value ≡ value_at (coming_of pages old) (page, j)
+value_touched {K} {V} pages old new page index j there touched value read =
+    let column : ℕ × List (Option V) = (page, touched.column) in
+    let one = ap (column_at page) touched.is ∙ column_found touched.front column touched.back touched.below in
+    read column (ap (λ columns. slice_get columns index) touched.is ∙ ap (λ i. slice_get (touched.front ++ column ∷ touched.back) i) touched.at ∙ slice_behind touched.front column touched.back)
+    ∙ sym (value_given (page_at pages page) touched.column j touched.fits)
+    ∙ ap (λ (slots : List (K × Option V)). value_in (option_map (λ slot. slot.1) (slice_get slots j))) (sym (page_of_coming 0 page page pages new (omega arith) there ∙ ap (page_coming (page_at pages page)) one))
+    ∙ ap (λ (slots : List (List (K × Option V))). value_at slots (page, j)) touched.coming
 
 -- a value read from the column that is there
 pub value_read : {V : Type 0} (columns : List (ℕ × List (Option V))) (index at : ℕ) (seen : ℕ × List (Option V)) (value : Option (Option V)) (text : List (Option V)) → slice_get columns index ≡ Some seen

@@ -1,10 +1,10 @@
 -- What is to come at the place of a key, and after a value is put in there.
-use Rattle.std.proofs.Common.{◌≡◌, ℕ, zero, suc, false, Option, List, [], ◌∷◌, ◌++◌, drop, refl, sym, ap, ◌∙◌, subst}
+use Rattle.std.proofs.Common.{◌≡◌, ℕ, zero, suc, ◌<◌, false, Option, List, [], ◌∷◌, ◌++◌, length, drop, refl, sym, ap, ◌∙◌, subst, arith}
 use Rattle.std.specs.Cmp.{IsTotalOrder}
 use Rattle.std.specs.declared.cmp.Ordering.{Ordering}
 use Rattle.std.specs.declared.cmp.Ordering.TheVariants.{Less, Equal, Greater}
 use Rattle.std.specs.Ordering.{is_lt, is_eq, is_gt}
-use Rattle.std.specs.Prelude.{None, option_map, slice_get}
+use Rattle.std.specs.Prelude.{None, Some, option_map, slice_get}
 use Rattle.std.specs.List.{AllByRecursion}
 use Rattle.std.specs.Map.{keys_of, lookup}
 use Rattle.covstore.specs.Asked.{IsAsked, asked_by_order}
@@ -93,3 +93,13 @@ coming_put {K} {V} {cmp} t exact key value pages columns i j slots place =
     ap filled (written_there asked after i j ascending slot value found.1)
     ∙ filled_put cmp key value (before after (i, j)) slot.0 slot.1 rest front same (exact slot.0 key same) back
     ∙ ap (λ slots. put cmp key value (filled slots)) (sym parts)
+
+-- ---- a place is within its page
+
+within : {X : Type 0} (xs : List X) (j : ℕ) (x : X) → slice_get xs j ≡ Some x → j < length xs
+within [] j x e = absurd cc
+within (y ∷ xs) zero x e = omega arith
+within (y ∷ xs) (suc j) x e = omega (arith, within xs j x e)
+
+pub place_within : {K V : Type 0} (order : K → Ordering) (pages : List (List (K × Option V))) (i j : ℕ) → IsPlace order pages (i, j) → j < length (page_at pages i)
+place_within order pages i j place = let found = place_slot order (slot_at pages (i, j)) (ap is_gt place) in within (page_at pages i) j found.0 found.1

@@ -1,12 +1,10 @@
 -- How many points there are, and how many of them are hit, where the numbers of one point are put in.
-use Rattle.std.proofs.Common.{◌≡◌, ℕ, ◌+◌, ◌<◌, ◌≤◌, Bool, true, false, cond, nat_lt, Option, Some, None, unwrap_or, not, List, [], ◌∷◌, refl, sym, ap, ◌∙◌, subst, arith}
+use Rattle.std.proofs.Common.{◌≡◌, ℕ, ◌+◌, cond, nat_lt, Option, Some, None, List, [], ◌∷◌, refl, sym, ap, ◌∙◌, subst, arith}
 use Rattle.std.specs.Cmp.{IsTotalOrder}
 use Rattle.std.specs.declared.cmp.Ordering.{Ordering}
 use Rattle.std.specs.declared.cmp.Ordering.TheVariants.{Less, Equal, Greater}
 use Rattle.std.specs.List.{AllByRecursion, sum_by}
-use Rattle.std.specs.Option.{is_some}
 use Rattle.std.specs.Ordering.{is_eq, match_ordering}
-use Rattle.std.proofs.lemmas.Bool.{lt-ltb}
 use Rattle.std.proofs.lemmas.List.Sums.{sum_by-cons}
 use Rattle.covstore.specs.declared.kept.Tally.{Tally}
 use Rattle.covstore.specs.declared.sums.Tests.{Tests}
@@ -81,40 +79,3 @@ module _ {K : Type 0} {cmp : K → K → Ordering} (t : IsTotalOrder cmp) (key :
       let first = subst (λ (points : List (K × Tests)). IsTallyOf points held) (sym (stays ∙ ap (λ (points : PointsData K Tests). points.held) same)) are.0 in
       let there = tally_put before (e ∙ ap (value_of cmp key) (sym own)) coming more (subst (λ (points : List (K × Tests)). IsTallyOf points coming) (sym own) are.1) found hit in
       (first, subst (λ (points : List (K × Tests)). IsTallyOf points more) (sym (puts ∙ ap (put cmp key after) (ap (λ (points : PointsData K Tests). points.coming) same ∙ sym own))) there)
-
--- ---- the numbers of a point before
-
-pub new_as : (before : Option Tests) (none is : Bool) → is_some before ≡ not none → none ≡ is → one_if (is_new before) ≡ one_if is
-new_as before none is e f = ap (λ (b : Bool). one_if (not b)) e ∙ ap (λ (b : Bool). one_if (not (not b))) f ∙ twice is
-  where
-    twice : (b : Bool) → one_if (not (not b)) ≡ one_if b
-    twice true = refl
-    twice false = refl
-
-one_below : (n : ℕ) → 0 < n → one_if (nat_lt 0 n) ≡ 1
-one_below n less = ap one_if (lt-ltb 0 n less)
-
-pub hit_as : (before : Option Tests) (held : Tests) → held ≡ unwrap_or before (record { tests = 0; hit = 0 }) → one_if (is_above_at (λ tests. nat_lt 0 tests.hit) before) ≡ one_if (nat_lt 0 held.hit)
-hit_as None held e = ap (λ (tests : Tests). one_if (nat_lt 0 tests.hit)) (sym e)
-hit_as (Some is) held e = ap (λ (tests : Tests). one_if (nat_lt 0 tests.hit)) (sym e)
-
--- hit for the first time, not hit, and hit before
-pub hit_first : (before : Option Tests) (held : Tests) (hit more : ℕ) → held ≡ unwrap_or before (record { tests = 0; hit = 0 }) → held.hit ≡ 0 → 0 < held.hit + more
-    → hit + 1 + one_if (is_above_at (λ tests. nat_lt 0 tests.hit) before) ≡ hit + one_if (nat_lt 0 (held.hit + more))
-hit_first before held hit more e none less =
-    let was : one_if (nat_lt 0 held.hit) ≡ 0 = ap (λ (n : ℕ). one_if (nat_lt 0 n)) none in
-    omega (arith, hit_as before held e, was, one_below (held.hit + more) less)
-
-pub hit_not : (before : Option Tests) (held : Tests) (hit more : ℕ) → held ≡ unwrap_or before (record { tests = 0; hit = 0 }) → held.hit ≡ 0 → held.hit + more ≤ 0
-    → hit + one_if (is_above_at (λ tests. nat_lt 0 tests.hit) before) ≡ hit + one_if (nat_lt 0 (held.hit + more))
-hit_not before held hit more e none less =
-    let was : one_if (nat_lt 0 held.hit) ≡ 0 = ap (λ (n : ℕ). one_if (nat_lt 0 n)) none in
-    let is : held.hit + more ≡ 0 = omega arith in
-    let now : one_if (nat_lt 0 (held.hit + more)) ≡ 0 = ap (λ (n : ℕ). one_if (nat_lt 0 n)) is in
-    omega (arith, hit_as before held e, was, now)
-
-pub hit_already : (before : Option Tests) (held : Tests) (hit more : ℕ) → held ≡ unwrap_or before (record { tests = 0; hit = 0 }) → (held.hit ≡ 0 → ⊥)
-    → hit + one_if (is_above_at (λ tests. nat_lt 0 tests.hit) before) ≡ hit + one_if (nat_lt 0 (held.hit + more))
-hit_already before held hit more e some =
-    let less : 0 < held.hit = omega arith in
-    omega (arith, hit_as before held e, one_below held.hit less, one_below (held.hit + more) (omega arith))

@@ -12,7 +12,7 @@ ghost use Rattle.covstore.specs.declared.stop.Stop.TheVariants as stops;
 use crate::kept::Change;
 use crate::marks::Marks;
 use crate::stop::Stop;
-use crate::sums::{FunctionSum, LineSum, Taken};
+use crate::sums::{FunctionMore, FunctionSum, LineMore, LineSum, Taken, TakenMore};
 use crate::test::Test;
 use covline::{BranchPoint, Item};
 use std::alloc::Allocator;
@@ -84,16 +84,22 @@ fn add_line<A: Allocator + Copy>(
     ensures others { OnOk result (KeepsTextsOf (marks_coming marks.old) (marks_coming marks.new)) }
     ensures clash { IfErr result (IsClashOf (LineItem line count (option_map (λ c. c.now) checksum.entry)) (marks_coming marks.old)) }
 {
-    let before = test.lines.coming_at(line);
+    let has_checksum = checksum.is_some();
+    let added = test.lines.add(
+        alloc,
+        line,
+        LineMore {
+            count,
+            has_checksum,
+        },
+    )?;
     if let Some(text) = checksum {
-        let is_held = LineSum::is_checked(before);
+        let is_held = LineSum::is_checked(&added.before);
         marks.checksums.hold(alloc, line, text, is_held)?;
     }
-    let after = LineSum::with(before, count, checksum.is_some());
-    let was_above = LineSum::is_hit(before);
-    let change = Change::of(before.is_some(), was_above, after.count > 0);
+    let was_above = LineSum::is_hit(&added.before);
+    let change = Change::of(added.before.is_some(), was_above, added.after.is_above());
     marks.lines.add(alloc, line, change)?;
-    test.lines.put(alloc, line, after)?;
     Ok(())
 }
 
@@ -115,12 +121,12 @@ fn add_function<A: Allocator + Copy>(
     ensures others { OnOk result (KeepsTextsOf (marks_coming marks.old) (marks_coming marks.new)) }
     ensures clash { IfErr result (λ stop. stop ≡ stops.Memory) }
 {
-    let before = test.functions.coming_at(name);
-    let after = FunctionSum::with(before, line, count);
-    let was_above = FunctionSum::is_hit(before);
-    let change = Change::of(before.is_some(), was_above, after.count > 0);
+    let added = test
+        .functions
+        .add(alloc, name, FunctionMore { line, count })?;
+    let was_above = FunctionSum::is_hit(added.before);
+    let change = Change::of(added.before.is_some(), was_above, added.after.count > 0);
     marks.functions.add(alloc, name, change)?;
-    test.functions.put(alloc, name, after)?;
     Ok(())
 }
 
@@ -141,11 +147,9 @@ fn add_branch<A: Allocator + Copy>(
     ensures others { OnOk result (KeepsTextsOf (marks_coming marks.old) (marks_coming marks.new)) }
     ensures clash { IfErr result (λ stop. stop ≡ stops.Memory) }
 {
-    let before = test.branches.coming_at(point);
-    let after = Taken::with(before, taken);
-    let was_above = Taken::is_hit(before);
-    let change = Change::of(before.is_some(), was_above, after.is_above());
+    let added = test.branches.add(alloc, point, TakenMore { times: taken })?;
+    let was_above = Taken::is_hit(added.before);
+    let change = Change::of(added.before.is_some(), was_above, added.after.is_above());
     marks.branches.add(alloc, point, change)?;
-    test.branches.put(alloc, point, after)?;
     Ok(())
 }

@@ -7,7 +7,7 @@ ghost use Rattle.covstore.specs.Puts.{value_of};
 
 use crate::points::{Asked, Key, Points};
 use crate::slots::Place;
-use crate::sums::Tests;
+use crate::sums::{Tests, TestsMore};
 use std::alloc::{AllocError, Allocator};
 use std::marker::Model;
 
@@ -48,7 +48,25 @@ pub(crate) struct Tally {
 }
 
 impl Tally {
+    ghost use Rattle.std.specs.Prelude.{◌+◌, ◌≤◌, nat_lt};
+    ghost use Rattle.covstore.specs.Counts.{is_above_at, is_new, one_if};
     ghost use Rattle.covstore.specs.Fewer.{CanBeLess, IsLess};
+
+    /// The tally where a point's numbers rise: it is found where it had none, and hit where it is for the first time.
+    fn more(self, before: Option<Tests>, after: Tests) -> Tally
+        requires found { self.found < 2 ^ 63 }
+        requires hit { self.hit < 2 ^ 63 }
+        requires rises { IfSome before (λ held. held.hit ≤ after.hit) }
+        ensures found { result.found ≡ self.found + one_if (is_new before) }
+        ensures hit { result.hit + one_if (is_above_at (λ held. nat_lt 0 held.hit) before) ≡ self.hit + one_if (nat_lt 0 after.hit) }
+    {
+        let was_hit = Tests::is_hit(before);
+        let is_new = before.is_none();
+        Tally {
+            found: self.found + u64::from(is_new),
+            hit: self.hit + u64::from(after.hit > 0 && !was_hit),
+        }
+    }
 
     /// The tally where a point's numbers fall: it is found and hit no more where it was.
     fn less(self, before: Tests, after: Option<Tests>) -> Tally
@@ -118,29 +136,30 @@ impl<K: Key + Drop, A: Allocator + Copy> Kept<K, A> {
         ensures held { self.new.held ≡ self.old.held }
         ensures ok { OnOk result (self.new.coming ≡ changed K.cmp (Q.named asked) change self.old.coming) }
     {
-        let (found, hit) = match change {
+        let more = match change {
             Change::Same => return Ok(()),
-            Change::Hit => (0, 1),
-            Change::Found => (1, 0),
-            Change::FoundAndHit => (1, 1),
+            Change::Hit => TestsMore {
+                is_new: false,
+                is_hit: true,
+            },
+            Change::Found => TestsMore {
+                is_new: true,
+                is_hit: false,
+            },
+            Change::FoundAndHit => TestsMore {
+                is_new: true,
+                is_hit: true,
+            },
         };
-        let before = self.counts.coming_at(asked);
-        let held = before.unwrap_or(Tests { tests: 0, hit: 0 });
-        let after = Tests {
-            tests: held.tests + found,
-            hit: held.hit + hit,
+        let added = match self.counts.add(alloc, asked, more) {
+            Ok(added) => added,
+            Err(refused) => {
+                self.counts.forget();
+                self.coming = self.held;
+                return Err(refused);
+            }
         };
-        if let Err(refused) = self.counts.put(alloc, asked, after) {
-            self.counts.forget();
-            self.coming = self.held;
-            return Err(refused);
-        }
-        if before.is_none() {
-            self.coming.found += 1;
-        }
-        if held.hit == 0 && after.hit > 0 {
-            self.coming.hit += 1;
-        }
+        self.coming = self.coming.more(added.before, added.after);
         Ok(())
     }
 

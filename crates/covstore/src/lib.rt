@@ -46,6 +46,7 @@ mod sums;
 mod test;
 mod totals;
 mod values;
+mod wide;
 
 pub use content::{Branches, Functions, Lines, Section, Sections};
 pub use plan::Plan;

@@ -7,7 +7,7 @@ mod filled;
 mod key;
 
 pub(crate) use crate::points::filled::Filled;
-pub(crate) use crate::points::key::{Asked, Key};
+pub(crate) use crate::points::key::{Added, Asked, Key, More, Value, copy_of};
 use crate::slots::coming::Coming;
 use crate::slots::growth::make_slot;
 use crate::slots::{Place, Slots};
@@ -89,7 +89,7 @@ impl<K: Key, V: Drop, A: Allocator> Points<K, V, A> {
     }
 }
 
-impl<K: Key, V: Copy, A: Allocator> Points<K, V, A> {
+impl<K: Key, V: Value, A: Allocator> Points<K, V, A> {
     ghost use Rattle.std.specs.Prelude.{◌≡◌, true, is_some};
     ghost use Rattle.covstore.specs.Assigned.{assigned};
     ghost use Rattle.covstore.specs.Puts.{ArePairs, value_of};
@@ -159,9 +159,9 @@ impl<K: Key, V: Copy, A: Allocator> Points<K, V, A> {
     }
 }
 
-impl<K: Key + Drop, V: Copy, A: Allocator + Copy> Points<K, V, A> {
-    ghost use Rattle.std.specs.Prelude.{◌≡◌, OnOk};
-    ghost use Rattle.covstore.specs.Puts.{put};
+impl<K: Key + Drop, V: Value, A: Allocator + Copy> Points<K, V, A> {
+    ghost use Rattle.std.specs.Prelude.{◌≡◌, IfOk, OnOk};
+    ghost use Rattle.covstore.specs.Puts.{ArePairs, put, value_of};
 
     /// Puts a value into what is to come. Where memory is refused, anything may be to come after that, and is best
     /// forgotten.
@@ -178,5 +178,27 @@ impl<K: Key + Drop, V: Copy, A: Allocator + Copy> Points<K, V, A> {
         self.cursor = place;
         self.slots.are_whole();
         self.coming.put(alloc, &self.slots, place, value)
+    }
+
+    /// Adds to the value that is to come for what is asked for, in one look-up, and tells the value before and after.
+    /// Where memory is refused, anything may be to come after that, and is best forgotten.
+    pub(crate) fn add<Q: Asked<K, A>, M: More<V>>(
+        &mut self,
+        alloc: A,
+        asked: Q,
+        more: M,
+    ) -> Result<Added<V>, AllocError>
+        requires { M.fits more (value_of K.cmp (Q.named asked) self.old.coming) }
+        ensures now { self.new.held ≡ self.old.held }
+        ensures before { IfOk result (λ added. added.before ≡ value_of K.cmp (Q.named asked) self.old.coming) }
+        ensures after { IfOk result (λ added. added.after ≡ M.sum more added.before) }
+        ensures ok { IfOk result (λ added. self.new.coming ≡ put K.cmp (Q.named asked) added.after self.old.coming) }
+        ensures coming { ArePairs K.cmp self.old.coming }
+    {
+        self.slots.are_whole();
+        let place = make_slot(&mut self.slots, &mut self.coming, alloc, asked, self.cursor)?;
+        self.cursor = place;
+        self.slots.are_whole();
+        self.coming.add(alloc, &self.slots, place, more)
     }
 }

@@ -15,7 +15,7 @@ ghost use Rattle.covstore.specs.SlotPlace.{at};
 pub(crate) mod coming;
 pub(crate) mod growth;
 
-use crate::points::{Asked, Filled, Key};
+use crate::points::{Asked, Filled, Key, Value, copy_of};
 use std::alloc::{AllocError, Allocator};
 use std::cmp::Ordering;
 use std::marker::Model;
@@ -212,13 +212,13 @@ impl<K: Key, V, A: Allocator> Slots<K, V, A> {
     }
 }
 
-impl<K: Key, V: Copy, A: Allocator> Slots<K, V, A> {
+impl<K: Key, V: Value, A: Allocator> Slots<K, V, A> {
     /// The value in the slot at a place.
     pub(crate) fn value_at(&self, place: Place) -> Option<V>
         ensures { result ≡ value_at self.now (at place) }
     {
         match self.slot_at(place) {
-            Some(slot) => slot.1,
+            Some(slot) => copy_of(&slot.1),
             None => None,
         }
     }
@@ -227,7 +227,10 @@ impl<K: Key, V: Copy, A: Allocator> Slots<K, V, A> {
     fn column(&self, alloc: A, number: usize) -> Result<Vec<Option<V>, A>, AllocError>
         ensures { IfOk result (λ column. column.items ≡ column_of (page_at self.now number)) }
     {
-        self.page(number).iter().map(|slot| slot.1).collect(alloc)
+        self.page(number)
+            .iter()
+            .map(|slot| copy_of(&slot.1))
+            .collect(alloc)
     }
 
     /// Writes these values into the slots of a page.
@@ -325,17 +328,17 @@ fn index_of<K: Key, V, A: Allocator, Q: Asked<K, A>>(page: &[(K, Option<V>)], as
 }
 
 /// Writes these values into the slots of one page.
-fn fill_page<K, V: Copy>(page: &mut [(K, Option<V>)], column: &[Option<V>])
+fn fill_page<K, V: Value>(page: &mut [(K, Option<V>)], column: &[Option<V>])
     requires { length column.now ≡ length page.old }
     ensures { page.new ≡ with_column page.old column.now }
 {
     for index in 0..column.len() {
-        page[index].1 = column[index];
+        page[index].1 = copy_of(&column[index]);
     }
 }
 
 /// Writes a value, or none, into a slot of one page.
-fn write_slot<K, V: Copy>(page: &mut [(K, Option<V>)], index: usize, value: Option<V>)
+fn write_slot<K, V: Value>(page: &mut [(K, Option<V>)], index: usize, value: Option<V>)
     requires { index < length page.old }
     ensures { page.new ≡ with_column page.old (slice_set (column_of page.old) index value) }
 {

@@ -1,15 +1,18 @@
 //! What the items of a file and a test add up to at a point, and in how many tests a file has a point.
 
 ghost use Rattle.std.specs.Prelude.{◌≡◌, ◌+◌, ◌^◌, ◌<◌, IfSome};
-ghost use Rattle.covstore.specs.Counts.{is_above_at};
+ghost use Rattle.covstore.specs.Counts.{is_above_at, tests_more};
 ghost use Rattle.covstore.specs.State.{branch_above, function_above, has_checksum, line_above};
 ghost use Rattle.covstore.specs.Sums.{branch_fits, branch_with, function_with, line_with};
 ghost use Rattle.covstore.specs.Value.{is_taken};
 
+use crate::points::{More, Value};
+use crate::wide::Wide;
+
 /// A line: the sum of its execution counts, and whether an item has a checksum of it (geninfo(1): `DA:`).
-#[derive(Clone, Copy)]
+#[derive(Drop)]
 pub(crate) struct LineSum {
-    pub count: u128,
+    pub count: Wide,
     pub has_checksum: bool,
 }
 
@@ -24,6 +27,93 @@ pub(crate) struct FunctionSum {
 #[derive(Clone, Copy)]
 pub(crate) struct Taken {
     pub times: Option<u128>,
+}
+
+/// A line's item: its count, and whether it has a checksum.
+#[derive(Clone, Copy)]
+pub(crate) struct LineMore {
+    pub count: u64,
+    pub has_checksum: bool,
+}
+
+impl More<LineSum> for LineMore {
+    ghost fits = { λ more held. IfSome held (λ sum. sum.count + more.count < 2 ^ 128) };
+
+    ghost sum = { λ more held. line_with more.count more.has_checksum held };
+
+    fn with(self, held: &Option<LineSum>) -> LineSum
+        requires { IfSome held.now (λ sum. sum.count + self.count < 2 ^ 128) }
+        ensures { result ≡ line_with self.count self.has_checksum held.now }
+    {
+        LineSum::with(held, self.count, self.has_checksum)
+    }
+}
+
+/// A function's item: its start line and its count.
+#[derive(Clone, Copy)]
+pub(crate) struct FunctionMore {
+    pub line: u64,
+    pub count: u64,
+}
+
+impl More<FunctionSum> for FunctionMore {
+    ghost fits = { λ more held. IfSome held (λ sum. sum.count + more.count < 2 ^ 128) };
+
+    ghost sum = { λ more held. function_with more.line more.count held };
+
+    fn with(self, held: &Option<FunctionSum>) -> FunctionSum
+        requires { IfSome held.now (λ sum. sum.count + self.count < 2 ^ 128) }
+        ensures { result ≡ function_with self.line self.count held.now }
+    {
+        FunctionSum::with(*held, self.line, self.count)
+    }
+}
+
+/// A branch's item: how often it was taken, none where its block was never executed.
+#[derive(Clone, Copy)]
+pub(crate) struct TakenMore {
+    pub times: Option<u64>,
+}
+
+impl More<Taken> for TakenMore {
+    ghost fits = { λ more held. branch_fits more.times held };
+
+    ghost sum = { λ more held. branch_with more.times held };
+
+    fn with(self, held: &Option<Taken>) -> Taken
+        requires { branch_fits self.times held.now }
+        ensures { result ≡ branch_with self.times held.now }
+    {
+        Taken::with(*held, self.times)
+    }
+}
+
+/// What a test adds to the numbers of a point: whether it has the point now, and whether it has it above 0 for the first
+/// time.
+#[derive(Clone, Copy)]
+pub(crate) struct TestsMore {
+    pub is_new: bool,
+    pub is_hit: bool,
+}
+
+impl More<Tests> for TestsMore {
+    ghost fits = { λ more held. IfSome held (λ tests. (tests.tests < 2 ^ 63) × (tests.hit < 2 ^ 63)) };
+
+    ghost sum = { λ more held. tests_more more.is_new more.is_hit held };
+
+    fn with(self, held: &Option<Tests>) -> Tests
+        requires { IfSome held.now (λ tests. (tests.tests < 2 ^ 63) × (tests.hit < 2 ^ 63)) }
+        ensures { result ≡ tests_more self.is_new self.is_hit held.now }
+    {
+        let (tests, hit) = match held {
+            Some(held) => (held.tests, held.hit),
+            None => (0, 0),
+        };
+        Tests {
+            tests: if self.is_new { tests + 1 } else { tests },
+            hit: if self.is_hit { hit + 1 } else { hit },
+        }
+    }
 }
 
 /// How many tests of a file have a point, and how many have it above 0.
@@ -59,33 +149,81 @@ impl Tests {
     }
 }
 
+impl Value for LineSum {
+    fn copy(&self) -> LineSum
+        ensures { result ≡ self.now }
+    {
+        LineSum {
+            count: self.count.copy(),
+            has_checksum: self.has_checksum,
+        }
+    }
+}
+
+impl Value for FunctionSum {
+    fn copy(&self) -> FunctionSum
+        ensures { result ≡ self.now }
+    {
+        *self
+    }
+}
+
+impl Value for Taken {
+    fn copy(&self) -> Taken
+        ensures { result ≡ self.now }
+    {
+        *self
+    }
+}
+
+impl Value for Tests {
+    fn copy(&self) -> Tests
+        ensures { result ≡ self.now }
+    {
+        *self
+    }
+}
+
 impl LineSum {
     /// Whether the line is there, with a count above 0.
-    pub(crate) fn is_hit(held: Option<LineSum>) -> bool
-        ensures { result ≡ is_above_at line_above held }
+    pub(crate) fn is_hit(held: &Option<LineSum>) -> bool
+        ensures { result ≡ is_above_at line_above held.now }
     {
-        held.is_some_and(|sum| sum.count > 0)
+        match held {
+            Some(sum) => sum.is_above(),
+            None => false,
+        }
+    }
+
+    /// Whether the count is above 0.
+    pub(crate) fn is_above(&self) -> bool
+        ensures { result ≡ line_above self.now }
+    {
+        self.count.is_above()
     }
 
     /// Whether the line is there, with a checksum.
-    pub(crate) fn is_checked(held: Option<LineSum>) -> bool
-        ensures { result ≡ is_above_at has_checksum held }
+    pub(crate) fn is_checked(held: &Option<LineSum>) -> bool
+        ensures { result ≡ is_above_at has_checksum held.now }
     {
-        held.is_some_and(|sum| sum.has_checksum)
+        match held {
+            Some(sum) => sum.has_checksum,
+            None => false,
+        }
     }
 
     /// The sum with one count more.
-    pub(crate) fn with(held: Option<LineSum>, count: u64, has_checksum: bool) -> LineSum
-        requires { IfSome held (λ sum. sum.count + count < 2 ^ 128) }
-        ensures { result ≡ line_with count has_checksum held }
+    pub(crate) fn with(held: &Option<LineSum>, count: u64, has_checksum: bool) -> LineSum
+        requires { IfSome held.now (λ sum. sum.count + count < 2 ^ 128) }
+        ensures { result ≡ line_with count has_checksum held.now }
     {
         match held {
             Some(sum) => LineSum {
-                count: sum.count + u128::from(count),
+                count: sum.count.plus(count),
                 has_checksum: sum.has_checksum || has_checksum,
             },
             None => LineSum {
-                count: u128::from(count),
+                count: Wide::of(count),
                 has_checksum,
             },
         }

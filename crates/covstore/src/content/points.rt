@@ -155,7 +155,7 @@ impl<'a, A: Allocator> Iterator for Lines<'a, A> {
         };
         Some(LineValue {
             line: *line,
-            count: sum.count,
+            count: sum.count.get(),
             checksum,
         })
     }

@@ -26,7 +26,7 @@ pub(super) fn drop_lines<A: Allocator + Copy>(
     kept.forget();
     lines.are_whole();
     for (line, sum) in lines.filled() {
-        kept.remove(*line, LineSum::is_hit(Some(*sum)));
+        kept.remove(*line, sum.is_above());
     }
 }
 
@@ -92,7 +92,7 @@ pub(super) fn lines_without<A: Allocator>(
     let mut walk = kept.walk();
     lines.are_whole();
     for (line, sum) in lines.filled() {
-        walk = kept.pass(walk, *line, LineSum::is_hit(Some(*sum)));
+        walk = kept.pass(walk, *line, sum.is_above());
     }
     walk.tally
 }

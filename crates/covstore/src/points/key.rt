@@ -1,6 +1,7 @@
-//! The keys of points, and what they are looked up by: a number, a branch, or for a name its bytes.
+//! The keys of points, what they are looked up by (a number, a branch, or for a name its bytes), and what is added to
+//! their values.
 
-ghost use Rattle.std.specs.Prelude.{◌≡◌, IfOk};
+ghost use Rattle.std.specs.Prelude.{◌≡◌, Option, IfOk};
 ghost use Rattle.std.specs.declared.cmp.Ordering.{Ordering};
 ghost use Rattle.std.specs.declared.cmp.Ordering.TheVariants.{Equal};
 ghost use Rattle.std.specs.Cmp.{IsTotalOrder};
@@ -34,6 +35,50 @@ pub(crate) trait Asked<K: Key, A: Allocator>: Copy {
     /// The key itself, in memory of its own.
     fn key(self, alloc: A) -> Result<K, AllocError>
         ensures { IfOk result (λ key. key ≡ named self) };
+}
+
+/// A value of a point. A copy of it takes no memory.
+pub(crate) trait Value: Drop {
+    /// The same value once more.
+    fn copy(&self) -> Self
+        ensures { result ≡ self.now };
+}
+
+/// The same value once more, where there is one.
+pub(crate) fn copy_of<V: Value>(held: &Option<V>) -> Option<V>
+    ensures { result ≡ held.now }
+{
+    match held {
+        Some(value) => Some(value.copy()),
+        None => None,
+    }
+}
+
+impl Value for u64 {
+    fn copy(&self) -> u64
+        ensures { result ≡ self.now }
+    {
+        *self
+    }
+}
+
+/// What is added to a value, where there may be none yet.
+pub(crate) trait More<V>: Copy {
+    ghost fits: { Self → Option V → Type 0 };
+
+    ghost sum: { Self → Option V → V };
+
+    /// The value with this more.
+    fn with(self, held: &Option<V>) -> V
+        requires { fits self held.now }
+        ensures { result ≡ sum self held.now };
+}
+
+/// A value before something was added to it, and after.
+#[derive(Drop)]
+pub(crate) struct Added<V> {
+    pub before: Option<V>,
+    pub after: V,
 }
 
 impl Key for u64 {

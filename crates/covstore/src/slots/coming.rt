@@ -6,7 +6,7 @@ ghost use Rattle.covstore.specs.Coming.{AreAscending, AreColumnsOf, IsSplit, IsT
 ghost use Rattle.covstore.specs.SlotPlace.{at};
 ghost use Rattle.covstore.specs.Slots.{lead, page_at, value_at, value_in};
 
-use crate::points::Key;
+use crate::points::{Added, Key, More, Value, copy_of};
 use crate::slots::{HALF, Place, Slots};
 use std::alloc::{AllocError, Allocator};
 use std::marker::Model;
@@ -87,7 +87,7 @@ impl<V: Drop, A: Allocator> Coming<V, A> {
     }
 }
 
-impl<V: Copy, A: Allocator> Coming<V, A> {
+impl<V: Value, A: Allocator> Coming<V, A> {
     /// Sees to it that the page has a column, and tells which one. Nothing else is to come by that.
     fn touch<K: Key>(
         &mut self,
@@ -129,6 +129,31 @@ impl<V: Copy, A: Allocator> Coming<V, A> {
         Ok(())
     }
 
+    /// Adds to the value that is to come at the place of a slot, and tells it before and after.
+    pub(crate) fn add<K: Key, M: More<V>>(
+        &mut self,
+        alloc: A,
+        slots: &Slots<K, V, A>,
+        place: Place,
+        more: M,
+    ) -> Result<Added<V>, AllocError>
+        requires page { place.page < length slots.now }
+        requires slot { place.index < length (page_at slots.now place.page) }
+        requires columns { AreColumnsOf slots.now self.old }
+        requires fits { M.fits more (value_at (coming_of slots.now self.old) (at place)) }
+        ensures columns { AreColumnsOf slots.now self.new }
+        ensures before { IfOk result (λ added. added.before ≡ value_at (coming_of slots.now self.old) (at place)) }
+        ensures after { IfOk result (λ added. added.after ≡ M.sum more added.before) }
+        ensures ok { IfOk result (λ added. coming_of slots.now self.new ≡ with_value_at (at place) added.after (coming_of slots.now self.old)) }
+        ensures err { OnErr result (self.new ≡ self.old) }
+    {
+        let index = self.touch(alloc, slots, place.page)?;
+        let before = self.value_of(index, place.index);
+        let after = more.with(&before);
+        self.columns[index].1[place.index] = Some(after.copy());
+        Ok(Added { before, after })
+    }
+
     /// The value that is to come at the place of a slot.
     pub(crate) fn value_at<K: Key>(&self, slots: &Slots<K, V, A>, place: Place) -> Option<V>
         requires page { place.page < length slots.now }
@@ -148,7 +173,7 @@ impl<V: Copy, A: Allocator> Coming<V, A> {
     {
         match self.columns.get(index) {
             Some(column) => match column.1.get(at) {
-                Some(value) => *value,
+                Some(value) => copy_of(value),
                 None => None,
             },
             None => None,
@@ -156,7 +181,7 @@ impl<V: Copy, A: Allocator> Coming<V, A> {
     }
 }
 
-impl<V: Copy, A: Allocator + Copy> Coming<V, A> {
+impl<V: Value, A: Allocator + Copy> Coming<V, A> {
     /// Makes room for a slot that is put in at a place: nothing is to come into it.
     pub(crate) fn insert_empty(&mut self, place: Place) -> Result<(), AllocError>
         requires { AllByRecursion (λ column. column.0 ≡ place.page → place.index ≤ length column.1) self.old }

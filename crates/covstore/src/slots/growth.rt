@@ -9,13 +9,13 @@ ghost use Rattle.covstore.specs.Coming.{AreColumnsOf, coming_of};
 ghost use Rattle.covstore.specs.SlotPlace.{at};
 ghost use Rattle.covstore.specs.Slots.{IsGap, IsPlace, filled, page_at, slots_of, with_page_split};
 
-use crate::points::{Asked, Key};
+use crate::points::{Asked, Key, Value};
 use crate::slots::coming::Coming;
 use crate::slots::{HALF, PAGE, Place, Slots};
 use std::alloc::{AllocError, Allocator};
 
 /// Sees to it that what is asked for has a slot, an empty one where none was there, and tells its place.
-pub(crate) fn make_slot<K: Key + Drop, V: Copy, A: Allocator + Copy, Q: Asked<K, A>>(
+pub(crate) fn make_slot<K: Key + Drop, V: Value, A: Allocator + Copy, Q: Asked<K, A>>(
     slots: &mut Slots<K, V, A>,
     coming: &mut Coming<V, A>,
     alloc: A,
@@ -38,7 +38,7 @@ pub(crate) fn make_slot<K: Key + Drop, V: Copy, A: Allocator + Copy, Q: Asked<K,
 }
 
 /// Puts an empty slot where it would go.
-fn put_slot<K: Key + Drop, V: Copy, A: Allocator + Copy>(
+fn put_slot<K: Key + Drop, V: Value, A: Allocator + Copy>(
     slots: &mut Slots<K, V, A>,
     coming: &mut Coming<V, A>,
     alloc: A,
@@ -59,7 +59,7 @@ fn put_slot<K: Key + Drop, V: Copy, A: Allocator + Copy>(
 }
 
 /// Puts an empty slot on a page that is there.
-fn put_within<K: Key + Drop, V: Copy, A: Allocator + Copy>(
+fn put_within<K: Key + Drop, V: Value, A: Allocator + Copy>(
     slots: &mut Slots<K, V, A>,
     coming: &mut Coming<V, A>,
     place: Place,
@@ -88,7 +88,7 @@ fn put_within<K: Key + Drop, V: Copy, A: Allocator + Copy>(
 }
 
 /// Puts an empty slot behind all others.
-fn put_behind<K: Key + Drop, V: Copy, A: Allocator + Copy>(
+fn put_behind<K: Key + Drop, V: Value, A: Allocator + Copy>(
     slots: &mut Slots<K, V, A>,
     coming: &mut Coming<V, A>,
     alloc: A,
@@ -117,7 +117,7 @@ fn put_behind<K: Key + Drop, V: Copy, A: Allocator + Copy>(
 }
 
 /// Puts an empty slot on a page that has room for it.
-fn put_at<K: Key + Drop, V: Copy, A: Allocator + Copy>(
+fn put_at<K: Key + Drop, V: Value, A: Allocator + Copy>(
     slots: &mut Slots<K, V, A>,
     coming: &mut Coming<V, A>,
     place: Place,
@@ -143,7 +143,7 @@ fn put_at<K: Key + Drop, V: Copy, A: Allocator + Copy>(
 }
 
 /// Cuts a full page in two.
-fn split<K: Key + Drop, V: Copy, A: Allocator + Copy>(
+fn split<K: Key + Drop, V: Value, A: Allocator + Copy>(
     slots: &mut Slots<K, V, A>,
     coming: &mut Coming<V, A>,
     number: usize,

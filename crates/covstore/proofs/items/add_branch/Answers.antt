@@ -2,13 +2,10 @@ use Rattle.std.proofs.Common.{◌<◌, ◌^◌, Option, List, refl, sym, ap, ◌
 use Rattle.std.specs.Option.{IfSome}
 use Rattle.covline.specs.Points.{BranchPoint}
 use Rattle.covline.specs.PointView.{branch_point_data}
-use Rattle.covline.specs.declared.point.BranchPoint as code
 use Rattle.covstore.specs.declared.sums.Taken.{Taken}
 use Rattle.covstore.specs.declared.sums.Tests.{Tests}
 use Rattle.covstore.specs.Changes.{change_of}
 use Rattle.covstore.specs.Counts.{is_above_at}
-use Rattle.covstore.specs.KeyOrders.{code_branch_cmp}
-use Rattle.covstore.specs.PointsData.{PointsData}
 use Rattle.covstore.specs.Puts.{put}
 use Rattle.covstore.specs.State.{branch_above}
 use Rattle.covstore.specs.Sums.{TestData, branch_fits, branch_with}
@@ -18,14 +15,11 @@ use Rattle.covstore.proofs.StepsKept.{keeps_branch, room_for}
 use Rattle.covstore.proofs.StepsCounts.{branch_stays, changed_as, seen-changed, seen-put, value_of-seen}
 use Rattle.covstore.proofs.items.add_branch.Goals as goal
 
-pub with-after-requires : goal.with-after-requires
-with-after-requires g c =
-    let before = c.coming_at-before in
-    let same = before.ensures.value ∙ sym (value_of-seen branch_cmp branch_point_data c.args.point c.args.test.now.branches.coming) in
-    subst (λ (held : Option Taken). branch_fits c.args.taken held) (sym same) c.requires.fits
+pub add-requires : goal.add-requires
+add-requires g c = subst (branch_fits c.args.taken) (value_of-seen branch_cmp branch_point_data c.args.point c.args.test.now.branches.coming) c.requires.fits
 
-pub add-requires-clause-room : goal.add-requires-clause-room
-add-requires-clause-room g c =
+pub add-requires-2-clause-room : goal.add-requires-2-clause-room
+add-requires-2-clause-room g c =
     let room = c.requires.room in
     let counts = c.args.marks.now.branches.coming in
     subst (λ (value : Option Tests). IfSome value (λ held. (held.tests < 2 ^ 63) × (held.hit < 2 ^ 63))) (value_of-seen branch_cmp branch_point_data c.args.point counts)
@@ -34,30 +28,30 @@ add-requires-clause-room g c =
 pub returns-clause-test : goal.returns-clause-test
 returns-clause-test g c =
     let point = branch_point_data c.args.point in
-    let value = c.with-after.result in
-    let before = c.coming_at-before in
+    let value = c.in_ok-added.added.after in
+    let before = c.in_ok-added in
     let test = c.args.test.now in
     let pairs = test.branches.coming in
-    let given = before.ensures.value ∙ sym (value_of-seen branch_cmp branch_point_data c.args.point pairs) in
-    let puts = ap branches_data (c.in_ok-put.ensures.ok ∙ ap (λ (points : PointsData code.BranchPoint Taken). put code_branch_cmp c.args.point value points.coming) before.ensures.same)
+    let given = before.ensures.before ∙ sym (value_of-seen branch_cmp branch_point_data c.args.point pairs) in
+    let puts = ap branches_data (c.in_ok-added.ensures.ok)
     ∙ seen-put branch_cmp branch_point_data c.args.point value pairs in
     let made : List (BranchPoint × Taken) → TestData = λ own. record { lines = test.lines.coming; functions = test.functions.coming; branches = own } in
-    ap made (puts ∙ ap (λ (sum : Taken). put branch_cmp point sum (branches_data pairs)) (c.with-after.ensures ∙ ap (branch_with c.args.taken) given))
+    ap made (puts ∙ ap (λ (sum : Taken). put branch_cmp point sum (branches_data pairs)) (c.in_ok-added.ensures.after ∙ ap (branch_with c.args.taken) given))
 
 pub returns-clause-counts : goal.returns-clause-counts
 returns-clause-counts g c =
     let point = branch_point_data c.args.point in
-    let value = c.with-after.result in
-    let before = c.coming_at-before in
+    let value = c.in_ok-added.added.after in
+    let before = c.in_ok-added in
     let pairs = c.args.test.now.branches.coming in
     let counts = c.args.marks.now.branches.coming in
-    let given = before.ensures.value ∙ sym (value_of-seen branch_cmp branch_point_data c.args.point pairs) in
+    let given = before.ensures.before ∙ sym (value_of-seen branch_cmp branch_point_data c.args.point pairs) in
     let kept = ap branches_data c.in_ok-add.ensures.ok
     ∙ seen-changed branch_cmp branch_point_data c.args.point c.of-change.result counts
-    ∙ changed_as branch_cmp branch_above point (branches_data counts) c.of-change.result c.is_some.result c.is_hit-was_above.result before.result _ value
+    ∙ changed_as branch_cmp branch_above point (branches_data counts) c.of-change.result c.is_some.result c.is_hit-was_above.result before.added.before _ value
     (c.of-change.ensures ∙ ap (change_of c.is_some.result c.is_hit-was_above.result) c.is_above.ensures) c.is_some.ensures c.is_hit-was_above.ensures given in
-    let puts = ap branches_data (c.in_ok-put.ensures.ok ∙ ap (λ (points : PointsData code.BranchPoint Taken). put code_branch_cmp c.args.point value points.coming) before.ensures.same)
+    let puts = ap branches_data (c.in_ok-added.ensures.ok)
     ∙ seen-put branch_cmp branch_point_data c.args.point value pairs in
     keeps_branch _ _ _ _ point value
-    (λ above. ap branch_above c.with-after.ensures ∙ branch_stays c.args.taken before.result (ap (is_above_at branch_above) given ∙ above))
+    (λ above. ap branch_above c.in_ok-added.ensures.after ∙ branch_stays c.args.taken before.added.before (ap (is_above_at branch_above) given ∙ above))
     refl refl puts refl refl kept refl

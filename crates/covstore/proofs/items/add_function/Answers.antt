@@ -1,10 +1,7 @@
-use Rattle.std.proofs.Common.{List, ℕ, refl, ap, ◌∙◌}
+use Rattle.std.proofs.Common.{refl, ap, ◌∙◌}
 use Rattle.std.specs.Cmp.Lexicographic.{slice_cmp}
 use Rattle.std.specs.Ordering.{nat_cmp}
-use Rattle.covstore.specs.declared.sums.FunctionSum.{FunctionSum}
 use Rattle.covstore.specs.Counts.{is_above_at}
-use Rattle.covstore.specs.PointsData.{PointsData}
-use Rattle.covstore.specs.Puts.{put}
 use Rattle.covstore.specs.State.{function_above}
 use Rattle.covstore.proofs.StepsKept.{keeps_function}
 use Rattle.covstore.proofs.StepsCounts.{changed_as, function_stays}
@@ -13,12 +10,12 @@ use Rattle.covstore.proofs.items.add_function.Goals as goal
 pub returns-clause-counts : goal.returns-clause-counts
 returns-clause-counts g c =
     let name = c.args.name.now in
-    let value = c.with-after.result in
-    let before = c.coming_at-before in
+    let value = c.in_ok-added.added.after in
+    let before = c.in_ok-added in
     let kept = c.in_ok-add.ensures.ok
-    ∙ changed_as (slice_cmp nat_cmp) function_above name c.args.marks.now.functions.coming c.of-change.result c.is_some.result c.is_hit-was_above.result before.result _ value
-    c.of-change.ensures c.is_some.ensures c.is_hit-was_above.ensures before.ensures.value in
-    let puts = c.in_ok-put.ensures.ok ∙ ap (λ (points : PointsData (List ℕ) FunctionSum). put (slice_cmp nat_cmp) name value points.coming) before.ensures.same in
+    ∙ changed_as (slice_cmp nat_cmp) function_above name c.args.marks.now.functions.coming c.of-change.result c.is_some.result c.is_hit-was_above.result before.added.before _ value
+    c.of-change.ensures c.is_some.ensures c.is_hit-was_above.ensures before.ensures.before in
+    let puts = c.in_ok-added.ensures.ok in
     keeps_function _ _ _ _ name value
-    (λ above. ap function_above c.with-after.ensures ∙ function_stays c.args.line c.args.count before.result (ap (is_above_at function_above) before.ensures.value ∙ above))
+    (λ above. ap function_above c.in_ok-added.ensures.after ∙ function_stays c.args.line c.args.count before.added.before (ap (is_above_at function_above) before.ensures.before ∙ above))
     refl puts refl refl kept refl refl

@@ -12,6 +12,7 @@ loop-index-preserved g c =
     let slot = c.index-page-index.result in
     let value = c.index-column-index.result in
     let within : index < length c.args.column.now = omega (arith, c.loop-index-test.true) in
-    ap (λ (slot : _). set page index (slot.0, value)) (sym c.index-page-index.is)
+    ap (λ (copy : _). set page index ((get_or page index slot).0, copy)) c.copy_of.ensures
+    ∙ ap (λ (slot : _). set page index (slot.0, value)) (sym c.index-page-index.is)
     ∙ ap (λ page. set page index (slot.0, value)) c.loop-index.invariant
     ∙ value_more c.args.page.now c.args.column.now index slot value c.requires within (c.index-page-index.is ∙ ap (λ page. get_or page index slot) c.loop-index.invariant) c.index-column-index.is

@@ -7,12 +7,12 @@ use Rattle.covstore.proofs.marks.drops.drop_lines.Goals as goal
 pub remove-requires : goal.remove-requires
 remove-requires g c =
     losing_can lines_order line_above c.args.lines.now.held c.args.kept.now.held
-    c.in-Some.line.now c.in-Some.sum.now c.in-Some.line.now refl c.is_hit.result c.is_hit.ensures c.loop-line.line-iterator c.next.new.self c.in-Some.ensures.steps c.loop-line.kept.held c.loop-line.invariant.0 c.requires
+    c.in-Some.line.now c.in-Some.sum.now c.in-Some.line.now refl c.is_above.result c.is_above.ensures c.loop-line.line-iterator c.next.new.self c.in-Some.ensures.steps c.loop-line.kept.held c.loop-line.invariant.0 c.requires
 
 pub loop-line-preserved : goal.loop-line-preserved
 loop-line-preserved g c = (
   losing_more lines_order line_above c.args.lines.now.held c.args.kept.now.held
-      c.in-Some.line.now c.in-Some.sum.now c.in-Some.line.now refl c.is_hit.result c.is_hit.ensures c.loop-line.line-iterator c.next.new.self c.in-Some.ensures.steps c.loop-line.kept.held c.loop-line.invariant.0
+      c.in-Some.line.now c.in-Some.sum.now c.in-Some.line.now refl c.is_above.result c.is_above.ensures c.loop-line.line-iterator c.next.new.self c.in-Some.ensures.steps c.loop-line.kept.held c.loop-line.invariant.0
       c.remove.new.self.held c.remove.ensures.held,
   c.remove.ensures.coming,
 )
