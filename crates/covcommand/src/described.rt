@@ -1,0 +1,127 @@
+//! What clap is told of the command line.
+
+ghost use Rattle.std.specs.Prelude.{◌≡◌, IfOk, false, codes};
+ghost use Rattle.clap.specs.Words.{app_of, fields_of, with_rule};
+ghost use Rattle.covcommand.specs.CommandLine.{
+    several as several_rule, single, jobs as jobs_rule, test as test_rule, merge as merge_app,
+    summary as summary_app, extract as extract_app, remove as remove_app, gcov as gcov_app,
+    covcollect};
+ghost use Rattle.covcommand.specs.Built.{IsAlone, IsLocal};
+
+use crate::help;
+use clap::{Arg, ArgAction, Command, value_parser};
+use std::alloc::{AllocError, Global};
+
+/// The command with its subcommands.
+pub(crate) fn described(alloc: Global) -> Result<Command<'static>, AllocError>
+    ensures { IfOk result (λ c. app_of c ≡ covcollect) }
+{
+    let program = Command::new(alloc, "covcollect")
+        .about(help::PROGRAM)
+        .after_help(help::PROGRAM_END)
+        .disable_help_subcommand(true);
+    program
+        .subcommand(merge(alloc)?)?
+        .subcommand(summary(alloc)?)?
+        .subcommand(extract(alloc)?)?
+        .subcommand(remove(alloc)?)?
+        .subcommand(gcov(alloc)?)
+}
+
+fn merge(alloc: Global) -> Result<Command<'static>, AllocError>
+    ensures { IfOk result (IsAlone merge_app) }
+{
+    let merge = Command::new(alloc, "merge")
+        .about(help::MERGE)
+        .after_help(help::MERGE_END);
+    merge
+        .arg(several(alloc, "FILE", help::TRACEFILES))?
+        .arg(jobs(alloc))
+}
+
+fn summary(alloc: Global) -> Result<Command<'static>, AllocError>
+    ensures { IfOk result (IsAlone summary_app) }
+{
+    let summary = Command::new(alloc, "summary")
+        .about(help::SUMMARY)
+        .after_help(help::SUMMARY_END);
+    summary.arg(several(alloc, "FILE", help::TRACEFILES))
+}
+
+fn extract(alloc: Global) -> Result<Command<'static>, AllocError>
+    ensures { IfOk result (IsAlone extract_app) }
+{
+    let extract = Command::new(alloc, "extract")
+        .about(help::EXTRACT)
+        .after_help(help::EXTRACT_END);
+    extract
+        .arg(tracefile(alloc))?
+        .arg(several(alloc, "PATTERN", help::PATTERNS))
+}
+
+fn remove(alloc: Global) -> Result<Command<'static>, AllocError>
+    ensures { IfOk result (IsAlone remove_app) }
+{
+    let remove = Command::new(alloc, "remove")
+        .about(help::REMOVE)
+        .after_help(help::REMOVE_END);
+    remove
+        .arg(tracefile(alloc))?
+        .arg(several(alloc, "PATTERN", help::PATTERNS))
+}
+
+fn gcov(alloc: Global) -> Result<Command<'static>, AllocError>
+    ensures { IfOk result (IsAlone gcov_app) }
+{
+    let gcov = Command::new(alloc, "gcov")
+        .about(help::GCOV)
+        .after_help(help::GCOV_END);
+    gcov.arg(several(alloc, "FILE", help::SOURCES))?
+        .arg(test(alloc))
+}
+
+/// A required argument of one word or more.
+fn several(alloc: Global, id: &'static str, help: &'static str) -> Arg<'static>
+    ensures { IsLocal (several_rule id.entry.now) result }
+{
+    Arg::new(alloc, id)
+        .required(true)
+        .num_args(1..)
+        .action(ArgAction::Append)
+        .help(help)
+}
+
+/// The tracefile that is filtered.
+fn tracefile(alloc: Global) -> Arg<'static>
+    ensures { IsLocal (single (codes "TRACEFILE")) result }
+{
+    Arg::new(alloc, "TRACEFILE")
+        .required(true)
+        .action(ArgAction::Set)
+        .help(help::TRACEFILE)
+}
+
+/// The number of jobs.
+fn jobs(alloc: Global) -> Arg<'static>
+    ensures { IsLocal jobs_rule result }
+{
+    Arg::new(alloc, "jobs")
+        .long("jobs")
+        .value_name("N")
+        .action(ArgAction::Set)
+        .value_parser(value_parser!(u32).range(1..=64))
+        .default_value("1")
+        .help(help::JOBS)
+}
+
+/// The name of a test.
+fn test(alloc: Global) -> Arg<'static>
+    ensures { IsLocal test_rule result }
+{
+    Arg::new(alloc, "test")
+        .long("test")
+        .value_name("NAME")
+        .required(true)
+        .action(ArgAction::Set)
+        .help(help::TEST)
+}
