@@ -1,7 +1,7 @@
 //! What clap is told of the command line.
 
-ghost use Rattle.std.specs.Prelude.{◌≡◌, IfOk, false, codes};
-ghost use Rattle.clap.specs.Words.{app_of, fields_of, with_rule};
+ghost use Rattle.std.specs.Prelude.{◌≡◌, IfOk, codes};
+ghost use Rattle.clap.specs.Words.{app_of};
 ghost use Rattle.covcommand.specs.CommandLine.{
     several as several_rule, single, jobs as jobs_rule, test as test_rule, merge as merge_app,
     summary as summary_app, extract as extract_app, remove as remove_app, gcov as gcov_app,
@@ -13,7 +13,7 @@ use clap::{Arg, ArgAction, Command, value_parser};
 use std::alloc::{AllocError, Global};
 
 /// The command with its subcommands.
-pub(crate) fn described(alloc: Global) -> Result<Command<'static>, AllocError>
+pub(crate) fn described<'a>(alloc: Global) -> Result<Command<'a>, AllocError>
     ensures { IfOk result (λ c. app_of c ≡ covcollect) }
 {
     let program = Command::new(alloc, "covcollect")
@@ -28,7 +28,7 @@ pub(crate) fn described(alloc: Global) -> Result<Command<'static>, AllocError>
         .subcommand(gcov(alloc)?)
 }
 
-fn merge(alloc: Global) -> Result<Command<'static>, AllocError>
+fn merge<'a>(alloc: Global) -> Result<Command<'a>, AllocError>
     ensures { IfOk result (IsAlone merge_app) }
 {
     let merge = Command::new(alloc, "merge")
@@ -39,7 +39,7 @@ fn merge(alloc: Global) -> Result<Command<'static>, AllocError>
         .arg(jobs(alloc))
 }
 
-fn summary(alloc: Global) -> Result<Command<'static>, AllocError>
+fn summary<'a>(alloc: Global) -> Result<Command<'a>, AllocError>
     ensures { IfOk result (IsAlone summary_app) }
 {
     let summary = Command::new(alloc, "summary")
@@ -48,7 +48,7 @@ fn summary(alloc: Global) -> Result<Command<'static>, AllocError>
     summary.arg(several(alloc, "FILE", help::TRACEFILES))
 }
 
-fn extract(alloc: Global) -> Result<Command<'static>, AllocError>
+fn extract<'a>(alloc: Global) -> Result<Command<'a>, AllocError>
     ensures { IfOk result (IsAlone extract_app) }
 {
     let extract = Command::new(alloc, "extract")
@@ -59,7 +59,7 @@ fn extract(alloc: Global) -> Result<Command<'static>, AllocError>
         .arg(several(alloc, "PATTERN", help::PATTERNS))
 }
 
-fn remove(alloc: Global) -> Result<Command<'static>, AllocError>
+fn remove<'a>(alloc: Global) -> Result<Command<'a>, AllocError>
     ensures { IfOk result (IsAlone remove_app) }
 {
     let remove = Command::new(alloc, "remove")
@@ -70,7 +70,7 @@ fn remove(alloc: Global) -> Result<Command<'static>, AllocError>
         .arg(several(alloc, "PATTERN", help::PATTERNS))
 }
 
-fn gcov(alloc: Global) -> Result<Command<'static>, AllocError>
+fn gcov<'a>(alloc: Global) -> Result<Command<'a>, AllocError>
     ensures { IfOk result (IsAlone gcov_app) }
 {
     let gcov = Command::new(alloc, "gcov")
@@ -81,7 +81,7 @@ fn gcov(alloc: Global) -> Result<Command<'static>, AllocError>
 }
 
 /// A required argument of one word or more.
-fn several(alloc: Global, id: &'static str, help: &'static str) -> Arg<'static>
+fn several<'a>(alloc: Global, id: &'a str, help: &'a str) -> Arg<'a>
     ensures { IsLocal (several_rule id.entry.now) result }
 {
     Arg::new(alloc, id)
@@ -92,7 +92,7 @@ fn several(alloc: Global, id: &'static str, help: &'static str) -> Arg<'static>
 }
 
 /// The tracefile that is filtered.
-fn tracefile(alloc: Global) -> Arg<'static>
+fn tracefile<'a>(alloc: Global) -> Arg<'a>
     ensures { IsLocal (single (codes "TRACEFILE")) result }
 {
     Arg::new(alloc, "TRACEFILE")
@@ -102,7 +102,7 @@ fn tracefile(alloc: Global) -> Arg<'static>
 }
 
 /// The number of jobs.
-fn jobs(alloc: Global) -> Arg<'static>
+fn jobs<'a>(alloc: Global) -> Arg<'a>
     ensures { IsLocal jobs_rule result }
 {
     Arg::new(alloc, "jobs")
@@ -115,7 +115,7 @@ fn jobs(alloc: Global) -> Arg<'static>
 }
 
 /// The name of a test.
-fn test(alloc: Global) -> Arg<'static>
+fn test<'a>(alloc: Global) -> Arg<'a>
     ensures { IsLocal test_rule result }
 {
     Arg::new(alloc, "test")
