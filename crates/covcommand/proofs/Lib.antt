@@ -1,2 +1,4 @@
 pub mod Copied
 pub mod Numbers
+pub mod Told
+pub mod Walks
