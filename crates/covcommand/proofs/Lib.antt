@@ -2,3 +2,6 @@ pub mod Copied
 pub mod Numbers
 pub mod Told
 pub mod Walks
+pub mod Rows
+pub mod Fitting
+pub mod Simple

@@ -17,6 +17,10 @@ pub no_faults : (a b : Kinds) → or_else a b ≡ [] → (a ≡ []) × (b ≡ []
 no_faults [] b e = (refl, e)
 no_faults (k ∷ ks) b e = absurd cc
 
+-- the rows of a subcommand's arguments, before those that were left out get their defaults
+abbrev pub settled_after : Shape → List Text → List Row
+settled_after s words = (settled s.rules (walk s.rules [] nothing_held words).held).rows
+
 module _ (P : List Row → Type 0) where
   -- a use of the argument without a fault keeps it
   abbrev pub Keeps : Rule → Type 0
@@ -210,10 +214,6 @@ module _ (P : List Row → Type 0) where
   walk_keeps s names w (word ∷ words) each none p =
       let parts = no_faults (turn_fault s names w word) (walk_fault s names (walked s.rules names w word) words) none in
       walk_keeps s names (walked s.rules names w word) words each parts.1 (turn_keeps s names w word each parts.0 p)
-
-  -- the rows of a subcommand's arguments, before those that were left out get their defaults
-  abbrev pub settled_after : Shape → List Text → List Row
-  settled_after s words = (settled s.rules (walk s.rules [] nothing_held words).held).rows
 
   -- where a subcommand has no fault, they keep it, and what the last checks want is there
   pub level_keeps : (s : Shape) (words : List Text) → EachKeeps s.rules → P [] → level_fault s [] nothing_held words false [] ≡ []
