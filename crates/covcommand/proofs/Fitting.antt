@@ -146,9 +146,10 @@ filter_has s rows fit rules helps requires negates none =
     let checks : cond (not (is_given (codes "TRACEFILE") all) || (not (is_given (codes "PATTERN") all) || false)) (kind.MissingRequiredArgument ∷ []) [] ≡ []
     = rw (rules, helps, requires, negates) at none in
     let tracefile = wanted _ _ _ checks in
-    let patterns = wanted _ _ _ tracefile.1 in
-    (has_some (codes "TRACEFILE") all (given_row (codes "TRACEFILE") all fits tracefile.0),
-    has_some (codes "PATTERN") all (given_row (codes "PATTERN") all fits patterns.0))
+    let patterns = wanted _ _ _ tracefile.1 in (
+      has_some (codes "TRACEFILE") all (given_row (codes "TRACEFILE") all fits tracefile.0),
+      has_some (codes "PATTERN") all (given_row (codes "PATTERN") all fits patterns.0),
+    )
 
 extract_fits : SubFits (sub_at 2)
 extract_fits words none =

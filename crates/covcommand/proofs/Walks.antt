@@ -192,8 +192,8 @@ module _ (P : List Row → Type 0) where
 
   turn_at : (s : Shape) (names : Names) (stopped : Option (Text × List Text)) (w : Walk) (word : Text) → EachKeeps s.rules
       → cond (is_some stopped) [] (or_else (word_fault s names w.is_trailing w.waiting word w.held)
-          (step_fault s w.position (word_met s.rules names w.is_trailing w.waiting w.position word w.held).0
-          (word_met s.rules names w.is_trailing w.waiting w.position word w.held).1)) ≡ []
+      (step_fault s w.position (word_met s.rules names w.is_trailing w.waiting w.position word w.held).0
+      (word_met s.rules names w.is_trailing w.waiting w.position word w.held).1)) ≡ []
       → P w.held.rows → P (walked_from s.rules names stopped w word).held.rows
   turn_at s names (Some q) w word each none p = p
   turn_at s names None w word each none p =

@@ -3,9 +3,17 @@
 ghost use Rattle.std.specs.Prelude.{◌≡◌, IfOk, codes};
 ghost use Rattle.clap.specs.Words.{app_of};
 ghost use Rattle.covcommand.specs.CommandLine.{
-    several as several_rule, single, jobs as jobs_rule, test as test_rule, merge as merge_app,
-    summary as summary_app, extract as extract_app, remove as remove_app, gcov as gcov_app,
-    covcollect};
+  several as several_rule,
+  single,
+  jobs as jobs_rule,
+  test as test_rule,
+  merge as merge_app,
+  summary as summary_app,
+  extract as extract_app,
+  remove as remove_app,
+  gcov as gcov_app,
+  covcollect,
+};
 ghost use Rattle.covcommand.specs.Built.{IsAlone, IsLocal};
 
 use crate::help;

@@ -1,9 +1,8 @@
 //! Why the words of a call give no command.
 
-use std::alloc::{AllocError, AllocFailed};
 use clap::error::{Error as LineError, ErrorKind};
 use covline::Memory;
-use std::alloc::Global;
+use std::alloc::{AllocError, AllocFailed, Global};
 use thiserror::Error;
 
 /// Why the words of a call give no command, with what is to be told.
