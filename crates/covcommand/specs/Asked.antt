@@ -1,6 +1,6 @@
 -- What a call asks for, by the subcommand that clap reads of its words and by what clap found for that subcommand's arguments.
-use Rattle.std.specs.Prelude.{◌≡◌, ◌≤◌, ◌++◌, ℕ, List, [], Option, Some, None, Ok, codes, length, unwrap_or}
-use Rattle.std.specs.Str.Parse.{ParsesUnsigned}
+use Rattle.std.specs.Prelude.{◌≡◌, ◌≤◌, ◌++◌, ℕ, List, [], Option, Some, None, codes, length, unwrap_or}
+use Rattle.std.specs.Str.Parse.{digits_value, without_leading_plus}
 use Rattle.clap.specs.Walk.{Row, Text, all_of, first_of, one_of}
 use Rattle.covcommand.specs.declared.asked.Command.{Command}
 use Rattle.covcommand.specs.declared.asked.Command.TheVariants.{Session, Merge, Summary, Extract, Remove, Gcov}
@@ -9,9 +9,10 @@ use Rattle.covcommand.specs.declared.asked.Command.TheVariants.{Session, Merge, 
 abbrev pub values_of : Text → List Row → List Text
 values_of id rows = unwrap_or (all_of id rows) []
 
--- the text that clap gives of the argument is this number in decimal
+-- the number is what the digits say, in decimal, that clap gives of the option; a plus may stand before them
 abbrev pub IsNumberOf : List Row → ℕ → Type 0
-IsNumberOf rows jobs = (text : Text) × (one_of (codes "jobs") rows ≡ Some text) × ParsesUnsigned {E = Unit {0}} 32 10 text (Ok jobs)
+IsNumberOf rows jobs = (text : Text) × (one_of (codes "jobs") rows ≡ Some text)
+    × (jobs ≡ digits_value 10 (without_leading_plus text))
 
 -- the words of a tracefile and patterns, in their order
 abbrev pub tracefile_and_patterns : List Row → List Text

@@ -2,18 +2,7 @@
 
 ghost use Rattle.std.specs.Prelude.{◌≡◌, IfOk, codes};
 ghost use Rattle.clap.specs.Words.{app_of};
-ghost use Rattle.covcommand.specs.CommandLine.{
-  several as several_rule,
-  single,
-  jobs as jobs_rule,
-  test as test_rule,
-  merge as merge_app,
-  summary as summary_app,
-  extract as extract_app,
-  remove as remove_app,
-  gcov as gcov_app,
-  covcollect,
-};
+ghost use Rattle.covcommand.specs.CommandLine as line;
 ghost use Rattle.covcommand.specs.Built.{IsAlone, IsLocal};
 
 use crate::help;
@@ -22,7 +11,7 @@ use std::alloc::{AllocError, Global};
 
 /// The command with its subcommands.
 pub(crate) fn described<'a>(alloc: Global) -> Result<Command<'a>, AllocError>
-    ensures { IfOk result (λ c. app_of c ≡ covcollect) }
+    ensures { IfOk result (λ c. app_of c ≡ line.covcollect) }
 {
     let program = Command::new(alloc, "covcollect")
         .about(help::PROGRAM)
@@ -37,7 +26,7 @@ pub(crate) fn described<'a>(alloc: Global) -> Result<Command<'a>, AllocError>
 }
 
 fn merge<'a>(alloc: Global) -> Result<Command<'a>, AllocError>
-    ensures { IfOk result (IsAlone merge_app) }
+    ensures { IfOk result (IsAlone line.merge) }
 {
     let merge = Command::new(alloc, "merge")
         .about(help::MERGE)
@@ -48,7 +37,7 @@ fn merge<'a>(alloc: Global) -> Result<Command<'a>, AllocError>
 }
 
 fn summary<'a>(alloc: Global) -> Result<Command<'a>, AllocError>
-    ensures { IfOk result (IsAlone summary_app) }
+    ensures { IfOk result (IsAlone line.summary) }
 {
     let summary = Command::new(alloc, "summary")
         .about(help::SUMMARY)
@@ -57,29 +46,31 @@ fn summary<'a>(alloc: Global) -> Result<Command<'a>, AllocError>
 }
 
 fn extract<'a>(alloc: Global) -> Result<Command<'a>, AllocError>
-    ensures { IfOk result (IsAlone extract_app) }
+    ensures { IfOk result (IsAlone line.extract) }
 {
-    let extract = Command::new(alloc, "extract")
-        .about(help::EXTRACT)
-        .after_help(help::EXTRACT_END);
-    extract
-        .arg(tracefile(alloc))?
-        .arg(several(alloc, "PATTERN", help::PATTERNS))
+    let extract = filter(alloc, "extract")?;
+    Ok(extract.about(help::EXTRACT).after_help(help::EXTRACT_END))
 }
 
 fn remove<'a>(alloc: Global) -> Result<Command<'a>, AllocError>
-    ensures { IfOk result (IsAlone remove_app) }
+    ensures { IfOk result (IsAlone line.remove) }
 {
-    let remove = Command::new(alloc, "remove")
-        .about(help::REMOVE)
-        .after_help(help::REMOVE_END);
-    remove
+    let remove = filter(alloc, "remove")?;
+    Ok(remove.about(help::REMOVE).after_help(help::REMOVE_END))
+}
+
+/// A command that takes a tracefile and patterns.
+fn filter<'a>(alloc: Global, name: &'a str) -> Result<Command<'a>, AllocError>
+    ensures { IfOk result (IsAlone (line.filtering name.entry.now)) }
+{
+    let filter = Command::new(alloc, name);
+    filter
         .arg(tracefile(alloc))?
         .arg(several(alloc, "PATTERN", help::PATTERNS))
 }
 
 fn gcov<'a>(alloc: Global) -> Result<Command<'a>, AllocError>
-    ensures { IfOk result (IsAlone gcov_app) }
+    ensures { IfOk result (IsAlone line.gcov) }
 {
     let gcov = Command::new(alloc, "gcov")
         .about(help::GCOV)
@@ -90,7 +81,7 @@ fn gcov<'a>(alloc: Global) -> Result<Command<'a>, AllocError>
 
 /// A required argument of one word or more.
 fn several<'a>(alloc: Global, id: &'a str, help: &'a str) -> Arg<'a>
-    ensures { IsLocal (several_rule id.entry.now) result }
+    ensures { IsLocal (line.several id.entry.now) result }
 {
     Arg::new(alloc, id)
         .required(true)
@@ -101,7 +92,7 @@ fn several<'a>(alloc: Global, id: &'a str, help: &'a str) -> Arg<'a>
 
 /// The tracefile that is filtered.
 fn tracefile<'a>(alloc: Global) -> Arg<'a>
-    ensures { IsLocal (single (codes "TRACEFILE")) result }
+    ensures { IsLocal (line.single (codes "TRACEFILE")) result }
 {
     Arg::new(alloc, "TRACEFILE")
         .required(true)
@@ -111,7 +102,7 @@ fn tracefile<'a>(alloc: Global) -> Arg<'a>
 
 /// The number of jobs.
 fn jobs<'a>(alloc: Global) -> Arg<'a>
-    ensures { IsLocal jobs_rule result }
+    ensures { IsLocal line.jobs result }
 {
     Arg::new(alloc, "jobs")
         .long("jobs")
@@ -124,7 +115,7 @@ fn jobs<'a>(alloc: Global) -> Arg<'a>
 
 /// The name of a test.
 fn test<'a>(alloc: Global) -> Arg<'a>
-    ensures { IsLocal test_rule result }
+    ensures { IsLocal line.test result }
 {
     Arg::new(alloc, "test")
         .long("test")

@@ -19,7 +19,7 @@ Exit status:
   1  a file can't be read, or reading or writing failed
   2  the call is wrong: its words, a pattern or the name of a test
   3  memory ran out, or the history is full
-  4  a file was refused or clashes with another; standard output has nothing";
+  4  a file was refused, or checksums clash; nothing is on standard output";
 
 /// What `merge` does.
 pub(crate) const MERGE: &str = "Merges tracefiles: counts add up by test and file (lcov -a)";

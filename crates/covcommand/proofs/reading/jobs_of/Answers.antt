@@ -19,7 +19,7 @@ returns-clause-number c =
     let text = c.requires.0 in
     let read = c.get_one.ensures.value (without_minus text) (one_text-rows (found_of c.args.found.now) (codes "jobs") ∙ c.requires.1) in
     let parsed = subst (λ (r : Option ℕ). ReadsOne ghosts.from_str_gives (without_minus text) r) c.unwrap.ensures read in
-    (without_minus text, c.requires.1, parsed.0)
+    (without_minus text, c.requires.1, parsed.0.1)
 
 pub returns-clause-bounds : goal.returns-clause-bounds
 returns-clause-bounds c =
