@@ -1,19 +1,18 @@
 -- Where clap has no fault for the words, the arguments of the subcommand have what they have to.
-use Rattle.std.proofs.Common.{◌≡◌, ◌∙◌, ◌||◌, not, ℕ, Bool, true, false, List, [], ◌∷◌, length, Option, Some, None, cond, refl, sym, ap, subst, option_map, option_and_then, codes}
+use Rattle.std.proofs.Common.{◌≡◌, ◌∙◌, ◌||◌, not, ℕ, Bool, true, false, List, [], ◌∷◌, length, Option, Some, None, cond, refl, sym, ap, subst, option_map, codes}
 use Rattle.std.specs.Prelude.{fold}
 use Rattle.std.specs.Option.{option_map_or}
 use Rattle.std.specs.List.{find, slice_index_or}
 use Rattle.std.specs.Str.{bytes_eq}
-use Rattle.clap.specs.Facts.{unwrap_or_range}
-use Rattle.clap.specs.Kinds.{Kinds, or_else, range_kinds, value_kinds, values_kinds}
+use Rattle.clap.specs.Kinds.{or_else, range_kinds, value_kinds, values_kinds}
 use Rattle.clap.specs.declared.error.kind.ErrorKind.{ErrorKind}
 use Rattle.clap.specs.declared.error.kind.ErrorKind.TheVariants as kind
 use Rattle.clap.specs.declared.builder.value_parser.Reading.TheVariants.{AsWritten, WithoutMinus}
 use Rattle.clap.specs.declared.parser.matches.ValueSource.TheVariants.{CommandLine}
-use Rattle.clap.specs.Walk.{Held, Names, Row, Rule, Text, answers_to, has_row, most_values, nothing_held, rows_after, stop_after, walk, walk_from, with_default}
+use Rattle.clap.specs.Walk.{Row, Rule, Text, answers_to, has_row, nothing_held, rows_after, stop_after, walk, walk_from, with_default}
 use Rattle.clap.specs.Simple.{App, Shape, argument_words, built, entered, filled, help_rule, label_of, names_of, rows_at, subcommand_of, with_index}
 use Rattle.clap.specs.Takes.{is_given}
-use Rattle.clap.specs.Faults.{action_fault, built_fault, check_fault, entered_fault, fault_of, level_fault, repeat_fault, use_fault, values_fault, walk_fault}
+use Rattle.clap.specs.Faults.{built_fault, check_fault, entered_fault, fault_of, level_fault, repeat_fault, walk_fault}
 use Rattle.covcommand.specs.CommandLine.{covcollect, jobs, merge, several, single, test}
 use Rattle.covcommand.specs.Found.{Fits, HasFilter, HasJobs, HasSome, HasTest}
 use Rattle.covcommand.proofs.Walks.{EachKeeps, Keeps, level_keeps, no_faults, settled_after}

@@ -1,14 +1,14 @@
 -- Rows whose values are there, and fit: those of `--jobs` begin with a number from 1 to 64.
-use Rattle.std.proofs.Common.{◌≡◌, ◌∙◌, ◌≤◌, ◌||◌, ◌&&◌, ◌⊎◌, not, ℕ, Bool, pos, true, false, List, [], ◌∷◌, ◌++◌, length, Option, Some, None, cond, refl, sym, ap, subst, option_map, unwrap_or, option_and_then, ap₂, codes, arith}
+use Rattle.std.proofs.Common.{◌≡◌, ◌∙◌, ◌≤◌, ◌||◌, Bool, pos, true, false, List, [], ◌∷◌, ◌++◌, length, Option, Some, None, cond, refl, sym, ap, subst, option_map, unwrap_or, option_and_then, ap₂, codes, arith}
 use Rattle.std.specs.Prelude.{slice_get}
 use Rattle.std.specs.Option.{option_map_or}
-use Rattle.std.specs.List.{find, list_any}
+use Rattle.std.specs.List.{find}
 use Rattle.std.specs.Str.{bytes_eq}
 use Rattle.std.proofs.lemmas.Slice.Eq.{bytes_eq-Decides}
-use Rattle.clap.specs.Values.{Accepts, read_as}
+use Rattle.clap.specs.Values.{read_as}
 use Rattle.clap.specs.ValueTests.{accepts}
 use Rattle.clap.proofs.ValueTestLemmas.{accepts-Accepts}
-use Rattle.clap.specs.Walk.{Row, Text, all_of, at_row, default_rows, first_of, has_row, more_values, one_of, row_text, with_values, without}
+use Rattle.clap.specs.Walk.{Row, Text, at_row, default_rows, has_row, more_values, row_text, with_values, without}
 use Rattle.clap.specs.Takes.{is_given}
 use Rattle.clap.specs.Facts.{explicit_source}
 use Rattle.clap.specs.declared.builder.value_parser.Reading.{Reading}

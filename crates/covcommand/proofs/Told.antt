@@ -1,5 +1,5 @@
 -- What is told of clap's answer.
-use Rattle.std.proofs.Common.{◌≡◌, ◌∙◌, ◌⊎◌, inl, inr, List, Option, Some, None, refl, sym, ap₂, subst, option_map}
+use Rattle.std.proofs.Common.{◌≡◌, ◌∙◌, ◌⊎◌, inl, inr, Option, Some, None, refl, sym, ap₂, subst, option_map}
 use Rattle.std.specs.Prelude.{Box}
 use Rattle.clap.specs.Kinds.{IsAmong, Kinds}
 use Rattle.std.specs.Box.{box_value}

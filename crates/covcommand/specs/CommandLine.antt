@@ -1,9 +1,9 @@
 -- The program's command line, as clap is told of it: a command with one level of subcommands. What clap reads of words for
 -- such a command is clap's own definition (`subcommand_of`, `takes`, `fault_of` of `Rattle.clap.specs`).
-use Rattle.std.specs.Prelude.{ℕ, List, [], ◌∷◌, Some, true, codes, pos}
+use Rattle.std.specs.Prelude.{[], ◌∷◌, Some, true, codes, pos}
 use Rattle.clap.specs.Lexer.{usize_max}
 use Rattle.clap.specs.Walk.{Rule, Text}
-use Rattle.clap.specs.Simple.{App, Shape, new_app, new_rule, on_top, with_rule, with_subcommand}
+use Rattle.clap.specs.Simple.{App, new_app, new_rule, on_top, with_rule, with_subcommand}
 use Rattle.clap.specs.declared.builder.action.ArgAction.TheVariants.{Set, Append}
 use Rattle.clap.specs.declared.builder.value_parser.ValueParser.TheVariants as parser
 

@@ -1,5 +1,5 @@
 -- Private steps: what clap found for the arguments of a subcommand.
-use Rattle.std.specs.Prelude.{◌≡◌, ◌≤◌, ℕ, List, Some, true, false, codes, length, pos}
+use Rattle.std.specs.Prelude.{◌≡◌, ◌≤◌, List, Some, true, false, codes, length, pos}
 use Rattle.std.specs.Str.{bytes_eq}
 use Rattle.clap.specs.Lexer.{without_minus}
 use Rattle.clap.specs.Values.{IsSignedIn}

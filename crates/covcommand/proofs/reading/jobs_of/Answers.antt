@@ -1,4 +1,4 @@
-use Rattle.std.proofs.Common.{rules, ◌≡◌, ◌∙◌, ◌≤◌, ℕ, Some, Option, refl, arith, subst, codes}
+use Rattle.std.proofs.Common.{◌∙◌, ℕ, Option, arith, subst, codes}
 use Rattle.std.specs.contracts.prelude.U32FromStr.TheImpl.{ghosts}
 use Rattle.clap.specs.Words.{ReadsOne, found_of}
 use Rattle.clap.specs.Lexer.{without_minus}
