@@ -5,3 +5,4 @@ pub mod Walks
 pub mod Rows
 pub mod Fitting
 pub mod Simple
+pub mod Calls

@@ -16,10 +16,12 @@ mod asked;
 mod described;
 mod fault;
 mod help;
+pub mod laws;
 mod names;
 mod reading;
 
 pub use asked::Command;
 pub use fault::CommandFault;
+pub use laws::{calls_are_refused, calls_are_taken};
 pub use names::Names;
 pub use reading::command;

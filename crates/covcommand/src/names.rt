@@ -1,6 +1,7 @@
 //! The names on a command line.
 
-use std::alloc::{AllocError, Global};
+use covline::Memory;
+use std::alloc::Global;
 use std::marker::Model;
 
 /// The positional words of a call in their order: paths, and patterns. Contracts see the list of their bytes.
@@ -32,7 +33,7 @@ impl Names {
     }
 
     /// Appends a name. A refusal gives it up and leaves the list as it was.
-    pub fn push(&mut self, name: String) -> Result<(), AllocError>
+    pub fn push(&mut self, name: String) -> Result<(), Memory>
         ensures ok { OnOk result (self.new ≡ self.old ++ string_bytes name ∷ []) }
         ensures err { OnErr result (self.new ≡ self.old) }
     {
@@ -41,7 +42,7 @@ impl Names {
     }
 
     /// Appends a copy of each word, in order.
-    pub(crate) fn push_copies(&mut self, alloc: Global, words: &[&str]) -> Result<(), AllocError>
+    pub(crate) fn push_copies(&mut self, alloc: Global, words: &[&str]) -> Result<(), Memory>
         ensures { OnOk result (self.new ≡ self.old ++ map (λ w. w.now) words.now) }
     {
         for word in words {

@@ -1,6 +1,6 @@
 //! The words of a call, as a command.
 
-ghost use Rattle.std.specs.Prelude.{◌≡◌, ◌≤◌, ◌++◌, IfOk, IfErr, OnOk, map, true, Some, codes, length};
+ghost use Rattle.std.specs.Prelude.{◌≡◌, ◌≤◌, ◌++◌, [], IfOk, IfErr, OnOk, map, true, Some, codes, length};
 ghost use Rattle.std.specs.String.{string_bytes};
 ghost use Rattle.clap.specs.Words.{rows_of, found_of, subcommand_of, takes, fault_of, first_of};
 ghost use Rattle.covcommand.specs.CommandLine.{covcollect};
@@ -15,14 +15,16 @@ use crate::fault::CommandFault;
 use crate::names::Names;
 use clap::ArgMatches;
 use covline::{Bytes, Memory};
-use std::alloc::{AllocError, Global};
+use std::alloc::Global;
 
 /// What the words of a call ask for. The first word is the program's name.
 ///
-/// Faults: `Help` where help is asked for, `Line` where the words don't fit, each with its text, and `Memory`.
+/// Faults: `Help` where help is asked for, `Line` where the words don't fit, each with its text, and `Memory`. Where clap takes
+/// the words, `Memory` alone.
 pub fn command(alloc: Global, words: &[String]) -> Result<Command, CommandFault>
     ensures asks { IfOk result (AsksFor (subcommand_of covcollect (map string_bytes words.now))) }
     ensures bounds { IfOk result IsInBounds }
+    ensures fits { IfOk result (λ _. fault_of covcollect (map string_bytes words.now) ≡ []) }
     ensures takes { takes covcollect (map string_bytes words.now) ≡ true
         → IfErr result (λ f. f ≡ faults.Memory) }
     ensures told { IfErr result (IsToldOf (fault_of covcollect (map string_bytes words.now))) }
@@ -75,7 +77,7 @@ fn jobs_of(found: &ArgMatches<'_>) -> u32
 }
 
 /// The names of the files.
-fn files_of(alloc: Global, found: &ArgMatches<'_>) -> Result<Names, AllocError>
+fn files_of(alloc: Global, found: &ArgMatches<'_>) -> Result<Names, Memory>
     requires { HasSome (codes "FILE") (rows_of (found_of found.now)) }
     ensures names { IfOk result (λ n. n ≡ values_of (codes "FILE") (rows_of (found_of found.now))) }
     ensures some { IfOk result (λ n. 1 ≤ length n) }
@@ -86,7 +88,7 @@ fn files_of(alloc: Global, found: &ArgMatches<'_>) -> Result<Names, AllocError>
 }
 
 /// The names of the tracefile and the patterns.
-fn filter_of(alloc: Global, found: &ArgMatches<'_>) -> Result<Names, AllocError>
+fn filter_of(alloc: Global, found: &ArgMatches<'_>) -> Result<Names, Memory>
     requires { HasFilter (rows_of (found_of found.now)) }
     ensures names { IfOk result (λ n. n ≡ tracefile_and_patterns (rows_of (found_of found.now))) }
     ensures some { IfOk result (λ n. 2 ≤ length n) }
@@ -112,7 +114,7 @@ fn push_values(
     alloc: Global,
     found: &ArgMatches<'_>,
     id: &str,
-) -> Result<(), AllocError>
+) -> Result<(), Memory>
     ensures { OnOk result (names.new ≡ names.old ++ values_of id.now (rows_of (found_of found.now))) }
 {
     if let Some(words) = found.get_strs(id) {

@@ -1,4 +1,5 @@
 use Rattle.std.proofs.Common.{◌∙◌, List, Option, sym, ap, subst, map}
+use Rattle.std.proofs.lemmas.Result.{IfOk-weaker}
 use Rattle.std.specs.Result.{IfOk}
 use Rattle.std.specs.String.{string_bytes}
 use Rattle.clap.specs.Simple.{App, is_simple, subcommand_of}
@@ -42,3 +43,10 @@ returns-in-Some-clause-asks c =
     let rows = rows_of (found_of c.in-Some.found.now) in
     let is = sym met ∙ both_halves (subcommand_rows_of c.in-Ok.matches) c.in-Some.name.now rows (c.in-Some.ensures.name ∙ same_name c.in-Ok.matches) c.in-Some.ensures.rows in
     subst (λ (m : Option (Text × List Row)). IfOk c.asked_by.result (AsksFor m)) (sym is) c.asked_by.ensures.asks
+
+pub returns-in-Some-clause-fits : goal.returns-in-Some-clause-fits
+returns-in-Some-clause-fits c =
+    let words = map string_bytes c.args.words.now in
+    let none = ap (λ (a : App). fault_of a words) (sym c.in_ok-described.ensures)
+    ∙ c.in-Ok.ensures.kinds (ap is_simple_and_free c.in_ok-described.ensures ∙ simple_and_free) in
+    IfOk-weaker c.asked_by.result _ _ (λ _ _. none) c.asked_by.ensures.asks
