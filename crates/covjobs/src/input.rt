@@ -1,7 +1,7 @@
 //! Texts that are to be collected.
 
 use covbook::SubRef;
-use covline::Bytes;
+use covline::{Bytes, Submission};
 use covread::{ReadFault, read_gcov, read_trace};
 use std::alloc::{Allocator, Global};
 
@@ -22,10 +22,17 @@ impl<A: Allocator + Copy> Input<A> {
     pub(crate) fn read(&self, alloc: A) -> Result<SubRef<A>, ReadFault>
         ensures { IsFate (input_data self.now) result }
     {
-        let submission = match self {
-            Input::Trace(text) => read_trace(alloc, text.get())?,
-            Input::Gcov { test, text } => read_gcov(alloc, test.get(), text.get())?,
-        };
-        Ok(SubRef::of(alloc, submission)?)
+        Ok(SubRef::of(alloc, self.submission(alloc)?)?)
+    }
+
+    /// The submission that the text is read as.
+    #[tactic(auto, using(crate::proofs::Fates::trace_fate, crate::proofs::Fates::gcov_fate))]
+    fn submission(&self, alloc: A) -> Result<Submission<A>, ReadFault>
+        ensures { IsFate (input_data self.now) result }
+    {
+        match self {
+            Input::Trace(text) => read_trace(alloc, text.get()),
+            Input::Gcov { test, text } => read_gcov(alloc, test.get(), text.get()),
+        }
     }
 }
