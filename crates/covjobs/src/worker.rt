@@ -124,8 +124,8 @@ impl<L: Name, A: Allocator> Worker<L, A> {
     }
 }
 
-ghost use Rattle.std.specs.Prelude.{◌≡◌, ◌<◌, IfOk, map};
-ghost use Rattle.covjobs.specs.Collect.{HasTaken};
+ghost use Rattle.std.specs.Prelude.{◌≡◌, ◌<◌, IfOk, length, map};
+ghost use Rattle.covjobs.specs.Collect.{HasTaken, places_of_job};
 ghost use Rattle.covjobs.specs.InputView.{input_data};
 
 /// Does the work of a job of so many: takes its inputs in order. Ends at the first fault.
@@ -142,12 +142,20 @@ pub(crate) fn work<R: Wait, G: Gate, L: Name, A: Allocator + Copy>(
     ensures job { IfOk result (λ w. w.seat.job ≡ seat.job) }
     ensures taken { IfOk result (λ w. HasTaken (map input_data inputs.now) jobs seat.job (length inputs.now) w.receipts w.refused) }
 {
-    let (job, jobs) = (seat.job() as usize, jobs as usize);
+    let job = seat.job();
     let mut worker = Worker::new(alloc, seat);
     for (index, input) in inputs.iter().enumerate() {
-        if index % jobs == job {
+        if is_of_job(index, jobs, job) {
             worker.take(rt, alloc, book, gate, index, input)?;
         }
     }
     Ok(worker)
+}
+
+/// Whether the input at this place is one of the job's, of so many.
+fn is_of_job(index: usize, jobs: u32, job: u32) -> bool
+    requires { 0 < jobs }
+    ensures { result ≡ places_of_job jobs job index }
+{
+    index % jobs as usize == job as usize
 }
