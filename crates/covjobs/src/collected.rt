@@ -27,6 +27,13 @@ pub struct Collected {
     pub refused: Refused,
 }
 
+ghost use Rattle.std.specs.Prelude.{◌≡◌, ◌↔◌, Err, IfOk, map};
+ghost use Rattle.covbook.specs.View.{op_data};
+ghost use Rattle.covjobs.specs.declared.collect_fault.CollectFault.TheVariants as faults;
+ghost use Rattle.covjobs.specs.Collect.{IsCollected};
+ghost use Rattle.covjobs.specs.InputView.{input_data};
+ghost use Rattle.covjobs.specs.Start.{AreJobs};
+
 /// Collects inputs by so many jobs, which work at once, each in a thread of its own. Job j takes the inputs j, j + jobs,
 /// j + 2 * jobs and so on, in order: it reads the text, outside the book's lock, and submits what was read. A text that isn't
 /// read is refused, and the job goes on. When all have ended, job 0 performs the last operation. Waits for the workers.
@@ -37,7 +44,10 @@ pub fn collect<R: Threads + Wait + Sync, G: Gate + Sync>(
     last: &Op,
     jobs: u32,
     gate: &G,
-) -> Result<Collected, CollectFault> {
+) -> Result<Collected, CollectFault>
+    ensures collected { IfOk result (λ c. IsCollected (map input_data inputs.now) jobs (op_data last.now) c.entries c.logs c.refused) }
+    ensures bad { (result ≡ Err faults.BadJobs) ↔ (AreJobs jobs → ⊥) }
+{
     let start = Start::new(alloc, jobs)?;
     collect_named::<R, G, Brand>(rt, alloc, inputs, last, jobs, gate, start)
 }

@@ -29,6 +29,7 @@ impl<A: Allocator> Model for Refused<A> {
 
 impl<A: Allocator> Refused<A> {
     ghost use Rattle.std.specs.Prelude.{◌≡◌, ◌++◌, [], ◌∷◌, OnOk, OnErr};
+    ghost use Rattle.std.specs.List.Sorted.{IsPermutation};
 
     /// The empty list. Takes no memory.
     pub fn new(alloc: A) -> Refused<A>
@@ -66,7 +67,9 @@ impl<A: Allocator> Refused<A> {
     }
 
     /// Puts the inputs in the order of their places.
-    pub(crate) fn sort(&mut self) {
+    pub(crate) fn sort(&mut self)
+        ensures { IsPermutation self.old self.new }
+    {
         self.inputs
             .as_mut_slice()
             .sort_unstable_by_key(|input| input.index);
