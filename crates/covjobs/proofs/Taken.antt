@@ -99,14 +99,14 @@ step_taken inputs jobs job count receipts after refused refuses input so_far own
       fate = new;
       fates = fates_put inputs meant count input takes.fate old so_far.fates is takes.is_fate;
       asked = takes.submits
-        ∙ ap (λ (ops : List OpData). ops ++ map SubmitOp (submitted takes.fate)) so_far.asked
-        ∙ sym (map_behind SubmitOp (submissions_of meant old count) (submitted takes.fate))
-        ∙ sym (ap (λ (subs : List SubmissionData). map SubmitOp subs) (brought_more meant (λ index. submitted (old index)) (λ index. submitted (new index)) count (submitted takes.fate)
-            (λ index less. ap (λ (f : Fate). submitted f) (put_apart count takes.fate old index (λ same. omega (arith, less, same)))) own (ap (λ (f : Fate). submitted f) here)));
+          ∙ ap (λ (ops : List OpData). ops ++ map SubmitOp (submitted takes.fate)) so_far.asked
+          ∙ sym (map_behind SubmitOp (submissions_of meant old count) (submitted takes.fate))
+          ∙ sym (ap (λ (subs : List SubmissionData). map SubmitOp subs) (brought_more meant (λ index. submitted (old index)) (λ index. submitted (new index)) count (submitted takes.fate)
+          (λ index less. ap (λ (f : Fate). submitted f) (put_apart count takes.fate old index (λ same. omega (arith, less, same)))) own (ap (λ (f : Fate). submitted f) here)));
       are_refused = takes.tells
-        ∙ ap (λ (rs : List RefusedInput). rs ++ refusal count takes.fate) so_far.are_refused
-        ∙ sym (brought_more meant (λ index. refusal index (old index)) (λ index. refusal index (new index)) count (refusal count takes.fate)
-            (λ index less. ap (λ (f : Fate). refusal index f) (put_apart count takes.fate old index (λ same. omega (arith, less, same)))) own (ap (λ (f : Fate). refusal count f) here))
+          ∙ ap (λ (rs : List RefusedInput). rs ++ refusal count takes.fate) so_far.are_refused
+          ∙ sym (brought_more meant (λ index. refusal index (old index)) (λ index. refusal index (new index)) count (refusal count takes.fate)
+          (λ index less. ap (λ (f : Fate). refusal index f) (put_apart count takes.fate old index (λ same. omega (arith, less, same)))) own (ap (λ (f : Fate). refusal count f) here));
     }
 
 fates_past : (inputs : List InputData) (meant : ℕ → Bool) (count : ℕ) (old : ℕ → Fate) → meant count ≡ false
@@ -126,5 +126,5 @@ step_past inputs jobs job count receipts refused so_far apart =
       fate = old;
       fates = λ index less own. fates_past inputs meant count old apart so_far.fates index less own (eqb_tells index count);
       asked = so_far.asked ∙ sym (ap (λ (subs : List SubmissionData). map SubmitOp subs) (brought_past meant (λ index. submitted (old index)) count apart));
-      are_refused = so_far.are_refused ∙ sym (brought_past meant (λ index. refusal index (old index)) count apart)
+      are_refused = so_far.are_refused ∙ sym (brought_past meant (λ index. refusal index (old index)) count apart);
     }

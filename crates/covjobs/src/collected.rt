@@ -27,7 +27,7 @@ pub struct Collected {
     pub refused: Refused,
 }
 
-ghost use Rattle.std.specs.Prelude.{◌≡◌, ◌↔◌, Err, IfOk, map};
+ghost use Rattle.std.specs.Prelude.{◌≡◌, ◌↔◌, ◌<◌, Err, IfOk, map};
 ghost use Rattle.covbook.specs.View.{op_data};
 ghost use Rattle.covjobs.specs.declared.collect_fault.CollectFault.TheVariants as faults;
 ghost use Rattle.covjobs.specs.Collect.{IsCollected};
@@ -64,9 +64,13 @@ fn collect_named<R: Threads + Wait + Sync, G: Gate + Sync, L: Name + Send + Sync
 ) -> Result<Collected, CollectFault>
     requires name { start.name ≡ L.name }
     requires parts { start.jobs ≡ L.parts }
+    requires jobs { 0 < jobs }
 {
     let (book, seats) = open_book::<L, Global>(alloc, start)?;
-    let mut workers = all_well(alloc, work_at_once(rt, alloc, &book, gate, seats, jobs, inputs)?)?;
+    let mut workers = all_well(
+        alloc,
+        work_at_once(rt, alloc, &book, gate, seats, jobs, inputs)?,
+    )?;
     let end = ask_last(rt, alloc, &book, workers.as_mut_slice(), last)?;
     let (seats, logs, refused) = hand_in(alloc, workers)?;
     let entries = match book.close(seats) {

@@ -7,7 +7,6 @@ use crate::refused::{Refused, RefusedInput};
 use crate::seat::Seat;
 use crate::shared::Shared;
 use covbook::{BookFault, JobLog, Op, Receipts, SubRef};
-use covline::Memory;
 use std::alloc::{Allocator, Global};
 use std::sync::Wait;
 

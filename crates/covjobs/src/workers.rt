@@ -1,10 +1,13 @@
 //! The workers of all jobs, each in a thread of its own.
 
+ghost use Rattle.std.specs.Prelude.{◌≡◌, ◌<◌, IfOk, map, length};
+ghost use Rattle.covjobs.specs.Collect.{HasTaken};
+ghost use Rattle.covjobs.specs.InputView.{input_data};
+
 use crate::gate::Gate;
 use crate::handed::Seats;
 use crate::input::Input;
 use crate::name::Name;
-use crate::seat::Seat;
 use crate::shared::Shared;
 use crate::worker::{Worker, work};
 use covbook::BookFault;
@@ -12,11 +15,7 @@ use covline::Memory;
 use std::alloc::Global;
 use std::sync::Wait;
 use std::thread;
-use std::thread::{Promise, PromisedHandle, Scope, Threads};
-
-ghost use Rattle.std.specs.Prelude.{◌≡◌, ◌<◌, IfOk, map, length};
-ghost use Rattle.covjobs.specs.Collect.{HasTaken};
-ghost use Rattle.covjobs.specs.InputView.{input_data};
+use std::thread::{Promise, Threads};
 
 /// What a worker that ends well has done.
 #[derive(Clone, Copy)]
@@ -40,32 +39,42 @@ pub(crate) fn work_at_once<R: Threads + Wait + Sync, G: Gate + Sync, L: Name + S
     seats: Seats<L>,
     jobs: u32,
     inputs: &[Input],
-) -> Result<Vec<Result<Worker<L>, BookFault>>, Memory> {
-    thread::scope(thread::scope_env(), rt, |scope| {
-        let seats = seats.into_vec();
-        let mut handles = Vec::with_capacity(alloc, seats.len())?;
-        let mut done = Vec::with_capacity(alloc, seats.len())?;
-        let mut all_started = true;
-        for seat in seats {
-            let promise = WorkOf {
-                job: seat.job(),
-                jobs,
-                inputs,
-            };
-            if all_started {
-                match scope.spawn_with(promise, move || work(rt, alloc, book, gate, seat, jobs, inputs))
-                {
-                    Ok(handle) => handles.push(handle)?,
-                    Err(_refused) => all_started = false,
+) -> Result<Vec<Result<Worker<L>, BookFault>>, Memory>
+    requires { 0 < jobs }
+{
+    thread::scope(
+        thread::scope_env(),
+        rt,
+        |scope| -> Result<Vec<Result<Worker<L>, BookFault>>, Memory>
+            requires { 0 < jobs }
+        {
+            let seats = seats.into_vec();
+            let mut handles = Vec::with_capacity(alloc, seats.len())?;
+            let mut done = Vec::with_capacity(alloc, seats.len())?;
+            let mut all_started = true;
+            for seat in seats {
+                let promise = WorkOf {
+                    job: seat.job(),
+                    jobs,
+                    inputs,
+                };
+                if all_started {
+                    match scope.spawn_with(
+                        promise,
+                        move || work(rt, alloc, book, gate, seat, jobs, inputs),
+                    ) {
+                        Ok(handle) => handles.push(handle)?,
+                        Err(_refused) => all_started = false,
+                    }
                 }
             }
-        }
-        for handle in handles {
-            done.push(handle.join(rt))?;
-        }
-        if !all_started {
-            done.push(Err(BookFault::Memory))?;
-        }
-        Ok(done)
-    })
+            for handle in handles {
+                done.push(handle.join(rt))?;
+            }
+            if !all_started {
+                done.push(Err(BookFault::Memory))?;
+            }
+            Ok(done)
+        },
+    )
 }
