@@ -5,6 +5,8 @@ use std::test::*;
 
 mod calls;
 mod closing;
+mod collecting;
+mod gates;
 mod jobs;
 mod kept;
 mod said;
