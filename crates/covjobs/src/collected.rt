@@ -27,7 +27,7 @@ pub struct Collected {
     pub refused: Refused,
 }
 
-ghost use Rattle.std.specs.Prelude.{◌≡◌, ◌↔◌, ◌<◌, Err, IfOk, map};
+ghost use Rattle.std.specs.Prelude.{◌≡◌, ◌↔◌, ◌<◌, Ok, Err, IfOk, map};
 ghost use Rattle.covbook.specs.View.{op_data};
 ghost use Rattle.covjobs.specs.declared.collect_fault.CollectFault.TheVariants as faults;
 ghost use Rattle.covjobs.specs.Collect.{IsCollected};
@@ -64,14 +64,17 @@ fn collect_named<R: Threads + Wait + Sync, G: Gate + Sync, L: Name + Send + Sync
 ) -> Result<Collected, CollectFault>
     requires name { start.name ≡ L.name }
     requires parts { start.jobs ≡ L.parts }
-    requires jobs { 0 < jobs }
+    requires jobs { start.jobs ≡ jobs }
+    requires some { 0 < jobs }
+    ensures collected { IfOk result (λ c. IsCollected (map input_data inputs.now) jobs (op_data last.now) c.entries c.logs c.refused) }
+    ensures jobs_are_good { result ≡ Err faults.BadJobs → ⊥ }
 {
     let (book, seats) = open_book::<L, Global>(alloc, start)?;
     let mut workers = all_well(
         alloc,
         work_at_once(rt, alloc, &book, gate, seats, jobs, inputs)?,
     )?;
-    let end = ask_last(rt, alloc, &book, workers.as_mut_slice(), last)?;
+    let end = ask_last(rt, alloc, &book, &mut workers, last)?;
     let (seats, logs, refused) = hand_in(alloc, workers)?;
     let entries = match book.close(seats) {
         Ok(entries) => entries,
@@ -88,11 +91,17 @@ fn collect_named<R: Threads + Wait + Sync, G: Gate + Sync, L: Name + Send + Sync
     })
 }
 
+ghost use Rattle.covjobs.specs.Work.{FirstAsks, seats_in, logs_in, refused_in};
+ghost use Rattle.std.specs.List.Sorted.{IsPermutation, IsNonDecreasingBy};
+ghost use Rattle.covjobs.specs.declared.refused.RefusedInput.{RefusedInput};
+
 /// The workers, where all of them ended well. Else the fault of the first that didn't.
 fn all_well<L: Name>(
     alloc: Global,
     ended: Vec<Result<Worker<L>, BookFault>>,
-) -> Result<Vec<Worker<L>>, BookFault> {
+) -> Result<Vec<Worker<L>>, BookFault>
+    ensures { IfOk result (λ workers. map Ok workers.items ≡ ended.items) }
+{
     let mut workers = Vec::with_capacity(alloc, ended.len()).map_err(|_| BookFault::Memory)?;
     for worker in ended {
         workers.push(worker?).map_err(|_| BookFault::Memory)?;
@@ -105,9 +114,11 @@ fn ask_last<R: Wait, L: Name>(
     rt: &R,
     alloc: Global,
     book: &Shared<L>,
-    workers: &mut [Worker<L>],
+    workers: &mut Vec<Worker<L>>,
     last: &Op,
-) -> Result<u64, BookFault> {
+) -> Result<u64, BookFault>
+    ensures { IfOk result (λ end. FirstAsks workers.old.items workers.new.items end (op_data last.now)) }
+{
     match workers.first_mut() {
         Some(worker) => {
             worker.ask(rt, alloc, book, last)?;
@@ -121,7 +132,12 @@ fn ask_last<R: Wait, L: Name>(
 fn hand_in<L: Name>(
     alloc: Global,
     workers: Vec<Worker<L>>,
-) -> Result<(Seats<L>, Logs, Refused), Memory> {
+) -> Result<(Seats<L>, Logs, Refused), Memory>
+    ensures seats { IfOk result (λ r. r.0 ≡ seats_in workers.items) }
+    ensures logs { IfOk result (λ r. r.1 ≡ logs_in workers.items) }
+    ensures refused { IfOk result (λ r. IsPermutation (refused_in workers.items) r.2) }
+    ensures ascending { IfOk result (λ r. IsNonDecreasingBy (λ (i : RefusedInput). i.index) r.2) }
+{
     let mut seats = Seats::new(alloc);
     let mut logs = Logs::new(alloc);
     let mut refused = Refused::new(alloc);

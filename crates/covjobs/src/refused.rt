@@ -29,7 +29,8 @@ impl<A: Allocator> Model for Refused<A> {
 
 impl<A: Allocator> Refused<A> {
     ghost use Rattle.std.specs.Prelude.{◌≡◌, ◌++◌, [], ◌∷◌, OnOk, OnErr};
-    ghost use Rattle.std.specs.List.Sorted.{IsPermutation};
+    ghost use Rattle.std.specs.List.Sorted.{IsPermutation, IsNonDecreasingBy};
+    ghost use Rattle.covjobs.specs.declared.refused.RefusedInput.{RefusedInput};
 
     /// The empty list. Takes no memory.
     pub fn new(alloc: A) -> Refused<A>
@@ -68,10 +69,13 @@ impl<A: Allocator> Refused<A> {
 
     /// Puts the inputs in the order of their places.
     pub(crate) fn sort(&mut self)
-        ensures { IsPermutation self.old self.new }
+        ensures same { IsPermutation self.old self.new }
+        ensures ascending { IsNonDecreasingBy (λ (r : RefusedInput). r.index) self.new }
     {
         self.inputs
             .as_mut_slice()
-            .sort_unstable_by_key(|input| input.index);
+            .sort_unstable_by_key(|input| -> usize
+                ensures { result ≡ input.now.index }
+            { input.index });
     }
 }

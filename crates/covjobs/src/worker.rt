@@ -8,14 +8,23 @@ use crate::seat::Seat;
 use crate::shared::Shared;
 use covbook::{BookFault, JobLog, Op, Receipts, SubRef};
 use std::alloc::{Allocator, Global};
+use std::marker::Model;
 use std::sync::Wait;
 
-/// A job at work: its seat, what it keeps of its calls, and which of its inputs are refused.
+/// A job at work: its seat, what it keeps of its calls, and which of its inputs are refused. Contracts see all three.
 #[derive(Drop)]
 pub(crate) struct Worker<L: Name, A: Allocator = Global> {
     seat: Seat<L>,
     receipts: Receipts<A>,
     refused: Refused<A>,
+}
+
+impl<L: Name, A: Allocator> Model for Worker<L, A> {
+    ghost use Rattle.covjobs.specs.Work.{WorkerData};
+
+    ghost Value = { WorkerData };
+
+    ghost view = { λ a. record { seat = a.seat; receipts = a.receipts; refused = a.refused } };
 }
 
 impl<L: Name, A: Allocator + Copy> Worker<L, A> {
@@ -24,7 +33,7 @@ impl<L: Name, A: Allocator + Copy> Worker<L, A> {
     ghost use Rattle.covbook.specs.View.{op_data};
     ghost use Rattle.covjobs.specs.InputView.{input_data};
     ghost use Rattle.covjobs.specs.Collect.{ops_in};
-    ghost use Rattle.covjobs.specs.Work.{Takes};
+    ghost use Rattle.covjobs.specs.Work.{Takes, Asks};
 
     /// The job's worker, which has done nothing yet.
     fn new(alloc: A, seat: Seat<L>) -> Worker<L, A>
@@ -78,7 +87,7 @@ impl<L: Name, A: Allocator + Copy> Worker<L, A> {
         kept
     }
 
-    /// Performs the operation, and keeps the receipt.
+    /// Performs the operation, and keeps the receipt, which is of the place below the one that the job has seen now.
     pub(crate) fn ask<R: Wait>(
         &mut self,
         rt: &R,
@@ -87,7 +96,7 @@ impl<L: Name, A: Allocator + Copy> Worker<L, A> {
         op: &Op<A>,
     ) -> Result<(), BookFault>
         ensures job { self.new.seat.job ≡ self.old.seat.job }
-        ensures asked { IfOk result (λ _. ops_in self.new.receipts ≡ ops_in self.old.receipts ++ op_data op.now ∷ []) }
+        ensures asked { IfOk result (λ _. Asks self.old.receipts self.new.receipts self.new.seat.seen (op_data op.now)) }
         ensures refused { self.new.refused ≡ self.old.refused }
     {
         let done = book.perform(rt, alloc, &mut self.seat, op)?;
