@@ -2,3 +2,4 @@ pub mod Fates
 pub mod Seated
 pub mod Steps
 pub mod Taken
+pub mod Together
