@@ -1,5 +1,9 @@
+pub mod Done
 pub mod Fates
+pub mod Places
 pub mod Seated
 pub mod Steps
 pub mod Taken
 pub mod Together
+pub mod Whole
+pub mod Written
