@@ -1,4 +1,5 @@
-pub mod Done
+pub mod Ascending
+pub mod Ended
 pub mod Fates
 pub mod Places
 pub mod Seated

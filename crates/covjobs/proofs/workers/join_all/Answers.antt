@@ -1,5 +1,5 @@
 use Rattle.std.proofs.Common.{rules, ◌≡◌, List, []}
-use Rattle.covjobs.proofs.Done.{done_at_end}
+use Rattle.covjobs.proofs.Ended.{done_at_end}
 use Rattle.covjobs.proofs.workers.join_all.Goals as goal
 
 pub returns : goal.returns
