@@ -78,7 +78,7 @@ up_from_sorted (r ∷ inputs) sorted =
 
 -- ---- what all places bring goes up
 
-up_behind : (xs : List ℕ) (n : ℕ) → Up xs → AllByRecursion (λ (x : ℕ). x < n) xs → Up (xs ++ n ∷ [])
+pub up_behind : (xs : List ℕ) (n : ℕ) → Up xs → AllByRecursion (λ (x : ℕ). x < n) xs → Up (xs ++ n ∷ [])
 up_behind [] n up below = (tt, tt)
 up_behind (x ∷ xs) n up below = (all_behind x xs n up.0 below.0, up_behind xs n up.1 below.1)
   where

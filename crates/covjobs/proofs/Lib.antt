@@ -1,6 +1,8 @@
 pub mod Ascending
+pub mod AskedLast
 pub mod Ended
 pub mod Fates
+pub mod Gathered
 pub mod Places
 pub mod Seated
 pub mod Steps
