@@ -3,6 +3,7 @@ pub mod AskedLast
 pub mod Ended
 pub mod Fates
 pub mod Gathered
+pub mod Histories
 pub mod Places
 pub mod Seated
 pub mod Steps
