@@ -1,5 +1,6 @@
 pub mod Ascending
 pub mod AskedLast
+pub mod EachOnce
 pub mod Ended
 pub mod Fates
 pub mod Gathered
