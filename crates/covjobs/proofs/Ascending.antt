@@ -20,12 +20,12 @@ least_comes x y ys above some = elim (eqb_tells x y) [
   | inr (no_is, differs) ↦ let none : cond (eqb x y) 1 0 ≡ 0 = ap (λ (b : Bool). cond {A = ℕ} b 1 0) no_is in later x y ys above (omega (arith, none, some))
 ]
   where
-  later : (x y : ℕ) (ys : List ℕ) → AllByRecursion (λ (z : ℕ). y ≤ z) ys → 0 < times x ys → y ≤ x
-  later x y [] above some = absurd (omega (arith, some))
-  later x y (z ∷ ys) above some = elim (eqb_tells x z) [
-    | inl (yes_is, same) ↦ omega (arith, same, above.0)
-    | inr (no_is, differs) ↦ let none : cond (eqb x z) 1 0 ≡ 0 = ap (λ (b : Bool). cond {A = ℕ} b 1 0) no_is in later x y ys above.1 (omega (arith, none, some))
-  ]
+    later : (x y : ℕ) (ys : List ℕ) → AllByRecursion (λ (z : ℕ). y ≤ z) ys → 0 < times x ys → y ≤ x
+    later x y [] above some = absurd (omega (arith, some))
+    later x y (z ∷ ys) above some = elim (eqb_tells x z) [
+      | inl (yes_is, same) ↦ omega (arith, same, above.0)
+      | inr (no_is, differs) ↦ let none : cond (eqb x z) 1 0 ≡ 0 = ap (λ (b : Bool). cond {A = ℕ} b 1 0) no_is in later x y ys above.1 (omega (arith, none, some))
+    ]
 
 comes_first : (x : ℕ) (xs : List ℕ) → 0 < times x (x ∷ xs)
 comes_first x xs = elim (eqb_tells x x) [
@@ -55,8 +55,8 @@ IsRefusal fate r = refusal r.index (fate r.index) ≡ r ∷ []
 same_refusal : (fate : ℕ → Fate) (a b : RefusedInput) → IsRefusal fate a → IsRefusal fate b → a.index ≡ b.index → a ≡ b
 same_refusal fate a b of_a of_b same = head_is a b (sym of_a ∙ ap (λ (i : ℕ). refusal i (fate i)) same ∙ of_b)
   where
-  head_is : (a b : RefusedInput) → ◌≡◌ {A = List RefusedInput} (a ∷ []) (b ∷ []) → a ≡ b
-  head_is a b is = cc
+    head_is : (a b : RefusedInput) → ◌≡◌ {A = List RefusedInput} (a ∷ []) (b ∷ []) → a ≡ b
+    head_is a b is = cc
 
 pub one_refused : (fate : ℕ → Fate) (some others : List RefusedInput) → AllByRecursion (IsRefusal fate) some → AllByRecursion (IsRefusal fate) others → places_of some ≡ places_of others → some ≡ others
 one_refused fate [] [] all alls same = refl
@@ -82,6 +82,6 @@ pub up_behind : (xs : List ℕ) (n : ℕ) → Up xs → AllByRecursion (λ (x : 
 up_behind [] n up below = (tt, tt)
 up_behind (x ∷ xs) n up below = (all_behind x xs n up.0 below.0, up_behind xs n up.1 below.1)
   where
-  all_behind : (x : ℕ) (xs : List ℕ) (n : ℕ) → AllByRecursion (λ (y : ℕ). x ≤ y) xs → x < n → AllByRecursion (λ (y : ℕ). x ≤ y) (xs ++ n ∷ [])
-  all_behind x [] n above less = (omega (arith, less), tt)
-  all_behind x (y ∷ xs) n above less = (above.0, all_behind x xs n above.1 less)
+    all_behind : (x : ℕ) (xs : List ℕ) (n : ℕ) → AllByRecursion (λ (y : ℕ). x ≤ y) xs → x < n → AllByRecursion (λ (y : ℕ). x ≤ y) (xs ++ n ∷ [])
+    all_behind x [] n above less = (omega (arith, less), tt)
+    all_behind x (y ∷ xs) n above less = (above.0, all_behind x xs n above.1 less)

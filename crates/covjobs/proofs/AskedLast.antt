@@ -40,9 +40,10 @@ others_asked fate count jobs from zero last (worker ∷ workers) above are told 
 others_asked fate count jobs from (suc some) last (worker ∷ workers) above are told =
     let own : worker.seat.job ≡ from = heads worker.seat.job from (jobs_in workers) (range_with_len (from + 1) some) are in
     let asked = map SubmitOp (submissions_of (places_of_job jobs worker.seat.job) fate count) in
-    let rest : jobs_in workers ≡ range_with_len (from + 1) some = tails worker.seat.job from (jobs_in workers) (range_with_len (from + 1) some) are in
-    (told.0.asked ∙ sym (ap (λ (ops : List OpData). asked ++ ops) (not_last last worker.seat.job (omega (arith, own, above))) ∙ append-nil asked),
-     others_asked fate count jobs (from + 1) some last workers (omega arith) rest told.1)
+    let rest : jobs_in workers ≡ range_with_len (from + 1) some = tails worker.seat.job from (jobs_in workers) (range_with_len (from + 1) some) are in (
+      told.0.asked ∙ sym (ap (λ (ops : List OpData). asked ++ ops) (not_last last worker.seat.job (omega (arith, own, above))) ∙ append-nil asked),
+      others_asked fate count jobs (from + 1) some last workers (omega arith) rest told.1,
+    )
 
 first_asked : (fate : ℕ → Fate) (count jobs end : ℕ) (last : OpData) (first next : WorkerData) → first.seat.job ≡ 0 → next.seat.job ≡ first.seat.job
     → Asks first.receipts next.receipts end last → HasTold jobs count fate first → HasAsked fate count jobs last (log_of next)
@@ -63,7 +64,10 @@ logs_asked fate count (suc more) end last workers after some told asks =
     let each : AllByRecursion (HasTold (suc more) count fate) (asks.first ∷ asks.others) = subst (λ (ws : List WorkerData). AllByRecursion (HasTold (suc more) count fate) ws) asks.old told.each in
     let zero_is : asks.first.seat.job ≡ 0 = heads asks.first.seat.job 0 (jobs_in asks.others) (range_with_len 1 more) are in
     let rest : jobs_in asks.others ≡ range_with_len 1 more = tails asks.first.seat.job 0 (jobs_in asks.others) (range_with_len 1 more) are in
-    subst (λ (ws : List WorkerData). AreJobLogs fate count (suc more) last (logs_in ws)) (sym asks.new)
-    (jobs_of_logs (asks.next ∷ asks.others) ∙ ap (λ (job : ℕ). job ∷ jobs_in asks.others) asks.job ∙ are,
-     (first_asked fate count (suc more) end last asks.first asks.next zero_is asks.job asks.asks each.0,
-      others_asked fate count (suc more) 1 more last asks.others (omega arith) rest each.1))
+    subst (λ (ws : List WorkerData). AreJobLogs fate count (suc more) last (logs_in ws)) (sym asks.new) (
+      jobs_of_logs (asks.next ∷ asks.others) ∙ ap (λ (job : ℕ). job ∷ jobs_in asks.others) asks.job ∙ are,
+      (
+        first_asked fate count (suc more) end last asks.first asks.next zero_is asks.job asks.asks each.0,
+        others_asked fate count (suc more) 1 more last asks.others (omega arith) rest each.1,
+      ),
+    )

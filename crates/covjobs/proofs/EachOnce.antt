@@ -123,7 +123,6 @@ told_once entries (log ∷ logs) differ of place =
       ]
     ]
 
-
 within : (o : Option EntryData) (entries : List EntryData) (job place : ℕ) → slice_get entries place ≡ o → IsSomeAnd o (λ (e : EntryData). e.job ≡ job) → place < length entries
 within o [] job place is at = absurd (subst (λ (found : Option EntryData). IsSomeAnd found (λ (e : EntryData). e.job ≡ job)) (sym is) at)
 within o (e ∷ entries) job zero is at = omega arith

@@ -23,12 +23,12 @@ use Rattle.covjobs.proofs.Whole.{HasTold, HaveTold}
 range_behind : (from count : ℕ) → range_with_len from (suc count) ≡ range_with_len from count ++ (from + count) ∷ []
 range_behind from zero = ap (λ (n : ℕ). n ∷ []) (none_more from)
   where
-  none_more : (from : ℕ) → from ≡ from + 0
-  none_more from = omega arith
+    none_more : (from : ℕ) → from ≡ from + 0
+    none_more from = omega arith
 range_behind from (suc count) = ap (λ (ns : List ℕ). from ∷ ns) (range_behind (from + 1) count ∙ ap (λ (n : ℕ). range_with_len (from + 1) count ++ n ∷ []) (one_more from count))
   where
-  one_more : (from count : ℕ) → from + 1 + count ≡ from + suc count
-  one_more from count = omega arith
+    one_more : (from count : ℕ) → from + 1 + count ≡ from + suc count
+    one_more from count = omega arith
 
 pub brought_by_range : {X : Type 0} (f : ℕ → List X) (count : ℕ) → flat_map f (range_with_len 0 count) ≡ brought all_places f count
 brought_by_range f zero = refl
@@ -38,8 +38,8 @@ brought_by_range {X} f (suc count) =
     ∙ ap (λ (xs : List X). xs ++ (f count ++ [])) (brought_by_range f count)
     ∙ ap (λ (xs : List X). brought all_places f count ++ xs) (append-nil (f count))
   where
-  none_before : (count : ℕ) → 0 + count ≡ count
-  none_before count = omega arith
+    none_before : (count : ℕ) → 0 + count ≡ count
+    none_before count = omega arith
 
 -- what workers refused is told by their jobs
 refused_by_jobs : (jobs count : ℕ) (fate : ℕ → Fate) (workers : List WorkerData) → AllByRecursion (HasTold jobs count fate) workers

@@ -48,8 +48,8 @@ shifted {X} f from (suc count) =
     ap (λ (n : ℕ). f (suc from) ++ flat_map f (range_with_len n count)) (one_more from)
     ∙ ap (λ (xs : List X). f (suc from) ++ xs) (shifted f (from + 1) count)
   where
-  one_more : (from : ℕ) → suc from + 1 ≡ suc (from + 1)
-  one_more from = omega arith
+    one_more : (from : ℕ) → suc from + 1 ≡ suc (from + 1)
+    one_more from = omega arith
 
 entries_in_order : (entries : List EntryData) → flat_map (submits_at entries) (range_with_len 0 (length entries)) ≡ submissions_in (map (λ (e : EntryData). e.op) entries)
 entries_in_order [] = refl
@@ -57,8 +57,8 @@ entries_in_order (e ∷ entries) =
     ap (λ (n : ℕ). submission_of e.op ++ flat_map (submits_at (e ∷ entries)) (range_with_len n (length entries))) first
     ∙ ap (λ (ss : List SubmissionData). submission_of e.op ++ ss) (shifted (submits_at (e ∷ entries)) 0 (length entries) ∙ entries_in_order entries)
   where
-  first : 0 + 1 ≡ suc 0
-  first = omega arith
+    first : 0 + 1 ≡ suc 0
+    first = omega arith
 
 -- where the logs tell each place once, the entries submit what the logs do, in another order
 pub same_submitted : (entries : List EntryData) (logs : List LogData) → AllByRecursion (IsLogOf entries) logs → AreBelow (length entries) (places_in logs)

@@ -37,8 +37,8 @@ times_around place other (p ∷ before) after =
     let c = times other (before ++ after) in
     ap (λ (n : ℕ). a + n) rest ∙ exchanged a b c
   where
-  exchanged : (a b c : ℕ) → a + (b + c) ≡ b + (a + c)
-  exchanged a b c = omega arith
+    exchanged : (a b c : ℕ) → a + (b + c) ≡ b + (a + c)
+    exchanged a b c = omega arith
 
 -- each number below the bound comes once, and no other comes
 pub record AreBelow (bound : ℕ) (places : List ℕ) : Type 0 where

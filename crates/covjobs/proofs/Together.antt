@@ -74,12 +74,12 @@ pub brought_own : {X : Type 0} (meant : ℕ → Bool) (bring brings : ℕ → Li
 brought_own meant bring brings zero same = refl
 brought_own {X} meant bring brings (suc count) same = own_step meant bring brings count (meant count) refl same (brought_own meant bring brings count (λ index less own. same index (omega (arith, less)) own))
   where
-  own_step : {X : Type 0} (meant : ℕ → Bool) (bring brings : ℕ → List X) (count : ℕ) (own : Bool) → meant count ≡ own → ((index : ℕ) → index < suc count → meant index ≡ true → brings index ≡ bring index)
-      → brought meant brings count ≡ brought meant bring count → brought meant brings count ++ (if meant count then brings count else []) ≡ brought meant bring count ++ (if meant count then bring count else [])
-  own_step {X} meant bring brings count true is same before =
-      ap (λ (xs : List X). xs ++ (if meant count then brings count else [])) before
-      ∙ ap (λ (xs : List X). brought meant bring count ++ (if meant count then xs else [])) (same count (omega arith) is)
-  own_step {X} meant bring brings count false is same before =
-      ap (λ (xs : List X). xs ++ (if meant count then brings count else [])) before
-      ∙ ap (λ (b : Bool). brought meant bring count ++ (if b then brings count else [])) is
-      ∙ sym (ap (λ (b : Bool). brought meant bring count ++ (if b then bring count else [])) is)
+    own_step : {X : Type 0} (meant : ℕ → Bool) (bring brings : ℕ → List X) (count : ℕ) (own : Bool) → meant count ≡ own → ((index : ℕ) → index < suc count → meant index ≡ true → brings index ≡ bring index)
+        → brought meant brings count ≡ brought meant bring count → brought meant brings count ++ (if meant count then brings count else []) ≡ brought meant bring count ++ (if meant count then bring count else [])
+    own_step {X} meant bring brings count true is same before =
+        ap (λ (xs : List X). xs ++ (if meant count then brings count else [])) before
+        ∙ ap (λ (xs : List X). brought meant bring count ++ (if meant count then xs else [])) (same count (omega arith) is)
+    own_step {X} meant bring brings count false is same before =
+        ap (λ (xs : List X). xs ++ (if meant count then brings count else [])) before
+        ∙ ap (λ (b : Bool). brought meant bring count ++ (if b then brings count else [])) is
+        ∙ sym (ap (λ (b : Bool). brought meant bring count ++ (if b then bring count else [])) is)

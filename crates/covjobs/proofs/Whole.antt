@@ -39,19 +39,20 @@ told : (inputs : List InputData) (jobs job : ℕ) (worker : WorkerData) (done : 
 told inputs jobs job worker done whole same =
     let own = done.taken.fate in
     let agree : (index : ℕ) → index < length inputs → places_of_job jobs job index ≡ true → whole index ≡ own index = λ index less meant. same index (is_own jobs job index meant) in
-    record { asked =
-    (subst (λ (j : ℕ). ops_in worker.receipts ≡ map SubmitOp (submissions_of (places_of_job jobs j) whole (length inputs))) (sym done.own)
-      (done.taken.asked ∙ sym (ap (λ (subs : List SubmissionData). map SubmitOp subs) (brought_own (places_of_job jobs job) (λ index. submitted (own index)) (λ index. submitted (whole index)) (length inputs) (λ index less meant. ap (λ (f : Fate). submitted f) (agree index less meant))))))
-    ; are_refused =
-    (subst (λ (j : ℕ). worker.refused ≡ refusals_of (places_of_job jobs j) whole (length inputs)) (sym done.own)
-      (done.taken.are_refused ∙ sym (brought_own (places_of_job jobs job) (λ index. refusal index (own index)) (λ index. refusal index (whole index)) (length inputs) (λ index less meant. ap (λ (f : Fate). refusal index f) (agree index less meant)))))
-    ; }
+    record {
+      asked =
+          (subst (λ (j : ℕ). ops_in worker.receipts ≡ map SubmitOp (submissions_of (places_of_job jobs j) whole (length inputs))) (sym done.own)
+          (done.taken.asked ∙ sym (ap (λ (subs : List SubmissionData). map SubmitOp subs) (brought_own (places_of_job jobs job) (λ index. submitted (own index)) (λ index. submitted (whole index)) (length inputs) (λ index less meant. ap (λ (f : Fate). submitted f) (agree index less meant))))));
+      are_refused =
+          (subst (λ (j : ℕ). worker.refused ≡ refusals_of (places_of_job jobs j) whole (length inputs)) (sym done.own)
+          (done.taken.are_refused ∙ sym (brought_own (places_of_job jobs job) (λ index. refusal index (own index)) (λ index. refusal index (whole index)) (length inputs) (λ index less meant. ap (λ (f : Fate). refusal index f) (agree index less meant)))));
+    }
   where
-  is_own : (jobs job index : ℕ) → eqb (index % jobs) job ≡ true → index % jobs ≡ job
-  is_own jobs job index meant = elim (eqb_tells (index % jobs) job) [
-    | inl (yes_is, same) ↦ same
-    | inr (no_is, differs) ↦ absurd (false≢true (sym no_is ∙ meant))
-  ]
+    is_own : (jobs job index : ℕ) → eqb (index % jobs) job ≡ true → index % jobs ≡ job
+    is_own jobs job index meant = elim (eqb_tells (index % jobs) job) [
+      | inl (yes_is, same) ↦ same
+      | inr (no_is, differs) ↦ absurd (false≢true (sym no_is ∙ meant))
+    ]
 
 -- all workers have told so, and they are of the jobs in order
 pub record HaveTold (jobs from some count : ℕ) (fate : ℕ → Fate) (workers : List WorkerData) : Type 0 where
@@ -70,10 +71,11 @@ have_told inputs jobs from (suc some) (worker ∷ workers) done whole same =
       each = (told inputs jobs from worker done.0 whole (λ index is. same 0 index (is ∙ none_more from)), rest.each);
     }
   where
-  one_more : (from k : ℕ) → from + 1 + k ≡ from + suc k
-  one_more from k = omega arith
-  none_more : (from : ℕ) → from ≡ from + 0
-  none_more from = omega arith
+    one_more : (from k : ℕ) → from + 1 + k ≡ from + suc k
+    one_more from k = omega arith
+
+    none_more : (from : ℕ) → from ≡ from + 0
+    none_more from = omega arith
 
 holds_at : (inputs : List InputData) (jobs from some : ℕ) (workers : List WorkerData) (done : HaveDone (works_from inputs jobs from some) workers) (k index : ℕ)
     → k < some → index < length inputs → index % jobs ≡ from + k → IsSomeAnd (slice_get inputs index) (λ input. IsFate input (fates_at (works_from inputs jobs from some) workers done k index))
@@ -81,14 +83,15 @@ holds_at inputs jobs from zero workers done k index below less is = absurd (omeg
 holds_at inputs jobs from (suc some) [] done k index below less is = absurd done
 holds_at inputs jobs from (suc some) (worker ∷ workers) done zero index below less is = done.0.taken.fates index less (true_is (eq-eqb (index % jobs) from (is ∙ none_more from)))
   where
-  none_more : (from : ℕ) → from + 0 ≡ from
-  none_more from = omega arith
-  true_is : {b : Bool} → b ≡ true → IsTrue b
-  true_is e = e
+    none_more : (from : ℕ) → from + 0 ≡ from
+    none_more from = omega arith
+
+    true_is : {b : Bool} → b ≡ true → IsTrue b
+    true_is e = e
 holds_at inputs jobs from (suc some) (worker ∷ workers) done (suc k) index below less is = holds_at inputs jobs (from + 1) some workers done.1 k index (omega (arith, below)) less (is ∙ one_more from k)
   where
-  one_more : (from k : ℕ) → from + suc k ≡ from + 1 + k
-  one_more from k = omega arith
+    one_more : (from k : ℕ) → from + suc k ≡ from + 1 + k
+    one_more from k = omega arith
 
 -- all that became of the inputs, told as one
 pub record IsWhole (inputs : List InputData) (jobs : ℕ) (workers : List WorkerData) : Type 0 where
@@ -106,5 +109,5 @@ whole_of inputs jobs workers some done =
       tell = have_told inputs jobs 0 jobs workers done whole (λ k index is. ap (λ (j : ℕ). at j index) (is ∙ none_before k));
     }
   where
-  none_before : (k : ℕ) → 0 + k ≡ k
-  none_before k = omega arith
+    none_before : (k : ℕ) → 0 + k ≡ k
+    none_before k = omega arith

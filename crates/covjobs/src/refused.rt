@@ -72,10 +72,10 @@ impl<A: Allocator> Refused<A> {
         ensures same { IsPermutation self.old self.new }
         ensures ascending { IsNonDecreasingBy (λ (r : RefusedInput). r.index) self.new }
     {
-        self.inputs
-            .as_mut_slice()
-            .sort_unstable_by_key(|input| -> usize
+        self.inputs.as_mut_slice().sort_unstable_by_key(
+            |input| -> usize
                 ensures { result ≡ input.now.index }
-            { input.index });
+            { input.index },
+        );
     }
 }
