@@ -1,110 +1,13 @@
-//! The store over maps: plans and steps that are dropped, a large section, and random submissions beside a plain list.
+//! Random submissions beside a plain list of their rows.
 
-use super::calls::{after_dropped, bytes_of, read, step, step_in_halves};
+use super::calls::{after_dropped, bytes_of, printed, step, submit};
 use super::push_line;
-use super::store::{NOTHING, put_section};
-use covbook::{Answer, Book, Op, Receipt, SubRef};
-use covline::Bytes;
+use covbook::{Answer, Book, Op, Receipt};
 use covreport::summary_text;
-use covstore::{Store, Totals};
+use covstore::Totals;
 use std::alloc::Global;
 use std::process::Abort;
 use std::test::*;
-
-const SMALL: &[u8] = b"TN:t\nSF:/a.c\nDA:1,2\nDA:2,0\nend_of_record\n";
-
-/// What a plan that is dropped leaves behind is seen by nobody, and the submission can be planned again.
-#[test]
-fn a_plan_that_is_made_again(rt: HostRuntime) -> Result<(), Fail> {
-    let given = read(rt.alloc(), SMALL)?;
-    let mut store = Store::new(rt.alloc());
-    match store.prepare(rt.alloc(), &given) {
-        Ok(plan) => assert_eq!(rt; plan.after().lf, 2),
-        Err(refuse) => panic!(rt; "refused {}", refuse.number()),
-    }
-    assert!(rt; store.sections().next().is_none());
-    assert!(rt; !store.has_test(b"t"));
-    match store.prepare(rt.alloc(), &given) {
-        Ok(plan) => store.commit(plan),
-        Err(refuse) => panic!(rt; "refused {}", refuse.number()),
-    }
-    let mut text = Bytes::new(rt.alloc());
-    for section in store.sections() {
-        put_section(&section, &mut text)?;
-    }
-    assert_eq!(rt; text.get(), b"TN:t\nSF:/a.c\nDA:1,2\nDA:2,0\n".as_slice());
-    assert_eq!(rt; (store.totals().lf, store.totals().lh), (2, 1));
-    assert!(rt; store.has_test(b"t"));
-    Ok(())
-}
-
-/// A million lines of one section. Totals that pass over all lines for each line would not end.
-#[test]
-fn a_million_lines(rt: HostRuntime) -> Result<(), Fail> {
-    let mut text = Vec::from_slice(rt.alloc(), b"SF:/m\n")?;
-    for line in 1..1_000_001u64 {
-        let record = format!(in rt.alloc(); "DA:{line},1\n")?;
-        text.extend_from_slice(record.as_bytes())?;
-    }
-    text.extend_from_slice(b"end_of_record\n")?;
-    let given = read(rt.alloc(), &text)?;
-    let mut store = Store::new(rt.alloc());
-    match store.prepare(rt.alloc(), &given) {
-        Ok(plan) => store.commit(plan),
-        Err(refuse) => panic!(rt; "refused {}", refuse.number()),
-    }
-    let wanted = Totals {
-        lf: 1_000_000,
-        lh: 1_000_000,
-        ..NOTHING
-    };
-    assert_eq!(rt; store.totals(), wanted);
-    Ok(())
-}
-
-/// The operation that submits the text.
-pub(super) fn submit(alloc: Global, text: &[u8]) -> Result<Op, Fail> {
-    let shared = SubRef::of(alloc, read(alloc, text)?)?;
-    Ok(Op::Submit(shared))
-}
-
-/// What the book prints for this.
-pub(super) fn printed(
-    rt: &(impl Abort + AllocGlobal),
-    book: &mut Book,
-    op: &Op,
-) -> Result<Bytes, Fail> {
-    let Receipt { answer, .. } = step(rt.alloc(), book, 0, op)?;
-    match answer {
-        Answer::Text(text) => Ok(text.get().copy(rt.alloc())?),
-        Answer::Accepted { .. }
-        | Answer::Clash { .. }
-        | Answer::Dropped { .. }
-        | Answer::NoSuchTest => panic!(rt; "no text"),
-    }
-}
-
-/// A step is its two halves, and one whose second half never comes is none.
-#[test]
-fn halves_of_a_step(rt: HostRuntime) -> Result<(), Fail> {
-    let mut book = Book::new(rt.alloc());
-    let small = submit(rt.alloc(), SMALL)?;
-    let more = submit(
-        rt.alloc(),
-        b"TN:u\nSF:/a.c\nDA:2,1\nDA:3,0\nend_of_record\n",
-    )?;
-    assert_eq!(rt; after_dropped(rt.alloc(), &mut book, &small)?.lf, 2);
-    let receipt = step_in_halves(rt.alloc(), &mut book, 3, &small)?;
-    assert_eq!(rt; receipt.place, 0);
-    let after = after_dropped(rt.alloc(), &mut book, &more)?;
-    assert_eq!(rt; (after.lf, after.lh), (3, 2));
-    let text = printed(&rt, &mut book, &Op::Report)?;
-    assert_eq!(rt;
-        text.get(),
-        b"TN:t\nSF:/a.c\nDA:1,2\nDA:2,0\nLF:2\nLH:1\nend_of_record\n".as_slice()
-    );
-    Ok(())
-}
 
 /// A section of the plain list: a file and a test of it, in the order in which they are printed.
 const SECTIONS: [&[u8]; 6] = [

@@ -2,9 +2,8 @@
 
 use super::calls::{
     bytes_of, copied_answer, copied_op, entries, gathered, is_same_answer, is_same_op, list_of,
-    step,
+    step, submit,
 };
-use super::maps::submit;
 use super::push_line;
 use covbook::{Answer, Book, Entry, GatherFault, JobLog, Logs, Op, Receipt, Receipts, TextRef};
 use std::alloc::Global;

@@ -1,7 +1,7 @@
 //! Calls of covbook that no session shows: receipts, entries, copies, and the length of a history.
 
-use super::calls::{bytes_of, copied_answer, copied_op, entries, list_of, read, step, totals};
-use covbook::{Answer, Book, BookFault, Entries, Entry, Op, Receipt, Receipts, SubRef, TextRef};
+use super::calls::{bytes_of, copied_answer, copied_op, entries, list_of, step, submit, totals};
+use covbook::{Answer, Book, BookFault, Entries, Entry, Op, Receipt, Receipts, TextRef};
 use covline::Memory;
 use covstore::Totals;
 use std::alloc::Global;
@@ -102,12 +102,6 @@ fn check_step(
     check_copies(rt, &receipt, wanted)?;
     check_last(rt, entries(book), before, job, wanted);
     Ok(())
-}
-
-/// The operation that submits the text.
-fn submit(alloc: Global, text: &[u8]) -> Result<Op, Fail> {
-    let shared = SubRef::of(alloc, read(alloc, text)?)?;
-    Ok(Op::Submit(shared.copy()?))
 }
 
 #[test]
