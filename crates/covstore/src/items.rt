@@ -157,7 +157,7 @@ fn add_branch<A: Allocator + Copy>(
         TakenMore { times: taken },
         test.branches.cursor(),
     )?;
-    let was_above = Taken::is_hit(added.before);
+    let was_above = Taken::is_hit(&added.before);
     let change = Change::of(added.before.is_some(), was_above, added.after.is_above());
     marks.branches.add(alloc, point, change, added.place)?;
     Ok(())
