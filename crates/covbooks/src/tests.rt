@@ -7,6 +7,8 @@ mod gather;
 mod history;
 mod list;
 mod orders;
+mod said;
+mod script;
 mod steps;
 
 /// Appends a line.
