@@ -9,6 +9,7 @@ mod collecting;
 mod gates;
 mod jobs;
 mod kept;
+mod refusals;
 mod said;
 mod threads;
 mod turns;
