@@ -24,7 +24,7 @@ HasAsked fate count jobs last log = ops_in log.receipts ≡ asked_by fate count 
 not_last : (last : OpData) (job : ℕ) → 0 < job → last_of last job ≡ []
 not_last last job above = ap (λ (b : Bool). if b then last ∷ [] else []) (ne_eqb job 0 (λ is. omega (arith, above, is)))
 
-heads : (x y : ℕ) (xs ys : List ℕ) → ◌≡◌ {A = List ℕ} (x ∷ xs) (y ∷ ys) → x ≡ y
+pub heads : (x y : ℕ) (xs ys : List ℕ) → ◌≡◌ {A = List ℕ} (x ∷ xs) (y ∷ ys) → x ≡ y
 heads x y xs ys is = cc
 
 tails : (x y : ℕ) (xs ys : List ℕ) → ◌≡◌ {A = List ℕ} (x ∷ xs) (y ∷ ys) → xs ≡ ys

@@ -1,5 +1,6 @@
 -- What workers have done when they are waited for, and what follows where all ended well.
 use Rattle.std.proofs.Common.{◌≡◌, ◌∙◌, Bool, true, false, IsTrue, refl, List, [], ◌∷◌, ◌++◌, map, Result, Ok, Err, sym, ap, subst}
+use Rattle.std.specs.Prelude.{IfOk}
 use Rattle.std.proofs.lemmas.List.{append-nil}
 use Rattle.covbook.specs.declared.book.BookFault.{BookFault}
 use Rattle.covjobs.specs.Work.{WorkerData, WorkData, HaveDone, AreDone, AreDoneIfWell}
@@ -43,3 +44,10 @@ ends_well works handled left false ended all none done short = λ workers is. ab
 pub one_started : {H : Type 0} (work : H → WorkData) (handles : List H) (handle : H) (left : List WorkData) → map work (handles ++ handle ∷ []) ++ left ≡ map work handles ++ work handle ∷ left
 one_started work [] handle left = refl
 one_started work (h ∷ handles) handle left = ap (λ (ws : List WorkData). work h ∷ ws) (one_started work handles handle left)
+
+-- as the workers are waited for in a call that may be refused
+pub ends_well_if_ok : {V E : Type 0} (items : V → List End) (result : Result V E) (works handled left : List WorkData) (started : Bool) → (IsTrue started → handled ++ left ≡ works) → left ≡ []
+    → IfOk result (λ ended. IsTrue started → AreDone handled (items ended)) → IfOk result (λ ended. started ≡ false → (workers : List WorkerData) → map Ok workers ≡ items ended → ⊥)
+    → IfOk result (λ ended. AreDoneIfWell works (items ended))
+ends_well_if_ok items (Ok ended) works handled left started all none done short = ends_well works handled left started (items ended) all none done short
+ends_well_if_ok items (Err refused) works handled left started all none done short = tt

@@ -58,7 +58,7 @@ all_refused jobs count fate workers some told =
 
 -- ---- the refused ones in order
 
-all_joined : {X : Type 0} (P : X → Type 0) (xs ys : List X) → AllByRecursion P xs → AllByRecursion P ys → AllByRecursion P (xs ++ ys)
+pub all_joined : {X : Type 0} (P : X → Type 0) (xs ys : List X) → AllByRecursion P xs → AllByRecursion P ys → AllByRecursion P (xs ++ ys)
 all_joined P [] ys a b = b
 all_joined P (x ∷ xs) ys a b = (a.0, all_joined P xs ys a.1 b)
 

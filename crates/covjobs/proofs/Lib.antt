@@ -2,9 +2,11 @@ pub mod Ascending
 pub mod AskedLast
 pub mod EachOnce
 pub mod Ended
+pub mod Everything
 pub mod Fates
 pub mod Gathered
 pub mod Histories
+pub mod LastEntry
 pub mod Places
 pub mod Seated
 pub mod Steps

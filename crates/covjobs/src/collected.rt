@@ -9,6 +9,7 @@ use crate::refused::Refused;
 use crate::shared::{Shared, open_book};
 use crate::worker::Worker;
 use crate::workers::work_at_once;
+use covbook::laws::{a_run_goes_on, order_does_not_matter};
 use covbook::{BookFault, Entries, Logs, Op, gather};
 use covline::Memory;
 use std::alloc::Global;
@@ -84,6 +85,8 @@ fn collect_named<R: Threads + Wait + Sync, G: Gate + Sync, L: Name + Send + Sync
     if entries.get().len() as u64 != end {
         return Err(CollectFault::NotLast);
     }
+    a_run_goes_on();
+    order_does_not_matter();
     Ok(Collected {
         entries,
         logs,
