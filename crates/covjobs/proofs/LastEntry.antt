@@ -89,7 +89,7 @@ last_is fate count jobs end last workers after entries some asks kept asked long
     let zero_is : asks.next.seat.job ≡ 0 = first_job jobs (log_of asks.next) (logs_in asks.others) some jobs_are.0 in
     let r = asks.asks.receipt in
     let own = all_last (λ (r : ReceiptData). IsSomeAnd (slice_get entries r.place) (λ (e : EntryData). e.job ≡ asks.next.seat.job)) asks.first.receipts r
-        (subst (λ (rs : List ReceiptData). AllByRecursion (λ (r : ReceiptData). IsSomeAnd (slice_get entries r.place) (λ (e : EntryData). e.job ≡ asks.next.seat.job)) rs) asks.asks.behind new.0.own) in
+    (subst (λ (rs : List ReceiptData). AllByRecursion (λ (r : ReceiptData). IsSomeAnd (slice_get entries r.place) (λ (e : EntryData). e.job ≡ asks.next.seat.job)) rs) asks.asks.behind new.0.own) in
     let same = all_last (IsReceiptOf entries) asks.first.receipts r (subst (λ (rs : List ReceiptData). AllByRecursion (IsReceiptOf entries) rs) asks.asks.behind new.0.same) in
     last_at (IsLastOf last) entries r.place (asks.asks.place ∙ sym long) (is_last_of (slice_get entries r.place) asks.next.seat.job r last zero_is asks.asks.asked own same)
 
@@ -211,7 +211,7 @@ front_asks : (fate : ℕ → Fate) (count jobs : ℕ) (last : OpData) (entries :
     → IsMerge entries logs → AreJobLogs fate count jobs last logs → entries ≡ before ++ entry ∷ [] → OnlySubmitsAndAsks (ops_of before)
 front_asks fate count jobs last entries logs before entry is merge asked place =
     let every : OnlySubmitsAndAsks (ops_of entries) =
-        from_places SubmitsOrAsks entries (λ place less. at_log SubmitsOrAsks entries logs place merge.kept (logs_ask fate count jobs last logs is asked.1) (In-from (places_in logs) place (merge.whole place less))) in
+    from_places SubmitsOrAsks entries (λ place less. at_log SubmitsOrAsks entries logs place merge.kept (logs_ask fate count jobs last logs is asked.1) (In-from (places_in logs) place (merge.whole place less))) in
     all_front SubmitsOrAsks (ops_of before) (entry.op ∷ [])
     (subst (λ (ops : List OpData). OnlySubmitsAndAsks ops) (ap (λ (es : List EntryData). ops_of es) place ∙ map-append (λ (e : EntryData). e.op) before (entry ∷ [])) every)
 
@@ -221,8 +221,8 @@ text_is : (fate : ℕ → Fate) (count jobs : ℕ) (last : OpData) (entries : Li
 text_is fate count jobs last entries logs before entry some legal merge asked place is_last goes same is agree =
     let all = submissions_of all_places fate count in
     let moved : IsPermutation all (submissions_in (ops_of before)) =
-        subst (λ (ss : List SubmissionData). IsPermutation all ss) (ap (λ (es : List EntryData). submissions_in (ops_of es)) place ∙ front_submits before entry last is is_last)
-        (history_submits fate count jobs last entries logs some is merge asked) in
+    subst (λ (ss : List SubmissionData). IsPermutation all ss) (ap (λ (es : List EntryData). submissions_in (ops_of es)) place ∙ front_submits before entry last is is_last)
+    (history_submits fate count jobs last entries logs some is merge asked) in
     last_answer before entry entries legal place goes
     ∙ ap (λ (op : OpData). answer_of (table_of (ops_of before)) op) is_last
     ∙ sym (same (map SubmitOp all) (ops_of before) (submits_all all) (front_asks fate count jobs last entries logs before entry is merge asked place)
