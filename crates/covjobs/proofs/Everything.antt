@@ -1,5 +1,5 @@
 -- All that workers hand in, beside the history of the book, is what is collected.
-use Rattle.std.proofs.Common.{◌≡◌, ◌∙◌, ℕ, ◌<◌, List, [], ◌∷◌, ◌++◌, length, ap, sym, subst}
+use Rattle.std.proofs.Common.{◌≡◌, ◌∙◌, ℕ, ◌<◌, List, ◌++◌, length, ap, sym, subst}
 use Rattle.std.specs.List.Sorted.{IsPermutation, IsNonDecreasingBy}
 use Rattle.covbook.specs.Gather.{LogData, IsMerge}
 use Rattle.covbook.specs.Op.{OpData, EntryData}

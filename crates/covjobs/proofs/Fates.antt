@@ -1,5 +1,5 @@
 -- What a reader answers is what becomes of the input.
-use Rattle.std.proofs.Common.{◌≡◌, ◌⊎◌, inl, inr, ℕ, List, Result}
+use Rattle.std.proofs.Common.{inl, inr, ℕ, List, Result}
 use Rattle.covline.specs.Row.{SubmissionData}
 use Rattle.covread.specs.declared.fault.ReadFault.{ReadFault}
 use Rattle.covread.specs.Outcome as trace

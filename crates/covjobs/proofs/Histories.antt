@@ -1,13 +1,12 @@
 -- What the places of a history bring is what its entries bring.
-use Rattle.std.proofs.Common.{◌≡◌, ◌∙◌, ℕ, zero, suc, ◌+◌, ◌<◌, List, [], ◌∷◌, ◌++◌, length, map, Option, Some, None, slice_get, ap, sym, refl, subst, arith}
+use Rattle.std.proofs.Common.{◌≡◌, ◌∙◌, ℕ, zero, suc, ◌+◌, List, [], ◌∷◌, ◌++◌, length, map, Option, Some, None, slice_get, ap, sym, refl, subst, arith}
 use Rattle.std.specs.Prelude.{IsSomeAnd}
-use Rattle.std.proofs.lemmas.List.{append-nil}
 use Rattle.std.proofs.lemmas.List.Concat.{flat_map-append}
 use Rattle.std.specs.List.{AllByRecursion, range_with_len, flat_map}
 use Rattle.std.specs.List.Sorted.{IsPermutation}
 use Rattle.covline.specs.Row.{SubmissionData}
 use Rattle.covbook.specs.Gather.{LogData, places_in, places_of, IsReceiptOf, IsLogOf}
-use Rattle.covbook.specs.Op.{OpData, EntryData, ReceiptData}
+use Rattle.covbook.specs.Op.{EntryData, ReceiptData}
 use Rattle.covbook.specs.Order.{submission_of, submissions_in}
 use Rattle.covbook.specs.Step.{receipt_of}
 use Rattle.covjobs.specs.Collect.{brought, all_places, ops_in}

@@ -1,5 +1,5 @@
 -- What all workers have done, by one telling of what became of each input.
-use Rattle.std.proofs.Common.{◌≡◌, ◌∙◌, inl, inr, ℕ, zero, suc, ◌+◌, ◌<◌, ◌%◌, Bool, true, IsTrue, List, [], ◌∷◌, length, map, Result, Ok, Err, slice_get, ap, sym, refl, subst, arith}
+use Rattle.std.proofs.Common.{◌≡◌, ◌∙◌, inl, inr, ℕ, zero, suc, ◌+◌, ◌<◌, ◌%◌, Bool, true, IsTrue, List, [], ◌∷◌, length, map, Err, slice_get, ap, sym, refl, subst, arith}
 use Rattle.std.specs.Prelude.{IsSomeAnd}
 use Rattle.std.specs.List.{AllByRecursion, range_with_len}
 use Rattle.std.proofs.Math.Dec.{eqb}
@@ -7,10 +7,8 @@ use Rattle.std.proofs.lemmas.Bool.{eq-eqb, false≢true}
 use Rattle.std.proofs.lemmas.Bool.Decides.{eqb_tells}
 use Rattle.std.proofs.lemmas.Nat.{mod_below}
 use Rattle.covline.specs.Row.{SubmissionData}
-use Rattle.covread.specs.declared.fault.ReadFault.{ReadFault}
 use Rattle.covread.specs.declared.fault.ReadFault.TheVariants as faults
-use Rattle.covbook.specs.Op.{OpData, SubmitOp}
-use Rattle.covjobs.specs.declared.refused.RefusedInput.{RefusedInput}
+use Rattle.covbook.specs.Op.{SubmitOp}
 use Rattle.covjobs.specs.Collect.{InputData, IsFate, AreFates, submitted, refusal, places_of_job, submissions_of, refusals_of, ops_in}
 use Rattle.covjobs.specs.Seat.{fresh_seat}
 use Rattle.covjobs.specs.Work.{WorkerData, WorkData, HasDone, HaveDone, work_of}

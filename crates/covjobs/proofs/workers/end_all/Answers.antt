@@ -1,5 +1,4 @@
-use Rattle.std.proofs.Common.{rules, ◌≡◌, ◌++◌, ◌∙◌, [], ◌∷◌, List, Err, true, false, sym}
-use Rattle.std.proofs.lemmas.Bool.{false≢true}
+use Rattle.std.proofs.Common.{rules, ◌≡◌, ◌++◌, ◌∙◌, [], ◌∷◌, List, Err}
 use Rattle.covbook.specs.declared.book.BookFault.TheVariants as faults
 use Rattle.covjobs.proofs.Ended.{End, not_all_well}
 use Rattle.covjobs.proofs.workers.end_all.Goals.{then-not-all_started+in_ok-push, else-not-all_started}

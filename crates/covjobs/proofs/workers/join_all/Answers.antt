@@ -1,4 +1,4 @@
-use Rattle.std.proofs.Common.{rules, ◌≡◌, List, [], length, arith}
+use Rattle.std.proofs.Common.{arith}
 use Rattle.std.proofs.lemmas.List.{nil_from_length}
 use Rattle.covjobs.proofs.Ended.{done_at_end}
 use Rattle.covjobs.proofs.workers.join_all.Goals as goal

@@ -1,4 +1,4 @@
-use Rattle.std.proofs.Common.{rules, ◌≡◌, ◌∙◌, ◌++◌, IsTrue, List, [], Global, length, map, ap, arith}
+use Rattle.std.proofs.Common.{◌≡◌, ◌∙◌, ◌++◌, IsTrue, List, [], Global, map, ap, arith}
 use Rattle.std.proofs.lemmas.List.{nil_from_length}
 use Rattle.covjobs.specs.InputView.{input_data}
 use Rattle.covjobs.specs.Seat.{SeatData}
