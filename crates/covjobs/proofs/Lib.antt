@@ -1,2 +1,4 @@
+pub mod Fates
 pub mod Seated
 pub mod Steps
+pub mod Taken
