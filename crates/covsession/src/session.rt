@@ -25,7 +25,9 @@ use crate::session::submit::{Given, answer_given, take_text};
 use crate::session::text::{LineEnd, Text};
 use crate::stream::{Sink, Source};
 use covbook::Book;
+pub use answers::{Clash, clash_line, refused_line};
 pub use fault::SessionFault;
+pub use output::put_bytes;
 use std::alloc::Allocator;
 
 // The format of the text that follows a line, where one does.

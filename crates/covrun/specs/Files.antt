@@ -1,0 +1,21 @@
+-- Private steps: how a file is read.
+use Rattle.std.specs.Io.KnownBytes.{Consumes, IsAtEnd}
+use Rattle.std.specs.Prelude.{◌≡◌, ◌⊎◌, ◌<◌, ℕ, suc, List, length, Option}
+use Rattle.covread.specs.Outcome.{most_bytes}
+use Rattle.covrun.specs.Call.{IsUnreadable}
+use Rattle.covrun.specs.declared.files.FileFault.{FileFault}
+use Rattle.covrun.specs.declared.files.FileFault.TheVariants.{Unreadable, Memory}
+
+-- the bytes were read: all that was left, unless they are too many for a text
+abbrev pub HasRead : Option (List ℕ) → Option (List ℕ) → List ℕ → Type 0
+HasRead left left_after text = Consumes left left_after text × (IsAtEnd left_after ⊎ (length text ≡ suc most_bytes))
+
+-- why the files aren't read: the first that can't be is told
+abbrev pub IsFileFault : List (List ℕ) → FileFault → Type 0
+IsFileFault files (Unreadable name) = IsUnreadable files name.now
+IsFileFault files Memory = Unit {0}
+
+-- the file of this name can't be read, or memory ran out
+abbrev pub IsUnread : List ℕ → FileFault → Type 0
+IsUnread name (Unreadable file) = file.now ≡ name
+IsUnread name Memory = Unit {0}

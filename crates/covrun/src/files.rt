@@ -1,0 +1,88 @@
+//! The files that a subcommand reads.
+
+ghost use Rattle.std.specs.Prelude.{◌≡◌, ◌<◌, ◌≤◌, ◌^◌, suc, length, IfOk, IfErr};
+ghost use Rattle.covread.specs.Outcome.{most_bytes};
+ghost use Rattle.covrun.specs.Files.{HasRead, IsUnread};
+
+use covline::{Bytes, Memory};
+use covread::MOST_BYTES;
+use covsession::{FromRead, SessionFault, Source};
+use std::alloc::{AllocError, Global};
+use std::fs;
+use std::rt::Files;
+
+/// How many bytes one read asks for.
+const BLOCK_BYTES: usize = 65_536;
+
+/// How many bytes of a file are kept: one more than a text may have, which shows that it has too many.
+const MOST_KEPT: usize = MOST_BYTES + 1;
+
+/// Why a file isn't read.
+#[derive(Clone, Copy)]
+pub(crate) enum FileFault<'a> {
+    /// The file of this name can't be opened, or a read of it failed.
+    Unreadable(&'a str),
+    /// A growth was refused.
+    Memory,
+}
+
+/// What the source still has, at most a byte more than a text may have. Faults: `Read` where a read failed, and `Memory`.
+pub(crate) fn read_text<S: Source>(alloc: Global, source: &mut S) -> Result<Bytes, SessionFault>
+    requires reads { S.reads source.old < 2 ^ 62 }
+    requires failed_reads { S.failed_reads source.old < 2 ^ 62 }
+    ensures read { IfOk result (HasRead (S.left source.old) (S.left source.new)) }
+    ensures few { IfOk result (λ text. length text ≤ suc most_bytes) }
+{
+    let mut block = vec![in alloc; 0; BLOCK_BYTES]?;
+    let mut text = Bytes::new(alloc);
+    let mut room = MOST_KEPT;
+    while room > 0 {
+        let count = room.min(BLOCK_BYTES);
+        let Ok(got) = source.read(&mut block[..count]) else {
+            return Err(SessionFault::Read);
+        };
+        if got == 0 {
+            return Ok(text);
+        }
+        text.append(&block[..got])?;
+        room -= got;
+    }
+    Ok(text)
+}
+
+/// The text of the file of this name, at most a byte more than a text may have.
+pub(crate) fn file_text<'a, R: Files>(rt: &R, alloc: Global, name: &'a str) -> Result<Bytes, FileFault<'a>>
+    ensures few { IfOk result (λ text. length text ≤ suc most_bytes) }
+    ensures unread { IfErr result (IsUnread name.now) }
+{
+    let Ok(file) = fs::open(rt, name) else {
+        return Err(FileFault::Unreadable(name));
+    };
+    match read_text(alloc, &mut FromRead::new(file)) {
+        Ok(text) => Ok(text),
+        Err(SessionFault::Memory) => Err(FileFault::Memory),
+        Err(_) => Err(FileFault::Unreadable(name)),
+    }
+}
+
+impl<'a> From<Memory> for FileFault<'a> {
+    ghost use Rattle.std.specs.Prelude.{◌≡◌};
+    ghost use Rattle.covrun.specs.declared.files.FileFault.TheVariants as faults;
+
+    ghost from_gives = { λ _ f. f ≡ faults.Memory };
+
+    fn from(_refused: Memory) -> FileFault<'a> {
+        FileFault::Memory
+    }
+}
+
+impl<'a> From<AllocError> for FileFault<'a> {
+    ghost use Rattle.std.specs.Prelude.{◌≡◌};
+    ghost use Rattle.covrun.specs.declared.files.FileFault.TheVariants as faults;
+
+    ghost from_gives = { λ _ f. f ≡ faults.Memory };
+
+    fn from(_refused: AllocError) -> FileFault<'a> {
+        FileFault::Memory
+    }
+}
