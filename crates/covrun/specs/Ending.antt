@@ -1,6 +1,6 @@
 -- How the call of a subcommand ends: what decides its exit status and what it writes.
 use Rattle.std.specs.List.{flat_map}
-use Rattle.std.specs.Prelude.{◌≡◌, ℕ, List, [], ◌∷◌, ◌++◌, Bool, true, false, if◌then◌else◌, Option, Some, None, Result, Ok, Err, codes, slice_get}
+use Rattle.std.specs.Prelude.{◌≡◌, ℕ, ◌-◌, length, List, [], ◌∷◌, ◌++◌, Bool, true, false, if◌then◌else◌, Option, Some, None, Result, Ok, Err, codes, slice_get}
 use Rattle.covread.specs.declared.fault.ReadFault.{ReadFault}
 use Rattle.covread.specs.declared.fault.ReadFault.TheVariants as reads
 use Rattle.covbook.specs.Op.{EntryData, AnswerData, AcceptedAnswer, ClashAnswer, DroppedAnswer, NoSuchTestAnswer, TextAnswer}
@@ -107,10 +107,12 @@ text_in NoSuchTestAnswer = []
 text_in (TextAnswer text) = text
 
 -- the text of the last entry
+abbrev pub text_at : Option EntryData → List ℕ
+text_at (Some e) = text_in e.answer
+text_at None = []
+
 abbrev pub last_text : List EntryData → List ℕ
-last_text [] = []
-last_text (e ∷ []) = text_in e.answer
-last_text (e ∷ next ∷ entries) = last_text (next ∷ entries)
+last_text entries = text_at (slice_get entries (length entries - 1))
 
 -- a text is printed where there is nothing to complain of
 abbrev pub unless_any : (lines : List ℕ) → (text : List ℕ) → EndingData

@@ -4,4 +4,3 @@ pub mod Call
 pub mod View
 pub mod WorkFault
 pub mod Files
-pub mod Inputs

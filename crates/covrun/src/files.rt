@@ -1,8 +1,8 @@
 //! The files that a subcommand reads.
 
-ghost use Rattle.std.specs.Prelude.{◌≡◌, ◌<◌, ◌≤◌, ◌^◌, suc, length, IfOk, IfErr};
+ghost use Rattle.std.specs.Prelude.{◌≡◌, ◌<◌, ◌≤◌, ◌+◌, ◌^◌, suc, length, IfOk, IfErr};
 ghost use Rattle.covread.specs.Outcome.{most_bytes};
-ghost use Rattle.covrun.specs.Files.{HasRead, IsUnread};
+ghost use Rattle.covrun.specs.Files.{HasRead, HasReadBlock, IsUnread};
 
 use covline::{Bytes, Memory};
 use covread::MOST_BYTES;
@@ -38,16 +38,32 @@ pub(crate) fn read_text<S: Source>(alloc: Global, source: &mut S) -> Result<Byte
     let mut room = MOST_KEPT;
     while room > 0 {
         let count = room.min(BLOCK_BYTES);
-        let Ok(got) = source.read(&mut block[..count]) else {
-            return Err(SessionFault::Read);
-        };
+        let got = read_block(source, &mut block[..count], &mut text)?;
         if got == 0 {
             return Ok(text);
         }
-        text.append(&block[..got])?;
         room -= got;
     }
     Ok(text)
+}
+
+/// Reads once into the block, appends what was read to the text, and answers how many bytes that are.
+fn read_block<S: Source>(
+    source: &mut S,
+    block: &mut [u8],
+    text: &mut Bytes,
+) -> Result<usize, SessionFault>
+    requires reads { S.reads source.old < 2 ^ 63 }
+    requires failed_reads { S.failed_reads source.old < 2 ^ 63 }
+    ensures read { IfOk result (HasReadBlock (S.left source.old) (S.left source.new) text.old text.new (length block.now)) }
+    ensures counted { IfOk result (λ _. S.reads source.new ≡ S.reads source.old + 1) }
+    ensures good { IfOk result (λ _. S.failed_reads source.new ≡ S.failed_reads source.old) }
+{
+    let Ok(got) = source.read(block) else {
+        return Err(SessionFault::Read);
+    };
+    text.append(&block[..got])?;
+    Ok(got)
 }
 
 /// The text of the file of this name, at most a byte more than a text may have.
