@@ -56,12 +56,10 @@ WorkEnds work ending =
     ⊎ ((texts : List (List ℕ)) × (answer : Result CollectedData CollectFault)
         × AreTexts work.files texts × IsAnswer work texts answer × (ending ≡ ending_of work.files answer)))
 
--- first the patterns and the test's name are looked at, and only then is work begun
-abbrev pub Ends : Command → WorkData → EndingData → Type 0
-Ends command work ending =
-    (ending ≡ Stopped faults.Memory)
-    ⊎ (((fault : WordsFault) × (ending ≡ BadWords fault) × AreRefused command fault)
-    ⊎ (AreTaken command × WorkEnds work ending))
+-- before work is begun the patterns and the test's name are looked at
+abbrev pub StopsEarly : Command → EndingData → Type 0
+StopsEarly command ending =
+    (ending ≡ Stopped faults.Memory) ⊎ ((fault : WordsFault) × (ending ≡ BadWords fault) × AreRefused command fault)
 
 -- how a call ends whose words give no command
 abbrev pub of_line : CommandFault → EndingData
@@ -118,14 +116,19 @@ pub record AreParsed (words : List (List ℕ)) (parsed : Result Command CommandF
   pub told : IfErr parsed (IsToldOf (fault_of covcollect words))
 
 -- a call that has work ends and is told; one that has none is a session
-abbrev pub WorkTold : Command → Option WorkData → (status : ℕ) → (left left_after : Option (List ℕ)) → SinksData → SinksData → Type 0
-WorkTold command (Some work) status left left_after old new =
-    (ending : EndingData) × Ends command work ending × IsTold ending status old new
-WorkTold command None status left left_after old new =
+abbrev pub WorkTold : Option WorkData → (status : ℕ) → (left left_after : Option (List ℕ)) → SinksData → SinksData → Type 0
+WorkTold (Some work) status left left_after old new = (ending : EndingData) × WorkEnds work ending × IsTold ending status old new
+WorkTold None status left left_after old new =
     TellsSession status left left_after old.output new.output old.faults new.faults old.failed_faults new.failed_faults
 
+-- a command's words are refused, or taken and then the command is done
+abbrev pub CommandTold : Command → (status : ℕ) → (left left_after : Option (List ℕ)) → SinksData → SinksData → Type 0
+CommandTold command status left left_after old new =
+    ((ending : EndingData) × StopsEarly command ending × IsTold ending status old new)
+    ⊎ (AreTaken command × WorkTold (work_of command) status left left_after old new)
+
 abbrev pub CallTold : Result Command CommandFault → (status : ℕ) → (left left_after : Option (List ℕ)) → SinksData → SinksData → Type 0
-CallTold (Ok command) status left left_after old new = WorkTold command (work_of command) status left left_after old new
+CallTold (Ok command) status left left_after old new = CommandTold command status left left_after old new
 CallTold (Err fault) status left left_after old new = IsTold (of_line fault) status old new
 
 -- a call of these words, by its exit status, what its input has at its beginning and its end, and what its streams took

@@ -46,7 +46,7 @@ abbrev pub complaint : EndingData → List ℕ
 complaint (Prints text) = []
 complaint (BadLine text) = text
 complaint (BadWords fault) = said (words_fault_name fault)
-complaint (Unreadable name) = said (name ++ codes ": can't read")
+complaint (Unreadable name) = name ++ said (codes ": can't read")
 complaint (Stopped fault) = said (words_of_fault fault)
 complaint Ungathered = said (codes "gather")
 complaint (Refuses lines) = lines

@@ -7,7 +7,7 @@ ghost use Rattle.covbook.specs.EntryView.{entry_data};
 ghost use Rattle.covbook.specs.View.{answer_data};
 ghost use Rattle.covsession.specs.declared.session.fault.SessionFault.TheVariants as session_faults;
 ghost use Rattle.covrun.specs.Call.{WorkEnds};
-ghost use Rattle.covrun.specs.Ending.{of_collected, complaints, clash_text, refusal_line, ran_out, is_memory, last_text, text_in};
+ghost use Rattle.covrun.specs.Ending.{of_collected, complaints, clash_text, refusal_line, ran_out, is_memory, last_text, name_at, text_in};
 ghost use Rattle.covrun.specs.View.{ending_data, work_data};
 
 use crate::ending::{Ending, ending_of_collect};
@@ -119,6 +119,16 @@ fn add_refusals(
     Ok(())
 }
 
+/// The name of the file at a place.
+fn file_name(files: &[String], index: usize) -> &[u8]
+    ensures { result.now ≡ name_at (slice_get (map string_bytes files.now) index) }
+{
+    match files.get(index) {
+        Some(name) => name.as_bytes(),
+        None => b"",
+    }
+}
+
 /// Appends the line of a refused input.
 fn add_refusal(
     alloc: Global,
@@ -129,9 +139,7 @@ fn add_refusal(
     ensures added { OnOk result (lines.new.items ≡ lines.old.items ++ refusal_line (map string_bytes files.now) input) }
     ensures fault { IfErr result (λ fault. fault ≡ session_faults.Memory) }
 {
-    if let Some(name) = files.get(input.index) {
-        lines.extend_from_slice(name.as_bytes())?;
-    }
+    lines.extend_from_slice(file_name(files, input.index))?;
     lines.extend_from_slice(b": ")?;
     let line = refused_line(alloc, input.fault)?;
     lines.extend_from_slice(line.as_slice())?;

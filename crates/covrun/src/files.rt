@@ -55,7 +55,7 @@ fn read_block<S: Source>(
 ) -> Result<usize, SessionFault>
     requires reads { S.reads source.old < 2 ^ 63 }
     requires failed_reads { S.failed_reads source.old < 2 ^ 63 }
-    ensures read { IfOk result (HasReadBlock (S.left source.old) (S.left source.new) text.old text.new (length block.now)) }
+    ensures read { IfOk result (HasReadBlock (S.left source.old) (S.left source.new) text.old text.new (length block.old)) }
     ensures counted { IfOk result (λ _. S.reads source.new ≡ S.reads source.old + 1) }
     ensures good { IfOk result (λ _. S.failed_reads source.new ≡ S.failed_reads source.old) }
 {

@@ -2,8 +2,7 @@
 
 ghost use Rattle.std.specs.Prelude.{◌≡◌, ◌<◌, ◌^◌, map};
 ghost use Rattle.std.specs.String.{string_bytes};
-ghost use Rattle.covrun.specs.Call.{sinks, IsCall, WorkTold};
-ghost use Rattle.covrun.specs.Work.{work_of};
+ghost use Rattle.covrun.specs.Call.{sinks, IsCall, CommandTold};
 
 use crate::collecting::ending_of;
 use crate::ending::{Ending, ending_of_line};
@@ -57,7 +56,7 @@ fn run_command<R: Files + Threads + Wait + Sync, I: Source, O: Sink, E: Sink>(
     requires failed_reads { I.failed_reads input.old < 2 ^ 62 }
     requires failed_writes { O.failed_writes output.old < 2 ^ 62 }
     requires failed_words { E.failed_writes faults.old < 2 ^ 62 }
-    ensures { WorkTold asked (work_of asked) result (I.left input.old) (I.left input.new)
+    ensures { CommandTold asked result (I.left input.old) (I.left input.new)
         (sinks (O.written output.old) (O.failed_writes output.old) (E.written faults.old) (E.failed_writes faults.old))
         (sinks (O.written output.new) (O.failed_writes output.new) (E.written faults.new) (E.failed_writes faults.new)) }
 {

@@ -1,0 +1,30 @@
+-- How a call with work ends, from what its steps answer.
+use Rattle.std.proofs.Common.{◌≡◌, ◌⊎◌, inl, inr, ℕ, List, Option, Some, None, Result, Ok, Err, map, subst, sym, ap, ◌∙◌}
+use Rattle.covbook.specs.Op.{EntryData, OpData}
+use Rattle.covbook.specs.Gather.{LogData}
+use Rattle.covjobs.specs.Collect.{InputData, IsCollected}
+use Rattle.covjobs.specs.declared.collect_fault.CollectFault.{CollectFault}
+use Rattle.covjobs.specs.declared.refused.RefusedInput.{RefusedInput}
+use Rattle.covrun.specs.Call.{AreTexts, CollectedData, WorkEnds, WorkTold, SinksData, IsTold}
+use Rattle.covrun.specs.Ending.{EndingData, of_collect, of_collected}
+use Rattle.covrun.specs.Work.{WorkData, input_of}
+
+-- its texts were collected
+pub ends_collected : (work : WorkData) (inputs : List InputData) (entries : List EntryData) (logs : List LogData) (refused : List RefusedInput) (ending : EndingData)
+    → (texts : List (List ℕ)) × AreTexts work.files texts × (inputs ≡ map (input_of work.test) texts)
+    → IsCollected inputs work.jobs work.last entries logs refused → ending ≡ of_collected work.files entries refused → WorkEnds work ending
+ends_collected work inputs entries logs refused ending (texts, are, from) collected is =
+    inr (inr (texts, Ok (record { entries = entries; logs = logs; refused = refused }), are,
+        subst (λ (xs : List InputData). IsCollected xs work.jobs work.last entries logs refused) from collected, is))
+
+-- they weren't
+pub ends_uncollected : (work : WorkData) (inputs : List InputData) (fault : CollectFault) (ending : EndingData)
+    → (texts : List (List ℕ)) × AreTexts work.files texts × (inputs ≡ map (input_of work.test) texts)
+    → ending ≡ of_collect fault → WorkEnds work ending
+ends_uncollected work inputs fault ending (texts, are, from) is = inr (inr (texts, Err fault, are, tt, is))
+
+-- work that ended is told
+pub told_work : (work : WorkData) (asked : Option WorkData) (ending : EndingData) (status : ℕ) (left left_after : Option (List ℕ)) (old new : SinksData)
+    → Some work ≡ asked → WorkEnds work ending → IsTold ending status old new → WorkTold asked status left left_after old new
+told_work work asked ending status left left_after old new is ends told =
+    subst (λ (w : Option WorkData). WorkTold w status left left_after old new) is (ending, ends, told)
