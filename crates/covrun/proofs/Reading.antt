@@ -12,24 +12,24 @@ all_more [] text all short = (short, tt)
 all_more (t ∷ texts) text all short = (all.0, all_more texts text all.1 short)
 
 -- one file more is read
-pub texts_more : {X Y : Type 0} (name : X → List ℕ) (data : Y → InputData) (input : List ℕ → InputData) (files : List X) (i : ℕ) (default : X) → i < length files
-    → (inputs : List Y) (y : Y) (text : List ℕ) → length text ≤ suc most_bytes → data y ≡ input text
-    → (texts : List (List ℕ)) × AreTexts (map name (take i files)) texts × (map data inputs ≡ map input texts)
-    → (texts : List (List ℕ)) × AreTexts (map name (take (i + 1) files)) texts × (map data (inputs ++ y ∷ []) ≡ map input texts)
-texts_more {X} {Y} name data input files i default within inputs y text short is (texts, (long, all), from) =
+pub texts_more : {X Y : Type 0} (name : X → List ℕ) (seen : Y → InputData) (input : List ℕ → InputData) (files : List X) (i : ℕ) (default : X) → i < length files
+    → (inputs : List Y) (y : Y) (text : List ℕ) → length text ≤ suc most_bytes → seen y ≡ input text
+    → (texts : List (List ℕ)) × AreTexts (map name (take i files)) texts × (map seen inputs ≡ map input texts)
+    → (texts : List (List ℕ)) × AreTexts (map name (take (i + 1) files)) texts × (map seen (inputs ++ y ∷ []) ≡ map input texts)
+texts_more {X} {Y} name seen input files i default within inputs y text short is (texts, (long, all), from) =
     let files_more : map name (take (i + 1) files) ≡ map name (take i files) ++ name (get_or files i default) ∷ []
     = ap (map name) (take_more files i default within) ∙ map-append name (take i files) (get_or files i default ∷ []) in
     (texts ++ text ∷ [],
      (length-append texts (text ∷ []) ∙ ap (λ (n : ℕ). n + 1) long ∙ sym (length-append (map name (take i files)) (name (get_or files i default) ∷ [])) ∙ ap (λ (xs : List (List ℕ)). length xs) (sym files_more),
       all_more texts text all short),
-     map-append data inputs (y ∷ []) ∙ (λ k. from k ++ is k ∷ []) ∙ sym (map-append input texts (text ∷ [])))
+     map-append seen inputs (y ∷ []) ∙ (λ k. from k ++ is k ∷ []) ∙ sym (map-append input texts (text ∷ [])))
 
 -- the next file can't be read
-pub unreadable_at : {X Y : Type 0} (name : X → List ℕ) (data : Y → InputData) (input : List ℕ → InputData) (files : List X) (i : ℕ) (default : X) → i < length files
+pub unreadable_at : {X Y : Type 0} (name : X → List ℕ) (seen : Y → InputData) (input : List ℕ → InputData) (files : List X) (i : ℕ) (default : X) → i < length files
     → (inputs : List Y) (found : List ℕ) → found ≡ name (get_or files i default)
-    → (texts : List (List ℕ)) × AreTexts (map name (take i files)) texts × (map data inputs ≡ map input texts)
+    → (texts : List (List ℕ)) × AreTexts (map name (take i files)) texts × (map seen inputs ≡ map input texts)
     → IsUnreadable (map name files) found
-unreadable_at {X} {Y} name data input files i default within inputs found is (texts, are, from) =
+unreadable_at {X} {Y} name seen input files i default within inputs found is (texts, are, from) =
     let cut : map name files ≡ map name (take i files) ++ map name (drop i files)
     = ap (map name) (sym (take-append-drop i files)) ∙ map-append name (take i files) (drop i files) in
     let rest : map name (drop i files) ≡ found ∷ map name (drop (i + 1) files)
