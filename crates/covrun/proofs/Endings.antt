@@ -10,18 +10,20 @@ use Rattle.covrun.specs.Ending.{EndingData, of_collect, of_collected}
 use Rattle.covrun.specs.Work.{WorkData, input_of}
 
 -- its texts were collected
-pub ends_collected : (work : WorkData) (inputs : List InputData) (entries : List EntryData) (logs : List LogData) (refused : List RefusedInput) (ending : EndingData)
-    → (texts : List (List ℕ)) × AreTexts work.files texts × (inputs ≡ map (input_of work.test) texts)
-    → IsCollected inputs work.jobs work.last entries logs refused → ending ≡ of_collected work.files entries refused → WorkEnds work ending
-ends_collected work inputs entries logs refused ending (texts, are, from) collected is =
-    inr (inr (texts, Ok (record { entries = entries; logs = logs; refused = refused }), are,
-        subst (λ (xs : List InputData). IsCollected xs work.jobs work.last entries logs refused) from collected, is))
+pub ends_collected : (work : WorkData) (files : List (List ℕ)) → files ≡ work.files → (inputs slice : List InputData) → slice ≡ inputs  → (entries : List EntryData) (logs : List LogData) (refused : List RefusedInput) (ending : EndingData)
+    → (texts : List (List ℕ)) × AreTexts files texts × (inputs ≡ map (input_of work.test) texts)
+    → IsCollected slice work.jobs work.last entries logs refused → ending ≡ of_collected files entries refused → WorkEnds work ending
+ends_collected work files named inputs slice same entries logs refused ending (texts, are, from) collected is =
+    inr (inr (texts, Ok (record { entries = entries; logs = logs; refused = refused }), subst (λ (fs : List (List ℕ)). AreTexts fs texts) named are,
+        subst (λ (xs : List InputData). IsCollected xs work.jobs work.last entries logs refused) (same ∙ from) collected,
+        is ∙ ap (λ (fs : List (List ℕ)). of_collected fs entries refused) named))
 
 -- they weren't
-pub ends_uncollected : (work : WorkData) (inputs : List InputData) (fault : CollectFault) (ending : EndingData)
-    → (texts : List (List ℕ)) × AreTexts work.files texts × (inputs ≡ map (input_of work.test) texts)
+pub ends_uncollected : (work : WorkData) (files : List (List ℕ)) → files ≡ work.files → (inputs : List InputData) (fault : CollectFault) (ending : EndingData)
+    → (texts : List (List ℕ)) × AreTexts files texts × (inputs ≡ map (input_of work.test) texts)
     → ending ≡ of_collect fault → WorkEnds work ending
-ends_uncollected work inputs fault ending (texts, are, from) is = inr (inr (texts, Err fault, are, tt, is))
+ends_uncollected work files named inputs fault ending (texts, are, from) is =
+    inr (inr (texts, Err fault, subst (λ (fs : List (List ℕ)). AreTexts fs texts) named are, tt, is))
 
 -- work that ended is told
 pub told_work : (work : WorkData) (asked : Option WorkData) (ending : EndingData) (status : ℕ) (left left_after : Option (List ℕ)) (old new : SinksData)

@@ -39,7 +39,10 @@ pub(crate) fn read_files<'a, R: Files>(
 {
     let mut inputs = Vec::new(alloc);
     for name in files {
-        let text = file_text(rt, alloc, name.as_str())?;
+        let text = match file_text(rt, alloc, name.as_str()) {
+            Ok(text) => text,
+            Err(fault) => return Err(fault),
+        };
         push_input(&mut inputs, input_for(alloc, test, text)?)?;
     }
     Ok(inputs)
