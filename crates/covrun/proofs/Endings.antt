@@ -5,18 +5,26 @@ use Rattle.covbook.specs.Gather.{LogData}
 use Rattle.covjobs.specs.Collect.{InputData, IsCollected}
 use Rattle.covjobs.specs.declared.collect_fault.CollectFault.{CollectFault}
 use Rattle.covjobs.specs.declared.refused.RefusedInput.{RefusedInput}
-use Rattle.covrun.specs.Call.{AreTexts, CollectedData, WorkEnds, WorkTold, SinksData, IsTold}
+use Rattle.covcommand.specs.declared.asked.Command.{Command}
+use Rattle.covrun.specs.WorkFault.{IsRefusal, of_work}
+use Rattle.covrun.specs.declared.work.WorkFault.{WorkFault}
+use Rattle.covrun.specs.declared.work.WorkFault.TheVariants.{Words, Memory}
+use Rattle.covrun.specs.Call.{StopsEarly, AreTexts, CollectedData, WorkEnds, WorkTold, SinksData, IsTold}
 use Rattle.covrun.specs.Ending.{EndingData, of_collect, of_collected}
 use Rattle.covrun.specs.Work.{WorkData, input_of}
 
 -- its texts were collected
-pub ends_collected : (work : WorkData) (files : List (List ℕ)) → files ≡ work.files → (inputs slice : List InputData) → slice ≡ inputs  → (entries : List EntryData) (logs : List LogData) (refused : List RefusedInput) (ending : EndingData)
+pub ends_collected : (work : WorkData) (files : List (List ℕ)) → files ≡ work.files → (inputs slice : List InputData) → slice ≡ inputs → (entries : List EntryData) (logs : List LogData) (refused : List RefusedInput) (ending : EndingData)
     → (texts : List (List ℕ)) × AreTexts files texts × (inputs ≡ map (input_of work.test) texts)
     → IsCollected slice work.jobs work.last entries logs refused → ending ≡ of_collected files entries refused → WorkEnds work ending
 ends_collected work files named inputs slice same entries logs refused ending (texts, are, from) collected is =
-    inr (inr (texts, Ok (record { entries = entries; logs = logs; refused = refused }), subst (λ (fs : List (List ℕ)). AreTexts fs texts) named are,
-        subst (λ (xs : List InputData). IsCollected xs work.jobs work.last entries logs refused) (same ∙ from) collected,
-        is ∙ ap (λ (fs : List (List ℕ)). of_collected fs entries refused) named))
+    inr (inr (
+      texts,
+      Ok (record { entries = entries; logs = logs; refused = refused }),
+      subst (λ (fs : List (List ℕ)). AreTexts fs texts) named are,
+      subst (λ (xs : List InputData). IsCollected xs work.jobs work.last entries logs refused) (same ∙ from) collected,
+      is ∙ ap (λ (fs : List (List ℕ)). of_collected fs entries refused) named,
+    ))
 
 -- they weren't
 pub ends_uncollected : (work : WorkData) (files : List (List ℕ)) → files ≡ work.files → (inputs : List InputData) (fault : CollectFault) (ending : EndingData)
@@ -30,3 +38,8 @@ pub told_work : (work : WorkData) (asked : Option WorkData) (ending : EndingData
     → Some work ≡ asked → WorkEnds work ending → IsTold ending status old new → WorkTold asked status left left_after old new
 told_work work asked ending status left left_after old new is ends told =
     subst (λ (w : Option WorkData). WorkTold w status left left_after old new) is (ending, ends, told)
+
+-- work that isn't begun
+pub stops_early : (command : Command) (fault : WorkFault) (ending : EndingData) → ending ≡ of_work fault → IsRefusal command fault → StopsEarly command ending
+stops_early command (Words fault) ending is refused = inr (fault, is, refused)
+stops_early command Memory ending is refused = inl is

@@ -21,11 +21,14 @@ pub texts_more : {X Y : Type 0} (name : X → List ℕ) (seen : Y → InputData)
     → (texts : List (List ℕ)) × AreTexts (map name (take (i + 1) files)) texts × (map seen after ≡ map input texts)
 texts_more {X} {Y} name seen input files i default within inputs after y text pushed short is (texts, (long, all), from) =
     let files_more : map name (take (i + 1) files) ≡ map name (take i files) ++ name (get_or files i default) ∷ []
-    = ap (map name) (take_more files i default within) ∙ map-append name (take i files) (get_or files i default ∷ []) in
-    (texts ++ text ∷ [],
-     (length-append texts (text ∷ []) ∙ ap (λ (n : ℕ). n + 1) long ∙ sym (length-append (map name (take i files)) (name (get_or files i default) ∷ [])) ∙ ap (λ (xs : List (List ℕ)). length xs) (sym files_more),
-      all_more texts text all short),
-     ap (map seen) pushed ∙ map-append seen inputs (y ∷ []) ∙ (λ k. from k ++ is k ∷ []) ∙ sym (map-append input texts (text ∷ [])))
+    = ap (map name) (take_more files i default within) ∙ map-append name (take i files) (get_or files i default ∷ []) in (
+      texts ++ text ∷ [],
+      (
+        length-append texts (text ∷ []) ∙ ap (λ (n : ℕ). n + 1) long ∙ sym (length-append (map name (take i files)) (name (get_or files i default) ∷ [])) ∙ ap (λ (xs : List (List ℕ)). length xs) (sym files_more),
+        all_more texts text all short,
+      ),
+      ap (map seen) pushed ∙ map-append seen inputs (y ∷ []) ∙ (λ k. from k ++ is k ∷ []) ∙ sym (map-append input texts (text ∷ [])),
+    )
 
 -- the next file can't be read
 pub unreadable_at : {X Y : Type 0} (name : X → List ℕ) (seen : Y → InputData) (input : List ℕ → InputData) (files : List X) (i : ℕ) (default : X) → i < length files

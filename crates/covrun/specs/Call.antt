@@ -54,7 +54,7 @@ WorkEnds work ending =
     (ending ≡ Stopped faults.Memory)
     ⊎ (((name : List ℕ) × (ending ≡ Unreadable name) × IsUnreadable work.files name)
     ⊎ ((texts : List (List ℕ)) × (answer : Result CollectedData CollectFault)
-        × AreTexts work.files texts × IsAnswer work texts answer × (ending ≡ ending_of work.files answer)))
+    × AreTexts work.files texts × IsAnswer work texts answer × (ending ≡ ending_of work.files answer)))
 
 -- before work is begun the patterns and the test's name are looked at
 abbrev pub StopsEarly : Command → EndingData → Type 0

@@ -6,6 +6,8 @@ use Rattle.covreport.specs.declared.patterns.PatternFault.TheVariants as pattern
 use Rattle.covrun.specs.declared.words_fault.WordsFault.TheVariants as words
 use Rattle.covrun.specs.declared.work.WorkFault.{WorkFault}
 use Rattle.covrun.specs.declared.work.WorkFault.TheVariants.{Words, Memory}
+use Rattle.covsession.specs.declared.session.fault.SessionFault.TheVariants as faults
+use Rattle.covrun.specs.Ending.{EndingData, BadWords, Stopped}
 use Rattle.covrun.specs.Work.{AreRefused, IsPatternFault, IsTestFault}
 
 abbrev pub of_pattern : PatternFault → WorkFault
@@ -24,3 +26,8 @@ IsPatternRefusal patterns Memory = Unit {0}
 abbrev pub IsTestRefusal : List ℕ → WorkFault → Type 0
 IsTestRefusal test (Words fault) = IsTestFault test fault
 IsTestRefusal test Memory = Unit {0}
+
+-- the ending that it is
+abbrev pub of_work : WorkFault → EndingData
+of_work (Words fault) = BadWords fault
+of_work Memory = Stopped faults.Memory

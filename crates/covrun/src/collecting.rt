@@ -179,10 +179,8 @@ fn add_clash(alloc: Global, answer: &Answer, lines: &mut Vec<u8>) -> Result<(), 
             lines.extend_from_slice(text.as_slice())?;
             Ok(())
         }
-        Answer::Accepted { .. }
-        | Answer::Dropped { .. }
-        | Answer::NoSuchTest
-        | Answer::Text(_) => Ok(()),
+        Answer::Accepted { .. } | Answer::Dropped { .. } | Answer::NoSuchTest | Answer::Text(_) =>
+            Ok(()),
     }
 }
 

@@ -4,8 +4,10 @@ ghost use Rattle.std.specs.Prelude.{◌≡◌};
 ghost use Rattle.covrun.specs.Call.{of_line};
 ghost use Rattle.covrun.specs.Ending.{of_collect};
 ghost use Rattle.covrun.specs.View.{ending_data};
+ghost use Rattle.covrun.specs.WorkFault.{of_work};
 
 use crate::words_fault::WordsFault;
+use crate::work::WorkFault;
 use covbook::TextRef;
 use covcommand::CommandFault;
 use covjobs::CollectFault;
@@ -52,5 +54,15 @@ pub(crate) fn ending_of_collect<'a>(fault: CollectFault) -> Ending<'a>
         CollectFault::Full => Ending::Stopped(SessionFault::Full),
         CollectFault::Memory => Ending::Stopped(SessionFault::Memory),
         CollectFault::Gather(_) | CollectFault::NotLast => Ending::Ungathered,
+    }
+}
+
+/// The ending of a call whose work isn't begun.
+pub(crate) fn ending_of_work<'a>(fault: WorkFault) -> Ending<'a>
+    ensures { ending_data result ≡ of_work fault }
+{
+    match fault {
+        WorkFault::Words(fault) => Ending::Words(fault),
+        WorkFault::Memory => Ending::Stopped(SessionFault::Memory),
     }
 }

@@ -67,7 +67,11 @@ fn read_block<S: Source>(
 }
 
 /// The text of the file of this name, at most a byte more than a text may have.
-pub(crate) fn file_text<'a, R: Files>(rt: &R, alloc: Global, name: &'a str) -> Result<Bytes, FileFault<'a>>
+pub(crate) fn file_text<'a, R: Files>(
+    rt: &R,
+    alloc: Global,
+    name: &'a str,
+) -> Result<Bytes, FileFault<'a>>
     ensures few { IfOk result (λ text. length text ≤ suc most_bytes) }
     ensures unread { IfErr result (IsUnread name.now) }
 {

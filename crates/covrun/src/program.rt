@@ -5,11 +5,11 @@ ghost use Rattle.std.specs.String.{string_bytes};
 ghost use Rattle.covrun.specs.Call.{sinks, IsCall, CommandTold};
 
 use crate::collecting::ending_of;
-use crate::ending::{Ending, ending_of_line};
+use crate::ending::{ending_of_line, ending_of_work};
 use crate::told::tell;
-use crate::work::{WorkFault, work_for};
+use crate::work::work_for;
 use covcommand::{Command, command};
-use covsession::{SessionFault, Sink, Source, run_session};
+use covsession::{Sink, Source, run_session};
 use std::alloc::{AllocGlobal, Global};
 use std::rt::Files;
 use std::sync::Wait;
@@ -63,7 +63,6 @@ fn run_command<R: Files + Threads + Wait + Sync, I: Source, O: Sink, E: Sink>(
     match work_for(alloc, asked) {
         Ok(Some(work)) => tell(&ending_of(rt, alloc, &work), output, faults),
         Ok(None) => run_session(alloc, input, output, faults),
-        Err(WorkFault::Words(fault)) => tell(&Ending::Words(fault), output, faults),
-        Err(WorkFault::Memory) => tell(&Ending::Stopped(SessionFault::Memory), output, faults),
+        Err(fault) => tell(&ending_of_work(fault), output, faults),
     }
 }

@@ -11,11 +11,7 @@ use crate::ending::Ending;
 use covsession::{SessionFault, Sink, line_of, put_bytes, status_of};
 
 /// Tells the ending, and answers its exit status.
-pub(crate) fn tell<O: Sink, E: Sink>(
-    ending: &Ending<'_>,
-    output: &mut O,
-    faults: &mut E,
-) -> u8
+pub(crate) fn tell<O: Sink, E: Sink>(ending: &Ending<'_>, output: &mut O, faults: &mut E) -> u8
     requires output { O.failed_writes output.old < 2 ^ 62 }
     requires faults { E.failed_writes faults.old < 2 ^ 62 }
     ensures { IsTold (ending_data ending.now) result
