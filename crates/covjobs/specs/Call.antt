@@ -1,14 +1,14 @@
 -- What a call that succeeded is told.
 use Rattle.std.specs.Prelude.{◌≡◌, ℕ, ◌<◌, List, length}
 use Rattle.covbook.specs.Op.{OpData, EntryData, ReceiptData}
-use Rattle.covbook.specs.Step.{IsLegal, next_entry, receipt_of, most_entries}
+use Rattle.covbook.specs.Step.{IsLegal, answer_of, table_of, ops_in, most_entries}
 
--- the step of the job comes right behind this history, at its place and with its answer
-pub record IsToldBehind (before : List EntryData) (asker : ℕ) (asked : OpData) (told : ReceiptData) : Type 0 where
+-- the step comes right behind this history, at its place and with its answer
+pub record IsToldBehind (before : List EntryData) (asked : OpData) (told : ReceiptData) : Type 0 where
   pub legal : IsLegal before
   pub few : length before < most_entries
-  pub receipt : told ≡ receipt_of (length before) (next_entry before asker asked)
+  pub receipt : told ≡ record { place = length before; op = asked; answer = answer_of (table_of (ops_in before)) asked }
 
 -- there is a legal history, of as many entries as the place says, behind which the table answers the operation so
-abbrev pub IsTold : ℕ → OpData → ReceiptData → Type 0
-IsTold asker asked told = (before : List EntryData) × IsToldBehind before asker asked told
+abbrev pub IsTold : OpData → ReceiptData → Type 0
+IsTold asked told = (before : List EntryData) × IsToldBehind before asked told

@@ -4,7 +4,7 @@ use Rattle.covbook.specs.Op.{EntryData}
 use Rattle.covbook.specs.Step.{IsLegal}
 
 -- the history is legal, and the count of the calls is the number of its entries; the share beside it, which no seat has, has
--- no part of the count
+-- no part of the count. That the store stands for the last table of the history's run is the book's own invariant
 pub record IsLocked (entries : List EntryData) (total parts amount : ℕ) : Type 0 where
   pub legal : IsLegal entries
   pub counted : total ≡ length entries

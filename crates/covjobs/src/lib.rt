@@ -14,9 +14,12 @@
 //!     requires name { start.name ≡ L.name }
 //!     requires jobs { start.jobs ≡ L.parts }
 //! {
-//!     let (book, seats) = open_book::<L>(alloc, start)?;
+//!     let (book, seats) = open_book::<L, Global>(alloc, start)?;
 //!     // each thread: book.perform(rt, alloc, &mut seat, &op)?
-//!     let entries = book.close(seats); // with all seats handed in
+//!     match book.close(seats) {
+//!         Ok(entries) => .., // all seats were handed in
+//!         Err((book, seats, CloseFault::Missing { job })) => ..,
+//!     }
 //! }
 //! run::<Brand>(&rt, alloc, Start::new(alloc, 4)?)
 //! ```

@@ -57,7 +57,7 @@ impl<L: Name, A: Allocator + Copy> Locked<L, A> {
         seat: &mut Seat<L>,
         op: &Op<A>,
     ) -> Result<Receipt<A>, BookFault>
-        ensures told { IfOk result (λ r. IsToldBehind self.old seat.old.job (op_data op.now) (receipt_data r)) }
+        ensures told { IfOk result (λ r. IsToldBehind self.old (op_data op.now) (receipt_data r)) }
         ensures entry { OnOk result (self.new ≡ self.old ++ next_entry self.old seat.old.job (op_data op.now) ∷ []) }
         ensures seat { MatchResult result (λ r. seat.new ≡ after_call seat.old r.place) (λ _. seat.new ≡ seat.old) }
         ensures seen { IfOk result (λ r. seat.old.seen ≤ r.place) }

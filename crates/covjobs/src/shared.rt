@@ -95,7 +95,7 @@ impl<L: Name, A: Allocator + Copy> Shared<L, A> {
         op: &Op<A>,
     ) -> Result<Done<A>, BookFault>
         ensures asked { IfOk result (λ d. op_data d.receipt.op ≡ op_data op.now) }
-        ensures told { IfOk result (λ d. IsTold seat.old.job (op_data op.now) (receipt_data d.receipt)) }
+        ensures told { IfOk result (λ d. IsTold (op_data op.now) (receipt_data d.receipt)) }
         ensures seen { IfOk result (λ d. seat.old.seen ≤ d.receipt.place) }
         ensures seat { MatchResult result (λ d. seat.new ≡ after_call seat.old d.receipt.place) (λ _. seat.new ≡ seat.old) }
     {

@@ -7,6 +7,7 @@ mod calls;
 mod closing;
 mod jobs;
 mod kept;
+mod refusals;
 mod said;
 mod threads;
 mod turns;

@@ -92,6 +92,7 @@ fn add_line<A: Allocator + Copy>(
             count,
             has_checksum,
         },
+        test.lines.cursor(),
     )?;
     if let Some(text) = checksum {
         let is_held = LineSum::is_checked(&added.before);
@@ -99,7 +100,7 @@ fn add_line<A: Allocator + Copy>(
     }
     let was_above = LineSum::is_hit(&added.before);
     let change = Change::of(added.before.is_some(), was_above, added.after.is_above());
-    marks.lines.add(alloc, line, change)?;
+    marks.lines.add(alloc, line, change, added.place)?;
     Ok(())
 }
 
@@ -121,12 +122,15 @@ fn add_function<A: Allocator + Copy>(
     ensures others { OnOk result (KeepsTextsOf (marks_coming marks.old) (marks_coming marks.new)) }
     ensures clash { IfErr result (λ stop. stop ≡ stops.Memory) }
 {
-    let added = test
-        .functions
-        .add(alloc, name, FunctionMore { line, count })?;
+    let added = test.functions.add(
+        alloc,
+        name,
+        FunctionMore { line, count },
+        test.functions.cursor(),
+    )?;
     let was_above = FunctionSum::is_hit(added.before);
     let change = Change::of(added.before.is_some(), was_above, added.after.count > 0);
-    marks.functions.add(alloc, name, change)?;
+    marks.functions.add(alloc, name, change, added.place)?;
     Ok(())
 }
 
@@ -147,9 +151,14 @@ fn add_branch<A: Allocator + Copy>(
     ensures others { OnOk result (KeepsTextsOf (marks_coming marks.old) (marks_coming marks.new)) }
     ensures clash { IfErr result (λ stop. stop ≡ stops.Memory) }
 {
-    let added = test.branches.add(alloc, point, TakenMore { times: taken })?;
-    let was_above = Taken::is_hit(added.before);
+    let added = test.branches.add(
+        alloc,
+        point,
+        TakenMore { times: taken },
+        test.branches.cursor(),
+    )?;
+    let was_above = Taken::is_hit(&added.before);
     let change = Change::of(added.before.is_some(), was_above, added.after.is_above());
-    marks.branches.add(alloc, point, change)?;
+    marks.branches.add(alloc, point, change, added.place)?;
     Ok(())
 }

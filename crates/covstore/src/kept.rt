@@ -124,12 +124,14 @@ impl<K: Key + Drop, A: Allocator + Copy> Kept<K, A> {
         }
     }
 
-    /// Counts the change of a point in one test.
+    /// Counts the change of a point in one test. It costs no search where the guess is the point's place, as it is where
+    /// no other test has other points: both have their pages cut alike then.
     pub(crate) fn add<Q: Asked<K, A>>(
         &mut self,
         alloc: A,
         asked: Q,
         change: Change,
+        guess: Place,
     ) -> Result<(), AllocError>
         requires few { length self.old.coming < 2 ^ 63 }
         requires room { IfSome (value_of K.cmp (Q.named asked) self.old.coming) (λ held. (held.tests < 2 ^ 63) × (held.hit < 2 ^ 63)) }
@@ -151,7 +153,7 @@ impl<K: Key + Drop, A: Allocator + Copy> Kept<K, A> {
                 is_hit: true,
             },
         };
-        let added = match self.counts.add(alloc, asked, more) {
+        let added = match self.counts.add(alloc, asked, more, guess) {
             Ok(added) => added,
             Err(refused) => {
                 self.counts.forget();

@@ -44,6 +44,7 @@ mod stop;
 mod store;
 mod sums;
 mod test;
+mod times;
 mod totals;
 mod values;
 mod wide;

@@ -89,6 +89,13 @@ impl<K: Key, V: Drop, A: Allocator> Points<K, V, A> {
     }
 }
 
+impl<K: Key, V, A: Allocator> Points<K, V, A> {
+    /// Where the point stands that was looked up last.
+    pub(crate) fn cursor(&self) -> Place {
+        self.cursor
+    }
+}
+
 impl<K: Key, V: Value, A: Allocator> Points<K, V, A> {
     ghost use Rattle.std.specs.Prelude.{◌≡◌, true, is_some};
     ghost use Rattle.covstore.specs.Assigned.{assigned};
@@ -181,12 +188,13 @@ impl<K: Key + Drop, V: Value, A: Allocator + Copy> Points<K, V, A> {
     }
 
     /// Adds to the value that is to come for what is asked for, in one look-up, and tells the value before and after.
-    /// Where memory is refused, anything may be to come after that, and is best forgotten.
+    /// The look-up costs no search where the guess is the place, or the one just before it. Where memory is refused, anything may be to come after that, and is best forgotten.
     pub(crate) fn add<Q: Asked<K, A>, M: More<V>>(
         &mut self,
         alloc: A,
         asked: Q,
         more: M,
+        guess: Place,
     ) -> Result<Added<V>, AllocError>
         requires { M.fits more (value_of K.cmp (Q.named asked) self.old.coming) }
         ensures now { self.new.held ≡ self.old.held }
@@ -196,7 +204,7 @@ impl<K: Key + Drop, V: Value, A: Allocator + Copy> Points<K, V, A> {
         ensures coming { ArePairs K.cmp self.old.coming }
     {
         self.slots.are_whole();
-        let place = make_slot(&mut self.slots, &mut self.coming, alloc, asked, self.cursor)?;
+        let place = make_slot(&mut self.slots, &mut self.coming, alloc, asked, guess)?;
         self.cursor = place;
         self.slots.are_whole();
         self.coming.add(alloc, &self.slots, place, more)

@@ -4,9 +4,9 @@ ghost use Rattle.std.specs.Prelude.{◌≡◌, ◌+◌, ◌^◌, ◌<◌, IfSome
 ghost use Rattle.covstore.specs.Counts.{is_above_at, tests_more};
 ghost use Rattle.covstore.specs.State.{branch_above, function_above, has_checksum, line_above};
 ghost use Rattle.covstore.specs.Sums.{branch_fits, branch_with, function_with, line_with};
-ghost use Rattle.covstore.specs.Value.{is_taken};
 
 use crate::points::{More, Value};
+use crate::times::Times;
 use crate::wide::Wide;
 
 /// A line: the sum of its execution counts, and whether an item has a checksum of it (geninfo(1): `DA:`).
@@ -24,9 +24,9 @@ pub(crate) struct FunctionSum {
 }
 
 /// A branch: how often it was taken, none where its block was never executed (geninfo(1): `BRDA:`).
-#[derive(Clone, Copy)]
+#[derive(Drop)]
 pub(crate) struct Taken {
-    pub times: Option<u128>,
+    pub times: Times,
 }
 
 /// A line's item: its count, and whether it has a checksum.
@@ -84,7 +84,7 @@ impl More<Taken> for TakenMore {
         requires { branch_fits self.times held.now }
         ensures { result ≡ branch_with self.times held.now }
     {
-        Taken::with(*held, self.times)
+        Taken::with(held, self.times)
     }
 }
 
@@ -172,7 +172,9 @@ impl Value for Taken {
     fn copy(&self) -> Taken
         ensures { result ≡ self.now }
     {
-        *self
+        Taken {
+            times: self.times.copy(),
+        }
     }
 }
 
@@ -257,27 +259,29 @@ impl FunctionSum {
 }
 
 impl Taken {
+    ghost use Rattle.covstore.specs.Value.{is_taken};
+
     /// Whether the branch is there, and was taken.
-    pub(crate) fn is_hit(held: Option<Taken>) -> bool
-        ensures { result ≡ is_above_at branch_above held }
+    pub(crate) fn is_hit(held: &Option<Taken>) -> bool
+        ensures { result ≡ is_above_at branch_above held.now }
     {
-        held.is_some_and(|sum| sum.is_above())
+        match held {
+            Some(sum) => sum.is_above(),
+            None => false,
+        }
     }
 
     /// The sum with one number more, which may be missing.
-    pub(crate) fn with(held: Option<Taken>, times: Option<u64>) -> Taken
-        requires { branch_fits times held }
-        ensures { result ≡ branch_with times held }
+    pub(crate) fn with(held: &Option<Taken>, times: Option<u64>) -> Taken
+        requires { branch_fits times held.now }
+        ensures { result ≡ branch_with times held.now }
     {
-        let Some(times) = times else {
-            return held.unwrap_or(Taken { times: None });
-        };
         match held {
-            Some(Taken { times: Some(sum) }) => Taken {
-                times: Some(sum + u128::from(times)),
+            Some(sum) => Taken {
+                times: sum.times.plus(times),
             },
-            Some(Taken { times: None }) | None => Taken {
-                times: Some(u128::from(times)),
+            None => Taken {
+                times: Times::of(times),
             },
         }
     }
@@ -286,6 +290,6 @@ impl Taken {
     pub(crate) fn is_above(&self) -> bool
         ensures { result ≡ is_taken self.now.times }
     {
-        self.times.is_some_and(|times| times > 0)
+        self.times.is_above()
     }
 }

@@ -5,14 +5,9 @@ use std::process::Abort;
 use std::test::*;
 
 mod annotated;
-mod books;
 mod calls;
-mod drops;
-mod gather;
 mod limits;
-mod maps;
 mod records;
-mod store;
 
 /// The bytes are as wanted. The tests compare here, since each comparison in a test's own body is proved there.
 fn check_bytes(rt: &impl Abort, given: &[u8], wanted: &[u8]) {

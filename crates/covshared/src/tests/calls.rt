@@ -8,35 +8,38 @@ use covbook::{
 use covjobs::{CloseFault, Name, OpenFault, Seat, Seats, Shared, Start, open_book};
 use covline::{Bytes, Memory};
 use covread::read_trace;
-use std::alloc::Global;
+use std::alloc::{Allocator, Global};
 use std::sync::Wait;
 use std::test::*;
 
-pub(super) fn start(alloc: Global, jobs: u32) -> Result<Start, OpenFault> {
+pub(super) fn start<A: Allocator + Copy>(alloc: A, jobs: u32) -> Result<Start<A>, OpenFault> {
     Start::new(alloc, jobs)
 }
 
-pub(super) fn open<L: Name>(alloc: Global, start: Start) -> Result<(Shared<L>, Seats<L>), Memory>
+pub(super) fn open<L: Name, A: Allocator + Copy>(
+    alloc: A,
+    start: Start<A>,
+) -> Result<(Shared<L, A>, Seats<L, A>), Memory>
     requires name { start.name ≡ L.name }
     requires jobs { start.jobs ≡ L.parts }
 {
-    open_book::<L, Global>(alloc, start)
+    open_book::<L, A>(alloc, start)
 }
 
-pub(super) fn perform<L: Name, R: Wait>(
+pub(super) fn perform<L: Name, A: Allocator + Copy, R: Wait>(
     rt: &R,
-    alloc: Global,
-    book: &Shared<L>,
+    alloc: A,
+    book: &Shared<L, A>,
     seat: &mut Seat<L>,
-    op: &Op,
-) -> Result<Receipt, BookFault> {
+    op: &Op<A>,
+) -> Result<Receipt<A>, BookFault> {
     Ok(book.perform(rt, alloc, seat, op)?.receipt)
 }
 
-pub(super) fn close<L: Name>(
-    book: Shared<L>,
-    seats: Vec<Seat<L>>,
-) -> Result<Entries, (Shared<L>, Seats<L>, CloseFault)> {
+pub(super) fn close<L: Name, A: Allocator>(
+    book: Shared<L, A>,
+    seats: Vec<Seat<L>, A>,
+) -> Result<Entries<A>, (Shared<L, A>, Seats<L, A>, CloseFault)> {
     book.close(Seats::of(seats))
 }
 

@@ -54,7 +54,7 @@ fn in_turn<L: Name, R: Wait + Abort + AllocGlobal>(
     requires jobs { start.jobs ≡ L.parts }
 {
     let alloc = rt.alloc();
-    let (book, seats) = open::<L>(alloc, start)?;
+    let (book, seats) = open::<L, _>(alloc, start)?;
     let mut seats = seats.into_vec();
     let logs = kept(rt, alloc, &book, seats.as_mut_slice(), ops)?;
     match close(book, seats) {

@@ -128,7 +128,7 @@ fn at_once<L: Name + Send + Sync, R: Threads + Wait + Abort + AllocGlobal + Sync
     requires jobs { start.jobs ≡ L.parts }
 {
     let alloc = rt.alloc();
-    let (book, seats) = open::<L>(alloc, start)?;
+    let (book, seats) = open::<L, _>(alloc, start)?;
     let mut seats = seats.into_vec();
     let mut logs = empty_logs(alloc, seats.as_slice())?;
     let small = submit(alloc, SMALL)?;

@@ -94,7 +94,7 @@ fn answered<L: Name, R: Wait>(
 }
 
 /// What the entries say.
-fn told(alloc: Global, entries: &Entries) -> Result<Vec<u8>, Fail> {
+pub(super) fn told(alloc: Global, entries: &Entries) -> Result<Vec<u8>, Fail> {
     let mut text = Vec::new(alloc);
     put_entries(&mut text, entries.get())?;
     Ok(text)
@@ -116,7 +116,7 @@ fn in_turn<L: Name, R: Wait + Abort + AllocGlobal>(rt: &R, start: Start) -> Resu
     requires jobs { start.jobs ≡ L.parts }
 {
     let alloc = rt.alloc();
-    let (book, seats) = open::<L>(alloc, start)?;
+    let (book, seats) = open::<L, _>(alloc, start)?;
     let mut seats = seats.into_vec();
     check_bytes(
         rt,

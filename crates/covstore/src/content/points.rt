@@ -102,7 +102,7 @@ impl<'a, A: Allocator> Iterator for Branches<'a, A> {
             line: point.line,
             block: point.block,
             branch: point.branch,
-            taken: sum.times,
+            taken: sum.times.get(),
         })
     }
 }

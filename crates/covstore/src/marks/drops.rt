@@ -58,7 +58,7 @@ pub(super) fn drop_branches<A: Allocator + Copy>(
     kept.forget();
     branches.are_whole();
     for (point, sum) in branches.filled() {
-        kept.remove(*point, Taken::is_hit(Some(*sum)));
+        kept.remove(*point, sum.is_above());
     }
 }
 
@@ -124,7 +124,7 @@ pub(super) fn branches_without<A: Allocator>(
     let mut walk = kept.walk();
     branches.are_whole();
     for (point, sum) in branches.filled() {
-        walk = kept.pass(walk, *point, Taken::is_hit(Some(*sum)));
+        walk = kept.pass(walk, *point, sum.is_above());
     }
     walk.tally
 }

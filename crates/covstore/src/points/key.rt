@@ -11,6 +11,7 @@ ghost use Rattle.std.proofs.lemmas.Cmp.{nat_cmp_total, nat_list_cmp_total};
 ghost use Rattle.std.proofs.lemmas.Map.Lookups.{exact_bytes, exact_unsigned};
 ghost use Rattle.covstore.specs.KeyOrders.{code_branch_cmp, code_branch_exact, code_branch_total};
 
+use crate::slots::Place;
 use covline::{BranchPoint, Bytes};
 use std::alloc::{AllocError, Allocator};
 use std::cmp::Ordering;
@@ -74,11 +75,12 @@ pub(crate) trait More<V>: Copy {
         ensures { result ≡ sum self held.now };
 }
 
-/// A value before something was added to it, and after.
+/// A value before something was added to it, and after, and where it stands.
 #[derive(Drop)]
 pub(crate) struct Added<V> {
     pub before: Option<V>,
     pub after: V,
+    pub place: Place,
 }
 
 impl Key for u64 {

@@ -151,7 +151,11 @@ impl<V: Value, A: Allocator> Coming<V, A> {
         let before = self.value_of(index, place.index);
         let after = more.with(&before);
         self.columns[index].1[place.index] = Some(after.copy());
-        Ok(Added { before, after })
+        Ok(Added {
+            before,
+            after,
+            place,
+        })
     }
 
     /// The value that is to come at the place of a slot.

@@ -1,11 +1,8 @@
 //! Calls of the crates below without what they promise: a test looks at values, and its proof is quicker that knows nothing
 //! of them.
 
-use covbook::{Answer, Book, BookFault, Entry, GatherFault, JobLog, Op, Receipt};
 use covline::{BadSubmission, Bytes, Item, Items, Memory, Sect, Sects, Submission, TraceLine};
 use covread::{ReadFault, read_gcov, read_trace};
-use covreport::{PatternFault, Patterns, matches};
-use covstore::Totals;
 use std::alloc::Global;
 use std::test::*;
 
@@ -65,98 +62,6 @@ pub(super) fn read(alloc: Global, text: &[u8]) -> Result<Submission, ReadFault> 
 
 pub(super) fn annotated(alloc: Global, test: &[u8], text: &[u8]) -> Result<Submission, ReadFault> {
     read_gcov(alloc, test, text)
-}
-
-pub(super) fn is_match(pattern: &[u8], path: &[u8]) -> bool {
-    matches(pattern, path)
-}
-
-pub(super) fn add(
-    alloc: Global,
-    patterns: &mut Patterns,
-    pattern: &[u8],
-) -> Result<(), PatternFault> {
-    patterns.add(alloc, pattern)
-}
-
-pub(super) fn copied_patterns(alloc: Global, patterns: &Patterns) -> Result<Patterns, Memory> {
-    patterns.copy(alloc)
-}
-
-pub(super) fn any_matches(patterns: &Patterns, path: &[u8]) -> bool {
-    patterns.any_matches(path)
-}
-
-pub(super) fn step(
-    alloc: Global,
-    book: &mut Book,
-    job: u32,
-    op: &Op,
-) -> Result<Receipt, BookFault> {
-    book.step(alloc, job, op)
-}
-
-/// A step by its two halves.
-pub(super) fn step_in_halves(
-    alloc: Global,
-    book: &mut Book,
-    job: u32,
-    op: &Op,
-) -> Result<Receipt, BookFault> {
-    let ready = book.ready(alloc, job, op)?;
-    Ok(book.finish(ready))
-}
-
-/// The totals after a step that is made ready and dropped.
-pub(super) fn after_dropped(alloc: Global, book: &mut Book, op: &Op) -> Result<Totals, BookFault> {
-    let ready = book.ready(alloc, 0, op)?;
-    Ok(ready.after())
-}
-
-pub(super) fn entries(book: &Book) -> &[Entry] {
-    book.entries()
-}
-
-pub(super) fn totals(book: &Book) -> Totals {
-    book.totals()
-}
-
-pub(super) fn gathered(entries: &[Entry], logs: &[JobLog]) -> Result<(), GatherFault> {
-    covbook::gather(entries, logs)
-}
-
-pub(super) fn copied_op(alloc: Global, op: &Op) -> Result<Op, Memory> {
-    op.copy(alloc)
-}
-
-pub(super) fn copied_answer(alloc: Global, answer: &Answer) -> Result<Answer, Memory> {
-    answer.copy(alloc)
-}
-
-pub(super) fn is_same_op(one: &Op, other: &Op) -> bool {
-    one.is_same(other)
-}
-
-pub(super) fn is_same_answer(one: &Answer, other: &Answer) -> bool {
-    one.is_same(other)
-}
-
-/// The list of the patterns, which stand between bars.
-pub(super) fn list_of(alloc: Global, patterns: &[u8]) -> Result<Patterns, PatternFault> {
-    let mut list = Patterns::new(alloc);
-    for pattern in patterns.split(|byte| *byte == b'|') {
-        add(alloc, &mut list, pattern)?;
-    }
-    Ok(list)
-}
-
-/// The bytes so many times.
-pub(super) fn repeated(alloc: Global, bytes: &[u8], times: usize) -> Result<Vec<u8>, Fail> {
-    let mut all = Vec::new(alloc);
-    for _time in 0..times {
-        all.extend_from_slice(bytes)?;
-    }
-    Ok(all)
 }
 
 /// Appends the line of an item; of a function its start line and its count.

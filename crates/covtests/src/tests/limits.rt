@@ -1,6 +1,6 @@
 //! Limits, and what is large.
 
-use super::calls::{is_match, read, repeated, text_of};
+use super::calls::{read, text_of};
 use covline::Bytes;
 use covread::ReadFault;
 use std::alloc::Global;
@@ -81,20 +81,5 @@ fn long_section(rt: HostRuntime) -> Result<(), Fail> {
         b"FNF:300000\nFNH:299999\nBRF:300000\nBRH:299999\nLF:300000\nLH:299999\nend_of_record\n",
     )?;
     check_counted(&rt, text.as_slice(), Ok((1_200_000, 0)));
-    Ok(())
-}
-
-/// These come to their answers in time: a matcher that tries every split wouldn't end.
-#[test]
-fn many_stars(rt: HostRuntime) -> Result<(), Fail> {
-    let stars = repeated(rt.alloc(), b"*", 1_024)?;
-    let pairs = repeated(rt.alloc(), b"*a", 512)?;
-    let long = repeated(rt.alloc(), b"a", 10_000)?;
-    let mut other = repeated(rt.alloc(), b"a", 10_000)?;
-    other.push(b'b')?;
-    assert!(rt; is_match(&stars, b""));
-    assert!(rt; is_match(&stars, &other));
-    assert!(rt; !is_match(&pairs, &other));
-    assert!(rt; is_match(&pairs, &long));
     Ok(())
 }

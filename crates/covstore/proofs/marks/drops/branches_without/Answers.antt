@@ -7,17 +7,17 @@ use Rattle.covstore.proofs.marks.drops.branches_without.Goals as goal
 pub pass-walk-requires-clause-lose : goal.pass-walk-requires-clause-lose
 pass-walk-requires-clause-lose g c =
     tallying_can points_order branch_above c.args.branches.now.held c.args.kept.now.held
-    c.in-Some.point.now c.in-Some.sum.now c.in-Some.point.now refl c.is_hit.result c.is_hit.ensures c.loop-point.point-iterator c.next.new.self c.in-Some.ensures.steps c.loop-point.walk.tally c.loop-point.invariant c.requires
+    c.in-Some.point.now c.in-Some.sum.now c.in-Some.point.now refl c.is_above.result c.is_above.ensures c.loop-point.point-iterator c.next.new.self c.in-Some.ensures.steps c.loop-point.walk.tally c.loop-point.invariant c.requires
 
 pub pass-walk-requires-clause-at : goal.pass-walk-requires-clause-at
 pass-walk-requires-clause-at g c =
     tallying_at points_order branch_above c.args.branches.now.held c.args.kept.now.held
-    c.in-Some.point.now c.in-Some.sum.now c.in-Some.point.now refl c.is_hit.result c.is_hit.ensures c.loop-point.point-iterator c.next.new.self c.in-Some.ensures.steps c.loop-point.walk.tally c.loop-point.invariant c.requires
+    c.in-Some.point.now c.in-Some.sum.now c.in-Some.point.now refl c.is_above.result c.is_above.ensures c.loop-point.point-iterator c.next.new.self c.in-Some.ensures.steps c.loop-point.walk.tally c.loop-point.invariant c.requires
 
 pub loop-point-preserved : goal.loop-point-preserved
 loop-point-preserved g c =
     tallying_more points_order branch_above c.args.branches.now.held c.args.kept.now.held
-    c.in-Some.point.now c.in-Some.sum.now c.in-Some.point.now refl c.is_hit.result c.is_hit.ensures c.loop-point.point-iterator c.next.new.self c.in-Some.ensures.steps c.loop-point.walk.tally c.loop-point.invariant
+    c.in-Some.point.now c.in-Some.sum.now c.in-Some.point.now refl c.is_above.result c.is_above.ensures c.loop-point.point-iterator c.next.new.self c.in-Some.ensures.steps c.loop-point.walk.tally c.loop-point.invariant
     c.pass-walk.result.tally c.pass-walk.ensures
 
 pub returns : goal.returns

@@ -7,12 +7,12 @@ use Rattle.covstore.proofs.marks.drops.drop_branches.Goals as goal
 pub remove-requires : goal.remove-requires
 remove-requires g c =
     losing_can points_order branch_above c.args.branches.now.held c.args.kept.now.held
-    c.in-Some.point.now c.in-Some.sum.now c.in-Some.point.now refl c.is_hit.result c.is_hit.ensures c.loop-point.point-iterator c.next.new.self c.in-Some.ensures.steps c.loop-point.kept.held c.loop-point.invariant.0 c.requires
+    c.in-Some.point.now c.in-Some.sum.now c.in-Some.point.now refl c.is_above.result c.is_above.ensures c.loop-point.point-iterator c.next.new.self c.in-Some.ensures.steps c.loop-point.kept.held c.loop-point.invariant.0 c.requires
 
 pub loop-point-preserved : goal.loop-point-preserved
 loop-point-preserved g c = (
   losing_more points_order branch_above c.args.branches.now.held c.args.kept.now.held
-      c.in-Some.point.now c.in-Some.sum.now c.in-Some.point.now refl c.is_hit.result c.is_hit.ensures c.loop-point.point-iterator c.next.new.self c.in-Some.ensures.steps c.loop-point.kept.held c.loop-point.invariant.0
+      c.in-Some.point.now c.in-Some.sum.now c.in-Some.point.now refl c.is_above.result c.is_above.ensures c.loop-point.point-iterator c.next.new.self c.in-Some.ensures.steps c.loop-point.kept.held c.loop-point.invariant.0
       c.remove.new.self.held c.remove.ensures.held,
   c.remove.ensures.coming,
 )

@@ -1,110 +1,14 @@
-//! The store over maps: plans and steps that are dropped, a large section, and random submissions beside a plain list.
+//! Random submissions beside a plain list of their rows.
 
-use super::calls::{after_dropped, bytes_of, read, step, step_in_halves};
+use super::calls::{after_dropped, bytes_of, printed, step, submit};
 use super::push_line;
-use super::store::{NOTHING, put_section};
-use covbook::{Answer, Book, Op, Receipt, SubRef};
-use covline::Bytes;
+use covbook::{Answer, Book, Op, Receipt};
+use covline::{Bytes, Memory};
 use covreport::summary_text;
-use covstore::{Store, Totals};
+use covstore::Totals;
 use std::alloc::Global;
 use std::process::Abort;
 use std::test::*;
-
-const SMALL: &[u8] = b"TN:t\nSF:/a.c\nDA:1,2\nDA:2,0\nend_of_record\n";
-
-/// What a plan that is dropped leaves behind is seen by nobody, and the submission can be planned again.
-#[test]
-fn a_plan_that_is_made_again(rt: HostRuntime) -> Result<(), Fail> {
-    let given = read(rt.alloc(), SMALL)?;
-    let mut store = Store::new(rt.alloc());
-    match store.prepare(rt.alloc(), &given) {
-        Ok(plan) => assert_eq!(rt; plan.after().lf, 2),
-        Err(refuse) => panic!(rt; "refused {}", refuse.number()),
-    }
-    assert!(rt; store.sections().next().is_none());
-    assert!(rt; !store.has_test(b"t"));
-    match store.prepare(rt.alloc(), &given) {
-        Ok(plan) => store.commit(plan),
-        Err(refuse) => panic!(rt; "refused {}", refuse.number()),
-    }
-    let mut text = Bytes::new(rt.alloc());
-    for section in store.sections() {
-        put_section(&section, &mut text)?;
-    }
-    assert_eq!(rt; text.get(), b"TN:t\nSF:/a.c\nDA:1,2\nDA:2,0\n".as_slice());
-    assert_eq!(rt; (store.totals().lf, store.totals().lh), (2, 1));
-    assert!(rt; store.has_test(b"t"));
-    Ok(())
-}
-
-/// A million lines of one section. Totals that pass over all lines for each line would not end.
-#[test]
-fn a_million_lines(rt: HostRuntime) -> Result<(), Fail> {
-    let mut text = Vec::from_slice(rt.alloc(), b"SF:/m\n")?;
-    for line in 1..1_000_001u64 {
-        let record = format!(in rt.alloc(); "DA:{line},1\n")?;
-        text.extend_from_slice(record.as_bytes())?;
-    }
-    text.extend_from_slice(b"end_of_record\n")?;
-    let given = read(rt.alloc(), &text)?;
-    let mut store = Store::new(rt.alloc());
-    match store.prepare(rt.alloc(), &given) {
-        Ok(plan) => store.commit(plan),
-        Err(refuse) => panic!(rt; "refused {}", refuse.number()),
-    }
-    let wanted = Totals {
-        lf: 1_000_000,
-        lh: 1_000_000,
-        ..NOTHING
-    };
-    assert_eq!(rt; store.totals(), wanted);
-    Ok(())
-}
-
-/// The operation that submits the text.
-pub(super) fn submit(alloc: Global, text: &[u8]) -> Result<Op, Fail> {
-    let shared = SubRef::of(alloc, read(alloc, text)?)?;
-    Ok(Op::Submit(shared))
-}
-
-/// What the book prints for this.
-pub(super) fn printed(
-    rt: &(impl Abort + AllocGlobal),
-    book: &mut Book,
-    op: &Op,
-) -> Result<Bytes, Fail> {
-    let Receipt { answer, .. } = step(rt.alloc(), book, 0, op)?;
-    match answer {
-        Answer::Text(text) => Ok(text.get().copy(rt.alloc())?),
-        Answer::Accepted { .. }
-        | Answer::Clash { .. }
-        | Answer::Dropped { .. }
-        | Answer::NoSuchTest => panic!(rt; "no text"),
-    }
-}
-
-/// A step is its two halves, and one whose second half never comes is none.
-#[test]
-fn halves_of_a_step(rt: HostRuntime) -> Result<(), Fail> {
-    let mut book = Book::new(rt.alloc());
-    let small = submit(rt.alloc(), SMALL)?;
-    let more = submit(
-        rt.alloc(),
-        b"TN:u\nSF:/a.c\nDA:2,1\nDA:3,0\nend_of_record\n",
-    )?;
-    assert_eq!(rt; after_dropped(rt.alloc(), &mut book, &small)?.lf, 2);
-    let receipt = step_in_halves(rt.alloc(), &mut book, 3, &small)?;
-    assert_eq!(rt; receipt.place, 0);
-    let after = after_dropped(rt.alloc(), &mut book, &more)?;
-    assert_eq!(rt; (after.lf, after.lh), (3, 2));
-    let text = printed(&rt, &mut book, &Op::Report)?;
-    assert_eq!(rt;
-        text.get(),
-        b"TN:t\nSF:/a.c\nDA:1,2\nDA:2,0\nLF:2\nLH:1\nend_of_record\n".as_slice()
-    );
-    Ok(())
-}
 
 /// A section of the plain list: a file and a test of it, in the order in which they are printed.
 const SECTIONS: [&[u8]; 6] = [
@@ -212,6 +116,42 @@ fn put_points(
     Ok((found, hit))
 }
 
+/// Appends how many points there are, and how many are above 0, in two lines of these names.
+fn put_totals(
+    alloc: Global,
+    names: &str,
+    totals: (u64, u64),
+    text: &mut Vec<u8>,
+) -> Result<(), Fail> {
+    let (found, hit) = totals;
+    let lines = format!(in alloc; "{names}F:{found}\n{names}H:{hit}\n")?;
+    text.extend_from_slice(lines.as_bytes())?;
+    Ok(())
+}
+
+/// Appends the points of a kind and how many there are, where there are any.
+fn put_kind(
+    alloc: Global,
+    rows: &[Row],
+    section: usize,
+    kind: (Record, &str),
+    text: &mut Vec<u8>,
+) -> Result<(), Fail> {
+    let (record, names) = kind;
+    let totals = put_points(alloc, rows, section, record, text)?;
+    if totals.0 > 0 {
+        put_totals(alloc, names, totals, text)?;
+    }
+    Ok(())
+}
+
+/// Appends the lines and how many there are.
+fn put_lines(alloc: Global, rows: &[Row], section: usize, text: &mut Vec<u8>) -> Result<(), Fail> {
+    let totals = put_points(alloc, rows, section, Record::Line, text)?;
+    put_totals(alloc, "L", totals, text)?;
+    push_line(text, b"end_of_record")
+}
+
 /// Appends what is to be printed of a section.
 fn put_list(
     alloc: Global,
@@ -225,20 +165,9 @@ fn put_list(
     }
     text.extend_from_slice(name)?;
     put_points(alloc, rows, section, Record::Start, text)?;
-    let (found, hit) = put_points(alloc, rows, section, Record::Calls, text)?;
-    if found > 0 {
-        let totals = format!(in alloc; "FNF:{found}\nFNH:{hit}\n")?;
-        text.extend_from_slice(totals.as_bytes())?;
-    }
-    let (found, hit) = put_points(alloc, rows, section, Record::Branch, text)?;
-    if found > 0 {
-        let totals = format!(in alloc; "BRF:{found}\nBRH:{hit}\n")?;
-        text.extend_from_slice(totals.as_bytes())?;
-    }
-    let (found, hit) = put_points(alloc, rows, section, Record::Line, text)?;
-    let totals = format!(in alloc; "LF:{found}\nLH:{hit}\nend_of_record\n")?;
-    text.extend_from_slice(totals.as_bytes())?;
-    Ok(())
+    put_kind(alloc, rows, section, (Record::Calls, "FN"), text)?;
+    put_kind(alloc, rows, section, (Record::Branch, "BR"), text)?;
+    put_lines(alloc, rows, section, text)
 }
 
 /// How many different points of a kind the rows have in each file, over its tests, and how many of them are above 0 in
@@ -315,27 +244,52 @@ fn put_random(
     Ok(())
 }
 
-/// The book prints what the plain list says, and its totals.
-fn check_list(rt: &(impl Abort + AllocGlobal), book: &mut Book, rows: &[Row]) -> Result<(), Fail> {
-    let mut wanted = Vec::new(rt.alloc());
+/// What is to be printed of all rows.
+fn text_of(alloc: Global, rows: &[Row]) -> Result<Vec<u8>, Fail> {
+    let mut text = Vec::new(alloc);
     for (section, name) in SECTIONS.iter().enumerate() {
-        put_list(rt.alloc(), rows, section, name, &mut wanted)?;
+        put_list(alloc, rows, section, name, &mut text)?;
     }
-    let report = printed(rt, book, &Op::Report)?;
-    assert_eq!(rt; report.get(), wanted.as_slice());
+    Ok(text)
+}
+
+/// The totals of all rows.
+fn totals_of(rows: &[Row]) -> Totals {
     let (lf, lh) = tally_of(rows, Record::Line);
     let (ff, fh) = tally_of(rows, Record::Calls);
     let (bf, bh) = tally_of(rows, Record::Branch);
-    assert!(rt; lh <= lf && fh <= ff && bh <= bf);
-    let totals = Totals {
+    Totals {
         lf,
         lh,
         ff,
         fh,
         bf,
         bh,
-    };
-    let summary = summary_text(rt.alloc(), &totals)?;
+    }
+}
+
+/// The summary of these totals.
+fn summary(rt: &(impl Abort + AllocGlobal), totals: &Totals) -> Result<Bytes, Memory> {
+    assert!(rt; totals.lh <= totals.lf && totals.fh <= totals.ff && totals.bh <= totals.bf);
+    summary_text(rt.alloc(), totals)
+}
+
+/// The book's report is what the plain list says.
+fn check_report(
+    rt: &(impl Abort + AllocGlobal),
+    book: &mut Book,
+    rows: &[Row],
+) -> Result<(), Fail> {
+    let wanted = text_of(rt.alloc(), rows)?;
+    let report = printed(rt, book, &Op::Report)?;
+    assert_eq!(rt; report.get(), wanted.as_slice());
+    Ok(())
+}
+
+/// The book prints what the plain list says, and its totals.
+fn check_list(rt: &(impl Abort + AllocGlobal), book: &mut Book, rows: &[Row]) -> Result<(), Fail> {
+    check_report(rt, book, rows)?;
+    let summary = summary(rt, &totals_of(rows))?;
     assert_eq!(rt; printed(rt, book, &Op::Summary)?.get(), summary.get());
     Ok(())
 }
@@ -385,19 +339,29 @@ fn drop_random(
     without(rt.alloc(), rows, test)
 }
 
+/// Hands a random submission in, which is made ready and dropped before; behind it the book says what the list does.
+fn take_random(
+    rt: &(impl Abort + AllocGlobal),
+    random: &mut Random,
+    book: &mut Book,
+    rows: &mut Vec<Row>,
+) -> Result<(), Fail> {
+    let text = random_text(rt.alloc(), random, rows)?;
+    let op = submit(rt.alloc(), &text)?;
+    after_dropped(rt.alloc(), book, &op)?;
+    step(rt.alloc(), book, 1, &op)?;
+    check_list(rt, book, rows)
+}
+
 /// After each of many random submissions, and of some tests that are dropped, the book says what a list of all rows says,
-/// passed over for each point. Each submission is also made ready and dropped before it is held.
+/// passed over for each point.
 #[test]
 fn random_submissions(rt: HostRuntime) -> Result<(), Fail> {
     let mut random = Random { state: 20_261_123 };
     let mut book = Book::new(rt.alloc());
     let mut rows = Vec::new(rt.alloc());
     for _time in 0..200 {
-        let text = random_text(rt.alloc(), &mut random, &mut rows)?;
-        let op = submit(rt.alloc(), &text)?;
-        after_dropped(rt.alloc(), &mut book, &op)?;
-        step(rt.alloc(), &mut book, 1, &op)?;
-        check_list(&rt, &mut book, &rows)?;
+        take_random(&rt, &mut random, &mut book, &mut rows)?;
         let test = random.below(12) as usize;
         if test < 3 {
             rows = drop_random(&rt, &mut book, test, &rows)?;

@@ -1,32 +1,22 @@
 //! A history of six calls, and what is told of it and of what two jobs kept.
 
 use super::calls::{
-    bytes_of, copied_answer, copied_op, entries, gathered, is_same_answer, is_same_op, list_of,
-    step,
+    bytes_of, copied_answer, copied_op, entries, gathered, is_same_answer, is_same_op,
 };
-use super::maps::submit;
-use super::push_line;
-use covbook::{Answer, Book, Entry, GatherFault, JobLog, Logs, Op, Receipt, Receipts, TextRef};
+use super::script::{op_of, run};
+use covbook::{Answer, Entry, GatherFault, JobLog, Logs, Receipt, Receipts, TextRef};
 use std::alloc::Global;
 use std::process::Abort;
 use std::test::*;
 
-const SMALL: &[u8] = b"TN:t\nSF:/a.c\nDA:1,2\nDA:2,0\nLF:2\nLH:1\nend_of_record\n";
-
 /// Jobs 0 and 1 ask in turn: both submit the same, 0 asks for a summary, 1 drops a test that isn't there, 0 asks for a report
 /// and 1 for a summary.
-fn six_calls(alloc: Global) -> Result<Book, Fail> {
-    let mut book = Book::new(alloc);
-    let small = submit(alloc, SMALL)?;
-    step(alloc, &mut book, 0, &small)?;
-    step(alloc, &mut book, 1, &small)?;
-    step(alloc, &mut book, 0, &Op::Summary)?;
-    let drop = Op::DropTest(bytes_of(alloc, b"x")?);
-    step(alloc, &mut book, 1, &drop)?;
-    step(alloc, &mut book, 0, &Op::Report)?;
-    step(alloc, &mut book, 1, &Op::Summary)?;
-    Ok(book)
-}
+const SIX_CALLS: &[u8] = b"0 submit DA:1,2;DA:2,0
+1 submit DA:1,2;DA:2,0
+0 summary
+1 drop x
+0 report
+1 summary";
 
 /// The number that a digit is.
 fn number_of(digit: u8) -> u8 {
@@ -147,13 +137,8 @@ fn check_all(
     Ok(())
 }
 
-#[test]
-fn what_two_jobs_kept(rt: HostRuntime) -> Result<(), Fail> {
-    let book = six_calls(rt.alloc())?;
-    check_all(
-        &rt,
-        entries(&book),
-        b"0 000 222 444
+/// What two jobs kept of the six calls, and what is told of it.
+const EXAMPLES: &[u8] = b"0 000 222 444
 1 111 333 555
 > yes
 = all that they kept
@@ -207,8 +192,12 @@ fn what_two_jobs_kept(rt: HostRuntime) -> Result<(), Fail> {
 1 100
 1
 > SameJob 2
-= jobs come before receipts",
-    )?;
+= jobs come before receipts";
+
+#[test]
+fn what_two_jobs_kept(rt: HostRuntime) -> Result<(), Fail> {
+    let (book, _told) = run(&rt, SIX_CALLS)?;
+    check_all(&rt, entries(&book), EXAMPLES)?;
     check_all(&rt, &[], b"> yes\n= nothing at all\n1\n> yes\n= no calls")
 }
 
@@ -239,28 +228,6 @@ fn clash_of(alloc: Global, given: &[u8]) -> Result<Answer, Fail> {
         held: bytes_of(alloc, b"k")?,
         given: bytes_of(alloc, given)?,
     })
-}
-
-/// The operation of this name: of one that submits the lines of a section of `/a.c`, where a semicolon ends each.
-fn op_of(rt: &(impl Abort + AllocGlobal), name: &[u8], text: &[u8]) -> Result<Op, Fail> {
-    let alloc = rt.alloc();
-    match name {
-        b"submit" => submit(alloc, &section_of(alloc, text)?),
-        b"drop" => Ok(Op::DropTest(bytes_of(alloc, text)?)),
-        b"extract" => Ok(Op::Extract(list_of(alloc, text)?)),
-        b"remove" => Ok(Op::Remove(list_of(alloc, text)?)),
-        _ => panic!(rt; "no operation {name:?}"),
-    }
-}
-
-/// A section of `/a.c` with these lines, where a semicolon ends each.
-fn section_of(alloc: Global, lines: &[u8]) -> Result<Vec<u8>, Fail> {
-    let mut text = Vec::from_slice(alloc, b"TN:t\nSF:/a.c\n")?;
-    for line in lines.split(|byte| *byte == b';') {
-        push_line(&mut text, line)?;
-    }
-    push_line(&mut text, b"end_of_record")?;
-    Ok(text)
 }
 
 /// Each operation and answer is the same as another of the same text, and not as one of a text with another byte.

@@ -1,0 +1,100 @@
+//! Calls of the crates below without what they promise: a test looks at values, and its proof is quicker that knows nothing
+//! of them.
+
+use covbook::{Answer, Book, BookFault, Entry, GatherFault, JobLog, Op, Receipt, SubRef};
+use covline::{Bytes, Memory};
+use covread::read_trace;
+use covreport::{PatternFault, Patterns};
+use covstore::Totals;
+use std::alloc::Global;
+use std::process::Abort;
+use std::test::*;
+
+pub(super) fn bytes_of(alloc: Global, bytes: &[u8]) -> Result<Bytes, Memory> {
+    Bytes::of(alloc, bytes)
+}
+
+pub(super) fn step(
+    alloc: Global,
+    book: &mut Book,
+    job: u32,
+    op: &Op,
+) -> Result<Receipt, BookFault> {
+    book.step(alloc, job, op)
+}
+
+/// A step by its two halves.
+pub(super) fn step_in_halves(
+    alloc: Global,
+    book: &mut Book,
+    job: u32,
+    op: &Op,
+) -> Result<Receipt, BookFault> {
+    let ready = book.ready(alloc, job, op)?;
+    Ok(book.finish(ready))
+}
+
+/// The totals after a step that is made ready and dropped.
+pub(super) fn after_dropped(alloc: Global, book: &mut Book, op: &Op) -> Result<Totals, BookFault> {
+    let ready = book.ready(alloc, 0, op)?;
+    Ok(ready.after())
+}
+
+pub(super) fn entries(book: &Book) -> &[Entry] {
+    book.entries()
+}
+
+pub(super) fn totals(book: &Book) -> Totals {
+    book.totals()
+}
+
+pub(super) fn gathered(entries: &[Entry], logs: &[JobLog]) -> Result<(), GatherFault> {
+    covbook::gather(entries, logs)
+}
+
+pub(super) fn copied_op(alloc: Global, op: &Op) -> Result<Op, Memory> {
+    op.copy(alloc)
+}
+
+pub(super) fn copied_answer(alloc: Global, answer: &Answer) -> Result<Answer, Memory> {
+    answer.copy(alloc)
+}
+
+pub(super) fn is_same_op(one: &Op, other: &Op) -> bool {
+    one.is_same(other)
+}
+
+pub(super) fn is_same_answer(one: &Answer, other: &Answer) -> bool {
+    one.is_same(other)
+}
+
+/// The list of the patterns, which stand between bars.
+pub(super) fn list_of(alloc: Global, patterns: &[u8]) -> Result<Patterns, PatternFault> {
+    let mut list = Patterns::new(alloc);
+    for pattern in patterns.split(|byte| *byte == b'|') {
+        list.add(alloc, pattern)?;
+    }
+    Ok(list)
+}
+
+/// The operation that submits the text.
+pub(super) fn submit(alloc: Global, text: &[u8]) -> Result<Op, Fail> {
+    let shared = SubRef::of(alloc, read_trace(alloc, text)?)?;
+    Ok(Op::Submit(shared.copy()?))
+}
+
+/// What the book prints for this.
+pub(super) fn printed(
+    rt: &(impl Abort + AllocGlobal),
+    book: &mut Book,
+    op: &Op,
+) -> Result<Bytes, Fail> {
+    let Receipt { answer, .. } = step(rt.alloc(), book, 0, op)?;
+    match answer {
+        Answer::Text(text) => Ok(text.get().copy(rt.alloc())?),
+        Answer::Accepted { .. }
+        | Answer::Clash { .. }
+        | Answer::Dropped { .. }
+        | Answer::NoSuchTest => panic!(rt; "no text"),
+    }
+}

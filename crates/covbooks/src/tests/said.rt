@@ -1,0 +1,88 @@
+//! What is asked and answered, in bytes.
+
+use covbook::{Answer, Op};
+use covline::Bytes;
+use std::alloc::{AllocError, Global};
+
+/// Appends a number below 10 and a space.
+pub(super) fn put_number(text: &mut Vec<u8>, number: u64) -> Result<(), AllocError> {
+    text.push(b'0' + (number % 10) as u8)?;
+    text.push(b' ')?;
+    Ok(())
+}
+
+/// Appends a word and a number.
+fn put_counted(text: &mut Vec<u8>, word: &[u8], number: u64) -> Result<(), AllocError> {
+    text.extend_from_slice(word)?;
+    put_number(text, number)
+}
+
+/// Appends a word and a space.
+fn put_word(text: &mut Vec<u8>, word: &[u8]) -> Result<(), AllocError> {
+    text.extend_from_slice(word)?;
+    text.push(b' ')?;
+    Ok(())
+}
+
+/// Appends an operation: its name, and how many items or patterns it has, or which test it drops.
+fn put_op(text: &mut Vec<u8>, op: &Op) -> Result<(), AllocError> {
+    match op {
+        Op::Submit(submission) => put_counted(text, b"submit ", submission.get().items()),
+        Op::DropTest(test) => put_dropped(text, test),
+        Op::Report => put_word(text, b"report"),
+        Op::Extract(patterns) => put_counted(text, b"extract ", patterns.get().len() as u64),
+        Op::Remove(patterns) => put_counted(text, b"remove ", patterns.get().len() as u64),
+        Op::Summary => put_word(text, b"summary"),
+    }
+}
+
+fn put_dropped(text: &mut Vec<u8>, test: &Bytes) -> Result<(), AllocError> {
+    put_word(text, b"drop")?;
+    put_word(text, test.get())
+}
+
+/// Appends the numbers of an accepted submission.
+fn put_accepted(text: &mut Vec<u8>, number: u64, items: u64, odd: u64) -> Result<(), AllocError> {
+    put_counted(text, b"accepted ", number)?;
+    put_number(text, items)?;
+    put_number(text, odd)
+}
+
+/// Appends where a clash is, and the two checksums.
+fn put_clash(
+    text: &mut Vec<u8>,
+    file: &Bytes,
+    line: u64,
+    checksums: (&Bytes, &Bytes),
+) -> Result<(), AllocError> {
+    put_word(text, b"clash")?;
+    put_word(text, file.get())?;
+    put_number(text, line)?;
+    put_word(text, checksums.0.get())?;
+    put_word(text, checksums.1.get())
+}
+
+/// Appends an answer.
+fn put_answer(text: &mut Vec<u8>, answer: &Answer) -> Result<(), AllocError> {
+    match answer {
+        Answer::Accepted { number, items, odd } => put_accepted(text, *number, *items, *odd),
+        Answer::Clash {
+            file,
+            line,
+            held,
+            given,
+        } => put_clash(text, file, *line, (held, given)),
+        Answer::Dropped { sections } => put_counted(text, b"dropped ", *sections),
+        Answer::NoSuchTest => text.extend_from_slice(b"no such test"),
+        Answer::Text(printed) => text.extend_from_slice(printed.get().get()),
+    }
+}
+
+/// What is asked and answered.
+pub(super) fn words_of(alloc: Global, op: &Op, answer: &Answer) -> Result<Vec<u8>, AllocError> {
+    let mut text = Vec::new(alloc);
+    put_op(&mut text, op)?;
+    text.extend_from_slice(b"> ")?;
+    put_answer(&mut text, answer)?;
+    Ok(text)
+}

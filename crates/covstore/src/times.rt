@@ -1,0 +1,89 @@
+//! How often a branch was taken, which may be missing, in three words. An `Option<u128>` takes four, and six where it is
+//! an option's value once more.
+
+ghost use Rattle.std.specs.Prelude.{◌≡◌, None};
+ghost use Rattle.covstore.specs.Sums.{sum_fits, sum_taken};
+ghost use Rattle.covstore.specs.Value.{is_taken};
+
+use crate::wide::Wide;
+use std::marker::Model;
+
+/// A number below 2^128, or none. Contracts see the one or the other.
+#[derive(Drop)]
+pub(crate) struct Times {
+    count: Wide,
+    is_known: bool,
+}
+
+impl Model for Times {
+    ghost use Rattle.std.specs.Prelude.{ℕ, Option, Some, None, cond};
+
+    ghost Value = { Option ℕ };
+
+    ghost view = { λ times. cond times.is_known (Some times.count) None };
+}
+
+impl Times {
+    /// This number of 64 bits, or none.
+    pub(crate) fn of(times: Option<u64>) -> Times
+        ensures { result ≡ times }
+    {
+        match times {
+            Some(number) => Times {
+                count: Wide::of(number),
+                is_known: true,
+            },
+            None => Times {
+                count: Wide::of(0),
+                is_known: false,
+            },
+        }
+    }
+
+    /// The same once more.
+    pub(crate) fn copy(&self) -> Times
+        ensures { result ≡ self.now }
+    {
+        Times {
+            count: self.count.copy(),
+            is_known: self.is_known,
+        }
+    }
+
+    /// The sum with a number of 64 bits, which may be missing too.
+    pub(crate) fn plus(&self, times: Option<u64>) -> Times
+        requires { sum_fits self.now times }
+        ensures { result ≡ sum_taken self.now times }
+    {
+        if !self.is_known {
+            return Times::of(times);
+        }
+        match times {
+            Some(number) => Times {
+                count: self.count.plus(number),
+                is_known: true,
+            },
+            None => self.copy(),
+        }
+    }
+
+    /// Whether there is a number above 0.
+    pub(crate) fn is_above(&self) -> bool
+        ensures { result ≡ is_taken self.now }
+    {
+        if self.is_known {
+            return self.count.is_above();
+        }
+        false
+    }
+
+    /// The number, where there is one.
+    pub(crate) fn get(&self) -> Option<u128>
+        ensures { result ≡ self.now }
+    {
+        if self.is_known {
+            return Some(self.count.get());
+        }
+        None
+    }
+}

@@ -1,0 +1,23 @@
+//! The store and its texts. What is wanted was worked out by hand from the formats, never taken from an output.
+
+use std::process::Abort;
+use std::test::*;
+
+mod calls;
+mod drops;
+mod held;
+mod patterns;
+mod plans;
+mod texts;
+
+/// The bytes are as wanted. The tests compare here, since each comparison in a test's own body is proved there.
+fn check_bytes(rt: &impl Abort, given: &[u8], wanted: &[u8]) {
+    assert_eq!(rt; given, wanted);
+}
+
+/// Appends a line.
+fn push_line(text: &mut Vec<u8>, line: &[u8]) -> Result<(), Fail> {
+    text.extend_from_slice(line)?;
+    text.push(b'\n')?;
+    Ok(())
+}

@@ -1,0 +1,54 @@
+//! Calls of the crates below without what they promise: a test looks at values, and its proof is quicker that knows nothing
+//! of them.
+
+use covline::{Bytes, Memory, Submission, TraceLine};
+use covread::{ReadFault, read_trace};
+use covreport::{PatternFault, Patterns, matches};
+use std::alloc::Global;
+use std::test::*;
+
+pub(super) fn put_line(record: &TraceLine<'_>, text: &mut Bytes) -> Result<(), Memory> {
+    covline::put_line(record, text)
+}
+
+pub(super) fn read(alloc: Global, text: &[u8]) -> Result<Submission, ReadFault> {
+    read_trace(alloc, text)
+}
+
+pub(super) fn is_match(pattern: &[u8], path: &[u8]) -> bool {
+    matches(pattern, path)
+}
+
+pub(super) fn add(
+    alloc: Global,
+    patterns: &mut Patterns,
+    pattern: &[u8],
+) -> Result<(), PatternFault> {
+    patterns.add(alloc, pattern)
+}
+
+pub(super) fn copied_patterns(alloc: Global, patterns: &Patterns) -> Result<Patterns, Memory> {
+    patterns.copy(alloc)
+}
+
+pub(super) fn any_matches(patterns: &Patterns, path: &[u8]) -> bool {
+    patterns.any_matches(path)
+}
+
+/// The list of the patterns, which stand between bars.
+pub(super) fn list_of(alloc: Global, patterns: &[u8]) -> Result<Patterns, PatternFault> {
+    let mut list = Patterns::new(alloc);
+    for pattern in patterns.split(|byte| *byte == b'|') {
+        add(alloc, &mut list, pattern)?;
+    }
+    Ok(list)
+}
+
+/// The bytes so many times.
+pub(super) fn repeated(alloc: Global, bytes: &[u8], times: usize) -> Result<Vec<u8>, Fail> {
+    let mut all = Vec::new(alloc);
+    for _time in 0..times {
+        all.extend_from_slice(bytes)?;
+    }
+    Ok(all)
+}
