@@ -6,9 +6,13 @@ use Rattle.covrun.specs.Call.{IsUnreadable}
 use Rattle.covrun.specs.declared.files.FileFault.{FileFault}
 use Rattle.covrun.specs.declared.files.FileFault.TheVariants.{Unreadable, Memory}
 
--- the bytes were read: all that was left, unless they are too many for a text
+-- the bytes were read: all that was left, or as many as are wanted at the most
+abbrev pub HasReadAtMost : ℕ → Option (List ℕ) → Option (List ℕ) → List ℕ → Type 0
+HasReadAtMost most left left_after text = Consumes left left_after text × (IsAtEnd left_after ⊎ (length text ≡ most))
+
+-- all that was left, unless it is too much for a text: then a byte more than a text may have
 abbrev pub HasRead : Option (List ℕ) → Option (List ℕ) → List ℕ → Type 0
-HasRead left left_after text = Consumes left left_after text × (IsAtEnd left_after ⊎ (length text ≡ suc most_bytes))
+HasRead left left_after text = HasReadAtMost (suc most_bytes) left left_after text
 
 -- one read of at most so many bytes: they stand at the text's end now, and none were read only at the end
 abbrev pub HasReadBlock : (left left_after : Option (List ℕ)) → (text text_after : List ℕ) → (room count : ℕ) → Type 0

@@ -2,7 +2,7 @@
 
 ghost use Rattle.std.specs.Prelude.{◌≡◌, ◌<◌, ◌≤◌, ◌+◌, ◌^◌, suc, length, IfOk, IfErr};
 ghost use Rattle.covread.specs.Outcome.{most_bytes};
-ghost use Rattle.covrun.specs.Files.{HasRead, HasReadBlock, IsUnread};
+ghost use Rattle.covrun.specs.Files.{HasRead, HasReadAtMost, HasReadBlock, IsUnread};
 
 use covline::{Bytes, Memory};
 use covread::MOST_BYTES;
@@ -34,17 +34,54 @@ pub(crate) fn read_text<S: Source>(alloc: Global, source: &mut S) -> Result<Byte
     ensures few { IfOk result (λ text. length text ≤ suc most_bytes) }
 {
     let mut block = vec![in alloc; 0; BLOCK_BYTES]?;
+    let text = read_at_most(alloc, source, block.as_mut_slice(), MOST_KEPT)?;
+    Ok(text)
+}
+
+/// What the source still has, at most so many bytes, read by way of the block. The limit is a parameter, since no proof should
+/// count up to the one that a text has.
+fn read_at_most<S: Source>(
+    alloc: Global,
+    source: &mut S,
+    block: &mut [u8],
+    most: usize,
+) -> Result<Bytes, SessionFault>
+    requires some { 0 < length block.old }
+    requires most { most < 2 ^ 62 }
+    requires reads { S.reads source.old < 2 ^ 62 }
+    requires failed_reads { S.failed_reads source.old < 2 ^ 62 }
+    ensures read { IfOk result (HasReadAtMost most (S.left source.old) (S.left source.new)) }
+    ensures few { IfOk result (λ text. length text ≤ most) }
+{
     let mut text = Bytes::new(alloc);
-    let mut room = MOST_KEPT;
+    let mut room = most;
     while room > 0 {
-        let count = room.min(BLOCK_BYTES);
-        let got = read_block(source, &mut block[..count], &mut text)?;
+        let got = read_some(source, block, room, &mut text)?;
         if got == 0 {
             return Ok(text);
         }
         room -= got;
     }
     Ok(text)
+}
+
+/// Reads once by way of the block, at most so many bytes.
+fn read_some<S: Source>(
+    source: &mut S,
+    block: &mut [u8],
+    room: usize,
+    text: &mut Bytes,
+) -> Result<usize, SessionFault>
+    requires some { 0 < length block.old }
+    requires reads { S.reads source.old < 2 ^ 63 }
+    requires failed_reads { S.failed_reads source.old < 2 ^ 63 }
+    ensures read { IfOk result (HasReadBlock (S.left source.old) (S.left source.new) text.old text.new room) }
+    ensures counted { IfOk result (λ _. S.reads source.new ≡ S.reads source.old + 1) }
+    ensures good { IfOk result (λ _. S.failed_reads source.new ≡ S.failed_reads source.old) }
+{
+    let most = room.min(block.len());
+    let got = read_block(source, &mut block[..most], text)?;
+    Ok(got)
 }
 
 /// Reads once into the block, appends what was read to the text, and answers how many bytes that are.
