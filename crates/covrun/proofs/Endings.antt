@@ -9,7 +9,9 @@ use Rattle.covcommand.specs.declared.asked.Command.{Command}
 use Rattle.covrun.specs.WorkFault.{IsRefusal, of_work}
 use Rattle.covrun.specs.declared.work.WorkFault.{WorkFault}
 use Rattle.covrun.specs.declared.work.WorkFault.TheVariants.{Words, Memory}
-use Rattle.covrun.specs.Call.{StopsEarly, AreTexts, CollectedData, WorkEnds, WorkTold, SinksData, IsTold}
+use Rattle.covcommand.specs.declared.fault.CommandFault.{CommandFault}
+use Rattle.covsession.specs.Program.{TellsSession}
+use Rattle.covrun.specs.Call.{StopsEarly, AreTexts, CollectedData, WorkEnds, WorkTold, SinksData, IsTold, of_line}
 use Rattle.covrun.specs.Ending.{EndingData, of_collect, of_collected}
 use Rattle.covrun.specs.Work.{WorkData, input_of}
 
@@ -38,6 +40,17 @@ pub told_work : (work : WorkData) (asked : Option WorkData) (ending : EndingData
     → Some work ≡ asked → WorkEnds work ending → IsTold ending status old new → WorkTold asked status left left_after old new
 told_work work asked ending status left left_after old new is ends told =
     subst (λ (w : Option WorkData). WorkTold w status left left_after old new) is (ending, ends, told)
+
+-- a command without work is a session
+pub told_session : (asked : Option WorkData) (status : ℕ) (left left_after : Option (List ℕ)) (old new : SinksData) → None ≡ asked
+    → TellsSession status left left_after old.output new.output old.faults new.faults old.failed_faults new.failed_faults
+    → WorkTold asked status left left_after old new
+told_session asked status left left_after old new is told = subst (λ (w : Option WorkData). WorkTold w status left left_after old new) is told
+
+-- words that give no command
+pub told_line : (fault : CommandFault) (ending : EndingData) → ending ≡ of_line fault → (status : ℕ) (old new : SinksData) → IsTold ending status old new
+    → IsTold (of_line fault) status old new
+told_line fault ending is status old new told = subst (λ (e : EndingData). IsTold e status old new) is told
 
 -- work that isn't begun
 pub stops_early : (command : Command) (fault : WorkFault) (ending : EndingData) → ending ≡ of_work fault → IsRefusal command fault → StopsEarly command ending
