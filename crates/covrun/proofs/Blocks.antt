@@ -21,10 +21,10 @@ read_long now new text text_after room count (bytes, took, is, long, few, ended)
 
 pub read_ended : (now new : Option (List ℕ)) (text text_after : List ℕ) (room count : ℕ)
     → HasReadBlock now new text text_after room count → count ≡ 0 → 0 < room → IsAtEnd new
-read_ended now new text text_after room count (bytes, took, is, long, few, ended) none open = ended none open
+read_ended now new text text_after room count (bytes, took, is, long, few, ended) none wanted = ended none wanted
 
 -- a block has room for as many as are wanted, or is full before
 pub read_within : (now new : Option (List ℕ)) (text text_after : List ℕ) (room block part count : ℕ) → 0 < block → part ≡ min room block
     → HasReadBlock now new text text_after part count → HasReadBlock now new text text_after room count
 read_within now new text text_after room block part count some is (bytes, took, now_is, long, few, ended) =
-    (bytes, took, now_is, long, omega (arith, few, is), λ none open. ended none (omega (arith, some, is, open)))
+    (bytes, took, now_is, long, omega (arith, few, is), λ none wanted. ended none (omega (arith, some, is, wanted)))

@@ -112,6 +112,7 @@ IsTold (Refuses lines) status old new = (status ≡ 4) × Withholds old new × C
 pub record AreParsed (words : List (List ℕ)) (parsed : Result Command CommandFault) : Type 0 where
   pub asks : IfOk parsed (AsksFor (subcommand_of covcollect words))
   pub bounds : IfOk parsed IsInBounds
+  pub fits : IfOk parsed (λ command. fault_of covcollect words ≡ [])
   pub taken : takes covcollect words ≡ true → IfErr parsed (λ fault. fault ≡ line.Memory)
   pub told : IfErr parsed (IsToldOf (fault_of covcollect words))
 
