@@ -11,5 +11,5 @@ returns-in-Ok-Some g c =
           (ap (option_map work_data) (sym c.in-Ok-Some.field-0-is) ∙ c.in-Ok-Some.ensures.work) c.ending_of.ensures c.tell.ensures,
     )
 
-pub returns : goal.returns
-returns g c = inl (ending_data c.ending_of_work.result, stops_early c.args.asked _ _ c.ending_of_work.ensures c.in-Err.ensures.refused, c.tell-2.ensures)
+pub returns-in-Err : goal.returns-in-Err
+returns-in-Err g c = inl (ending_data c.ending_of_work.result, stops_early c.args.asked _ _ c.ending_of_work.ensures c.in-Err.ensures.refused, c.tell-in-Err.ensures)
