@@ -122,7 +122,7 @@ impl Sink for Closed {
 }
 
 /// The exit status of a call whose output is closed so, and what it says.
-fn closed<R: Files + AllocGlobal + Threads + Wait + Sync>(
+fn call_closed<R: Files + AllocGlobal + Threads + Wait + Sync>(
     rt: &R,
     asked: &str,
     takes: bool,
@@ -151,7 +151,7 @@ fn check_closed<R: Files + AllocGlobal + Threads + Wait + Abort + Sync>(
     asked: &str,
     takes: bool,
 ) -> Result<(), Fail> {
-    let (status, faults) = closed(rt, asked, takes)?;
+    let (status, faults) = call_closed(rt, asked, takes)?;
     check_text(rt, asked, faults.as_slice(), "write fault\n")?;
     assert!(rt; status == 1, "{asked}: the status is {status}");
     Ok(())

@@ -57,9 +57,9 @@ fn two_thousand_files(rt: HostRuntime) -> Result<(), Fail> {
     )
 }
 
-/// A blank line, doubled so many times.
-fn blank_lines(alloc: Global, times: usize) -> Result<Vec<u8>, Fail> {
-    let mut text = Vec::from_slice(alloc, b"\n")?;
+/// One line of a comment's signs: one of them, doubled so many times.
+fn long_comment(alloc: Global, times: usize) -> Result<Vec<u8>, Fail> {
+    let mut text = Vec::from_slice(alloc, b"#")?;
     for _time in 0..times {
         let half = text.clone()?;
         text.extend_from_slice(half.as_slice())?;
@@ -67,13 +67,13 @@ fn blank_lines(alloc: Global, times: usize) -> Result<Vec<u8>, Fail> {
     Ok(text)
 }
 
-/// A text has at most 67,108,864 bytes.
+/// A text has at most 67,108,864 bytes, and of a longer one no more is read than shows that.
 #[test]
 fn the_largest_text(rt: HostRuntime) -> Result<(), Fail> {
     let path = format!(in rt.alloc(); "/tmp/covruns-{}.info", process::id(rt.process()))?;
-    let mut text = blank_lines(rt.alloc(), 26)?;
+    let mut text = long_comment(rt.alloc(), 26)?;
     check(&rt, path.as_str(), text.as_slice(), 1, (0, "", ""))?;
-    text.push(b'\n')?;
+    text.push(b'#')?;
     let faults = format!(in rt.alloc(); "{path}: refused TooLong\n")?;
     check(
         &rt,
