@@ -51,7 +51,12 @@ fn check<R: Files + AllocGlobal + Threads + Wait + Abort + Sync>(
 fn patterns(rt: HostRuntime) -> Result<(), Fail> {
     let alloc = rt.alloc();
     let missing = format!(in alloc; "{NONE}: can't read\n")?;
-    check(&rt, chosen_by(alloc, 64, 1_024)?.as_slice(), 1, missing.as_str())?;
+    check(
+        &rt,
+        chosen_by(alloc, 64, 1_024)?.as_slice(),
+        1,
+        missing.as_str(),
+    )?;
     check(&rt, chosen_by(alloc, 65, 1_024)?.as_slice(), 2, "TooMany\n")?;
     check(&rt, chosen_by(alloc, 64, 1_025)?.as_slice(), 2, "TooLong\n")?;
     let mut words = chosen_by(alloc, 64, 1)?;
@@ -75,7 +80,12 @@ fn counted_for(alloc: Global, test: &str) -> Result<Vec<String>, Fail> {
 fn names_of_tests(rt: HostRuntime) -> Result<(), Fail> {
     let alloc = rt.alloc();
     let missing = format!(in alloc; "{NONE}: can't read\n")?;
-    check(&rt, counted_for(alloc, "a b")?.as_slice(), 1, missing.as_str())?;
+    check(
+        &rt,
+        counted_for(alloc, "a b")?.as_slice(),
+        1,
+        missing.as_str(),
+    )?;
     check(&rt, counted_for(alloc, "a\nb")?.as_slice(), 2, "BadTest\n")?;
     check(&rt, counted_for(alloc, "a\r")?.as_slice(), 2, "BadTest\n")
 }
