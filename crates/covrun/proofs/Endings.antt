@@ -1,6 +1,6 @@
 -- How a call with work ends, from what its steps answer.
-use Rattle.std.proofs.Common.{◌≡◌, ◌⊎◌, inl, inr, ℕ, List, Option, Some, None, Result, Ok, Err, map, subst, sym, ap, ◌∙◌}
-use Rattle.covbook.specs.Op.{EntryData, OpData}
+use Rattle.std.proofs.Common.{◌≡◌, inl, inr, ℕ, List, Option, Some, None, Ok, Err, map, subst, ap, ◌∙◌}
+use Rattle.covbook.specs.Op.{EntryData}
 use Rattle.covbook.specs.Gather.{LogData}
 use Rattle.covjobs.specs.Collect.{InputData, IsCollected}
 use Rattle.covjobs.specs.declared.collect_fault.CollectFault.{CollectFault}
@@ -11,7 +11,7 @@ use Rattle.covrun.specs.declared.work.WorkFault.{WorkFault}
 use Rattle.covrun.specs.declared.work.WorkFault.TheVariants.{Words, Memory}
 use Rattle.covcommand.specs.declared.fault.CommandFault.{CommandFault}
 use Rattle.covsession.specs.Program.{TellsSession}
-use Rattle.covrun.specs.Call.{StopsEarly, AreTexts, CollectedData, WorkEnds, WorkTold, SinksData, IsTold, of_line}
+use Rattle.covrun.specs.Call.{StopsEarly, AreTexts, WorkEnds, WorkTold, SinksData, IsTold, of_line}
 use Rattle.covrun.specs.Ending.{EndingData, of_collect, of_collected}
 use Rattle.covrun.specs.Work.{WorkData, input_of}
 

@@ -1,5 +1,5 @@
 -- Files that are read one after another.
-use Rattle.std.proofs.Common.{◌≡◌, ℕ, suc, ◌+◌, ◌<◌, ◌≤◌, List, [], ◌∷◌, ◌++◌, length, get_or, take, drop, map, arith, sym, ap, ◌∙◌, length-append, append_assoc, subst}
+use Rattle.std.proofs.Common.{◌≡◌, ℕ, suc, ◌+◌, ◌<◌, ◌≤◌, List, [], ◌∷◌, ◌++◌, length, get_or, take, drop, map, sym, ap, ◌∙◌, length-append, subst}
 use Rattle.std.proofs.lemmas.List.{take_more, map-append, take-append-drop, drop_more}
 use Rattle.std.specs.List.{AllByRecursion}
 use Rattle.covread.specs.Outcome.{most_bytes}

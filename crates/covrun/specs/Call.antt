@@ -20,7 +20,7 @@ use Rattle.covsession.specs.Program.{fault_status, words_of_fault, TellsSession}
 use Rattle.covsession.specs.Session.{said}
 use Rattle.covsession.specs.declared.session.fault.SessionFault.TheVariants as faults
 use Rattle.covrun.specs.declared.words_fault.WordsFault.{WordsFault}
-use Rattle.covrun.specs.Ending.{EndingData, Prints, BadLine, BadWords, Unreadable, Stopped, Ungathered, Refuses, status_of, complaint, of_collect, of_collected}
+use Rattle.covrun.specs.Ending.{EndingData, Prints, BadLine, BadWords, Unreadable, Stopped, status_of, complaint, of_collect, of_collected}
 use Rattle.covrun.specs.Work.{WorkData, work_of, input_of, AreTaken, AreRefused}
 
 -- a text was read of each of the files, and of none more than a byte above what a text may have
@@ -99,14 +99,9 @@ Delivers text old new =
 -- a text is delivered, or a write of it failed and that is told; any other ending is told by its status and its words
 abbrev pub IsTold : EndingData → (status : ℕ) → SinksData → SinksData → Type 0
 IsTold (Prints text) status old new =
-    ((status ≡ 0) × Delivers text old new)
+    ((status ≡ status_of (Prints text)) × Delivers text old new)
     ⊎ ((status ≡ fault_status faults.Write) × (new.failed_output ≡ suc old.failed_output) × Complains (said (words_of_fault faults.Write)) old new)
-IsTold (BadLine text) status old new = (status ≡ 2) × Withholds old new × Complains text old new
-IsTold (BadWords fault) status old new = (status ≡ 2) × Withholds old new × Complains (complaint (BadWords fault)) old new
-IsTold (Unreadable name) status old new = (status ≡ 1) × Withholds old new × Complains (complaint (Unreadable name)) old new
-IsTold (Stopped fault) status old new = (status ≡ fault_status fault) × Withholds old new × Complains (complaint (Stopped fault)) old new
-IsTold Ungathered status old new = (status ≡ 3) × Withholds old new × Complains (complaint Ungathered) old new
-IsTold (Refuses lines) status old new = (status ≡ 4) × Withholds old new × Complains lines old new
+IsTold ending status old new = (status ≡ status_of ending) × Withholds old new × Complains (complaint ending) old new
 
 -- the words give this command, or this fault in its place, as covcommand says
 pub record AreParsed (words : List (List ℕ)) (parsed : Result Command CommandFault) : Type 0 where

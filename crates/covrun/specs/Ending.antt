@@ -1,6 +1,6 @@
 -- How the call of a subcommand ends: what decides its exit status and what it writes.
 use Rattle.std.specs.List.{flat_map}
-use Rattle.std.specs.Prelude.{◌≡◌, ℕ, ◌-◌, length, List, [], ◌∷◌, ◌++◌, Bool, true, false, if◌then◌else◌, Option, Some, None, Result, Ok, Err, codes, slice_get}
+use Rattle.std.specs.Prelude.{ℕ, ◌-◌, length, List, [], ◌∷◌, ◌++◌, Bool, true, false, if◌then◌else◌, Option, Some, None, codes, slice_get}
 use Rattle.covread.specs.declared.fault.ReadFault.{ReadFault}
 use Rattle.covread.specs.declared.fault.ReadFault.TheVariants as reads
 use Rattle.covbook.specs.Op.{EntryData, AnswerData, AcceptedAnswer, ClashAnswer, DroppedAnswer, NoSuchTestAnswer, TextAnswer}

@@ -1,5 +1,4 @@
 -- Values of the code, seen as plain data.
-use Rattle.std.specs.Prelude.{List, ℕ, map, Option, option_map}
 use Rattle.std.specs.String.{string_bytes}
 use Rattle.covbook.specs.View.{op_data}
 use Rattle.covrun.specs.Work.{WorkData}

@@ -1,6 +1,6 @@
 -- What a subcommand has to do, and which of its words are refused before any file is read.
 use Rattle.std.specs.List.{AllByRecursion}
-use Rattle.std.specs.Prelude.{◌≡◌, ◌<◌, ◌≤◌, ℕ, List, [], length, take, drop, Option, Some, None}
+use Rattle.std.specs.Prelude.{◌≡◌, ◌<◌, ◌≤◌, ℕ, List, length, take, drop, Option, Some, None}
 use Rattle.covline.specs.Lawful.{IsGoodTest}
 use Rattle.covreport.specs.Choice.{most_patterns, most_pattern_bytes}
 use Rattle.covbook.specs.Op.{OpData, ReportOp, SummaryOp, ExtractOp, RemoveOp}

@@ -1,5 +1,5 @@
 -- Private steps: why a subcommand's work isn't begun.
-use Rattle.std.specs.Prelude.{◌≡◌, ℕ, List, drop}
+use Rattle.std.specs.Prelude.{ℕ, List}
 use Rattle.covcommand.specs.declared.asked.Command.{Command}
 use Rattle.covreport.specs.declared.patterns.PatternFault.{PatternFault}
 use Rattle.covreport.specs.declared.patterns.PatternFault.TheVariants as patterns
