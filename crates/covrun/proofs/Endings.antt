@@ -1,5 +1,7 @@
 -- How a call with work ends, from what its steps answer.
-use Rattle.std.proofs.Common.{◌≡◌, inl, inr, ℕ, List, Option, Some, None, Ok, Err, map, subst, ap, ◌∙◌}
+use Rattle.std.proofs.Common.{◌≡◌, inl, inr, ℕ, List, ◌++◌, Option, Some, None, Ok, Err, map, codes, refl, sym, subst, ap, ◌∙◌}
+use Rattle.std.specs.Io.KnownBytes.{Appends}
+use Rattle.covsession.specs.Session.{said}
 use Rattle.covbook.specs.Op.{EntryData}
 use Rattle.covbook.specs.Gather.{LogData}
 use Rattle.covjobs.specs.Collect.{InputData, IsCollected}
@@ -11,8 +13,8 @@ use Rattle.covrun.specs.declared.work.WorkFault.{WorkFault}
 use Rattle.covrun.specs.declared.work.WorkFault.TheVariants.{Words, Memory}
 use Rattle.covcommand.specs.declared.fault.CommandFault.{CommandFault}
 use Rattle.covsession.specs.Program.{TellsSession}
-use Rattle.covrun.specs.Call.{StopsEarly, AreTexts, WorkEnds, WorkTold, SinksData, IsTold, of_line}
-use Rattle.covrun.specs.Ending.{EndingData, of_collect, of_collected}
+use Rattle.covrun.specs.Call.{StopsEarly, AreTexts, WorkEnds, WorkTold, SinksData, sinks, IsTold, of_line}
+use Rattle.covrun.specs.Ending.{EndingData, Unreadable, of_collect, of_collected}
 use Rattle.covrun.specs.Work.{WorkData, input_of}
 
 -- its texts were collected
@@ -56,3 +58,12 @@ told_line fault ending is status old new told = subst (λ (e : EndingData). IsTo
 pub stops_early : (command : Command) (fault : WorkFault) (ending : EndingData) → ending ≡ of_work fault → IsRefusal command fault → StopsEarly command ending
 stops_early command (Words fault) ending is refused = inr (fault, is, refused)
 stops_early command Memory ending is refused = inl is
+
+-- a file that can't be read
+pub told_unreadable : (asked : EndingData) (name : List ℕ) → asked ≡ Unreadable name → (status : ℕ) → status ≡ 1
+    → (output : Option (List ℕ)) (failed_output : ℕ) (before after : Option (List ℕ)) (fails fails_after : ℕ) (words : List ℕ)
+    → words ≡ name ++ said (codes ": can't read") → (fails_after ≡ fails → Appends before after words)
+    → IsTold asked status (sinks output failed_output before fails) (sinks output failed_output after fails_after)
+told_unreadable asked name is status one output failed_output before after fails fails_after words spelled complained =
+    subst (λ (e : EndingData). IsTold e status (sinks output failed_output before fails) (sinks output failed_output after fails_after)) (sym is)
+    (one, (refl, refl), λ good. subst (λ (ws : List ℕ). Appends before after ws) spelled (complained good))
