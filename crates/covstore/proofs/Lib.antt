@@ -66,6 +66,7 @@ pub mod StepsTexts
 pub mod StepsCounts
 pub mod StepsKept
 pub mod StepsMore
+pub mod StepsItems
 pub mod Assigned
 pub mod Fewer
 pub mod FewerTally

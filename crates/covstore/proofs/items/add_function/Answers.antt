@@ -3,7 +3,8 @@ use Rattle.std.specs.Cmp.Lexicographic.{slice_cmp}
 use Rattle.std.specs.Ordering.{nat_cmp}
 use Rattle.covstore.specs.Counts.{is_above_at}
 use Rattle.covstore.specs.State.{function_above}
-use Rattle.covstore.proofs.StepsKept.{keeps_function}
+use Rattle.covstore.specs.Sums.{TestData}
+use Rattle.covstore.proofs.StepsKept.{keeps_function, room_for}
 use Rattle.covstore.proofs.StepsCounts.{changed_as, function_stays}
 use Rattle.covstore.proofs.items.add_function.Goals as goal
 
@@ -19,3 +20,14 @@ returns-clause-counts g c =
     keeps_function _ _ _ _ name value
     (λ above. ap function_above c.in_ok-added.ensures.after ∙ function_stays c.args.line c.args.count before.added.before (ap (is_above_at function_above) before.ensures.before ∙ above))
     refl puts refl refl kept refl refl
+
+pub add-requires : goal.add-requires
+add-requires g c = c.requires.fits
+
+pub add-requires-2-clause-few : goal.add-requires-2-clause-few
+add-requires-2-clause-few g c = c.requires.room.functions
+
+pub add-requires-2-clause-room : goal.add-requires-2-clause-room
+add-requires-2-clause-room g c =
+    let room = c.requires.room in
+    room_for (λ (test : TestData). test.functions) _ c.args.marks.now.functions.coming room.few room.kept.functions c.args.name.now

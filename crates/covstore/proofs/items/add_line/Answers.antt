@@ -1,6 +1,7 @@
-use Rattle.std.proofs.Common.{◌≡◌, Bool, true, refl, ap, ◌∙◌}
-use Rattle.std.specs.Option.{is_some}
+use Rattle.std.proofs.Common.{◌≡◌, ◌<◌, ◌^◌, Bool, true, length, refl, sym, ap, ◌∙◌, subst}
+use Rattle.std.specs.Option.{IfSome, is_some}
 use Rattle.std.specs.Ordering.{nat_cmp}
+use Rattle.std.proofs.lemmas.Result.{err_from_is_err_and}
 use Rattle.covstore.specs.declared.marks.Marks.{Marks}
 use Rattle.covstore.specs.declared.sums.LineSum.{LineSum}
 use Rattle.covstore.specs.Changes.{change_of, changed}
@@ -8,9 +9,11 @@ use Rattle.covstore.specs.Checksums.{held_more}
 use Rattle.covstore.specs.Counts.{is_above_at}
 use Rattle.covstore.specs.Puts.{value_of}
 use Rattle.covstore.specs.State.{has_checksum, line_above}
-use Rattle.covstore.specs.Sums.{line_with}
-use Rattle.covstore.specs.TestView.{branches_data}
-use Rattle.covstore.proofs.StepsKept.{keeps_line_bare, keeps_line_checked}
+use Rattle.covstore.specs.Sums.{TestData, line_with}
+use Rattle.covstore.specs.TestView.{branches_data, test_held}
+use Rattle.covstore.specs.declared.sums.Tests.{Tests}
+use Rattle.covstore.proofs.StepsItems.{held_as_before, held_by_test, holders_few, with_lines}
+use Rattle.covstore.proofs.StepsKept.{keeps_line_bare, keeps_line_checked, room_for}
 use Rattle.covstore.proofs.StepsCounts.{changed_as, line_bare, line_checked, line_stays}
 use Rattle.covstore.proofs.items.add_line.Goals as goal
 use Rattle.covstore.proofs.items.add_line.Goals.{in-Some+in_ok-hold, in_default}
@@ -45,3 +48,89 @@ returns-clause-counts g c =
           (ap (λ (sum : LineSum). sum.has_checksum) (c.in_ok-added.ensures.after ∙ ap (λ (b : Bool). line_with count b before) none) ∙ line_bare count before ∙ ap (is_above_at has_checksum) given)
           (ap (λ (m : Marks g.row.A.Denot). m.checksums.coming) w.marks-is)
     ]
+
+pub add-requires : goal.add-requires
+add-requires g c = c.requires.fits
+
+pub returns-in_err-added-clause-test_held : goal.returns-in_err-added-clause-test_held
+returns-in_err-added-clause-test_held g c = ap (with_lines (test_held c.args.test.now)) c.in_err-added.ensures.now
+
+pub returns-in_err-added-clause-marks_held : goal.returns-in_err-added-clause-marks_held
+returns-in_err-added-clause-marks_held g c = held_as_before c.args.marks.now
+
+pub returns-in_err-added-clause-clash : goal.returns-in_err-added-clause-clash
+returns-in_err-added-clause-clash g c = let p = err_from_is_err_and c.from_residual.result c.from_residual.ensures.1 in rw (p.1, p.2) tt
+
+pub hold-requires-clause-holds : goal.hold-requires-clause-holds
+hold-requires-clause-holds g c = λ is.
+    held_by_test _ _ c.requires.room c.args.line (ap (is_above_at has_checksum) (sym c.in_ok-added.ensures.before) ∙ sym c.is_checked-is_held.ensures ∙ is)
+
+pub hold-requires-clause-room : goal.hold-requires-clause-room
+hold-requires-clause-room g c = holders_few _ _ c.requires.room c.args.line
+
+pub add-requires-2-clause-few : goal.add-requires-2-clause-few
+add-requires-2-clause-few g c = elim c.match-checksum.branch [
+  | in-Some+in_ok-hold w ↦ subst (λ (m : Marks g.row.A.Denot). length m.lines.coming < 2 ^ 63) (sym w.marks-is) c.requires.room.lines
+  | in_default w ↦ subst (λ (m : Marks g.row.A.Denot). length m.lines.coming < 2 ^ 63) (sym w.marks-is) c.requires.room.lines
+]
+
+pub add-requires-2-clause-room : goal.add-requires-2-clause-room
+add-requires-2-clause-room g c =
+    let room = c.requires.room in
+    let line = c.args.line in
+    let fits = room_for (λ (test : TestData). test.lines) _ c.args.marks.now.lines.coming room.few room.kept.lines line in
+    elim c.match-checksum.branch [
+      | in-Some+in_ok-hold w ↦ subst (λ (m : Marks g.row.A.Denot). IfSome (value_of nat_cmp line m.lines.coming) (λ (held : Tests). (held.tests < 2 ^ 63) × (held.hit < 2 ^ 63))) (sym w.marks-is) fits
+      | in_default w ↦ subst (λ (m : Marks g.row.A.Denot). IfSome (value_of nat_cmp line m.lines.coming) (λ (held : Tests). (held.tests < 2 ^ 63) × (held.hit < 2 ^ 63))) (sym w.marks-is) fits
+    ]
+
+pub returns-in_err-hold-clause-test_held : goal.returns-in_err-hold-clause-test_held
+returns-in_err-hold-clause-test_held g c = ap (with_lines (test_held c.args.test.now)) c.in_ok-added.ensures.now
+
+pub returns-in_err-hold-clause-marks_held : goal.returns-in_err-hold-clause-marks_held
+returns-in_err-hold-clause-marks_held g c = record { lines = refl; functions = refl; branches = refl; holders = c.in_err-hold.ensures.held; texts = c.in_err-hold.ensures.stay }
+
+pub returns-in_err-add-clause-test_held : goal.returns-in_err-add-clause-test_held
+returns-in_err-add-clause-test_held g c = ap (with_lines (test_held c.args.test.now)) c.in_ok-added.ensures.now
+
+pub returns-in_err-add-clause-clash : goal.returns-in_err-add-clause-clash
+returns-in_err-add-clause-clash g c = let p = err_from_is_err_and c.from_residual-in_err-add.result c.from_residual-in_err-add.ensures.1 in rw (p.1, p.2) tt
+
+pub returns-clause-test_held : goal.returns-clause-test_held
+returns-clause-test_held g c = ap (with_lines (test_held c.args.test.now)) c.in_ok-added.ensures.now
+
+pub returns-in_err-added-clause-test : goal.returns-in_err-added-clause-test
+returns-in_err-added-clause-test g c = let p = err_from_is_err_and c.from_residual.result c.from_residual.ensures.1 in rw p.1 tt
+
+pub returns-in_err-added-clause-counts : goal.returns-in_err-added-clause-counts
+returns-in_err-added-clause-counts g c = let p = err_from_is_err_and c.from_residual.result c.from_residual.ensures.1 in rw p.1 tt
+
+pub returns-in_err-added-clause-text : goal.returns-in_err-added-clause-text
+returns-in_err-added-clause-text g c = let p = err_from_is_err_and c.from_residual.result c.from_residual.ensures.1 in rw p.1 tt
+
+pub returns-in_err-added-clause-others : goal.returns-in_err-added-clause-others
+returns-in_err-added-clause-others g c = let p = err_from_is_err_and c.from_residual.result c.from_residual.ensures.1 in rw p.1 tt
+
+pub returns-in_err-hold-clause-test : goal.returns-in_err-hold-clause-test
+returns-in_err-hold-clause-test g c = let p = err_from_is_err_and c.from_residual-in_err-hold.result c.from_residual-in_err-hold.ensures.1 in rw p.1 tt
+
+pub returns-in_err-hold-clause-counts : goal.returns-in_err-hold-clause-counts
+returns-in_err-hold-clause-counts g c = let p = err_from_is_err_and c.from_residual-in_err-hold.result c.from_residual-in_err-hold.ensures.1 in rw p.1 tt
+
+pub returns-in_err-hold-clause-text : goal.returns-in_err-hold-clause-text
+returns-in_err-hold-clause-text g c = let p = err_from_is_err_and c.from_residual-in_err-hold.result c.from_residual-in_err-hold.ensures.1 in rw p.1 tt
+
+pub returns-in_err-hold-clause-others : goal.returns-in_err-hold-clause-others
+returns-in_err-hold-clause-others g c = let p = err_from_is_err_and c.from_residual-in_err-hold.result c.from_residual-in_err-hold.ensures.1 in rw p.1 tt
+
+pub returns-in_err-add-clause-test : goal.returns-in_err-add-clause-test
+returns-in_err-add-clause-test g c = let p = err_from_is_err_and c.from_residual-in_err-add.result c.from_residual-in_err-add.ensures.1 in rw p.1 tt
+
+pub returns-in_err-add-clause-counts : goal.returns-in_err-add-clause-counts
+returns-in_err-add-clause-counts g c = let p = err_from_is_err_and c.from_residual-in_err-add.result c.from_residual-in_err-add.ensures.1 in rw p.1 tt
+
+pub returns-in_err-add-clause-text : goal.returns-in_err-add-clause-text
+returns-in_err-add-clause-text g c = let p = err_from_is_err_and c.from_residual-in_err-add.result c.from_residual-in_err-add.ensures.1 in rw p.1 tt
+
+pub returns-in_err-add-clause-others : goal.returns-in_err-add-clause-others
+returns-in_err-add-clause-others g c = let p = err_from_is_err_and c.from_residual-in_err-add.result c.from_residual-in_err-add.ensures.1 in rw p.1 tt

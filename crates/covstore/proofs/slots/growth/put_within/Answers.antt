@@ -1,7 +1,9 @@
 use Rattle.std.proofs.Common.{◌≡◌, ◌+◌, ◌-◌, ◌<◌, ap, ◌∙◌, sym, subst, arith, length, length-take}
-use Rattle.covstore.specs.Slots.{IsGap, page_at}
+use Rattle.std.specs.Prelude.{OnOk}
+use Rattle.covstore.specs.Coming.{coming_of}
+use Rattle.covstore.specs.Slots.{IsGap, filled, page_at, slots_of}
 use Rattle.covstore.proofs.SlotWrites.{page_le}
-use Rattle.covstore.proofs.SlotSplit.{page_low, length_high, gap_low, gap_behind_half}
+use Rattle.covstore.proofs.SlotSplit.{page_low, split_length, length_high, gap_low, gap_behind_half}
 use Rattle.covstore.proofs.slots.growth.put_within.Goals as goal
 
 pub put_at-requires-then-place-le-HALF-clause-room : goal.put_at-requires-then-place-le-HALF-clause-room
@@ -28,3 +30,32 @@ put_at-requires-2-clause-gap g c =
     let order = λ (other : g.row.K.Denot). g.K.Key.cmp other c.args.key in
     subst (λ pages. IsGap order pages (c.args.place.page + 1, c.args.place.index - 256)) (sym c.in_ok-split.ensures.ok)
     (gap_behind_half order c.args.slots.now c.args.place.page (c.args.place.page + 1) (c.args.place.index - 256) c.args.place.index c.requires.there full (omega arith) (omega (arith, c.if-place-le-HALF.false)) c.requires.gap)
+
+pub split-requires-clause-full : goal.split-requires-clause-full
+split-requires-clause-full g c =
+    let at_most = page_le c.args.slots.now c.args.place.page c.page.ensures.whole.pages_fit in
+    omega (arith, at_most, ap length c.page.ensures.now, c.if-page-lt-PAGE.false)
+
+pub put_at-requires-then-place-le-HALF-clause-there : goal.put_at-requires-then-place-le-HALF-clause-there
+put_at-requires-then-place-le-HALF-clause-there g c =
+    omega (arith, c.requires.there, ap length c.in_ok-split.ensures.ok, split_length c.args.slots.now c.args.place.page c.requires.there)
+
+pub put_at-requires-2-clause-there : goal.put_at-requires-2-clause-there
+put_at-requires-2-clause-there g c =
+    omega (arith, c.requires.there, ap length c.in_ok-split.ensures.ok, split_length c.args.slots.now c.args.place.page c.requires.there)
+
+pub returns-then-place-le-HALF-clause-held : goal.returns-then-place-le-HALF-clause-held
+returns-then-place-le-HALF-clause-held g c = c.put_at-then-place-le-HALF.ensures.held ∙ c.in_ok-split.ensures.held
+
+pub returns-then-place-le-HALF-clause-coming : goal.returns-then-place-le-HALF-clause-coming
+returns-then-place-le-HALF-clause-coming g c =
+    let after = c.put_at-then-place-le-HALF in
+    subst (λ slots. OnOk after.result (filled (slots_of (coming_of after.new.slots after.new.coming)) ≡ slots)) c.in_ok-split.ensures.coming after.ensures.coming
+
+pub returns-clause-held : goal.returns-clause-held
+returns-clause-held g c = c.put_at-2.ensures.held ∙ c.in_ok-split.ensures.held
+
+pub returns-clause-coming : goal.returns-clause-coming
+returns-clause-coming g c =
+    let after = c.put_at-2 in
+    subst (λ slots. OnOk after.result (filled (slots_of (coming_of after.new.slots after.new.coming)) ≡ slots)) c.in_ok-split.ensures.coming after.ensures.coming
