@@ -2,7 +2,7 @@
 
 use super::calls::{after_dropped, hand_in};
 use super::push_line;
-use super::script::{printed, receipt_of};
+use super::script::{check_printed, receipt_of};
 use covbook::{Answer, Book};
 use covline::{Bytes, Memory};
 use covreport::summary_text;
@@ -278,18 +278,6 @@ fn totals_of(rows: &[Row]) -> Totals {
 fn summary(rt: &(impl Abort + AllocGlobal), totals: &Totals) -> Result<Bytes, Memory> {
     assert!(rt; totals.lh <= totals.lf && totals.fh <= totals.ff && totals.bh <= totals.bf);
     summary_text(rt.alloc(), totals)
-}
-
-/// The book prints this text for the step that a line asks.
-fn check_printed(
-    rt: &(impl Abort + AllocGlobal),
-    book: &mut Book,
-    line: &[u8],
-    wanted: &[u8],
-) -> Result<(), Fail> {
-    let text = printed(rt, book, line)?;
-    assert_eq!(rt; text.as_slice(), wanted);
-    Ok(())
 }
 
 /// The book's report is what the plain list says.

@@ -2,7 +2,7 @@
 
 use super::calls::hand_in;
 use super::list::{Random, random_text};
-use super::script::printed;
+use super::script::{check_printed, printed};
 use covbook::Book;
 use std::alloc::Global;
 use std::process::Abort;
@@ -37,20 +37,8 @@ fn check_alike(
     line: &[u8],
 ) -> Result<(), Fail> {
     let text = printed(rt, one, line)?;
+    assert!(rt; !text.is_empty());
     check_printed(rt, other, line, &text)
-}
-
-/// The book prints this text, which isn't empty, for the step that a line asks.
-fn check_printed(
-    rt: &(impl Abort + AllocGlobal),
-    book: &mut Book,
-    line: &[u8],
-    wanted: &[u8],
-) -> Result<(), Fail> {
-    assert!(rt; !wanted.is_empty());
-    let text = printed(rt, book, line)?;
-    assert_eq!(rt; text.as_slice(), wanted);
-    Ok(())
 }
 
 /// Both books print the same report and summary, the same of a file, and of all but that file.

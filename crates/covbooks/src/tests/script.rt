@@ -94,6 +94,18 @@ pub(super) fn printed(
     text_of(rt, &receipt.answer)
 }
 
+/// The book prints this text for the step that a line asks.
+pub(super) fn check_printed(
+    rt: &(impl Abort + AllocGlobal),
+    book: &mut Book,
+    line: &[u8],
+    wanted: &[u8],
+) -> Result<(), Fail> {
+    let text = printed(rt, book, line)?;
+    assert_eq!(rt; text.as_slice(), wanted);
+    Ok(())
+}
+
 /// What is asked and answered is told by these words.
 pub(super) fn check_words(
     rt: &(impl Abort + AllocGlobal),
@@ -145,6 +157,31 @@ pub(super) fn check_lines(rt: &impl Abort, totals: &Totals, found: u64, hit: u64
     assert!(rt; totals.lf == found && totals.lh == hit);
 }
 
+/// The receipt's copy and the last entry, by this job, tell these words too.
+fn check_kept(
+    rt: &(impl Abort + AllocGlobal),
+    entries: &[Entry],
+    job: u32,
+    receipt: &Receipt,
+    words: &[u8],
+) -> Result<(), Fail> {
+    check_copies(rt, receipt, words)?;
+    check_entry(rt, entries, receipt.place, job, words)
+}
+
+/// Appends what is told of the step that this job took last.
+fn put_receipt(
+    rt: &(impl Abort + AllocGlobal),
+    book: &Book,
+    job: u32,
+    receipt: &Receipt,
+    text: &mut Vec<u8>,
+) -> Result<(), Fail> {
+    let words = words_of(rt.alloc(), &receipt.op, &receipt.answer)?;
+    check_kept(rt, entries(book), job, receipt, &words)?;
+    put_step(rt, book, receipt.place, &words, text)
+}
+
 /// Takes the step that a line asks, and appends what is told of it.
 fn take_step(
     rt: &(impl Abort + AllocGlobal),
@@ -153,10 +190,7 @@ fn take_step(
     text: &mut Vec<u8>,
 ) -> Result<(), Fail> {
     let receipt = receipt_of(rt, book, line)?;
-    let words = words_of(rt.alloc(), &receipt.op, &receipt.answer)?;
-    check_copies(rt, &receipt, &words)?;
-    check_entry(rt, entries(book), receipt.place, job_of(line), &words)?;
-    put_step(rt, book, receipt.place, &words, text)
+    put_receipt(rt, book, job_of(line), &receipt, text)
 }
 
 /// Appends a step's place, what is asked and answered, and how many lines are found and hit behind it, which its entry and the
