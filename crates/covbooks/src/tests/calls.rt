@@ -7,7 +7,6 @@ use covread::read_trace;
 use covreport::{PatternFault, Patterns};
 use covstore::Totals;
 use std::alloc::Global;
-use std::process::Abort;
 use std::test::*;
 
 pub(super) fn bytes_of(alloc: Global, bytes: &[u8]) -> Result<Bytes, Memory> {
@@ -24,18 +23,27 @@ pub(super) fn step(
 }
 
 /// A step by its two halves.
-pub(super) fn step_in_halves(
+fn step_in_halves(alloc: Global, book: &mut Book, job: u32, op: &Op) -> Result<Receipt, BookFault> {
+    let ready = book.ready(alloc, job, op)?;
+    Ok(book.finish(ready))
+}
+
+/// A step, which the jobs 8 and 9 take by its two halves.
+pub(super) fn take(
     alloc: Global,
     book: &mut Book,
     job: u32,
     op: &Op,
 ) -> Result<Receipt, BookFault> {
-    let ready = book.ready(alloc, job, op)?;
-    Ok(book.finish(ready))
+    if job < 8 {
+        step(alloc, book, job, op)
+    } else {
+        step_in_halves(alloc, book, job, op)
+    }
 }
 
 /// The totals after a step that is made ready and dropped.
-pub(super) fn after_dropped(alloc: Global, book: &mut Book, op: &Op) -> Result<Totals, BookFault> {
+fn after_ready(alloc: Global, book: &mut Book, op: &Op) -> Result<Totals, BookFault> {
     let ready = book.ready(alloc, 0, op)?;
     Ok(ready.after())
 }
@@ -83,18 +91,15 @@ pub(super) fn submit(alloc: Global, text: &[u8]) -> Result<Op, Fail> {
     Ok(Op::Submit(shared.copy()?))
 }
 
-/// What the book prints for this.
-pub(super) fn printed(
-    rt: &(impl Abort + AllocGlobal),
-    book: &mut Book,
-    op: &Op,
-) -> Result<Bytes, Fail> {
-    let Receipt { answer, .. } = step(rt.alloc(), book, 0, op)?;
-    match answer {
-        Answer::Text(text) => Ok(text.get().copy(rt.alloc())?),
-        Answer::Accepted { .. }
-        | Answer::Clash { .. }
-        | Answer::Dropped { .. }
-        | Answer::NoSuchTest => panic!(rt; "no text"),
-    }
+/// The totals after the text's submission, which is made ready and dropped.
+pub(super) fn after_dropped(alloc: Global, book: &mut Book, text: &[u8]) -> Result<Totals, Fail> {
+    let op = submit(alloc, text)?;
+    Ok(after_ready(alloc, book, &op)?)
+}
+
+/// Submits a text.
+pub(super) fn hand_in(alloc: Global, book: &mut Book, text: &[u8]) -> Result<(), Fail> {
+    let op = submit(alloc, text)?;
+    step(alloc, book, 0, &op)?;
+    Ok(())
 }

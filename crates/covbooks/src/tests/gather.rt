@@ -3,8 +3,10 @@
 use super::calls::{
     bytes_of, copied_answer, copied_op, entries, gathered, is_same_answer, is_same_op,
 };
+use super::said::put_answer;
 use super::script::{op_of, run};
-use covbook::{Answer, Entry, GatherFault, JobLog, Logs, Receipt, Receipts, TextRef};
+use covbook::{Answer, Book, Entry, GatherFault, JobLog, Logs, Receipt, Receipts, TextRef};
+use covline::Bytes;
 use std::alloc::Global;
 use std::process::Abort;
 use std::test::*;
@@ -34,14 +36,25 @@ fn entry_at<'e>(rt: &impl Abort, entries: &'e [Entry], digit: u8) -> &'e Entry {
 /// The text of the answer with another first byte.
 fn other_text(alloc: Global, answer: &Answer) -> Result<Answer, Fail> {
     let mut text = Vec::new(alloc);
-    if let Answer::Text(printed) = answer {
-        text.extend_from_slice(printed.get().get())?;
-    }
+    put_answer(alloc, &mut text, answer)?;
     if let Some(first) = text.first_mut() {
         *first = b'?';
     }
-    let text = TextRef::of(alloc, bytes_of(alloc, &text)?)?;
-    Ok(Answer::Text(text))
+    text_of(alloc, &text)
+}
+
+/// The answer of the entry at the place that the digit tells; where `!` is in its place, this entry's with another text.
+fn answer_of(
+    rt: &(impl Abort + AllocGlobal),
+    entries: &[Entry],
+    entry: &Entry,
+    digit: u8,
+) -> Result<Answer, Fail> {
+    if digit == b'!' {
+        return other_text(rt.alloc(), &entry.answer);
+    }
+    let answered = entry_at(rt, entries, digit);
+    Ok(copied_answer(rt.alloc(), &answered.answer)?)
 }
 
 /// The receipt that a word of three signs tells: its place, the entry whose operation it has, and that whose answer it has. In
@@ -51,18 +64,14 @@ fn receipt_of(
     entries: &[Entry],
     word: &[u8],
 ) -> Result<Receipt, Fail> {
-    let alloc = rt.alloc();
     let [place, op, answer] = word else {
         panic!(rt; "no receipt {word:?}");
     };
     let asked = entry_at(rt, entries, *op);
-    let answer = match *answer {
-        b'!' => other_text(alloc, &asked.answer)?,
-        digit => copied_answer(alloc, &entry_at(rt, entries, digit).answer)?,
-    };
+    let answer = answer_of(rt, entries, asked, *answer)?;
     Ok(Receipt {
         place: u64::from(number_of(*place)),
-        op: copied_op(alloc, &asked.op)?,
+        op: copied_op(rt.alloc(), &asked.op)?,
         answer,
     })
 }
@@ -84,19 +93,33 @@ fn log_of(
     Ok(JobLog { job, receipts })
 }
 
+/// A word and a number.
+fn counted(alloc: Global, word: &str, number: u64) -> Result<String, Fail> {
+    Ok(format!(in alloc; "{word} {number}")?)
+}
+
+/// A word, and the places of a log and of a receipt in it.
+fn placed(alloc: Global, word: &str, log: usize, index: usize) -> Result<String, Fail> {
+    Ok(format!(in alloc; "{word} {log} {index}")?)
+}
+
+/// A fault in words.
+fn fault_in_words(alloc: Global, fault: &GatherFault) -> Result<String, Fail> {
+    match fault {
+        GatherFault::Stranger { log, index } => placed(alloc, "Stranger", *log, *index),
+        GatherFault::Differs { log, index } => placed(alloc, "Differs", *log, *index),
+        GatherFault::Backwards { log, index } => placed(alloc, "Backwards", *log, *index),
+        GatherFault::Missing { place } => counted(alloc, "Missing", *place),
+        GatherFault::SameJob { log } => counted(alloc, "SameJob", *log as u64),
+    }
+}
+
 /// What is told of entries and logs, in words.
 fn told(alloc: Global, entries: &[Entry], logs: &[JobLog]) -> Result<String, Fail> {
-    let words = match gathered(entries, logs) {
-        Ok(()) => format!(in alloc; "yes")?,
-        Err(fault) => match fault {
-            GatherFault::Stranger { log, index } => format!(in alloc; "Stranger {log} {index}")?,
-            GatherFault::Differs { log, index } => format!(in alloc; "Differs {log} {index}")?,
-            GatherFault::Backwards { log, index } => format!(in alloc; "Backwards {log} {index}")?,
-            GatherFault::Missing { place } => format!(in alloc; "Missing {place}")?,
-            GatherFault::SameJob { log } => format!(in alloc; "SameJob {log}")?,
-        },
-    };
-    Ok(words)
+    match gathered(entries, logs) {
+        Ok(()) => Ok(String::from_str(alloc, "yes")?),
+        Err(fault) => fault_in_words(alloc, &fault),
+    }
 }
 
 /// The entries and these logs are told of as wanted.
@@ -108,10 +131,7 @@ fn check_told(
     wanted: &[u8],
 ) -> Result<(), Fail> {
     let told = told(rt.alloc(), entries, logs)?;
-    if told.as_bytes() != wanted {
-        let name: Result<String, _> = String::from_utf8_lossy(rt.alloc(), name);
-        panic!(rt; "{name:?}: told {told:?}");
-    }
+    assert!(rt; told.as_bytes() == wanted, "{name:?}: told {told:?}");
     Ok(())
 }
 
@@ -196,22 +216,31 @@ const EXAMPLES: &[u8] = b"0 000 222 444
 
 #[test]
 fn what_two_jobs_kept(rt: HostRuntime) -> Result<(), Fail> {
-    let (book, _told) = run(&rt, SIX_CALLS)?;
+    let mut book = Book::new(rt.alloc());
+    run(&rt, &mut book, SIX_CALLS)?;
     check_all(&rt, entries(&book), EXAMPLES)?;
     check_all(&rt, &[], b"> yes\n= nothing at all\n1\n> yes\n= no calls")
 }
 
-/// Whether the operations or answers of this name that the two texts tell are the same.
-fn is_same(
-    rt: &(impl Abort + AllocGlobal),
-    word: &[u8],
-    one: &[u8],
-    other: &[u8],
-) -> Result<bool, Fail> {
-    match word {
-        b"text" => Ok(is_same_answer(&text_of(rt.alloc(), one)?, &text_of(rt.alloc(), other)?)),
-        b"clash" => Ok(is_same_answer(&clash_of(rt.alloc(), one)?, &clash_of(rt.alloc(), other)?)),
-        _ => Ok(is_same_op(&op_of(rt, word, one)?, &op_of(rt, word, other)?)),
+/// Whether the operations that the words ask are the same.
+fn are_same_ops(rt: &(impl Abort + AllocGlobal), one: &[u8], other: &[u8]) -> Result<bool, Fail> {
+    let one = op_of(rt, one)?;
+    let other = op_of(rt, other)?;
+    Ok(is_same_op(&one, &other))
+}
+
+/// Whether the answers that the words tell are the same.
+fn are_same_answers(alloc: Global, one: &[u8], other: &[u8]) -> Result<bool, Fail> {
+    let one = told_answer(alloc, one)?;
+    let other = told_answer(alloc, other)?;
+    Ok(is_same_answer(&one, &other))
+}
+
+/// The answer that words tell: a text, or a clash at line 1 of `/a.c`, where `k` was held.
+fn told_answer(alloc: Global, words: &[u8]) -> Result<Answer, Fail> {
+    match words.strip_prefix(b"clash ") {
+        Some(given) => clash_of(alloc, bytes_of(alloc, given)?),
+        None => text_of(alloc, words),
     }
 }
 
@@ -220,42 +249,55 @@ fn text_of(alloc: Global, text: &[u8]) -> Result<Answer, Fail> {
     Ok(Answer::Text(text))
 }
 
-/// A clash at line 1 of `/a.c`, where `k` was held.
-fn clash_of(alloc: Global, given: &[u8]) -> Result<Answer, Fail> {
-    Ok(Answer::Clash {
-        file: bytes_of(alloc, b"/a.c")?,
-        line: 1,
-        held: bytes_of(alloc, b"k")?,
-        given: bytes_of(alloc, given)?,
-    })
+fn clash_of(alloc: Global, given: Bytes) -> Result<Answer, Fail> {
+    let held = bytes_of(alloc, b"k")?;
+    Ok(clash_in(bytes_of(alloc, b"/a.c")?, held, given))
 }
 
-/// Each operation and answer is the same as another of the same text, and not as one of a text with another byte.
+fn clash_in(file: Bytes, held: Bytes, given: Bytes) -> Answer {
+    Answer::Clash {
+        file,
+        line: 1,
+        held,
+        given,
+    }
+}
+
+/// Each operation is the same as another of the same words, and not as one of words with another byte.
 #[test]
-fn a_byte_differs(rt: HostRuntime) -> Result<(), Fail> {
-    let examples = b"submit DA:1,2 DA:1,3
-submit DA:1,2,k DA:1,2,l
-submit FN:3,f;FNDA:2,f FN:3,g;FNDA:2,g
-submit BRDA:1,0,0,4 BRDA:1,0,0,-
-submit DA:1,2;DA:2,2 DA:1,2;DA:3,2
-drop t u
-extract /a|/b /a|/c
-remove /a|/b /a|/c
-text a b
-clash k l";
+fn a_byte_of_an_operation_differs(rt: HostRuntime) -> Result<(), Fail> {
+    let examples = b"submit DA:1,2&submit DA:1,3
+submit DA:1,2,k&submit DA:1,2,l
+submit FN:3,f;FNDA:2,f&submit FN:3,g;FNDA:2,g
+submit BRDA:1,0,0,4&submit BRDA:1,0,0,-
+submit DA:1,2;DA:2,2&submit DA:1,2;DA:3,2
+drop t&drop u
+extract /a|/b&extract /a|/c
+remove /a|/b&remove /a|/c";
     for line in examples.split(|byte| *byte == b'\n') {
-        check_pair(&rt, line)?;
+        let (one, other) = pair_of(&rt, line);
+        assert!(rt; are_same_ops(&rt, one, one)?);
+        assert!(rt; !are_same_ops(&rt, one, other)?);
     }
     Ok(())
 }
 
-/// What the line names is the same for its first text twice, and not for its two texts.
-fn check_pair(rt: &(impl Abort + AllocGlobal), line: &[u8]) -> Result<(), Fail> {
-    let mut words = line.split(|byte| *byte == b' ');
-    let (Some(name), Some(one), Some(other)) = (words.next(), words.next(), words.next()) else {
+/// Each answer is the same as another of the same text, and not as one of a text with another byte.
+#[test]
+fn a_byte_of_an_answer_differs(rt: HostRuntime) -> Result<(), Fail> {
+    for line in b"a&b\nclash k&clash l".split(|byte| *byte == b'\n') {
+        let (one, other) = pair_of(&rt, line);
+        assert!(rt; are_same_answers(rt.alloc(), one, one)?);
+        assert!(rt; !are_same_answers(rt.alloc(), one, other)?);
+    }
+    Ok(())
+}
+
+/// The two texts of a line.
+fn pair_of<'l>(rt: &impl Abort, line: &'l [u8]) -> (&'l [u8], &'l [u8]) {
+    let mut texts = line.split(|byte| *byte == b'&');
+    let (Some(one), Some(other)) = (texts.next(), texts.next()) else {
         panic!(rt; "no pair {line:?}");
     };
-    let answers = (is_same(rt, name, one, one)?, is_same(rt, name, one, other)?);
-    assert_eq!(rt; answers, (true, false));
-    Ok(())
+    (one, other)
 }

@@ -1,8 +1,7 @@
 //! Calls of covbook that no session shows: receipts, entries, copies, and the length of a history.
 
 use super::calls::{bytes_of, entries, step};
-use super::said::words_of;
-use super::script::check_run;
+use super::script::{check_new, check_words};
 use covbook::{Answer, Book, BookFault, Entries, Entry, Op, Receipt, Receipts, TextRef};
 use covline::Memory;
 use covstore::Totals;
@@ -12,7 +11,7 @@ use std::test::*;
 
 #[test]
 fn a_history(rt: HostRuntime) -> Result<(), Fail> {
-    check_run(
+    check_new(
         &rt,
         b"5 submit DA:1,2;DA:2,0
 6 extract *.h|/a.?
@@ -43,7 +42,7 @@ end_of_record
 /// A clash has its entry like every other answer, and takes no number.
 #[test]
 fn a_history_with_a_clash(rt: HostRuntime) -> Result<(), Fail> {
-    check_run(
+    check_new(
         &rt,
         b"1 submit DA:7,1,abc;LF:9
 2 submit DA:7,1,abd
@@ -58,7 +57,7 @@ fn a_history_with_a_clash(rt: HostRuntime) -> Result<(), Fail> {
 /// A test that is dropped is gone from the totals, and its number isn't given again. One that isn't there has its entry.
 #[test]
 fn a_history_with_drops(rt: HostRuntime) -> Result<(), Fail> {
-    check_run(
+    check_new(
         &rt,
         b"5 submit DA:1,2;DA:2,0
 6 drop tt
@@ -78,17 +77,6 @@ fn a_history_with_drops(rt: HostRuntime) -> Result<(), Fail> {
 fn shared(alloc: Global, text: &[u8]) -> Result<Answer, Memory> {
     let text = TextRef::of(alloc, bytes_of(alloc, text)?)?;
     Ok(Answer::Text(text.copy()?))
-}
-
-/// What is asked and answered is told so.
-fn check_words(
-    rt: &(impl Abort + AllocGlobal),
-    op: &Op,
-    answer: &Answer,
-    wanted: &[u8],
-) -> Result<(), Fail> {
-    assert_eq!(rt; words_of(rt.alloc(), op, answer)?.as_slice(), wanted);
-    Ok(())
 }
 
 /// A list of one entry.

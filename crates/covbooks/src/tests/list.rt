@@ -1,8 +1,9 @@
 //! Random submissions beside a plain list of their rows.
 
-use super::calls::{after_dropped, bytes_of, printed, step, submit};
+use super::calls::{after_dropped, hand_in};
 use super::push_line;
-use covbook::{Answer, Book, Op, Receipt};
+use super::script::{check_printed, receipt_of};
+use covbook::{Answer, Book};
 use covline::{Bytes, Memory};
 use covreport::summary_text;
 use covstore::Totals;
@@ -152,6 +153,11 @@ fn put_lines(alloc: Global, rows: &[Row], section: usize, text: &mut Vec<u8>) ->
     push_line(text, b"end_of_record")
 }
 
+/// Whether a section has a row.
+fn has_section(rows: &[Row], section: usize) -> bool {
+    rows.iter().any(|row| row.section == section)
+}
+
 /// Appends what is to be printed of a section.
 fn put_list(
     alloc: Global,
@@ -160,7 +166,7 @@ fn put_list(
     name: &[u8],
     text: &mut Vec<u8>,
 ) -> Result<(), Fail> {
-    if !rows.iter().any(|row| row.section == section) {
+    if !has_section(rows, section) {
         return Ok(());
     }
     text.extend_from_slice(name)?;
@@ -281,17 +287,14 @@ fn check_report(
     rows: &[Row],
 ) -> Result<(), Fail> {
     let wanted = text_of(rt.alloc(), rows)?;
-    let report = printed(rt, book, &Op::Report)?;
-    assert_eq!(rt; report.get(), wanted.as_slice());
-    Ok(())
+    check_printed(rt, book, b"0 report", &wanted)
 }
 
 /// The book prints what the plain list says, and its totals.
 fn check_list(rt: &(impl Abort + AllocGlobal), book: &mut Book, rows: &[Row]) -> Result<(), Fail> {
     check_report(rt, book, rows)?;
     let summary = summary(rt, &totals_of(rows))?;
-    assert_eq!(rt; printed(rt, book, &Op::Summary)?.get(), summary.get());
-    Ok(())
+    check_printed(rt, book, b"0 summary", summary.get())
 }
 
 /// The rows that aren't of a test, which is every third section's.
@@ -307,50 +310,51 @@ fn without(alloc: Global, rows: &[Row], test: usize) -> Result<Vec<Row>, Fail> {
 
 /// In how many sections a test has a row.
 fn sections_with(rows: &[Row], test: usize) -> u64 {
-    let in_first = rows.iter().any(|row| row.section == test);
-    let in_second = rows.iter().any(|row| row.section == test.wrapping_add(3));
+    let in_first = has_section(rows, test);
+    let in_second = has_section(rows, test.wrapping_add(3));
     u64::from(in_first).wrapping_add(u64::from(in_second))
 }
 
-/// The name of a test.
-fn name_of(test: usize) -> &'static [u8] {
+/// The line that asks to drop a test.
+fn dropping(test: usize) -> &'static [u8] {
     match test {
-        0 => b"a",
-        1 => b"b",
-        _ => b"c",
+        0 => b"1 drop a",
+        1 => b"1 drop b",
+        _ => b"1 drop c",
     }
 }
 
-/// Drops a test of the book and of the list, which agree on how many sections it had.
+/// How many sections a dropped test had, and more than any where the answer is another.
+fn dropped(answer: &Answer) -> u64 {
+    match answer {
+        Answer::Dropped { sections } => *sections,
+        Answer::NoSuchTest => 0,
+        _ => u64::MAX,
+    }
+}
+
+/// Drops a test of the book, which had it in as many sections as the list.
 fn drop_random(
     rt: &(impl Abort + AllocGlobal),
     book: &mut Book,
     test: usize,
     rows: &[Row],
-) -> Result<Vec<Row>, Fail> {
-    let op = Op::DropTest(bytes_of(rt.alloc(), name_of(test))?);
-    let Receipt { answer, .. } = step(rt.alloc(), book, 1, &op)?;
-    let sections = match answer {
-        Answer::Dropped { sections } => sections,
-        Answer::NoSuchTest => 0,
-        Answer::Accepted { .. } | Answer::Clash { .. } | Answer::Text(_) => panic!(rt; "no drop"),
-    };
-    assert_eq!(rt; sections, sections_with(rows, test));
-    without(rt.alloc(), rows, test)
+) -> Result<(), Fail> {
+    let receipt = receipt_of(rt, book, dropping(test))?;
+    assert!(rt; dropped(&receipt.answer) == sections_with(rows, test));
+    Ok(())
 }
 
-/// Hands a random submission in, which is made ready and dropped before; behind it the book says what the list does.
+/// Hands a random submission in, which is made ready and dropped before; its rows come to the list.
 fn take_random(
-    rt: &(impl Abort + AllocGlobal),
+    alloc: Global,
     random: &mut Random,
     book: &mut Book,
     rows: &mut Vec<Row>,
 ) -> Result<(), Fail> {
-    let text = random_text(rt.alloc(), random, rows)?;
-    let op = submit(rt.alloc(), &text)?;
-    after_dropped(rt.alloc(), book, &op)?;
-    step(rt.alloc(), book, 1, &op)?;
-    check_list(rt, book, rows)
+    let text = random_text(alloc, random, rows)?;
+    after_dropped(alloc, book, &text)?;
+    hand_in(alloc, book, &text)
 }
 
 /// After each of many random submissions, and of some tests that are dropped, the book says what a list of all rows says,
@@ -361,10 +365,12 @@ fn random_submissions(rt: HostRuntime) -> Result<(), Fail> {
     let mut book = Book::new(rt.alloc());
     let mut rows = Vec::new(rt.alloc());
     for _time in 0..200 {
-        take_random(&rt, &mut random, &mut book, &mut rows)?;
+        take_random(rt.alloc(), &mut random, &mut book, &mut rows)?;
+        check_list(&rt, &mut book, &rows)?;
         let test = random.below(12) as usize;
         if test < 3 {
-            rows = drop_random(&rt, &mut book, test, &rows)?;
+            drop_random(&rt, &mut book, test, &rows)?;
+            rows = without(rt.alloc(), &rows, test)?;
             check_list(&rt, &mut book, &rows)?;
         }
     }

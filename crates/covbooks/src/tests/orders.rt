@@ -1,67 +1,57 @@
 //! The same submissions in other orders.
 
-use super::calls::{list_of, printed};
+use super::calls::hand_in;
 use super::list::{Random, random_text};
-use super::steps::hand_in;
-use covbook::{Book, Op};
+use super::script::{check_printed, printed};
+use covbook::Book;
 use std::alloc::Global;
 use std::process::Abort;
 use std::test::*;
 
-/// A book of the texts, from one on every so many of them.
-fn book_of(
-    rt: &(impl Abort + AllocGlobal),
+/// Hands the texts in, from one on every so many of them.
+fn hand_in_all(
+    alloc: Global,
+    book: &mut Book,
     texts: &[Vec<u8>],
     first: usize,
     stride: usize,
-) -> Result<Book, Fail> {
-    let mut book = Book::new(rt.alloc());
+) -> Result<(), Fail> {
     let mut next = first;
     for _text in texts {
         if let Some(text) = texts.get(next) {
-            hand_in(rt, &mut book, text)?;
+            hand_in(alloc, book, text)?;
         }
         next = next
             .wrapping_add(stride)
             .checked_rem(texts.len())
             .unwrap_or(0);
     }
-    Ok(book)
+    Ok(())
 }
 
-/// Both books print the same.
+/// Both books print the same for the step that a line asks, and something.
 fn check_alike(
     rt: &(impl Abort + AllocGlobal),
     one: &mut Book,
     other: &mut Book,
-    op: &Op,
+    line: &[u8],
 ) -> Result<(), Fail> {
-    let text = printed(rt, one, op)?;
-    assert!(rt; !text.get().is_empty());
-    assert_eq!(rt; text.get(), printed(rt, other, op)?.get());
+    let text = printed(rt, one, line)?;
+    assert!(rt; !text.is_empty());
+    check_printed(rt, other, line, &text)
+}
+
+/// Both books print the same report and summary, the same of a file, and of all but that file.
+fn check_books(
+    rt: &(impl Abort + AllocGlobal),
+    one: &mut Book,
+    other: &mut Book,
+) -> Result<(), Fail> {
+    let lines = b"0 report\n0 summary\n0 extract /f\n0 remove /f";
+    for line in lines.split(|byte| *byte == b'\n') {
+        check_alike(rt, one, other, line)?;
+    }
     Ok(())
-}
-
-/// Both books print the same report and the same summary.
-fn check_whole(
-    rt: &(impl Abort + AllocGlobal),
-    one: &mut Book,
-    other: &mut Book,
-) -> Result<(), Fail> {
-    check_alike(rt, one, other, &Op::Report)?;
-    check_alike(rt, one, other, &Op::Summary)
-}
-
-/// Both books print the same of a file, and of all but that file.
-fn check_chosen(
-    rt: &(impl Abort + AllocGlobal),
-    one: &mut Book,
-    other: &mut Book,
-) -> Result<(), Fail> {
-    let extract = Op::Extract(list_of(rt.alloc(), b"/f")?);
-    check_alike(rt, one, other, &extract)?;
-    let remove = Op::Remove(list_of(rt.alloc(), b"/f")?);
-    check_alike(rt, one, other, &remove)
 }
 
 /// Books of the texts in two orders print the same.
@@ -71,10 +61,11 @@ fn check_order(
     first: usize,
     stride: usize,
 ) -> Result<(), Fail> {
-    let mut one = book_of(rt, texts, 0, 1)?;
-    let mut other = book_of(rt, texts, first, stride)?;
-    check_whole(rt, &mut one, &mut other)?;
-    check_chosen(rt, &mut one, &mut other)
+    let mut one = Book::new(rt.alloc());
+    let mut other = Book::new(rt.alloc());
+    hand_in_all(rt.alloc(), &mut one, texts, 0, 1)?;
+    hand_in_all(rt.alloc(), &mut other, texts, first, stride)?;
+    check_books(rt, &mut one, &mut other)
 }
 
 /// Twenty random submissions as texts.

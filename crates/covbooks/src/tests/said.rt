@@ -4,17 +4,21 @@ use covbook::{Answer, Op};
 use covline::Bytes;
 use std::alloc::{AllocError, Global};
 
-/// Appends a number below 10 and a space.
-pub(super) fn put_number(text: &mut Vec<u8>, number: u64) -> Result<(), AllocError> {
-    text.push(b'0' + (number % 10) as u8)?;
-    text.push(b' ')?;
-    Ok(())
+/// Appends a number and a space.
+pub(super) fn put_number(alloc: Global, text: &mut Vec<u8>, number: u64) -> Result<(), AllocError> {
+    let decimal: String = format!(in alloc; "{number} ")?;
+    text.extend_from_slice(decimal.as_bytes())
 }
 
 /// Appends a word and a number.
-fn put_counted(text: &mut Vec<u8>, word: &[u8], number: u64) -> Result<(), AllocError> {
+fn put_counted(
+    alloc: Global,
+    text: &mut Vec<u8>,
+    word: &[u8],
+    number: u64,
+) -> Result<(), AllocError> {
     text.extend_from_slice(word)?;
-    put_number(text, number)
+    put_number(alloc, text, number)
 }
 
 /// Appends a word and a space.
@@ -25,13 +29,13 @@ fn put_word(text: &mut Vec<u8>, word: &[u8]) -> Result<(), AllocError> {
 }
 
 /// Appends an operation: its name, and how many items or patterns it has, or which test it drops.
-fn put_op(text: &mut Vec<u8>, op: &Op) -> Result<(), AllocError> {
+fn put_op(alloc: Global, text: &mut Vec<u8>, op: &Op) -> Result<(), AllocError> {
     match op {
-        Op::Submit(submission) => put_counted(text, b"submit ", submission.get().items()),
+        Op::Submit(submission) => put_counted(alloc, text, b"submit ", submission.get().items()),
         Op::DropTest(test) => put_dropped(text, test),
         Op::Report => put_word(text, b"report"),
-        Op::Extract(patterns) => put_counted(text, b"extract ", patterns.get().len() as u64),
-        Op::Remove(patterns) => put_counted(text, b"remove ", patterns.get().len() as u64),
+        Op::Extract(patterns) => put_counted(alloc, text, b"extract ", patterns.get().len() as u64),
+        Op::Remove(patterns) => put_counted(alloc, text, b"remove ", patterns.get().len() as u64),
         Op::Summary => put_word(text, b"summary"),
     }
 }
@@ -42,14 +46,21 @@ fn put_dropped(text: &mut Vec<u8>, test: &Bytes) -> Result<(), AllocError> {
 }
 
 /// Appends the numbers of an accepted submission.
-fn put_accepted(text: &mut Vec<u8>, number: u64, items: u64, odd: u64) -> Result<(), AllocError> {
-    put_counted(text, b"accepted ", number)?;
-    put_number(text, items)?;
-    put_number(text, odd)
+fn put_accepted(
+    alloc: Global,
+    text: &mut Vec<u8>,
+    number: u64,
+    items: u64,
+    odd: u64,
+) -> Result<(), AllocError> {
+    put_counted(alloc, text, b"accepted ", number)?;
+    put_number(alloc, text, items)?;
+    put_number(alloc, text, odd)
 }
 
 /// Appends where a clash is, and the two checksums.
 fn put_clash(
+    alloc: Global,
     text: &mut Vec<u8>,
     file: &Bytes,
     line: u64,
@@ -57,22 +68,26 @@ fn put_clash(
 ) -> Result<(), AllocError> {
     put_word(text, b"clash")?;
     put_word(text, file.get())?;
-    put_number(text, line)?;
+    put_number(alloc, text, line)?;
     put_word(text, checksums.0.get())?;
     put_word(text, checksums.1.get())
 }
 
 /// Appends an answer.
-fn put_answer(text: &mut Vec<u8>, answer: &Answer) -> Result<(), AllocError> {
+pub(super) fn put_answer(
+    alloc: Global,
+    text: &mut Vec<u8>,
+    answer: &Answer,
+) -> Result<(), AllocError> {
     match answer {
-        Answer::Accepted { number, items, odd } => put_accepted(text, *number, *items, *odd),
+        Answer::Accepted { number, items, odd } => put_accepted(alloc, text, *number, *items, *odd),
         Answer::Clash {
             file,
             line,
             held,
             given,
-        } => put_clash(text, file, *line, (held, given)),
-        Answer::Dropped { sections } => put_counted(text, b"dropped ", *sections),
+        } => put_clash(alloc, text, file, *line, (held, given)),
+        Answer::Dropped { sections } => put_counted(alloc, text, b"dropped ", *sections),
         Answer::NoSuchTest => text.extend_from_slice(b"no such test"),
         Answer::Text(printed) => text.extend_from_slice(printed.get().get()),
     }
@@ -81,8 +96,8 @@ fn put_answer(text: &mut Vec<u8>, answer: &Answer) -> Result<(), AllocError> {
 /// What is asked and answered.
 pub(super) fn words_of(alloc: Global, op: &Op, answer: &Answer) -> Result<Vec<u8>, AllocError> {
     let mut text = Vec::new(alloc);
-    put_op(&mut text, op)?;
+    put_op(alloc, &mut text, op)?;
     text.extend_from_slice(b"> ")?;
-    put_answer(&mut text, answer)?;
+    put_answer(alloc, &mut text, answer)?;
     Ok(text)
 }

@@ -1,25 +1,43 @@
 //! Histories as text: what each job asks, a line each, and what is told of each step.
 
-use super::calls::{bytes_of, copied_answer, copied_op, entries, list_of, step, submit, totals};
+use super::calls::{bytes_of, copied_answer, copied_op, entries, list_of, submit, take, totals};
 use super::push_line;
-use super::said::{put_number, words_of};
-use covbook::{Book, Entry, Op, Receipt};
+use super::said::{put_answer, put_number, words_of};
+use covbook::{Answer, Book, Entry, Op, Receipt};
+use covstore::Totals;
 use std::alloc::Global;
 use std::process::Abort;
 use std::test::*;
 
-/// The operation of this name: of one that submits the lines of a section of `/a.c`, where a semicolon ends each.
-pub(super) fn op_of(rt: &(impl Abort + AllocGlobal), name: &[u8], text: &[u8]) -> Result<Op, Fail> {
-    let alloc = rt.alloc();
-    match name {
-        b"submit" => submit(alloc, &section_of(alloc, text)?),
-        b"drop" => Ok(Op::DropTest(bytes_of(alloc, text)?)),
-        b"extract" => Ok(Op::Extract(list_of(alloc, text)?)),
-        b"remove" => Ok(Op::Remove(list_of(alloc, text)?)),
-        b"report" => Ok(Op::Report),
-        b"summary" => Ok(Op::Summary),
-        _ => panic!(rt; "no operation {name:?}"),
+/// The operation that these words ask: a submission has the lines of a section of `/a.c`, where a semicolon ends each.
+pub(super) fn op_of(rt: &(impl Abort + AllocGlobal), words: &[u8]) -> Result<Op, Fail> {
+    if let Some(lines) = words.strip_prefix(b"submit ") {
+        submit_lines(rt.alloc(), lines)
+    } else if let Some(test) = words.strip_prefix(b"drop ") {
+        Ok(Op::DropTest(bytes_of(rt.alloc(), test)?))
+    } else if let Some(patterns) = words.strip_prefix(b"extract ") {
+        Ok(Op::Extract(list_of(rt.alloc(), patterns)?))
+    } else if let Some(patterns) = words.strip_prefix(b"remove ") {
+        Ok(Op::Remove(list_of(rt.alloc(), patterns)?))
+    } else {
+        Ok(plain_op(rt, words))
     }
+}
+
+/// The operation of this name, which takes nothing.
+fn plain_op(rt: &impl Abort, name: &[u8]) -> Op {
+    if name.strip_prefix(b"report").is_some() {
+        Op::Report
+    } else {
+        assert!(rt; name.strip_prefix(b"summary").is_some());
+        Op::Summary
+    }
+}
+
+/// The operation that submits a section of `/a.c` with these lines.
+fn submit_lines(alloc: Global, lines: &[u8]) -> Result<Op, Fail> {
+    let text = section_of(alloc, lines)?;
+    submit(alloc, &text)
 }
 
 /// A section of `/a.c` with these lines, where a semicolon ends each.
@@ -32,17 +50,72 @@ fn section_of(alloc: Global, lines: &[u8]) -> Result<Vec<u8>, Fail> {
     Ok(text)
 }
 
-/// What a line asks: a job below 10, the name of an operation, and what that takes.
-fn asked<'l>(rt: &impl Abort, line: &'l [u8]) -> (u32, &'l [u8], &'l [u8]) {
-    let mut words = line.split(|byte| *byte == b' ');
-    let (Some([job]), Some(name)) = (words.next(), words.next()) else {
-        panic!(rt; "asks nothing {line:?}");
-    };
-    let argument = match words.next() {
-        Some(argument) => argument,
+/// The job that asks a line, below 10.
+fn job_of(line: &[u8]) -> u32 {
+    match line.first() {
+        Some(job) => u32::from(job.wrapping_sub(b'0')),
+        None => 0,
+    }
+}
+
+/// What a line asks, behind its job and a space.
+fn asked(line: &[u8]) -> &[u8] {
+    match line.get(2..) {
+        Some(words) => words,
         None => &[],
-    };
-    (u32::from(job.wrapping_sub(b'0')), name, argument)
+    }
+}
+
+/// The receipt of the step that a line asks.
+pub(super) fn receipt_of(
+    rt: &(impl Abort + AllocGlobal),
+    book: &mut Book,
+    line: &[u8],
+) -> Result<Receipt, Fail> {
+    let op = op_of(rt, asked(line))?;
+    Ok(take(rt.alloc(), book, job_of(line), &op)?)
+}
+
+/// The text that the answer is.
+fn text_of(rt: &(impl Abort + AllocGlobal), answer: &Answer) -> Result<Vec<u8>, Fail> {
+    assert!(rt; matches!(answer, Answer::Text(_)));
+    let mut text = Vec::new(rt.alloc());
+    put_answer(rt.alloc(), &mut text, answer)?;
+    Ok(text)
+}
+
+/// What the book prints for the step that a line asks.
+pub(super) fn printed(
+    rt: &(impl Abort + AllocGlobal),
+    book: &mut Book,
+    line: &[u8],
+) -> Result<Vec<u8>, Fail> {
+    let receipt = receipt_of(rt, book, line)?;
+    text_of(rt, &receipt.answer)
+}
+
+/// The book prints this text for the step that a line asks.
+pub(super) fn check_printed(
+    rt: &(impl Abort + AllocGlobal),
+    book: &mut Book,
+    line: &[u8],
+    wanted: &[u8],
+) -> Result<(), Fail> {
+    let text = printed(rt, book, line)?;
+    assert_eq!(rt; text.as_slice(), wanted);
+    Ok(())
+}
+
+/// What is asked and answered is told by these words.
+pub(super) fn check_words(
+    rt: &(impl Abort + AllocGlobal),
+    op: &Op,
+    answer: &Answer,
+    wanted: &[u8],
+) -> Result<(), Fail> {
+    let words = words_of(rt.alloc(), op, answer)?;
+    assert_eq!(rt; words.as_slice(), wanted);
+    Ok(())
 }
 
 /// Copies of what the receipt holds tell the same.
@@ -53,8 +126,7 @@ fn check_copies(
 ) -> Result<(), Fail> {
     let op = copied_op(rt.alloc(), &receipt.op)?;
     let answer = copied_answer(rt.alloc(), &receipt.answer)?;
-    assert_eq!(rt; words_of(rt.alloc(), &op, &answer)?.as_slice(), words);
-    Ok(())
+    check_words(rt, &op, &answer, words)
 }
 
 /// The last entry is this one, by this job, and tells the same as its receipt.
@@ -68,70 +140,114 @@ fn check_entry(
     let Some((entry, before)) = entries.split_last() else {
         panic!(rt; "no entry");
     };
-    assert_eq!(rt; (before.len() as u64, entry.job), (place, job));
-    assert_eq!(rt;
-        words_of(rt.alloc(), &entry.op, &entry.answer)?.as_slice(),
-        words
-    );
-    Ok(())
+    assert!(rt; before.len() as u64 == place && entry.job == job);
+    check_words(rt, &entry.op, &entry.answer, words)
 }
 
-/// How many lines are found and hit after the last entry, which is what the book's totals tell now.
-fn lines_after(rt: &impl Abort, book: &Book) -> (u64, u64) {
-    let now = totals(book);
-    if let Some(entry) = entries(book).last() {
-        assert_eq!(rt; entry.after, now);
+/// Whether the totals after the last entry are these.
+fn is_last(entries: &[Entry], totals: &Totals) -> bool {
+    match entries.last() {
+        Some(entry) => entry.after == *totals,
+        None => true,
     }
-    (now.lf, now.lh)
 }
 
-/// Takes the step that a line asks, and appends its place, what is asked and answered, and how many lines are found and hit
-/// then.
+/// So many lines are found and hit.
+pub(super) fn check_lines(rt: &impl Abort, totals: &Totals, found: u64, hit: u64) {
+    assert!(rt; totals.lf == found && totals.lh == hit);
+}
+
+/// The receipt's copy and the last entry, by this job, tell these words too.
+fn check_kept(
+    rt: &(impl Abort + AllocGlobal),
+    entries: &[Entry],
+    job: u32,
+    receipt: &Receipt,
+    words: &[u8],
+) -> Result<(), Fail> {
+    check_copies(rt, receipt, words)?;
+    check_entry(rt, entries, receipt.place, job, words)
+}
+
+/// Appends what is told of the step that this job took last.
+fn put_receipt(
+    rt: &(impl Abort + AllocGlobal),
+    book: &Book,
+    job: u32,
+    receipt: &Receipt,
+    text: &mut Vec<u8>,
+) -> Result<(), Fail> {
+    let words = words_of(rt.alloc(), &receipt.op, &receipt.answer)?;
+    check_kept(rt, entries(book), job, receipt, &words)?;
+    put_step(rt, book, receipt.place, &words, text)
+}
+
+/// Takes the step that a line asks, and appends what is told of it.
 fn take_step(
     rt: &(impl Abort + AllocGlobal),
     book: &mut Book,
     line: &[u8],
     text: &mut Vec<u8>,
 ) -> Result<(), Fail> {
-    let (job, name, argument) = asked(rt, line);
-    let op = op_of(rt, name, argument)?;
-    let receipt = step(rt.alloc(), book, job, &op)?;
-    let words = words_of(rt.alloc(), &receipt.op, &receipt.answer)?;
-    check_copies(rt, &receipt, words.as_slice())?;
-    check_entry(rt, entries(book), receipt.place, job, words.as_slice())?;
-    put_number(text, receipt.place)?;
-    text.extend_from_slice(words.as_slice())?;
-    put_lines(rt, book, text)
+    let receipt = receipt_of(rt, book, line)?;
+    put_receipt(rt, book, job_of(line), &receipt, text)
+}
+
+/// Appends a step's place, what is asked and answered, and how many lines are found and hit behind it, which its entry and the
+/// book tell alike.
+fn put_step(
+    rt: &(impl Abort + AllocGlobal),
+    book: &Book,
+    place: u64,
+    words: &[u8],
+    text: &mut Vec<u8>,
+) -> Result<(), Fail> {
+    let now = totals(book);
+    assert!(rt; is_last(entries(book), &now));
+    put_number(rt.alloc(), text, place)?;
+    text.extend_from_slice(words)?;
+    put_lines(rt.alloc(), &now, text)
 }
 
 /// Appends how many lines are found and hit.
-fn put_lines(rt: &impl Abort, book: &Book, text: &mut Vec<u8>) -> Result<(), Fail> {
-    let (found, hit) = lines_after(rt, book);
-    text.extend_from_slice(b"; ")?;
-    put_number(text, found)?;
-    put_number(text, hit)?;
-    text.push(b'\n')?;
+fn put_lines(alloc: Global, totals: &Totals, text: &mut Vec<u8>) -> Result<(), Fail> {
+    let lines: String = format!(in alloc; "; {} {} \n", totals.lf, totals.lh)?;
+    text.extend_from_slice(lines.as_bytes())?;
     Ok(())
 }
 
-/// The book behind the steps that the lines ask, and what is told of each.
-pub(super) fn run(rt: &(impl Abort + AllocGlobal), lines: &[u8]) -> Result<(Book, Vec<u8>), Fail> {
-    let mut book = Book::new(rt.alloc());
-    assert_eq!(rt; lines_after(rt, &book), (0, 0));
+/// What is told of the steps that the lines ask of the book.
+pub(super) fn run(
+    rt: &(impl Abort + AllocGlobal),
+    book: &mut Book,
+    lines: &[u8],
+) -> Result<Vec<u8>, Fail> {
     let mut text = Vec::new(rt.alloc());
     for line in lines.split(|byte| *byte == b'\n') {
-        take_step(rt, &mut book, line, &mut text)?;
+        take_step(rt, book, line, &mut text)?;
     }
-    Ok((book, text))
+    Ok(text)
 }
 
-/// Of the steps that the lines ask, this is told.
+/// Of the steps that the lines ask of the book, this is told.
 pub(super) fn check_run(
+    rt: &(impl Abort + AllocGlobal),
+    book: &mut Book,
+    lines: &[u8],
+    wanted: &[u8],
+) -> Result<(), Fail> {
+    let text = run(rt, book, lines)?;
+    assert_eq!(rt; text.as_slice(), wanted);
+    Ok(())
+}
+
+/// Of the steps that the lines ask of a new book, in which nothing is found, this is told.
+pub(super) fn check_new(
     rt: &(impl Abort + AllocGlobal),
     lines: &[u8],
     wanted: &[u8],
 ) -> Result<(), Fail> {
-    let (_book, text) = run(rt, lines)?;
-    assert_eq!(rt; text.as_slice(), wanted);
-    Ok(())
+    let mut book = Book::new(rt.alloc());
+    check_lines(rt, &totals(&book), 0, 0);
+    check_run(rt, &mut book, lines, wanted)
 }
