@@ -9,6 +9,12 @@ use Rattle.covbook.proofs.book.Book.submission_ready.Goals as goal
 pub invariant_of-self : goal.invariant_of-self
 invariant_of-self g c = kept_book c.self.inside.store c.prepare.new.self c.self.inside.accepted c.self.inside.history.entries c.self.invariant c.prepare.ensures.content
 
+pub invariant_of-self-in-Err : goal.invariant_of-self-in-Err
+invariant_of-self-in-Err g c = kept_book c.self.inside.store c.prepare.new.self c.self.inside.accepted c.self.inside.history.entries c.self.invariant c.prepare.ensures.content
+
+pub invariant_of-self-in_err-answer-in-Err : goal.invariant_of-self-in_err-answer-in-Err
+invariant_of-self-in_err-answer-in-Err g c = kept_book c.self.inside.store c.prepare.new.self c.self.inside.accepted c.self.inside.history.entries c.self.invariant c.prepare.ensures.content
+
 pub changing-requires-clause-next : goal.changing-requires-clause-next
 changing-requires-clause-next g c =
     let book = c.self.inside in
