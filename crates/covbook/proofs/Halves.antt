@@ -52,11 +52,17 @@ next_with entries job op answer after said told =
     ap (λ (a : AnswerData). entry a after) said ∙ ap (entry (answer_of (table_of (ops_in entries)) op)) told
 
 -- the entry of a test that is dropped, of which a row is
-pub dropped_next : (entries : List EntryData) (job : ℕ) (test : List ℕ) (sections : ℕ) (after : Totals) → has_test (table_of (ops_in entries)) test ≡ true
-    → sections ≡ sections_of_test test (table_of (ops_in entries)) → after ≡ totals_at (without_test test (table_of (ops_in entries)))
-    → record { job = job; op = DropTestOp test; answer = DroppedAnswer sections; after = after } ≡ next_entry entries job (DropTestOp test)
-dropped_next entries job test sections after there counted told =
+pub dropped_next : (entries : List EntryData) (job : ℕ) (test : List ℕ) (answer : AnswerData) (after : Totals) → has_test (table_of (ops_in entries)) test ≡ true
+    → answer ≡ DroppedAnswer (sections_of_test test (table_of (ops_in entries))) → after ≡ totals_at (without_test test (table_of (ops_in entries)))
+    → record { job = job; op = DropTestOp test; answer = answer; after = after } ≡ next_entry entries job (DropTestOp test)
+dropped_next entries job test answer after there said told =
     let table = table_of (ops_in entries) in
-    next_with entries job (DropTestOp test) (DroppedAnswer sections) after
-    (ap DroppedAnswer counted ∙ ap (answer_to_drop table test) (sym there))
+    next_with entries job (DropTestOp test) answer after
+    (said ∙ ap (answer_to_drop table test) (sym there))
     (told ∙ ap (λ (b : Bool). totals_at (table_after_drop table test b)) (sym there))
+
+-- the test is there by its own copy of the name, in the book's table
+pub row_there : (store : StoreData) (room : ℕ) (entries : List EntryData) (book : BookData) (own given : List ℕ) → shown store room entries ≡ book → own ≡ given
+    → true ≡ has_test (table_of (ops_in entries)) given → has_test (table_of (ops_in book.entries)) own ≡ true
+row_there store room entries book own given view is found =
+    ap (λ (b : BookData). has_test (table_of (ops_in b.entries)) own) (sym view) ∙ ap (has_test (table_of (ops_in entries))) is ∙ sym found

@@ -3,7 +3,7 @@ use Rattle.std.proofs.Common.{◌≡◌, ℕ, ◌+◌, ◌<◌, ◌≤◌, List,
 use Rattle.std.proofs.lemmas.List.{map_push, length_push}
 use Rattle.covstore.specs.declared.totals.Totals.{Totals}
 use Rattle.covline.specs.Row.{SubmissionData, items_in, rows_of}
-use Rattle.covstore.specs.Stored.{StoreData, PlanData, IsPlanOf, StandsFor}
+use Rattle.covstore.specs.Stored.{StoreData, PlanData, IsPlanOf, SameContent, StandsFor}
 use Rattle.covstore.specs.Table.{Table, clash_at}
 use Rattle.covstore.specs.Without.{without_test}
 use Rattle.covbook.proofs.Members.{members_stay}
@@ -90,12 +90,26 @@ table_with store table own given stands agrees is =
     ap (λ (x : SubmissionData). table_after table (SubmitOp x)) (sym is) ∙ ap (table_after_submit table given) (agrees table stands)
 
 -- and what it is answered
-pub answer_with : (store : StoreData) (table : Table) (own given : SubmissionData) (number items odd : ℕ) → StandsFor store table → ((t : Table) → StandsFor store t → clash_at t given ≡ None) → given ≡ own
-    → number ≡ length table → items ≡ items_in given.sects → odd ≡ given.odd → AcceptedAnswer (number + 1) items odd ≡ answer_of table (SubmitOp own)
-answer_with store table own given number items odd stands agrees is counted its_items its_odd =
-    ap (λ (n : ℕ). AcceptedAnswer (n + 1) items odd) counted ∙ ap (λ (n : ℕ). AcceptedAnswer (length table + 1) n odd) its_items
-    ∙ ap (λ (n : ℕ). AcceptedAnswer (length table + 1) (items_in given.sects) n) its_odd
-    ∙ ap (answer_to_submit table given) (sym (agrees table stands)) ∙ ap (λ (x : SubmissionData). answer_of table (SubmitOp x)) is
+pub answer_with : (store : StoreData) (table : Table) (own given : SubmissionData) → StandsFor store table → ((t : Table) → StandsFor store t → clash_at t given ≡ None) → given ≡ own
+    → AcceptedAnswer (length table + 1) (items_in given.sects) given.odd ≡ answer_of table (SubmitOp own)
+answer_with store table own given stands agrees is =
+    ap (answer_to_submit table given) (sym (agrees table stands)) ∙ ap (λ (x : SubmissionData). answer_of table (SubmitOp x)) is
+
+-- the book whose store shows the same content
+pub kept_book : (store kept : StoreData) (accepted : ℕ) (entries : List EntryData) → IsBook store accepted entries → SameContent store kept → IsBook kept accepted entries
+kept_book store kept accepted entries b same = record {
+  legal = b.legal;
+  stands = record {
+    content = same.sections ∙ b.stands.content;
+    members = same.members ∙ b.stands.members;
+    agree = b.stands.agree;
+    few = b.stands.few;
+    small = b.stands.small;
+  };
+  number = b.number;
+  few = b.few;
+  fewer = b.fewer;
+}
 
 -- the book that holds it too
 pub held_book : (store committed : StoreData) (accepted room : ℕ) (entries : List EntryData) (book : BookData) (new : List EntryData) (e : EntryData) (plan : PlanData) → IsBook store accepted entries

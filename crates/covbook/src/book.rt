@@ -5,7 +5,7 @@ use crate::history::History;
 use crate::op::{Answer, Op};
 use crate::ready::{Change, Ready};
 use crate::shared::{SubRef, TextRef};
-use covline::{Bytes, Memory};
+use covline::{Bytes, Memory, Submission};
 use covreport::{Choice, summary_text, trace_text};
 use covstore::{Plan, Refuse, Store, Totals};
 use std::alloc::{Allocator, Global};
@@ -66,11 +66,13 @@ impl<A: Allocator> Model for Book<A> {
 }
 
 impl<A: Allocator + Copy> Book<A> {
-    ghost use Rattle.std.specs.Prelude.{◌≡◌, ◌↔◌, ◌<◌, ◌++◌, [], ◌∷◌, length, IfOk, OnOk, OnErr, Err, map};
+    ghost use Rattle.std.specs.Prelude.{◌≡◌, ◌↔◌, ◌+◌, ◌<◌, ◌++◌, [], ◌∷◌, length, IfOk, OnOk, OnErr, Err, map};
+    ghost use Rattle.covline.specs.Row.{items_in};
     ghost use Rattle.covstore.specs.Stored.{SameContent};
     ghost use Rattle.covstore.specs.Totals.{AreTotals};
+    ghost use Rattle.covstore.specs.Without.{sections_of_test, without_test};
     ghost use Rattle.covbook.specs.ChangeView.{change_data};
-    ghost use Rattle.covbook.specs.Op.{SubmitOp, DropTestOp, TextAnswer};
+    ghost use Rattle.covbook.specs.Op.{SubmitOp, DropTestOp, AcceptedAnswer, DroppedAnswer, TextAnswer};
     ghost use Rattle.covbook.specs.Step.{IsLegal, answer_of, last_totals, next_entry, receipt_of, table_after, table_of, totals_at, ops_in, most_entries};
     ghost use Rattle.covbook.specs.Texts.{IsText};
     ghost use Rattle.covbook.specs.View.{op_data, answer_data};
@@ -195,12 +197,7 @@ impl<A: Allocator + Copy> Book<A> {
         let given = submission.get();
         match self.store.prepare(alloc, given) {
             Ok(plan) => {
-                let number = self.accepted + 1;
-                let answer = Answer::Accepted {
-                    number,
-                    items: given.items(),
-                    odd: given.odd(),
-                };
+                let answer = self.accepting(given);
                 let after = plan.after();
                 let entry = Entry {
                     job,
@@ -217,6 +214,17 @@ impl<A: Allocator + Copy> Book<A> {
         }
     }
 
+    /// The answer that accepts a submission, with the next number.
+    fn accepting(&self, given: &Submission<A>) -> Answer<A>
+        ensures { answer_data result ≡ AcceptedAnswer (length (table_of (ops_in self.now.entries)) + 1) (items_in given.now.sects) given.now.odd }
+    {
+        Answer::Accepted {
+            number: self.accepted + 1,
+            items: given.items(),
+            odd: given.odd(),
+        }
+    }
+
     /// The drop of a test made ready, where a row is of it.
     fn drop_ready(&self, alloc: A, job: u32, test: &Bytes<A>) -> Result<Ready<A>, Memory>
         requires { HasRoom self.now }
@@ -226,15 +234,25 @@ impl<A: Allocator + Copy> Book<A> {
         if !self.store.has_test(test.get()) {
             return self.noting(alloc, job, op, Answer::NoSuchTest);
         }
-        let (sections, after) = self.store.after_drop(test.get());
-        let answer = Answer::Dropped { sections };
+        let change = Change::Drop(test.copy(alloc)?);
+        let (answer, after) = self.dropping(test.get());
         let entry = Entry {
             job,
             op,
             answer,
             after,
         };
-        self.changing(alloc, entry, Change::Drop(test.copy(alloc)?))
+        self.changing(alloc, entry, change)
+    }
+
+    /// The answer that drops a test, and the totals without it.
+    fn dropping(&self, test: &[u8]) -> (Answer<A>, Totals)
+        ensures answer { answer_data result.0 ≡ DroppedAnswer (sections_of_test test.now (table_of (ops_in self.now.entries))) }
+        ensures totals { result.1 ≡ totals_at (without_test test.now (table_of (ops_in self.now.entries))) }
+        ensures bounds { AreTotals result.1 }
+    {
+        let (sections, after) = self.store.after_drop(test);
+        (Answer::Dropped { sections }, after)
     }
 
     /// A text made ready: it is printed, and shared between the entry and the receipt.

@@ -1,10 +1,19 @@
-use Rattle.std.proofs.Common.{sym, ap, ◌+◌, ◌∙◌}
-use Rattle.covstore.specs.Table.{Table}
-use Rattle.covbook.specs.Op.{SubmitOp, AcceptedAnswer}
+use Rattle.std.proofs.Common.{sym, ap, ◌∙◌}
+use Rattle.covbook.specs.Op.{SubmitOp}
 use Rattle.covbook.specs.Step.{table_of, totals_at, ops_in}
+use Rattle.covbook.specs.View.{answer_data}
 use Rattle.covbook.proofs.Halves.{next_with}
-use Rattle.covbook.proofs.Runs.{answer_with, table_with}
+use Rattle.covbook.proofs.Runs.{answer_with, kept_book, table_with}
 use Rattle.covbook.proofs.book.Book.submission_ready.Goals as goal
+
+pub invariant_of-self : goal.invariant_of-self
+invariant_of-self g c = kept_book c.self.inside.store c.prepare.new.self c.self.inside.accepted c.self.inside.history.entries c.self.invariant c.prepare.ensures.content
+
+pub invariant_of-self-in-Err : goal.invariant_of-self-in-Err
+invariant_of-self-in-Err g c = kept_book c.self.inside.store c.prepare.new.self c.self.inside.accepted c.self.inside.history.entries c.self.invariant c.prepare.ensures.content
+
+pub invariant_of-self-in_err-answer-in-Err : goal.invariant_of-self-in_err-answer-in-Err
+invariant_of-self-in_err-answer-in-Err g c = kept_book c.self.inside.store c.prepare.new.self c.self.inside.accepted c.self.inside.history.entries c.self.invariant c.prepare.ensures.content
 
 pub changing-requires-clause-next : goal.changing-requires-clause-next
 changing-requires-clause-next g c =
@@ -14,5 +23,5 @@ changing-requires-clause-next g c =
     let table = table_of (ops_in book.history.entries) in
     let same = c.get-given.ensures ∙ sym c.in_ok-copy.ensures in
     let after = c.in-Ok.ensures.after table c.self.invariant.stands ∙ ap totals_at (sym (table_with book.store table own given c.self.invariant.stands c.in-Ok.ensures.agrees same)) in
-    let answer = answer_with book.store table own given book.accepted c.items.result c.odd.result c.self.invariant.stands c.in-Ok.ensures.agrees same c.self.invariant.number c.items.ensures.count c.odd.ensures in
-    next_with book.history.entries c.args.job (SubmitOp own) (AcceptedAnswer (book.accepted + 1) c.items.result c.odd.result) c.after-after.result answer (c.after-after.ensures.value ∙ after)
+    let answer = c.accepting-answer.ensures ∙ answer_with book.store table own given c.self.invariant.stands c.in-Ok.ensures.agrees same in
+    next_with book.history.entries c.args.job (SubmitOp own) (answer_data c.accepting-answer.result) c.after-after.result answer (c.after-after.ensures.value ∙ after)

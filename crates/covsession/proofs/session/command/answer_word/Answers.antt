@@ -1,4 +1,4 @@
-use Rattle.std.proofs.Common.{ℕ, List, [], ◌∷◌, Option, option_map, OnOk, rules, subst, sym}
+use Rattle.std.proofs.Common.{ℕ, List, [], ◌∷◌, Option, option_map, OnOk, subst, sym}
 use Rattle.covbook.specs.Op.{OpData}
 use Rattle.covbook.specs.Step.{table_of, ops_in}
 use Rattle.covsession.specs.Command.{Command, Ask, IsListOf, asked_by, pick_op}
@@ -9,7 +9,9 @@ use Rattle.covsession.proofs.SessionSteps.{ok_says, chosen_asks}
 use Rattle.covsession.proofs.session.command.answer_word.Goals as goal
 
 pub returns-in-Summary-clause-says : goal.returns-in-Summary-clause-says
-returns-in-Summary-clause-says g c = let h = ok_says _ _ _ _ c.step-in-Summary.ensures.said in search rules
+returns-in-Summary-clause-says g c =
+    let P : Word → Type 0 = λ w. OnOk c.step-in-Summary.result (Says c.args.output.now c.step-in-Summary.new.output (text_after (table_of (ops_in c.args.book.now.entries)) (asked_by w))) in
+    subst P (sym c.in-Summary.is) (ok_says _ _ _ _ c.step-in-Summary.ensures.said)
 
 pub returns-in-Text-clause-says : goal.returns-in-Text-clause-says
 returns-in-Text-clause-says g c =
