@@ -3,6 +3,7 @@
 use std::process::Abort;
 use std::test::*;
 
+mod books;
 mod calls;
 mod closing;
 mod jobs;

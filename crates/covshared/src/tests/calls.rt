@@ -5,12 +5,11 @@ ghost use Rattle.std.specs.Prelude.{◌≡◌};
 use covbook::{
     Answer, BookFault, Entries, Entry, GatherFault, JobLog, Op, Receipt, SubRef, gather,
 };
-use covjobs::{CloseFault, Name, OpenFault, Seat, Seats, Shared, Start, open_book};
+use covjobs::{CloseFault, Done, Name, OpenFault, Seat, Seats, Shared, Start, open_book};
 use covline::{Bytes, Memory};
 use covread::read_trace;
 use std::alloc::{Allocator, Global};
 use std::sync::Wait;
-use std::test::*;
 
 pub(super) fn start<A: Allocator + Copy>(alloc: A, jobs: u32) -> Result<Start<A>, OpenFault> {
     Start::new(alloc, jobs)
@@ -26,6 +25,17 @@ pub(super) fn open<L: Name, A: Allocator + Copy>(
     open_book::<L, A>(alloc, start)
 }
 
+/// The call as the book answers it.
+fn done<L: Name, A: Allocator + Copy, R: Wait>(
+    rt: &R,
+    alloc: A,
+    book: &Shared<L, A>,
+    seat: &mut Seat<L>,
+    op: &Op<A>,
+) -> Result<Done<A>, BookFault> {
+    book.perform(rt, alloc, seat, op)
+}
+
 pub(super) fn perform<L: Name, A: Allocator + Copy, R: Wait>(
     rt: &R,
     alloc: A,
@@ -33,7 +43,7 @@ pub(super) fn perform<L: Name, A: Allocator + Copy, R: Wait>(
     seat: &mut Seat<L>,
     op: &Op<A>,
 ) -> Result<Receipt<A>, BookFault> {
-    Ok(book.perform(rt, alloc, seat, op)?.receipt)
+    Ok(done(rt, alloc, book, seat, op)?.receipt)
 }
 
 pub(super) fn close<L: Name, A: Allocator>(
@@ -55,19 +65,15 @@ pub(super) fn with<L: Name>(seats: Vec<Seat<L>>, seat: Seat<L>) -> Result<Vec<Se
     Ok(seats.into_vec())
 }
 
-/// How many seats there are.
-pub(super) fn count_of<L: Name>(seats: &Seats<L>) -> usize {
-    seats.get().len()
-}
-
 /// The operation that submits the text.
-pub(super) fn submit(alloc: Global, text: &[u8]) -> Result<Op, Fail> {
-    Ok(Op::Submit(SubRef::of(alloc, read_trace(alloc, text)?)?))
+pub(super) fn submit(alloc: Global, text: &[u8]) -> Option<Op> {
+    let trace = read_trace(alloc, text).ok()?;
+    Some(Op::Submit(SubRef::of(alloc, trace).ok()?))
 }
 
 /// The operation that drops the test.
-pub(super) fn drop_of(alloc: Global, test: &[u8]) -> Result<Op, Memory> {
-    Ok(Op::DropTest(Bytes::of(alloc, test)?))
+pub(super) fn drop_of(alloc: Global, test: &[u8]) -> Option<Op> {
+    Some(Op::DropTest(Bytes::of(alloc, test).ok()?))
 }
 
 pub(super) fn gathered(entries: &[Entry], logs: &[JobLog]) -> Result<(), GatherFault> {

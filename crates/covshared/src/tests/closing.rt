@@ -2,12 +2,10 @@
 
 ghost use Rattle.std.specs.Prelude.{◌≡◌};
 
-use super::calls::{close, count_of, none, open, perform, start, submit, with};
-use super::check_bytes;
-use super::turns::{SMALL, told};
-use covbook::Op;
+use super::books::{closed, op_of, opened, receipt_of};
+use super::calls::{close, none, start, with};
+use super::turns::check_entries;
 use covjobs::{CloseFault, Name, Seat, Shared, Start};
-use std::alloc::Global;
 use std::marker::Brand;
 use std::process::Abort;
 use std::sync::Wait;
@@ -39,50 +37,69 @@ fn close_without<L: Name>(
     }
 }
 
-/// The first of the seats is job 0's, and this is its next call of so many.
+/// The first of the seats is job 0's, and asks this by its next call of so many.
 fn check_usable<L: Name, R: Wait + Abort + AllocGlobal>(
     rt: &R,
     book: &Shared<L>,
     seats: &mut [Seat<L>],
-    op: &Op,
+    name: &[u8],
     calls: u64,
-) -> Result<(), Fail> {
+) {
     match seats.first_mut() {
         Some(seat) => {
-            perform(rt, rt.alloc(), book, seat, op)?;
-            assert_eq!(rt; (seat.job(), seat.calls()), (0, calls));
+            let op = op_of(rt, rt.alloc(), name);
+            let _receipt = receipt_of(rt, rt.alloc(), book, seat, &op);
+            check_calls(rt, seat, calls);
         }
         None => panic!(rt; "no seat"),
     }
-    Ok(())
+}
+
+/// The seat is job 0's, and so many of its calls succeeded.
+fn check_calls<L: Name>(rt: &impl Abort, seat: &Seat<L>, calls: u64) {
+    assert_eq!(rt; (seat.job(), seat.calls()), (0, calls));
+}
+
+/// The seats with the one that was kept back.
+fn with_last<L: Name>(rt: &impl Abort, seats: Vec<Seat<L>>, last: Option<Seat<L>>) -> Vec<Seat<L>> {
+    let Some(seat) = last else {
+        panic!(rt; "no seat was kept back");
+    };
+    match with(seats, seat) {
+        Ok(seats) => seats,
+        Err(_refused) => panic!(rt; "out of memory"),
+    }
+}
+
+/// The book is refused for want of the second seat, and the first one can be used before and behind that.
+fn refused_once<L: Name, R: Wait + Abort + AllocGlobal>(
+    rt: &R,
+    book: Shared<L>,
+    mut seats: Vec<Seat<L>>,
+) -> (Shared<L>, Vec<Seat<L>>) {
+    check_usable(rt, &book, seats.as_mut_slice(), b"submit", 1);
+    let (book, mut seats) = close_without(rt, book, seats, 1);
+    check_usable(rt, &book, seats.as_mut_slice(), b"summary", 2);
+    (book, seats)
 }
 
 /// Of two seats the second is kept back, then both are, and then both are handed in: what was asked before a refusal and
 /// behind it is in the history.
-fn kept_back<L: Name, R: Wait + Abort + AllocGlobal>(rt: &R, start: Start) -> Result<(), Fail>
+fn kept_back<L: Name, R: Wait + Abort + AllocGlobal>(rt: &R, start: Start)
     requires name { start.name ≡ L.name }
     requires jobs { start.jobs ≡ L.parts }
 {
-    let alloc = rt.alloc();
-    let (book, seats) = open::<L, _>(alloc, start)?;
-    assert_eq!(rt; count_of(&seats), 2);
-    let mut seats = seats.into_vec();
+    let (book, mut seats) = opened::<L, _>(rt, rt.alloc(), start);
+    assert_eq!(rt; seats.len(), 2);
     let last = seats.pop();
-    check_usable(rt, &book, seats.as_mut_slice(), &submit(alloc, SMALL)?, 1)?;
-    let (book, mut seats) = close_without(rt, book, seats, 1);
-    check_usable(rt, &book, seats.as_mut_slice(), &Op::Summary, 2)?;
-    let (book, _none) = close_without(rt, book, none(alloc), 0);
-    if let Some(seat) = last {
-        seats = with(seats, seat)?;
-    }
-    match close(book, seats) {
-        Ok(entries) => check_bytes(rt, told(alloc, &entries)?.as_slice(), ENTRIES),
-        Err(_back) => panic!(rt; "a seat is missing"),
-    }
-    Ok(())
+    let (book, seats) = refused_once(rt, book, seats);
+    let (book, _none) = close_without(rt, book, none(rt.alloc()), 0);
+    let entries = closed(rt, book, with_last(rt, seats, last));
+    check_entries(rt, entries.get(), ENTRIES);
 }
 
 #[test]
 fn seats_kept_back(rt: HostRuntime) -> Result<(), Fail> {
-    kept_back::<Brand, _>(&rt, start(rt.alloc(), 2)?)
+    kept_back::<Brand, _>(&rt, start(rt.alloc(), 2)?);
+    Ok(())
 }

@@ -3,8 +3,9 @@
 
 ghost use Rattle.std.specs.Prelude.{◌≡◌};
 
-use super::calls::{close, copied, gathered, open, perform, start, submit};
-use super::turns::{SMALL, asked};
+use super::books::{closed, empty_logs, keep, op_of, opened, receipt_of};
+use super::calls::{copied, gathered, start};
+use super::turns::ASKED;
 use covbook::{Answer, Entries, GatherFault, JobLog, Op, Receipt, Receipts};
 use covjobs::{Name, Seat, Shared, Start};
 use std::alloc::Global;
@@ -13,62 +14,51 @@ use std::process::Abort;
 use std::sync::Wait;
 use std::test::*;
 
-/// The receipts of two jobs that ask these in turn.
-fn kept<L: Name, R: Wait>(
+/// Two jobs ask in turn what the lines name, and keep what they are answered.
+fn keep_turns<L: Name, R: Wait + Abort>(
     rt: &R,
     alloc: Global,
     book: &Shared<L>,
     seats: &mut [Seat<L>],
-    ops: &[Op],
-) -> Result<Vec<JobLog>, Fail> {
-    let mut even = Receipts::new(alloc);
-    let mut odd = Receipts::new(alloc);
-    for (at, op) in ops.iter().enumerate() {
-        if let Some(seat) = seats.get_mut(at % 2) {
-            let receipt = perform(rt, alloc, book, seat, op)?;
-            if at % 2 == 0 {
-                even.push(receipt)?;
-            } else {
-                odd.push(receipt)?;
-            }
+    logs: &mut [JobLog],
+    lines: &[u8],
+) {
+    for (at, name) in lines.split(|byte| *byte == b'\n').enumerate() {
+        if let (Some(seat), Some(log)) = (seats.get_mut(at % 2), logs.get_mut(at % 2)) {
+            let op = op_of(rt, alloc, name);
+            keep(rt, log, receipt_of(rt, alloc, book, seat, &op));
         }
     }
-    let mut logs = Vec::new(alloc);
-    logs.push(JobLog {
-        job: 0,
-        receipts: even,
-    })?;
-    logs.push(JobLog {
-        job: 1,
-        receipts: odd,
-    })?;
-    Ok(logs)
 }
 
 fn in_turn<L: Name, R: Wait + Abort + AllocGlobal>(
     rt: &R,
     start: Start,
-    ops: &[Op],
-) -> Result<(Entries, Vec<JobLog>), Fail>
+    lines: &[u8],
+) -> (Entries, Vec<JobLog>)
     requires name { start.name ≡ L.name }
     requires jobs { start.jobs ≡ L.parts }
 {
     let alloc = rt.alloc();
-    let (book, seats) = open::<L, _>(alloc, start)?;
-    let mut seats = seats.into_vec();
-    let logs = kept(rt, alloc, &book, seats.as_mut_slice(), ops)?;
-    match close(book, seats) {
-        Ok(entries) => Ok((entries, logs)),
-        Err(_back) => panic!(rt; "a seat is missing"),
-    }
+    let (book, mut seats) = opened::<L, _>(rt, alloc, start);
+    let mut logs = empty_logs(rt, alloc, seats.as_slice());
+    keep_turns(
+        rt,
+        alloc,
+        &book,
+        seats.as_mut_slice(),
+        logs.as_mut_slice(),
+        lines,
+    );
+    (closed(rt, book, seats), logs)
 }
 
-/// The history of a book that two jobs share, who ask these in turn, and what each of them kept.
+/// The history of a book that two jobs share, who ask in turn what the lines name, and what each of them kept.
 fn history<R: Wait + Abort + AllocGlobal>(
     rt: &R,
-    ops: &[Op],
+    lines: &[u8],
 ) -> Result<(Entries, Vec<JobLog>), Fail> {
-    in_turn::<Brand, _>(rt, start(rt.alloc(), 2)?, ops)
+    Ok(in_turn::<Brand, _>(rt, start(rt.alloc(), 2)?, lines))
 }
 
 /// The first receipt of the second log.
@@ -78,54 +68,72 @@ fn second(logs: &[JobLog]) -> Option<&Receipt> {
 
 /// The answer to a report of a book that holds one submission.
 fn old_report<R: Wait + Abort + AllocGlobal>(rt: &R) -> Result<Answer, Fail> {
-    let alloc = rt.alloc();
-    let mut ops = Vec::new(alloc);
-    ops.push(submit(alloc, SMALL)?)?;
-    ops.push(Op::Report)?;
-    let (_entries, logs) = history(rt, ops.as_slice())?;
-    match second(logs.as_slice()) {
-        Some(report) => Ok(copied(alloc, &report.answer)?),
-        None => panic!(rt; "no report"),
+    let (_entries, logs) = history(rt, b"submit\nreport")?;
+    Ok(second_answer(rt, rt.alloc(), logs.as_slice()))
+}
+
+/// The answer of the first receipt of the second log.
+fn second_answer(rt: &impl Abort, alloc: Global, logs: &[JobLog]) -> Answer {
+    let Some(receipt) = second(logs) else {
+        panic!(rt; "no report");
+    };
+    match copied(alloc, &receipt.answer) {
+        Ok(answer) => answer,
+        Err(_refused) => panic!(rt; "out of memory"),
     }
 }
 
 #[test]
 fn genuine_logs(rt: HostRuntime) -> Result<(), Fail> {
-    let ops = asked(rt.alloc())?;
-    let (entries, logs) = history(&rt, ops.as_slice())?;
+    let (entries, logs) = history(&rt, ASKED)?;
     assert_eq!(&rt; entries.get().len(), 6);
     assert!(&rt; gathered(entries.get(), logs.as_slice()).is_ok());
     Ok(())
 }
 
+/// The first log differs from the history in its first receipt.
+fn check_differs(rt: &impl Abort, entries: &Entries, logs: &[JobLog]) {
+    let told = gathered(entries.get(), logs);
+    assert!(rt; told == Err(GatherFault::Differs { log: 0, index: 0 }));
+}
+
+/// The log of a report at place 4 that has this answer.
+fn report_log(rt: &impl Abort, alloc: Global, answer: Answer) -> JobLog {
+    let mut log = JobLog {
+        job: 0,
+        receipts: Receipts::new(alloc),
+    };
+    let receipt = Receipt {
+        place: 4,
+        op: Op::Report,
+        answer,
+    };
+    keep(rt, &mut log, receipt);
+    log
+}
+
+/// The first log is this one.
+fn put_first(logs: &mut [JobLog], first: JobLog) {
+    if let Some(log) = logs.first_mut() {
+        *log = first;
+    }
+}
+
 /// The report behind two submissions is answered as if only the first had come.
 #[test]
 fn answer_from_an_old_copy(rt: HostRuntime) -> Result<(), Fail> {
-    let alloc = rt.alloc();
-    let (entries, mut logs) = history(&rt, asked(alloc)?.as_slice())?;
-    let mut last = Receipts::new(alloc);
-    last.push(Receipt {
-        place: 4,
-        op: Op::Report,
-        answer: old_report(&rt)?,
-    })?;
-    if let Some(log) = logs.first_mut() {
-        log.receipts = last;
-    }
-    let told = gathered(entries.get(), logs.as_slice());
-    assert!(&rt; told == Err(GatherFault::Differs { log: 0, index: 0 }));
+    let first = report_log(&rt, rt.alloc(), old_report(&rt)?);
+    let (entries, mut logs) = history(&rt, ASKED)?;
+    put_first(logs.as_mut_slice(), first);
+    check_differs(&rt, &entries, logs.as_slice());
     Ok(())
 }
 
 /// The history of another book, as long and legal too, isn't the one that the logs are of.
 #[test]
 fn another_history(rt: HostRuntime) -> Result<(), Fail> {
-    let alloc = rt.alloc();
-    let (_entries, logs) = history(&rt, asked(alloc)?.as_slice())?;
-    let mut others = asked(alloc)?;
-    others.reverse();
-    let (entries, _logs) = history(&rt, others.as_slice())?;
-    let told = gathered(entries.get(), logs.as_slice());
-    assert!(&rt; told == Err(GatherFault::Differs { log: 0, index: 0 }));
+    let (_entries, logs) = history(&rt, ASKED)?;
+    let (entries, _logs) = history(&rt, b"summary\nreport\ndrop\nsummary\nsubmit\nsubmit")?;
+    check_differs(&rt, &entries, logs.as_slice());
     Ok(())
 }

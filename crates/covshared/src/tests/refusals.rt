@@ -2,7 +2,8 @@
 
 ghost use Rattle.std.specs.Prelude.{◌≡◌};
 
-use super::calls::{close, open, perform, start};
+use super::books::{closed, opened};
+use super::calls::{perform, start};
 use covbook::{BookFault, Op};
 use covjobs::{Name, Seat, Shared, Start};
 use linked_list_allocator::LocalHeap;
@@ -40,34 +41,43 @@ fn fill_heap<L: Name, A: Allocator + Copy, R: Wait + Abort>(
     alloc: A,
     book: &Shared<L, A>,
     seat: &mut Seat<L>,
-) -> Result<u64, Fail> {
-    let room = vec![in alloc; 0u8; 600_000]?;
+) -> u64 {
+    let Ok(room) = vec![in alloc; 0u8; 600_000] else {
+        panic!(rt; "no room from the start");
+    };
     let (succeeded, fault) = summaries(rt, alloc, book, seat, 10_000);
     assert_eq!(rt; fault, Some(BookFault::Memory));
     assert!(rt; succeeded > 1);
     check_seat(rt, seat, succeeded);
     drop(room);
-    Ok(succeeded)
+    succeeded
 }
 
-/// The only seat fills the heap. With room again, the same call is answered at the next place.
-fn no_room<L: Name, A: Allocator + Copy, R: Wait + Abort>(
+/// The seat fills the heap. With room again, the same call is answered at the next place.
+fn check_refusal<L: Name, A: Allocator + Copy, R: Wait + Abort>(
     rt: &R,
     alloc: A,
-    start: Start<A>,
-) -> Result<(), Fail>
+    book: &Shared<L, A>,
+    seat: &mut Seat<L>,
+) {
+    let succeeded = fill_heap(rt, alloc, book, seat);
+    match perform(rt, alloc, book, seat, &Op::Summary) {
+        Ok(receipt) => assert_eq!(rt; receipt.place, succeeded),
+        Err(_fault) => panic!(rt; "a step is refused"),
+    }
+    check_seat(rt, seat, succeeded.wrapping_add(1));
+}
+
+/// The only seat fills the heap, and goes on.
+fn no_room<L: Name, A: Allocator + Copy, R: Wait + Abort>(rt: &R, alloc: A, start: Start<A>)
     requires name { start.name ≡ L.name }
     requires jobs { start.jobs ≡ L.parts }
 {
-    let (book, seats) = open::<L, A>(alloc, start)?;
-    let mut seats = seats.into_vec();
+    let (book, mut seats) = opened::<L, A>(rt, alloc, start);
     if let Some(seat) = seats.first_mut() {
-        let succeeded = fill_heap(rt, alloc, &book, seat)?;
-        let receipt = perform(rt, alloc, &book, seat, &Op::Summary)?;
-        assert_eq!(rt; receipt.place, succeeded);
-        check_seat(rt, seat, succeeded.wrapping_add(1));
+        check_refusal(rt, alloc, &book, seat);
     }
-    check_length(rt, book, seats)
+    check_length(rt, book, seats);
 }
 
 /// The closed history has as many entries as the only seat counts calls.
@@ -75,38 +85,43 @@ fn check_length<L: Name, A: Allocator>(
     rt: &impl Abort,
     book: Shared<L, A>,
     seats: Vec<Seat<L>, A>,
-) -> Result<(), Fail> {
-    let calls = seats.first().map(|seat| seat.calls());
-    match close(book, seats) {
-        Ok(entries) => assert_eq!(rt; Some(entries.get().len() as u64), calls),
-        Err(_back) => panic!(rt; "a seat is missing"),
+) {
+    let calls = calls_of(rt, seats.as_slice());
+    let entries = closed(rt, book, seats);
+    assert_eq!(rt; entries.get().len() as u64, calls);
+}
+
+/// How many calls the only seat counts.
+fn calls_of<L: Name>(rt: &impl Abort, seats: &[Seat<L>]) -> u64 {
+    match seats.first() {
+        Some(seat) => seat.calls(),
+        None => panic!(rt; "no seat"),
     }
-    Ok(())
 }
 
 #[test]
 fn a_heap_without_room(rt: HostRuntime) -> Result<(), Fail> {
     let heap = LocalHeap::new(rt.alloc(), 800_000)?;
-    no_room::<Brand, _, _>(&rt, &heap, start(&heap, 1)?)
+    no_room::<Brand, _, _>(&rt, &heap, start(&heap, 1)?);
+    Ok(())
 }
 
 /// The history takes 1,048,576 entries, and a call behind them is refused and leaves the seat as it was.
-fn full<L: Name, R: Wait + Abort + AllocGlobal>(rt: &R, start: Start) -> Result<(), Fail>
+fn full<L: Name, R: Wait + Abort + AllocGlobal>(rt: &R, start: Start)
     requires name { start.name ≡ L.name }
     requires jobs { start.jobs ≡ L.parts }
 {
-    let alloc = rt.alloc();
-    let (book, seats) = open::<L, _>(alloc, start)?;
-    let mut seats = seats.into_vec();
+    let (book, mut seats) = opened::<L, _>(rt, rt.alloc(), start);
     if let Some(seat) = seats.first_mut() {
-        let refused = summaries(rt, alloc, &book, seat, 1_048_577);
+        let refused = summaries(rt, rt.alloc(), &book, seat, 1_048_577);
         assert_eq!(rt; refused, (1_048_576, Some(BookFault::Full)));
         check_seat(rt, seat, 1_048_576);
     }
-    check_length(rt, book, seats)
+    check_length(rt, book, seats);
 }
 
 #[test]
 fn a_full_book(rt: HostRuntime) -> Result<(), Fail> {
-    full::<Brand, _>(&rt, start(rt.alloc(), 1)?)
+    full::<Brand, _>(&rt, start(rt.alloc(), 1)?);
+    Ok(())
 }

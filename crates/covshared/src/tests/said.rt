@@ -3,11 +3,18 @@
 use covbook::{Answer, Entry, Op, Receipt};
 use std::alloc::AllocError;
 
-/// Appends a number below 10 and a space.
-fn put_digit(text: &mut Vec<u8>, number: u64) -> Result<(), AllocError> {
-    text.push(b'0' + (number % 10) as u8)?;
-    text.push(b' ')?;
-    Ok(())
+/// Appends a number and a space.
+fn put_number(text: &mut Vec<u8>, number: u64) -> Result<(), AllocError> {
+    let decimal: String = format!(in *text.allocator(); "{number} ")?;
+    text.extend_from_slice(decimal.as_bytes())
+}
+
+/// Appends the numbers of an accepted submission.
+fn put_accepted(text: &mut Vec<u8>, number: u64, items: u64, odd: u64) -> Result<(), AllocError> {
+    text.extend_from_slice(b"accepted ")?;
+    put_number(text, number)?;
+    put_number(text, items)?;
+    put_number(text, odd)
 }
 
 /// Appends the word of an operation.
@@ -26,14 +33,9 @@ fn put_op(text: &mut Vec<u8>, op: &Op) -> Result<(), AllocError> {
 /// Appends an answer, with its numbers or its text.
 fn put_answer(text: &mut Vec<u8>, answer: &Answer) -> Result<(), AllocError> {
     match answer {
-        Answer::Accepted { number, items, odd } => {
-            text.extend_from_slice(b"accepted ")?;
-            put_digit(text, *number)?;
-            put_digit(text, *items)?;
-            put_digit(text, *odd)?;
-        }
+        Answer::Accepted { number, items, odd } => put_accepted(text, *number, *items, *odd)?,
         Answer::Clash { .. } => text.extend_from_slice(b"clash")?,
-        Answer::Dropped { sections } => put_digit(text, *sections)?,
+        Answer::Dropped { sections } => put_number(text, *sections)?,
         Answer::NoSuchTest => text.extend_from_slice(b"no such test")?,
         Answer::Text(printed) => text.extend_from_slice(printed.get().get())?,
     }
@@ -43,14 +45,14 @@ fn put_answer(text: &mut Vec<u8>, answer: &Answer) -> Result<(), AllocError> {
 
 /// Appends the place, the operation and the answer of a receipt.
 pub(super) fn put_receipt(text: &mut Vec<u8>, receipt: &Receipt) -> Result<(), AllocError> {
-    put_digit(text, receipt.place)?;
+    put_number(text, receipt.place)?;
     put_op(text, &receipt.op)?;
     put_answer(text, &receipt.answer)
 }
 
 /// Appends the job, the operation and the answer of an entry.
 fn put_entry(text: &mut Vec<u8>, entry: &Entry) -> Result<(), AllocError> {
-    put_digit(text, u64::from(entry.job))?;
+    put_number(text, u64::from(entry.job))?;
     put_op(text, &entry.op)?;
     put_answer(text, &entry.answer)
 }

@@ -2,10 +2,10 @@
 
 ghost use Rattle.std.specs.Prelude.{◌≡◌};
 
-use super::calls::{close, gathered, open, perform, start, submit};
+use super::books::{closed, empty_logs, keep, op_of, opened, receipt_of};
+use super::calls::{gathered, start};
 use super::check_bytes;
-use super::turns::SMALL;
-use covbook::{Answer, Entry, JobLog, Op, Receipt, Receipts};
+use covbook::{Answer, Entry, JobLog, Op, Receipt};
 use covjobs::{Name, Seat, Shared, Start};
 use std::alloc::Global;
 use std::marker::Brand;
@@ -27,17 +27,7 @@ fn ask_often<L: Name, R: Wait + Abort>(
     op: &Op,
 ) {
     for _time in 0..50 {
-        match perform(rt, alloc, book, seat, op) {
-            Ok(receipt) => keep(rt, log, receipt),
-            Err(_fault) => panic!(rt; "a step is refused"),
-        }
-    }
-}
-
-/// The log takes the receipt.
-fn keep(rt: &impl Abort, log: &mut JobLog, receipt: Receipt) {
-    if log.receipts.push(receipt).is_err() {
-        panic!(rt; "out of memory");
+        keep(rt, log, receipt_of(rt, alloc, book, seat, op));
     }
 }
 
@@ -60,18 +50,6 @@ fn ask_at_once<L: Name + Send + Sync, R: Threads + Wait + Abort + Sync>(
             }
         }
     });
-}
-
-/// A log without receipts for each seat.
-fn empty_logs<L: Name>(alloc: Global, seats: &[Seat<L>]) -> Result<Vec<JobLog>, Fail> {
-    let mut logs = Vec::new(alloc);
-    for seat in seats {
-        logs.push(JobLog {
-            job: seat.job(),
-            receipts: Receipts::new(alloc),
-        })?;
-    }
-    Ok(logs)
 }
 
 /// The receipt has this place and this text.
@@ -109,29 +87,34 @@ fn check_reports<L: Name, R: Wait + Abort + AllocGlobal>(
     book: &Shared<L>,
     seats: &mut [Seat<L>],
     logs: &mut [JobLog],
-) -> Result<(), Fail> {
+) {
     if let (Some(seat), Some(log)) = (seats.first_mut(), logs.first_mut()) {
         for place in 200..202u64 {
-            let receipt = perform(rt, rt.alloc(), book, seat, &Op::Report)?;
+            let receipt = receipt_of(rt, rt.alloc(), book, seat, &Op::Report);
             check_text(rt, &receipt, place, MERGED);
             keep(rt, log, receipt);
         }
     }
-    Ok(())
+}
+
+/// The history has the calls of all jobs, and is what the logs say.
+fn check_history(rt: &impl Abort, entries: &[Entry], logs: &[JobLog]) {
+    assert_eq!(rt; entries.len(), 202);
+    assert_eq!(rt; accepted_first(entries), 200);
+    assert!(rt; gathered(entries, logs).is_ok());
 }
 
 fn at_once<L: Name + Send + Sync, R: Threads + Wait + Abort + AllocGlobal + Sync>(
     rt: &R,
     start: Start,
-) -> Result<(), Fail>
+)
     requires name { start.name ≡ L.name }
     requires jobs { start.jobs ≡ L.parts }
 {
     let alloc = rt.alloc();
-    let (book, seats) = open::<L, _>(alloc, start)?;
-    let mut seats = seats.into_vec();
-    let mut logs = empty_logs(alloc, seats.as_slice())?;
-    let small = submit(alloc, SMALL)?;
+    let (book, mut seats) = opened::<L, _>(rt, alloc, start);
+    let mut logs = empty_logs(rt, alloc, seats.as_slice());
+    let small = op_of(rt, alloc, b"submit");
     ask_at_once(
         rt,
         alloc,
@@ -140,19 +123,12 @@ fn at_once<L: Name + Send + Sync, R: Threads + Wait + Abort + AllocGlobal + Sync
         logs.as_mut_slice(),
         &small,
     );
-    check_reports(rt, &book, seats.as_mut_slice(), logs.as_mut_slice())?;
-    match close(book, seats) {
-        Ok(entries) => {
-            assert_eq!(rt; entries.get().len(), 202);
-            assert_eq!(rt; accepted_first(entries.get()), 200);
-            assert!(rt; gathered(entries.get(), logs.as_slice()).is_ok());
-        }
-        Err(_back) => panic!(rt; "a seat is missing"),
-    }
-    Ok(())
+    check_reports(rt, &book, seats.as_mut_slice(), logs.as_mut_slice());
+    check_history(rt, closed(rt, book, seats).get(), logs.as_slice());
 }
 
 #[test]
 fn four_threads(rt: HostRuntime) -> Result<(), Fail> {
-    at_once::<Brand, _>(&rt, start(rt.alloc(), 4)?)
+    at_once::<Brand, _>(&rt, start(rt.alloc(), 4)?);
+    Ok(())
 }

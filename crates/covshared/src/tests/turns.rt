@@ -2,12 +2,13 @@
 
 ghost use Rattle.std.specs.Prelude.{◌≡◌};
 
-use super::calls::{close, drop_of, open, perform, start, submit};
+use super::books::{closed, op_of, opened, receipt_of};
+use super::calls::start;
 use super::check_bytes;
 use super::said::{put_entries, put_receipt};
-use covbook::{Entries, Op};
+use covbook::{Entry, Receipt};
 use covjobs::{Name, Seat, Shared, Start};
-use std::alloc::Global;
+use std::alloc::{AllocError, Global};
 use std::marker::Brand;
 use std::process::Abort;
 use std::sync::Wait;
@@ -63,87 +64,75 @@ end_of_record
 
 ";
 
-/// What the two jobs ask in turn.
-pub(super) fn asked(alloc: Global) -> Result<Vec<Op>, Fail> {
-    let mut ops = Vec::new(alloc);
-    ops.push(submit(alloc, SMALL)?)?;
-    ops.push(submit(alloc, SMALL)?)?;
-    ops.push(Op::Summary)?;
-    ops.push(drop_of(alloc, b"x")?)?;
-    ops.push(Op::Report)?;
-    ops.push(Op::Summary)?;
-    Ok(ops)
-}
+/// What the two jobs ask in turn, a line each.
+pub(super) const ASKED: &[u8] = b"submit\nsubmit\nsummary\ndrop\nreport\nsummary";
 
-/// What the jobs are answered, where they take turns.
-fn answered<L: Name, R: Wait>(
+/// Two jobs ask in turn what the lines name, and are answered this.
+fn check_answers<L: Name, R: Wait + Abort>(
     rt: &R,
     alloc: Global,
     book: &Shared<L>,
     seats: &mut [Seat<L>],
-    ops: &[Op],
-) -> Result<Vec<u8>, Fail> {
+    wanted: &[u8],
+) {
     let mut text = Vec::new(alloc);
-    let jobs = seats.len();
-    for (at, op) in ops.iter().enumerate() {
-        if let Some(seat) = seats.get_mut(at % jobs.max(1)) {
-            put_receipt(&mut text, &perform(rt, alloc, book, seat, op)?)?;
+    for (at, name) in ASKED.split(|byte| *byte == b'\n').enumerate() {
+        if let Some(seat) = seats.get_mut(at % 2) {
+            let op = op_of(rt, alloc, name);
+            put(rt, &mut text, &receipt_of(rt, alloc, book, seat, &op));
         }
     }
-    Ok(text)
+    check_bytes(rt, text.as_slice(), wanted);
 }
 
-/// What the entries say.
-pub(super) fn told(alloc: Global, entries: &Entries) -> Result<Vec<u8>, Fail> {
-    let mut text = Vec::new(alloc);
-    put_entries(&mut text, entries.get())?;
-    Ok(text)
+/// Appends a receipt.
+fn put(rt: &impl Abort, text: &mut Vec<u8>, receipt: &Receipt) {
+    if put_receipt(text, receipt).is_err() {
+        panic!(rt; "out of memory");
+    }
 }
 
-/// The job of each seat, how many of its calls succeeded, and what it has seen, in numbers below 256.
-fn shown<L: Name>(alloc: Global, seats: &[Seat<L>]) -> Result<Vec<u8>, Fail> {
-    let mut numbers = Vec::new(alloc);
+/// The entries say this.
+pub(super) fn check_entries(rt: &(impl Abort + AllocGlobal), entries: &[Entry], wanted: &[u8]) {
+    let mut text = Vec::new(rt.alloc());
+    if put_entries(&mut text, entries).is_err() {
+        panic!(rt; "out of memory");
+    }
+    check_bytes(rt, text.as_slice(), wanted);
+}
+
+/// Appends the job of each seat, how many of its calls succeeded, and what it has seen, in numbers below 256.
+fn put_seats<L: Name>(numbers: &mut Vec<u8>, seats: &[Seat<L>]) -> Result<(), AllocError> {
     for seat in seats {
         numbers.push((seat.job() % 256) as u8)?;
         numbers.push((seat.calls() % 256) as u8)?;
         numbers.push((seat.seen() % 256) as u8)?;
     }
-    Ok(numbers)
+    Ok(())
 }
 
-fn in_turn<L: Name, R: Wait + Abort + AllocGlobal>(rt: &R, start: Start) -> Result<(), Fail>
+/// The seats show these numbers.
+fn check_seats<L: Name>(rt: &(impl Abort + AllocGlobal), seats: &[Seat<L>], wanted: &[u8]) {
+    let mut numbers = Vec::new(rt.alloc());
+    if put_seats(&mut numbers, seats).is_err() {
+        panic!(rt; "out of memory");
+    }
+    check_bytes(rt, numbers.as_slice(), wanted);
+}
+
+fn in_turn<L: Name, R: Wait + Abort + AllocGlobal>(rt: &R, start: Start)
     requires name { start.name ≡ L.name }
     requires jobs { start.jobs ≡ L.parts }
 {
-    let alloc = rt.alloc();
-    let (book, seats) = open::<L, _>(alloc, start)?;
-    let mut seats = seats.into_vec();
-    check_bytes(
-        rt,
-        shown(alloc, seats.as_slice())?.as_slice(),
-        &[0, 0, 0, 1, 0, 0],
-    );
-    let text = answered(
-        rt,
-        alloc,
-        &book,
-        seats.as_mut_slice(),
-        asked(alloc)?.as_slice(),
-    )?;
-    check_bytes(rt, text.as_slice(), RECEIPTS);
-    check_bytes(
-        rt,
-        shown(alloc, seats.as_slice())?.as_slice(),
-        &[0, 3, 5, 1, 3, 6],
-    );
-    match close(book, seats) {
-        Ok(entries) => check_bytes(rt, told(alloc, &entries)?.as_slice(), ENTRIES),
-        Err(_back) => panic!(rt; "a seat is missing"),
-    }
-    Ok(())
+    let (book, mut seats) = opened::<L, _>(rt, rt.alloc(), start);
+    check_seats(rt, seats.as_slice(), &[0, 0, 0, 1, 0, 0]);
+    check_answers(rt, rt.alloc(), &book, seats.as_mut_slice(), RECEIPTS);
+    check_seats(rt, seats.as_slice(), &[0, 3, 5, 1, 3, 6]);
+    check_entries(rt, closed(rt, book, seats).get(), ENTRIES);
 }
 
 #[test]
 fn six_calls(rt: HostRuntime) -> Result<(), Fail> {
-    in_turn::<Brand, _>(&rt, start(rt.alloc(), 2)?)
+    in_turn::<Brand, _>(&rt, start(rt.alloc(), 2)?);
+    Ok(())
 }

@@ -1,0 +1,98 @@
+//! A shared book from its opening to its history. What is refused here ends the test at once: a function of the tests that may
+//! return early lets its book and its seats go on each way out, and each of these is proved.
+
+ghost use Rattle.std.specs.Prelude.{◌≡◌};
+
+use super::calls::{close, drop_of, open, perform, submit};
+use super::turns::SMALL;
+use covbook::{Entries, JobLog, Op, Receipt, Receipts};
+use covjobs::{Name, Seat, Shared, Start};
+use std::alloc::{Allocator, Global};
+use std::process::Abort;
+use std::sync::Wait;
+
+/// The book, and the seats of its jobs.
+pub(super) fn opened<L: Name, A: Allocator + Copy>(
+    rt: &impl Abort,
+    alloc: A,
+    start: Start<A>,
+) -> (Shared<L, A>, Vec<Seat<L>, A>)
+    requires name { start.name ≡ L.name }
+    requires jobs { start.jobs ≡ L.parts }
+{
+    match open::<L, A>(alloc, start) {
+        Ok((book, seats)) => (book, seats.into_vec()),
+        Err(_refused) => panic!(rt; "no book is opened"),
+    }
+}
+
+/// The history of the book, whose seats are all here.
+pub(super) fn closed<L: Name, A: Allocator>(
+    rt: &impl Abort,
+    book: Shared<L, A>,
+    seats: Vec<Seat<L>, A>,
+) -> Entries<A> {
+    match close(book, seats) {
+        Ok(entries) => entries,
+        Err(_back) => panic!(rt; "a seat is missing"),
+    }
+}
+
+/// The operation of this name, of one that submits the small tracefile.
+fn made(alloc: Global, name: &[u8]) -> Option<Op> {
+    match name {
+        b"submit" => submit(alloc, SMALL),
+        b"drop" => drop_of(alloc, b"x"),
+        b"report" => Some(Op::Report),
+        b"summary" => Some(Op::Summary),
+        _ => None,
+    }
+}
+
+/// The operation of this name.
+pub(super) fn op_of(rt: &impl Abort, alloc: Global, name: &[u8]) -> Op {
+    match made(alloc, name) {
+        Some(op) => op,
+        None => panic!(rt; "no operation"),
+    }
+}
+
+/// The seat's call succeeds, with this receipt.
+pub(super) fn receipt_of<L: Name, R: Wait + Abort>(
+    rt: &R,
+    alloc: Global,
+    book: &Shared<L>,
+    seat: &mut Seat<L>,
+    op: &Op,
+) -> Receipt {
+    match perform(rt, alloc, book, seat, op) {
+        Ok(receipt) => receipt,
+        Err(_fault) => panic!(rt; "a step is refused"),
+    }
+}
+
+/// The log takes the receipt.
+pub(super) fn keep(rt: &impl Abort, log: &mut JobLog, receipt: Receipt) {
+    if log.receipts.push(receipt).is_err() {
+        panic!(rt; "out of memory");
+    }
+}
+
+/// A log without receipts for each seat.
+pub(super) fn empty_logs<L: Name>(
+    rt: &impl Abort,
+    alloc: Global,
+    seats: &[Seat<L>],
+) -> Vec<JobLog> {
+    let mut logs = Vec::new(alloc);
+    for seat in seats {
+        let log = JobLog {
+            job: seat.job(),
+            receipts: Receipts::new(alloc),
+        };
+        if logs.push(log).is_err() {
+            panic!(rt; "out of memory");
+        }
+    }
+    logs
+}
