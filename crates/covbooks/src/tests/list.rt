@@ -357,6 +357,29 @@ fn take_random(
     hand_in(alloc, book, &text)
 }
 
+/// Hands a random submission in; behind it the book says what the list does.
+fn check_random(
+    rt: &(impl Abort + AllocGlobal),
+    random: &mut Random,
+    book: &mut Book,
+    rows: &mut Vec<Row>,
+) -> Result<(), Fail> {
+    take_random(rt.alloc(), random, book, rows)?;
+    check_list(rt, book, rows)
+}
+
+/// Drops a test of the book and of the list, which then say the same.
+fn check_drop(
+    rt: &(impl Abort + AllocGlobal),
+    book: &mut Book,
+    test: usize,
+    rows: &mut Vec<Row>,
+) -> Result<(), Fail> {
+    drop_random(rt, book, test, rows)?;
+    *rows = without(rt.alloc(), rows, test)?;
+    check_list(rt, book, rows)
+}
+
 /// After each of many random submissions, and of some tests that are dropped, the book says what a list of all rows says,
 /// passed over for each point.
 #[test]
@@ -365,13 +388,10 @@ fn random_submissions(rt: HostRuntime) -> Result<(), Fail> {
     let mut book = Book::new(rt.alloc());
     let mut rows = Vec::new(rt.alloc());
     for _time in 0..200 {
-        take_random(rt.alloc(), &mut random, &mut book, &mut rows)?;
-        check_list(&rt, &mut book, &rows)?;
+        check_random(&rt, &mut random, &mut book, &mut rows)?;
         let test = random.below(12) as usize;
         if test < 3 {
-            drop_random(&rt, &mut book, test, &rows)?;
-            rows = without(rt.alloc(), &rows, test)?;
-            check_list(&rt, &mut book, &rows)?;
+            check_drop(&rt, &mut book, test, &mut rows)?;
         }
     }
     Ok(())

@@ -54,6 +54,13 @@ fn check_books(
     Ok(())
 }
 
+/// A book of the texts, from one on every so many of them.
+fn book_of(alloc: Global, texts: &[Vec<u8>], first: usize, stride: usize) -> Result<Book, Fail> {
+    let mut book = Book::new(alloc);
+    hand_in_all(alloc, &mut book, texts, first, stride)?;
+    Ok(book)
+}
+
 /// Books of the texts in two orders print the same.
 fn check_order(
     rt: &(impl Abort + AllocGlobal),
@@ -61,10 +68,8 @@ fn check_order(
     first: usize,
     stride: usize,
 ) -> Result<(), Fail> {
-    let mut one = Book::new(rt.alloc());
-    let mut other = Book::new(rt.alloc());
-    hand_in_all(rt.alloc(), &mut one, texts, 0, 1)?;
-    hand_in_all(rt.alloc(), &mut other, texts, first, stride)?;
+    let mut one = book_of(rt.alloc(), texts, 0, 1)?;
+    let mut other = book_of(rt.alloc(), texts, first, stride)?;
     check_books(rt, &mut one, &mut other)
 }
 
