@@ -1,8 +1,6 @@
 //! Inputs that jobs collect.
 
-use super::check_bytes;
-use super::said::put_entries;
-use super::turns::SMALL;
+use super::turns::{SMALL, check_entries};
 use covbook::Op;
 use covjobs::{CollectFault, Collected, Gate, Input, NoGate, RefusedInput, collect};
 use covline::{Bytes, Memory};
@@ -41,13 +39,26 @@ fn traces(alloc: Global, texts: &[&[u8]]) -> Result<Vec<Input>, Fail> {
 }
 
 /// What so many jobs collect of the inputs, with the report as the last operation.
-pub(super) fn report_of<R: Threads + Wait + Sync + AllocGlobal, G: Gate + Sync>(
+fn report_of<R: Threads + Wait + Sync + AllocGlobal, G: Gate + Sync>(
     rt: &R,
     inputs: &[Input],
     jobs: u32,
     gate: &G,
 ) -> Result<Collected, CollectFault> {
     collect(rt, rt.alloc(), inputs, &Op::Report, jobs, gate)
+}
+
+/// What so many jobs do collect of the inputs.
+pub(super) fn collected_of<R: Threads + Wait + Sync + AllocGlobal + Abort, G: Gate + Sync>(
+    rt: &R,
+    inputs: &[Input],
+    jobs: u32,
+    gate: &G,
+) -> Collected {
+    match report_of(rt, inputs, jobs, gate) {
+        Ok(collected) => collected,
+        Err(_fault) => panic!(rt; "nothing is collected"),
+    }
 }
 
 /// Whether these alone are refused: one input at this place, outside a section at its first line.
@@ -60,25 +71,14 @@ fn is_outside(refused: &[RefusedInput], index: usize) -> bool {
     }
 }
 
-/// The entries are as wanted.
-fn check_entries<R: Abort + AllocGlobal>(rt: &R, collected: &Collected) -> Result<(), Fail> {
-    let mut said = Vec::new(rt.alloc());
-    put_entries(&mut said, collected.entries.get())?;
-    check_bytes(rt, said.as_slice(), ENTRIES);
-    Ok(())
-}
-
 /// The second of three inputs can't be read, and it is all that job 1 has.
 fn one_refused<R: Threads + Wait + Sync + AllocGlobal + Abort>(rt: &R) -> Result<(), Fail> {
     let inputs = traces(rt.alloc(), &[SMALL, b"DA:1,1", SMALL])?;
-    match report_of(rt, inputs.as_slice(), 2, &NoGate) {
-        Ok(collected) => {
-            assert!(rt; is_outside(collected.refused.get(), 1));
-            assert_eq!(rt; collected.logs.get().len(), 2);
-            check_entries(rt, &collected)
-        },
-        Err(_fault) => panic!(rt; "nothing is collected"),
-    }
+    let collected = collected_of(rt, inputs.as_slice(), 2, &NoGate);
+    assert!(rt; is_outside(collected.refused.get(), 1));
+    assert_eq!(rt; collected.logs.get().len(), 2);
+    check_entries(rt, collected.entries.get(), ENTRIES);
+    Ok(())
 }
 
 #[test]

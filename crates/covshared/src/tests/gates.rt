@@ -1,6 +1,6 @@
 //! Workers run at once: each waits for what only another one does.
 
-use super::collecting::{report_of, trace};
+use super::collecting::{collected_of, trace};
 use super::turns::SMALL;
 use covjobs::{Gate, Input};
 use std::process::Abort;
@@ -94,10 +94,8 @@ fn two_jobs<R: Threads + Wait + Sync + AllocGlobal + Abort, G: Gate + Sync>(
     gate: &G,
 ) -> Result<(), Fail> {
     let inputs: [Input; 2] = [trace(rt.alloc(), SMALL)?, trace(rt.alloc(), SMALL)?];
-    match report_of(rt, &inputs, 2, gate) {
-        Ok(collected) => assert_eq!(rt; collected.entries.get().len(), 3),
-        Err(_fault) => panic!(rt; "nothing is collected"),
-    }
+    let collected = collected_of(rt, &inputs, 2, gate);
+    assert_eq!(rt; collected.entries.get().len(), 3);
     Ok(())
 }
 
