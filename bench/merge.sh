@@ -5,7 +5,8 @@
 #
 # 1, 8 and 64 tracefiles of 60 MB in all (bench/merges.py) are merged by PROGRAM with 1, 2 and 4 jobs, then by YARDSTICK, which
 # is called as `YARDSTICK merge FILE..` and has to print the same bytes, and by grcov and lcov where they are installed: what
-# these print is of another form and isn't compared. Seconds are those of the run that took the least processor time, of three.
+# these print is of another form and isn't compared. Seconds are those of the run that took the least processor time, of three;
+# lcov runs once.
 set -euo pipefail
 cd "$(dirname "$0")/.."
 program=${1:-build/covcollect}

@@ -15,14 +15,16 @@ KINDS = ("adding", "own-tests")
 COUNTS = (1, 8, 64)
 JOBS = (1, 2, 4)
 TURNS = 3
+# in each of 60 sources, in all files together: these come to some 60 MB
+LINES = 49_000
 
 
 def write(kind, count, folder):
-    """Writes so many tracefiles: a thousand lines for each of 60 sources come to about a megabyte."""
+    """Writes so many tracefiles of 60 sources."""
     for job in range(count):
         test = "unit" if kind == "adding" else f"unit_{job}"
         with open(f"{folder}/{job}.info", "w") as info:
-            info.write(code(test, job + 1, 60_000 // count))
+            info.write(code(test, job + 1, LINES // count))
 
 
 def run(words, told):
@@ -38,16 +40,16 @@ def run(words, told):
 
 
 def programs(program, yardstick, names, work):
-    """The calls that are measured, the yardstick's first: what it is called, its words, whether its bytes are compared."""
+    """The calls that are measured, the yardstick's first: what it is called, its words, how often it runs."""
     if yardstick:
-        yield "yardstick", [yardstick, "merge", *names], False
+        yield "yardstick", [yardstick, "merge", *names], TURNS
     for jobs in JOBS:
-        yield f"covcollect --jobs {jobs}", [program, "merge", "--jobs", str(jobs), *names], True
+        yield f"covcollect --jobs {jobs}", [program, "merge", "--jobs", str(jobs), *names], TURNS
     if shutil.which("grcov"):
-        yield "grcov", ["grcov", *names, "-t", "lcov", "--threads", "1", "-o", f"{work}/other"], False
+        yield "grcov", ["grcov", *names, "-t", "lcov", "--branch", "--threads", "1", "-o", f"{work}/other"], TURNS
     if shutil.which("lcov"):
         added = [word for name in names for word in ("-a", name)]
-        yield "lcov", ["lcov", *added, "-o", f"{work}/other", "--rc", "lcov_branch_coverage=1"], False
+        yield "lcov", ["lcov", *added, "-o", f"{work}/other", "--rc", "lcov_branch_coverage=1"], 1
 
 
 def measure(program, yardstick, work, kind, count):
@@ -56,11 +58,11 @@ def measure(program, yardstick, work, kind, count):
     names = [f"{work}/{place}.info" for place in range(count)]
     length = sum(os.path.getsize(name) for name in names)
     first = wanted = None
-    for called, words, compared in programs(program, yardstick, names, work):
+    for called, words, turns in programs(program, yardstick, names, work):
         told = f"{work}/{called.replace(' ', '')}.told"
-        user, system, clock, peak = min((run(words, told) for _ in range(TURNS)), key=lambda taken: taken[0] + taken[1])
+        user, system, clock, peak = min((run(words, told) for _ in range(turns)), key=lambda taken: taken[0] + taken[1])
         first, wanted = first or user + system, wanted or told
-        if compared and not filecmp.cmp(told, wanted, shallow=False):
+        if words[1] == "merge" and not filecmp.cmp(told, wanted, shallow=False):
             sys.exit(f"bench: {called} prints another text")
         print(f"{kind:<10} {count:>5} {length / 1e6:>5.1f}  {called:<20} {user:>6.2f} {system:>6.2f} {clock:>6.2f} {peak / 1e6:>8.0f}"
               f" {(user + system) / first:>6.1f}", flush=True)
