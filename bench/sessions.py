@@ -191,4 +191,5 @@ def main():
     return None
 
 
-sys.exit(main())
+if __name__ == "__main__":
+    sys.exit(main())

@@ -1,2 +1,16 @@
+pub mod Ascending
+pub mod AskedLast
+pub mod EachOnce
+pub mod Ended
+pub mod Everything
+pub mod Fates
+pub mod Gathered
+pub mod Histories
+pub mod LastEntry
+pub mod Places
 pub mod Seated
 pub mod Steps
+pub mod Taken
+pub mod Together
+pub mod Whole
+pub mod Written

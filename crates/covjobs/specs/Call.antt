@@ -1,5 +1,5 @@
 -- What a call that succeeded is told.
-use Rattle.std.specs.Prelude.{◌≡◌, ℕ, ◌<◌, List, length}
+use Rattle.std.specs.Prelude.{◌≡◌, ◌<◌, List, length}
 use Rattle.covbook.specs.Op.{OpData, EntryData, ReceiptData}
 use Rattle.covbook.specs.Step.{IsLegal, answer_of, table_of, ops_in, most_entries}
 

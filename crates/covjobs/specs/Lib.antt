@@ -6,3 +6,7 @@ pub mod Locked
 pub mod Shared
 pub mod OpenFault
 pub mod CloseFault
+pub mod CollectFault
+pub mod Collect
+pub mod InputView
+pub mod Work

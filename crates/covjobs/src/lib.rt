@@ -25,13 +25,25 @@
 //! ```
 #![tactic(auto)]
 
+mod collect_fault;
+mod collected;
+mod gate;
 mod handed;
+mod input;
 mod locked;
 mod name;
+mod refused;
 mod seat;
 mod shared;
+mod worker;
+mod workers;
 
+pub use collect_fault::CollectFault;
+pub use collected::{Collected, collect};
+pub use gate::{Gate, NoGate};
 pub use handed::Seats;
+pub use input::Input;
 pub use name::{MOST_JOBS, Name, OpenFault, Start};
+pub use refused::{Refused, RefusedInput};
 pub use seat::Seat;
 pub use shared::{CloseFault, Done, Shared, open_book};

@@ -1,7 +1,8 @@
 //! A session of the coverage collector: commands come in, a line each, and the answers of one book go out.
 //!
 //! `stream` is where bytes come from and go to, `session` answers the commands of a source to a sink, `program` is a session
-//! with its exit status and the words of its fault, and `laws` says what holds of every session.
+//! with its exit status and the words of its fault, and `laws` says what holds of every session. What another program says in
+//! a session's words it takes from here: the lines of a refused text and of a clash, and a fault's line and exit status.
 //!
 //! A sketch: a session over a slice and a vector.
 //!
@@ -17,5 +18,6 @@ mod program;
 pub mod session;
 mod stream;
 
-pub use program::run_session;
+pub use program::{line_of, run_session, status_of};
+pub use session::{Clash, SessionFault, clash_line, put_bytes, refused_line};
 pub use stream::{Failed, FromRead, FromWrite, Sink, Source};

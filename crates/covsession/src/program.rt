@@ -1,18 +1,16 @@
 //! The program over streams: a session, the exit status that tells how it ended, and the words of its fault.
 
-ghost use Rattle.std.specs.Prelude.{◌≡◌, ◌^◌, ◌<◌, Result, OnOk};
-ghost use Rattle.std.specs.Io.KnownBytes.{Appends};
-ghost use Rattle.covsession.specs.Program.{fault_status, words_of_fault, end_status, end_words};
-ghost use Rattle.covsession.specs.Session.{said, IsWholeSession};
-ghost use Rattle.covsession.specs.declared.session.fault.SessionFault.{SessionFault as Fault};
+ghost use Rattle.std.specs.Prelude.{◌≡◌, ◌^◌, ◌<◌};
+ghost use Rattle.covsession.specs.Program.{fault_status, words_of_fault, TellsSession};
+ghost use Rattle.covsession.specs.Session.{said};
 
 use crate::session::output::put_bytes;
 use crate::session::{SessionFault, session};
 use crate::stream::{Sink, Source};
 use std::alloc::Allocator;
 
-// The exit status of a session that ended in a fault: 1 where a stream failed, 3 where there was no room.
-fn status_of(fault: SessionFault) -> u8
+/// The exit status of a program that ended in this fault: 1 where a stream failed, 3 where there was no room.
+pub fn status_of(fault: SessionFault) -> u8
     ensures { result ≡ fault_status fault }
 {
     match fault {
@@ -21,8 +19,8 @@ fn status_of(fault: SessionFault) -> u8
     }
 }
 
-// The line that is said of a fault.
-fn line_of(fault: SessionFault) -> &'static [u8]
+/// The line that is said of a fault.
+pub fn line_of(fault: SessionFault) -> &'static [u8]
     ensures { result.now ≡ said (words_of_fault fault) }
 {
     match fault {
@@ -46,10 +44,8 @@ pub fn run_session<I: Source, O: Sink, E: Sink, A: Allocator + Copy>(
     requires failed_reads { I.failed_reads source.old < 2 ^ 62 }
     requires failed_writes { O.failed_writes sink.old < 2 ^ 62 }
     requires failed_words { E.failed_writes faults.old < 2 ^ 62 }
-    // A status of 0 tells that a session ran over these streams and ended well; another one tells a fault, with its words.
-    ensures { (ended : Result (Unit {0}) Fault) × (result ≡ end_status ended)
-        × OnOk ended (IsWholeSession (I.left source.old) (I.left source.new) (O.written sink.old) (O.written sink.new))
-        × (E.failed_writes faults.new ≡ E.failed_writes faults.old → Appends (E.written faults.old) (E.written faults.new) (end_words ended)) }
+    ensures { TellsSession result (I.left source.old) (I.left source.new) (O.written sink.old) (O.written sink.new)
+        (E.written faults.old) (E.written faults.new) (E.failed_writes faults.old) (E.failed_writes faults.new) }
 {
     match session(alloc, source, sink) {
         Ok(()) => 0,

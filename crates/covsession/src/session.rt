@@ -24,8 +24,10 @@ use crate::session::output::Output;
 use crate::session::submit::{Given, answer_given, take_text};
 use crate::session::text::{LineEnd, Text};
 use crate::stream::{Sink, Source};
+pub use answers::{Clash, clash_line, refused_line};
 use covbook::Book;
 pub use fault::SessionFault;
+pub use output::put_bytes;
 use std::alloc::Allocator;
 
 // The format of the text that follows a line, where one does.

@@ -6,6 +6,8 @@ use std::test::*;
 mod books;
 mod calls;
 mod closing;
+mod collecting;
+mod gates;
 mod jobs;
 mod kept;
 mod refusals;

@@ -58,17 +58,21 @@ fn accepted_line<A: Allocator>(
     Ok(line)
 }
 
-// Where a submission clashes, with the checksum that is held and the given one.
+/// Where a submission clashes, with the checksum that is held and the given one.
 #[derive(Clone, Copy)]
-struct Clash<'a> {
-    file: &'a [u8],
-    line: u64,
-    held: &'a [u8],
-    given: &'a [u8],
+pub struct Clash<'a> {
+    /// The file whose versions differ.
+    pub file: &'a [u8],
+    /// The line that has two checksums.
+    pub line: u64,
+    /// The checksum that is held.
+    pub held: &'a [u8],
+    /// The checksum that is given.
+    pub given: &'a [u8],
 }
 
-// The line that says that a submission clashes.
-fn clash_line<A: Allocator>(alloc: A, clash: Clash<'_>) -> Result<Vec<u8, A>, SessionFault>
+/// The line that says that a submission clashes.
+pub fn clash_line<A: Allocator>(alloc: A, clash: Clash<'_>) -> Result<Vec<u8, A>, SessionFault>
     ensures line { IfOk result (λ text. text.items ≡ answer_text (ClashAnswer (record {
       file = clash.entry.file.now;
       line = clash.entry.line;

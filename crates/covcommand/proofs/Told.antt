@@ -1,0 +1,50 @@
+-- What is told of clap's answer.
+use Rattle.std.proofs.Common.{◌≡◌, ◌∙◌, ◌⊎◌, inl, inr, Option, Some, None, refl, sym, ap₂, subst, option_map}
+use Rattle.std.specs.Prelude.{Box}
+use Rattle.clap.specs.Kinds.{IsAmong, Kinds}
+use Rattle.std.specs.Box.{box_value}
+use Rattle.clap.specs.Words.{subcommand_name_of, subcommand_rows_of}
+use Rattle.clap.specs.Simple.{subcommand_rows}
+use Rattle.clap.specs.declared.parser.matches.ArgMatches.TheViews.{out-ArgMatches, out-SubCommand}
+use Rattle.clap.specs.declared.parser.matches.SubCommand.{SubCommand}
+use Rattle.clap.specs.declared.parser.matches.ArgMatches.{ArgMatches}
+use Rattle.clap.specs.declared.error.kind.ErrorKind.{ErrorKind}
+use Rattle.clap.specs.declared.error.kind.ErrorKind.TheVariants as kind
+use Rattle.covcommand.specs.Fault.{IsToldOf, Tells}
+use Rattle.covcommand.specs.declared.fault.CommandFault.{CommandFault}
+use Rattle.covcommand.specs.declared.fault.CommandFault.TheVariants.{Help, Line, Memory}
+
+help_is_no_memory : kind.OutOfMemory ≡ kind.DisplayHelp → ⊥
+help_is_no_memory e = cc
+
+-- want of memory is told as that
+pub told_memory : (k : ErrorKind) (f : CommandFault) → Tells k f → k ≡ kind.OutOfMemory → f ≡ Memory
+told_memory k (Help text) told is = absurd (help_is_no_memory (sym is ∙ told))
+told_memory k (Line text) told is = absurd (told.1 is)
+told_memory k Memory told is = refl
+
+-- what is told is among the kinds that clap has for the words
+pub told_of : (k : ErrorKind) (kinds : Kinds) (f : CommandFault) → Tells k f → (k ≡ kind.OutOfMemory) ⊎ IsAmong k kinds → IsToldOf kinds f
+told_of k kinds (Help text) told (inl is) = absurd (help_is_no_memory (sym is ∙ told))
+told_of k kinds (Help text) told (inr among) = subst (λ (x : ErrorKind). IsAmong x kinds) told among
+told_of k kinds (Line text) told (inl is) = absurd (told.1 is)
+told_of k kinds (Line text) told (inr among) = (k, among, told.0)
+told_of k kinds Memory told has = tt
+
+-- a subcommand's name and rows, told apart, are those of the subcommand
+pub both_halves : {X Y : Type 0} (met : Option (X × Y)) (name : X) (rows : Y) → Some name ≡ option_map (λ p. p.0) met
+    → Some rows ≡ option_map (λ p. p.1) met → met ≡ Some (name, rows)
+both_halves None name rows n r = absurd cc
+both_halves (Some p) name rows n r =
+    let same_name : p.0 ≡ name = cc in
+    let same_rows : p.1 ≡ rows = cc in
+    ap₂ (λ x y. Some (x, y)) same_name same_rows
+
+-- clap tells the name of a subcommand by itself, and beside its rows
+pub same_name : (m : ArgMatches) → subcommand_name_of m ≡ option_map (λ p. p.0) (subcommand_rows_of m)
+same_name m = go (out-ArgMatches m).subcommand
+  where
+    go : {Z : Type 0} (o : Option (Box SubCommand Z))
+        → option_map (λ b. (out-SubCommand (box_value b)).name.now) o ≡ option_map (λ p. p.0) (subcommand_rows o)
+    go None = refl
+    go (Some b) = refl

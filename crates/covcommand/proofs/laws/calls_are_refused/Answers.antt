@@ -1,0 +1,11 @@
+use Rattle.covcommand.proofs.Calls.{jobs_refused, no_jobs_refused, extract_refused, gcov_refused, help_refused}
+use Rattle.covcommand.proofs.laws.calls_are_refused.Goals as goal
+
+pub returns : goal.returns
+returns c = record {
+  jobs = jobs_refused;
+  no_jobs = no_jobs_refused;
+  extract = extract_refused;
+  gcov = gcov_refused;
+  help = help_refused;
+}

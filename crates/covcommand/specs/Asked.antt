@@ -1,0 +1,43 @@
+-- What a call asks for, by the subcommand that clap reads of its words and by what clap found for that subcommand's arguments.
+use Rattle.std.specs.Prelude.{◌≡◌, ◌≤◌, ◌++◌, ℕ, List, [], Option, Some, None, codes, length, unwrap_or}
+use Rattle.std.specs.Str.Parse.{digits_value, without_leading_plus}
+use Rattle.clap.specs.Walk.{Row, Text, all_of, first_of, one_of}
+use Rattle.covcommand.specs.declared.asked.Command.{Command}
+use Rattle.covcommand.specs.declared.asked.Command.TheVariants.{Session, Merge, Summary, Extract, Remove, Gcov}
+
+-- the words that clap found for the argument, in their order
+abbrev pub values_of : Text → List Row → List Text
+values_of id rows = unwrap_or (all_of id rows) []
+
+-- the number is what the digits say, in decimal, that clap gives of the option; a plus may stand before them
+abbrev pub IsNumberOf : List Row → ℕ → Type 0
+IsNumberOf rows jobs = (text : Text) × (one_of (codes "jobs") rows ≡ Some text)
+    × (jobs ≡ digits_value 10 (without_leading_plus text))
+
+-- the words of a tracefile and patterns, in their order
+abbrev pub tracefile_and_patterns : List Row → List Text
+tracefile_and_patterns rows = values_of (codes "TRACEFILE") rows ++ values_of (codes "PATTERN") rows
+
+-- the call whose words name this subcommand, and give its arguments these words, asks for this command
+abbrev pub AsksFor : Option (Text × List Row) → Command → Type 0
+AsksFor met Session = met ≡ None
+AsksFor met (Merge jobs names) = (rows : List Row) × (met ≡ Some (codes "merge", rows))
+    × IsNumberOf rows jobs × (names ≡ values_of (codes "FILE") rows)
+AsksFor met (Summary names) = (rows : List Row) × (met ≡ Some (codes "summary", rows))
+    × (names ≡ values_of (codes "FILE") rows)
+AsksFor met (Extract names) = (rows : List Row) × (met ≡ Some (codes "extract", rows))
+    × (names ≡ tracefile_and_patterns rows)
+AsksFor met (Remove names) = (rows : List Row) × (met ≡ Some (codes "remove", rows))
+    × (names ≡ tracefile_and_patterns rows)
+AsksFor met (Gcov test names) = (rows : List Row) × (met ≡ Some (codes "gcov", rows))
+    × (first_of (codes "test") rows ≡ Some test)
+    × (names ≡ values_of (codes "FILE") rows)
+
+-- a merge has 1 to 64 jobs, and there is at least one name, with patterns at least two
+abbrev pub IsInBounds : Command → Type 0
+IsInBounds Session = Unit {0}
+IsInBounds (Merge jobs names) = (1 ≤ jobs) × (jobs ≤ 64) × (1 ≤ length names)
+IsInBounds (Summary names) = 1 ≤ length names
+IsInBounds (Extract names) = 2 ≤ length names
+IsInBounds (Remove names) = 2 ≤ length names
+IsInBounds (Gcov test names) = 1 ≤ length names

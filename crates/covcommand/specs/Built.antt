@@ -1,0 +1,15 @@
+-- Private steps: an argument and a command as they are told to clap.
+use Rattle.std.specs.Prelude.{◌≡◌, false}
+use Rattle.clap.specs.Walk.{Rule, rule_of}
+use Rattle.clap.specs.Simple.{App, app_of}
+use Rattle.clap.specs.declared.builder.arg.Arg.{Arg}
+use Rattle.clap.specs.declared.builder.command.Command.{Command}
+use Rattle.clap.specs.declared.builder.command.Command.TheViews.{out-Command}
+
+-- the argument has the rule, for its own command alone
+abbrev pub IsLocal : Rule → Arg → Type 0
+IsLocal rule a = (rule_of a ≡ rule) × (a.global ≡ false)
+
+-- the command is this one, with no argument that is for its subcommands too
+abbrev pub IsAlone : App → Command → Type 0
+IsAlone app c = (app_of c ≡ app) × ((out-Command c).has_globals ≡ false)

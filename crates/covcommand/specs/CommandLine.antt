@@ -1,0 +1,67 @@
+-- The program's command line, as clap is told of it: a command with one level of subcommands. What clap reads of words for
+-- such a command is clap's own definition (`subcommand_of`, `takes`, `fault_of` of `Rattle.clap.specs`).
+use Rattle.std.specs.Prelude.{[], ◌∷◌, Some, true, codes, pos}
+use Rattle.clap.specs.Lexer.{usize_max}
+use Rattle.clap.specs.Walk.{Rule, Text}
+use Rattle.clap.specs.Simple.{App, new_app, new_rule, on_top, with_rule, with_subcommand}
+use Rattle.clap.specs.declared.builder.action.ArgAction.TheVariants.{Set, Append}
+use Rattle.clap.specs.declared.builder.value_parser.ValueParser.TheVariants as parser
+
+-- a required argument of one word or more: `FILE..`, `PATTERN..`
+abbrev pub several : Text → Rule
+several id = record (new_rule id) {
+  required = true;
+  range = Some (record { start_inclusive = 1; end_inclusive = usize_max });
+  action = Some Append;
+}
+
+-- a required argument of one word: `TRACEFILE`
+abbrev pub single : Text → Rule
+single id = record (new_rule id) { required = true; action = Some Set }
+
+-- `--jobs N`, a number from 1 to 64, and 1 where it isn't given
+abbrev pub jobs : Rule
+jobs = record (new_rule (codes "jobs")) {
+  long = Some (codes "jobs");
+  value_names = 1;
+  action = Some Set;
+  parser = Some (parser.Signed (pos 1) (pos 64));
+  defaults = codes "1" ∷ [];
+}
+
+-- `--test NAME`, which has to be given
+abbrev pub test : Rule
+test = record (new_rule (codes "test")) {
+  long = Some (codes "test");
+  value_names = 1;
+  required = true;
+  action = Some Set;
+}
+
+abbrev pub merge : App
+merge = with_rule (with_rule (new_app (codes "merge")) (several (codes "FILE"))) jobs
+
+abbrev pub summary : App
+summary = with_rule (new_app (codes "summary")) (several (codes "FILE"))
+
+-- a subcommand that takes the files of a tracefile which match patterns, or don't
+abbrev pub filtering : Text → App
+filtering name = with_rule (with_rule (new_app name) (single (codes "TRACEFILE"))) (several (codes "PATTERN"))
+
+abbrev pub extract : App
+extract = filtering (codes "extract")
+
+abbrev pub remove : App
+remove = filtering (codes "remove")
+
+abbrev pub gcov : App
+gcov = with_rule (with_rule (new_app (codes "gcov")) (several (codes "FILE"))) test
+
+-- the program, which has no subcommand `help`
+abbrev pub program : App
+program = on_top (λ s. record s { disable_help_subcommand = true }) (new_app (codes "covcollect"))
+
+-- the program with its subcommands
+abbrev pub covcollect : App
+covcollect = with_subcommand (with_subcommand (with_subcommand (with_subcommand (with_subcommand program
+    merge.top) summary.top) extract.top) remove.top) gcov.top

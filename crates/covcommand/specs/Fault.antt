@@ -1,0 +1,30 @@
+-- Why the words of a call give no command, and what is told of it.
+use Rattle.std.specs.Prelude.{◌≡◌, ◌≢◌, ℕ}
+use Rattle.clap.specs.Kinds.{IsAmong, Kinds}
+use Rattle.clap.specs.declared.error.kind.ErrorKind.{ErrorKind}
+use Rattle.clap.specs.declared.error.kind.ErrorKind.TheVariants as kind
+use Rattle.covcommand.specs.declared.fault.CommandFault.{CommandFault}
+use Rattle.covcommand.specs.declared.fault.CommandFault.TheVariants.{Help, Line, Memory}
+
+abbrev pub fault_number : CommandFault → ℕ
+fault_number (Help text) = 1
+fault_number (Line text) = 2
+fault_number Memory = 3
+
+-- the exit status: help is no failure
+abbrev pub fault_status : CommandFault → ℕ
+fault_status (Help text) = 0
+fault_status (Line text) = 2
+fault_status Memory = 3
+
+-- what is told of an error of clap's of this kind; memory for its text may be wanting
+abbrev pub Tells : ErrorKind → CommandFault → Type 0
+Tells k (Help text) = k ≡ kind.DisplayHelp
+Tells k (Line text) = (k ≢ kind.DisplayHelp) × (k ≢ kind.OutOfMemory)
+Tells k Memory = Unit {0}
+
+-- help is told only where clap's kinds for the words have it, and that the line is wrong only where they have another
+abbrev pub IsToldOf : Kinds → CommandFault → Type 0
+IsToldOf kinds (Help text) = IsAmong kind.DisplayHelp kinds
+IsToldOf kinds (Line text) = (k : ErrorKind) × IsAmong k kinds × (k ≢ kind.DisplayHelp)
+IsToldOf kinds Memory = Unit {0}

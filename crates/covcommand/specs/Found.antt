@@ -1,0 +1,32 @@
+-- Private steps: what clap found for the arguments of a subcommand.
+use Rattle.std.specs.Prelude.{◌≡◌, ◌≤◌, List, Some, true, false, codes, length, pos}
+use Rattle.std.specs.Str.{bytes_eq}
+use Rattle.clap.specs.Lexer.{without_minus}
+use Rattle.clap.specs.Values.{IsSignedIn}
+use Rattle.clap.specs.Walk.{Row, Text, first_of, one_of}
+use Rattle.covcommand.specs.Asked.{values_of}
+
+-- there is a word
+abbrev pub HasSome : Text → List Row → Type 0
+HasSome id rows = 1 ≤ length (values_of id rows)
+
+-- there is a name of a test
+abbrev pub HasTest : List Row → Type 0
+HasTest rows = (text : Text) × (first_of (codes "test") rows ≡ Some text)
+
+-- there is a number of jobs
+abbrev pub HasJobs : List Row → Type 0
+HasJobs rows = (text : Text) × (one_of (codes "jobs") rows ≡ Some (without_minus text)) × IsSignedIn (pos 1) (pos 64) text
+
+abbrev pub HasFilter : List Row → Type 0
+HasFilter rows = HasSome (codes "TRACEFILE") rows × HasSome (codes "PATTERN") rows
+
+-- the arguments of the subcommand of this name have what they have to
+pub record Fits (name : Text) (rows : List Row) : Type 0 where
+  pub merge : bytes_eq name (codes "merge") ≡ true → HasJobs rows × HasSome (codes "FILE") rows
+  pub summary : bytes_eq name (codes "summary") ≡ true → HasSome (codes "FILE") rows
+  pub extract : bytes_eq name (codes "extract") ≡ true → HasFilter rows
+  pub remove : bytes_eq name (codes "remove") ≡ true → HasFilter rows
+  pub others : bytes_eq name (codes "merge") ≡ false → bytes_eq name (codes "summary") ≡ false
+      → bytes_eq name (codes "extract") ≡ false → bytes_eq name (codes "remove") ≡ false
+      → (name ≡ codes "gcov") × HasTest rows × HasSome (codes "FILE") rows

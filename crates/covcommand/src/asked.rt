@@ -1,0 +1,40 @@
+//! What a call of the program asks for.
+
+use crate::names::Names;
+use covline::Bytes;
+
+/// What a call of the program asks for.
+#[derive(Drop)]
+pub enum Command {
+    /// No subcommand: a session over standard input and output.
+    Session,
+    /// `merge`: the merged tracefile of the files.
+    Merge {
+        /// How many jobs read at once, from 1 to 64.
+        jobs: u32,
+        /// The files' paths, at least one.
+        names: Names,
+    },
+    /// `summary`: how much of all lines, functions and branches is hit.
+    Summary {
+        /// The files' paths, at least one.
+        names: Names,
+    },
+    /// `extract`: the sections of the tracefile whose file matches a pattern.
+    Extract {
+        /// The tracefile's path, and behind it the patterns, at least one.
+        names: Names,
+    },
+    /// `remove`: the sections of the tracefile whose file matches no pattern.
+    Remove {
+        /// The tracefile's path, and behind it the patterns, at least one.
+        names: Names,
+    },
+    /// `gcov`: the tracefile of gcov's annotated sources.
+    Gcov {
+        /// The test's name, which may be empty.
+        test: Bytes,
+        /// The files' paths, at least one.
+        names: Names,
+    },
+}

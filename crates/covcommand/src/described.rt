@@ -1,0 +1,126 @@
+//! What clap is told of the command line.
+
+ghost use Rattle.std.specs.Prelude.{◌≡◌, IfOk, codes};
+ghost use Rattle.clap.specs.Words.{app_of};
+ghost use Rattle.covcommand.specs.CommandLine as line;
+ghost use Rattle.covcommand.specs.Built.{IsAlone, IsLocal};
+
+use crate::help;
+use clap::{Arg, ArgAction, Command, value_parser};
+use std::alloc::{AllocError, Global};
+
+/// The command with its subcommands.
+pub(crate) fn described<'a>(alloc: Global) -> Result<Command<'a>, AllocError>
+    ensures { IfOk result (λ c. app_of c ≡ line.covcollect) }
+{
+    let program = Command::new(alloc, "covcollect")
+        .about(help::PROGRAM)
+        .after_help(help::PROGRAM_END)
+        .disable_help_subcommand(true);
+    program
+        .subcommand(merge(alloc)?)?
+        .subcommand(summary(alloc)?)?
+        .subcommand(extract(alloc)?)?
+        .subcommand(remove(alloc)?)?
+        .subcommand(gcov(alloc)?)
+}
+
+fn merge<'a>(alloc: Global) -> Result<Command<'a>, AllocError>
+    ensures { IfOk result (IsAlone line.merge) }
+{
+    let merge = Command::new(alloc, "merge")
+        .about(help::MERGE)
+        .after_help(help::MERGE_END);
+    merge
+        .arg(several(alloc, "FILE", help::TRACEFILES))?
+        .arg(jobs(alloc))
+}
+
+fn summary<'a>(alloc: Global) -> Result<Command<'a>, AllocError>
+    ensures { IfOk result (IsAlone line.summary) }
+{
+    let summary = Command::new(alloc, "summary")
+        .about(help::SUMMARY)
+        .after_help(help::SUMMARY_END);
+    summary.arg(several(alloc, "FILE", help::TRACEFILES))
+}
+
+fn extract<'a>(alloc: Global) -> Result<Command<'a>, AllocError>
+    ensures { IfOk result (IsAlone line.extract) }
+{
+    let extract = filter(alloc, "extract")?;
+    Ok(extract.about(help::EXTRACT).after_help(help::EXTRACT_END))
+}
+
+fn remove<'a>(alloc: Global) -> Result<Command<'a>, AllocError>
+    ensures { IfOk result (IsAlone line.remove) }
+{
+    let remove = filter(alloc, "remove")?;
+    Ok(remove.about(help::REMOVE).after_help(help::REMOVE_END))
+}
+
+/// A command that takes a tracefile and patterns.
+fn filter<'a>(alloc: Global, name: &'a str) -> Result<Command<'a>, AllocError>
+    ensures { IfOk result (IsAlone (line.filtering name.entry.now)) }
+{
+    let filter = Command::new(alloc, name);
+    filter
+        .arg(tracefile(alloc))?
+        .arg(several(alloc, "PATTERN", help::PATTERNS))
+}
+
+fn gcov<'a>(alloc: Global) -> Result<Command<'a>, AllocError>
+    ensures { IfOk result (IsAlone line.gcov) }
+{
+    let gcov = Command::new(alloc, "gcov")
+        .about(help::GCOV)
+        .after_help(help::GCOV_END);
+    gcov.arg(several(alloc, "FILE", help::SOURCES))?
+        .arg(test(alloc))
+}
+
+/// A required argument of one word or more.
+fn several<'a>(alloc: Global, id: &'a str, help: &'a str) -> Arg<'a>
+    ensures { IsLocal (line.several id.entry.now) result }
+{
+    Arg::new(alloc, id)
+        .required(true)
+        .num_args(1..)
+        .action(ArgAction::Append)
+        .help(help)
+}
+
+/// The tracefile that is filtered.
+fn tracefile<'a>(alloc: Global) -> Arg<'a>
+    ensures { IsLocal (line.single (codes "TRACEFILE")) result }
+{
+    Arg::new(alloc, "TRACEFILE")
+        .required(true)
+        .action(ArgAction::Set)
+        .help(help::TRACEFILE)
+}
+
+/// The number of jobs.
+fn jobs<'a>(alloc: Global) -> Arg<'a>
+    ensures { IsLocal line.jobs result }
+{
+    Arg::new(alloc, "jobs")
+        .long("jobs")
+        .value_name("N")
+        .action(ArgAction::Set)
+        .value_parser(value_parser!(u32).range(1..=64))
+        .default_value("1")
+        .help(help::JOBS)
+}
+
+/// The name of a test.
+fn test<'a>(alloc: Global) -> Arg<'a>
+    ensures { IsLocal line.test result }
+{
+    Arg::new(alloc, "test")
+        .long("test")
+        .value_name("NAME")
+        .required(true)
+        .action(ArgAction::Set)
+        .help(help::TEST)
+}

@@ -1,0 +1,84 @@
+//! Why the words of a call give no command.
+
+use clap::error::{Error as LineError, ErrorKind};
+use covline::Memory;
+use std::alloc::{AllocError, AllocFailed, Global};
+use thiserror::Error;
+
+/// Why the words of a call give no command, with what is to be told.
+#[derive(Debug, Drop, Error)]
+pub enum CommandFault {
+    /// Fault 1: help was asked for. This is its text, for standard output.
+    #[error("{0}")]
+    Help(String),
+    /// Fault 2: the words don't fit. This says why, and how to call, for standard error.
+    #[error("{0}")]
+    Line(String),
+    /// Fault 3: a growth was refused.
+    #[error("out of memory")]
+    Memory,
+}
+
+impl CommandFault {
+    ghost use Rattle.std.specs.Prelude.{◌≡◌};
+    ghost use Rattle.covcommand.specs.Fault.{fault_number, fault_status, Tells};
+    ghost use Rattle.clap.specs.Values.{kind_of};
+
+    /// The number of the fault.
+    pub fn number(&self) -> u32
+        ensures { result ≡ fault_number self.now }
+    {
+        match self {
+            CommandFault::Help(_) => 1,
+            CommandFault::Line(_) => 2,
+            CommandFault::Memory => 3,
+        }
+    }
+
+    /// The exit status of a program that ends with this.
+    pub fn status(&self) -> u8
+        ensures { result ≡ fault_status self.now }
+    {
+        match self {
+            CommandFault::Help(_) => 0,
+            CommandFault::Line(_) => 2,
+            CommandFault::Memory => 3,
+        }
+    }
+
+    /// What is told of what clap answered: its text, or want of memory for that.
+    pub(crate) fn of(alloc: Global, error: &LineError) -> CommandFault
+        ensures { Tells (kind_of error.now) result }
+    {
+        if error.kind() == ErrorKind::OutOfMemory {
+            return CommandFault::Memory;
+        }
+        match format!(in alloc; "{error}") {
+            Ok(text) if error.kind() == ErrorKind::DisplayHelp => CommandFault::Help(text),
+            Ok(text) => CommandFault::Line(text),
+            Err(_) => CommandFault::Memory,
+        }
+    }
+}
+
+impl From<AllocError> for CommandFault {
+    ghost use Rattle.std.specs.Prelude.{◌≡◌};
+    ghost use Rattle.covcommand.specs.declared.fault.CommandFault.TheVariants as faults;
+
+    ghost from_gives = { λ _ f. f ≡ faults.Memory };
+
+    fn from(_refused: AllocError) -> CommandFault {
+        CommandFault::Memory
+    }
+}
+
+impl From<Memory> for CommandFault {
+    ghost use Rattle.std.specs.Prelude.{◌≡◌};
+    ghost use Rattle.covcommand.specs.declared.fault.CommandFault.TheVariants as faults;
+
+    ghost from_gives = { λ _ f. f ≡ faults.Memory };
+
+    fn from(_refused: Memory) -> CommandFault {
+        CommandFault::Memory
+    }
+}

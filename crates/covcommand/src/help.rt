@@ -1,0 +1,101 @@
+//! What help says to the user. Lines have at most 80 columns, since clap doesn't wrap them.
+
+/// What the program is for.
+pub(crate) const PROGRAM: &str = "Merges, filters and sums up coverage data of lcov and gcov";
+
+/// Behind the list of the subcommands: the session, the calls of lcov, the exit statuses.
+pub(crate) const PROGRAM_END: &str = "\
+Without a subcommand a session is read from standard input: a command on each
+line, answered on standard output. covcollect(1) has its commands.
+
+In place of lcov's calls write (with the patterns in quotes):
+  lcov -a A.info -a B.info -o OUT    covcollect merge A.info B.info > OUT
+  lcov -e A.info '*/src/*' -o OUT    covcollect extract A.info '*/src/*' > OUT
+  lcov -r A.info '/usr/*' -o OUT     covcollect remove A.info '/usr/*' > OUT
+  lcov --summary A.info              covcollect summary A.info
+
+Exit status:
+  0  done
+  1  a file can't be read, or reading or writing failed
+  2  the call is wrong: its words, a pattern or the name of a test
+  3  memory ran out, or the history is full
+  4  a file was refused, or checksums clash; nothing is on standard output";
+
+/// What `merge` does.
+pub(crate) const MERGE: &str = "Merges tracefiles: counts add up by test and file (lcov -a)";
+
+/// How to call `merge`.
+pub(crate) const MERGE_END: &str = "\
+Prints the merged tracefile. In place of
+  lcov -a A.info -a B.info -o OUT
+write
+  covcollect merge A.info B.info > OUT
+and where there are many files
+  covcollect merge --jobs 4 jobs/*.info > OUT";
+
+/// What `summary` does.
+pub(crate) const SUMMARY: &str = "Tells how much of the code is hit (lcov --summary)";
+
+/// How to call `summary`.
+pub(crate) const SUMMARY_END: &str = "\
+Prints how many lines, functions and branches are hit, of several files those of
+their merge. In place of
+  lcov --summary A.info
+write
+  covcollect summary A.info";
+
+/// What `extract` does.
+pub(crate) const EXTRACT: &str = "Keeps the source files that match a pattern (lcov -e)";
+
+/// How to call `extract`.
+pub(crate) const EXTRACT_END: &str = "\
+Prints the tracefile of these source files. A pattern has to match the whole
+path: * is any run of bytes, also of /, ? is one byte, [..] is one of a set. Put
+patterns in quotes, else the shell takes them for its own. In place of
+  lcov -e A.info '*/src/*' -o OUT
+write
+  covcollect extract A.info '*/src/*' > OUT
+and with several patterns
+  covcollect extract A.info '*/src/*' '*/lib/*' > OUT";
+
+/// What `remove` does.
+pub(crate) const REMOVE: &str = "Leaves out the source files that match a pattern (lcov -r)";
+
+/// How to call `remove`.
+pub(crate) const REMOVE_END: &str = "\
+Prints the tracefile of the other source files. A pattern has to match the whole
+path: * is any run of bytes, also of /, ? is one byte, [..] is one of a set. Put
+patterns in quotes, else the shell takes them for its own. In place of
+  lcov -r A.info '/usr/*' -o OUT
+write
+  covcollect remove A.info '/usr/*' > OUT
+and with several patterns
+  covcollect remove A.info '/usr/*' '*/tests/*' > OUT";
+
+/// What `gcov` does.
+pub(crate) const GCOV: &str = "Makes a tracefile of what gcov wrote (geninfo)";
+
+/// How to call `gcov`.
+pub(crate) const GCOV_END: &str = "\
+Prints the tracefile of annotated source, as the counts of one test. gcov writes
+it without options, or by -b -c with functions and branches:
+  gcov -b -c main.gcda
+  covcollect gcov --test unit main.c.gcov > unit.info";
+
+/// What stands for tracefiles.
+pub(crate) const TRACEFILES: &str = "Tracefiles, read in this order";
+
+/// What stands for the tracefile that is filtered.
+pub(crate) const TRACEFILE: &str = "The tracefile";
+
+/// What stands for patterns.
+pub(crate) const PATTERNS: &str = "Patterns of whole paths, in quotes";
+
+/// What stands for annotated source.
+pub(crate) const SOURCES: &str = "Files that gcov wrote, read in this order";
+
+/// What `--jobs` says.
+pub(crate) const JOBS: &str = "How many files are read at once, 1 to 64";
+
+/// What `--test` says.
+pub(crate) const TEST: &str = "The test that the counts are of; --test= is the empty name";

@@ -1,0 +1,27 @@
+//! The command line of the coverage collector: which words ask for what, and what its help says.
+//!
+//! `described` tells clap of the command, `command` reads the words of a call, and `help` has the texts for the user.
+//!
+//! A sketch: the words of a merge.
+//!
+//! ```text
+//! match command(alloc, words)? {
+//!     Command::Session => ..,
+//!     Command::Merge { jobs, names } => ..,
+//! }
+//! ```
+#![tactic(auto)]
+
+mod asked;
+mod described;
+mod fault;
+mod help;
+pub mod laws;
+mod names;
+mod reading;
+
+pub use asked::Command;
+pub use fault::CommandFault;
+pub use laws::{calls_are_refused, calls_are_taken};
+pub use names::Names;
+pub use reading::command;

@@ -1,0 +1,124 @@
+//! The words of a call, as a command.
+
+ghost use Rattle.std.specs.Prelude.{◌≡◌, ◌≤◌, ◌++◌, [], IfOk, IfErr, OnOk, map, true, Some, codes, length};
+ghost use Rattle.std.specs.String.{string_bytes};
+ghost use Rattle.clap.specs.Words.{rows_of, found_of, subcommand_of, takes, fault_of, first_of};
+ghost use Rattle.covcommand.specs.CommandLine.{covcollect};
+ghost use Rattle.covcommand.specs.Asked.{AsksFor, IsInBounds, IsNumberOf, tracefile_and_patterns, values_of};
+ghost use Rattle.covcommand.specs.Found.{Fits, HasFilter, HasJobs, HasSome, HasTest};
+ghost use Rattle.covcommand.specs.Fault.{IsToldOf};
+ghost use Rattle.covcommand.specs.declared.fault.CommandFault.TheVariants as faults;
+
+use crate::asked::Command;
+use crate::described::described;
+use crate::fault::CommandFault;
+use crate::names::Names;
+use clap::ArgMatches;
+use covline::{Bytes, Memory};
+use std::alloc::Global;
+
+/// What the words of a call ask for. The first word is the program's name.
+///
+/// Faults: `Help` where help is asked for, `Line` where the words don't fit, each with its text, and `Memory`. Where clap takes
+/// the words, `Memory` alone.
+pub fn command(alloc: Global, words: &[String]) -> Result<Command, CommandFault>
+    ensures asks { IfOk result (AsksFor (subcommand_of covcollect (map string_bytes words.now))) }
+    ensures bounds { IfOk result IsInBounds }
+    ensures fits { IfOk result (λ _. fault_of covcollect (map string_bytes words.now) ≡ []) }
+    ensures takes { takes covcollect (map string_bytes words.now) ≡ true
+        → IfErr result (λ f. f ≡ faults.Memory) }
+    ensures told { IfErr result (IsToldOf (fault_of covcollect (map string_bytes words.now))) }
+{
+    let matches = match described(alloc)?.try_get_matches_from(words) {
+        Ok(matches) => matches,
+        Err(error) => return Err(CommandFault::of(alloc, &error)),
+    };
+    match matches.subcommand() {
+        Some((name, found)) => asked_by(alloc, name, found),
+        None => Ok(Command::Session),
+    }
+}
+
+/// What the subcommand asks for, by what clap found for its arguments.
+fn asked_by(alloc: Global, name: &str, found: &ArgMatches<'_>) -> Result<Command, CommandFault>
+    requires { Fits name.now (rows_of (found_of found.now)) }
+    ensures asks { IfOk result (AsksFor (Some (name.now, rows_of (found_of found.now)))) }
+    ensures bounds { IfOk result IsInBounds }
+    ensures memory { IfErr result (λ f. f ≡ faults.Memory) }
+{
+    match name {
+        "merge" => Ok(Command::Merge {
+            jobs: jobs_of(found),
+            names: files_of(alloc, found)?,
+        }),
+        "summary" => Ok(Command::Summary {
+            names: files_of(alloc, found)?,
+        }),
+        "extract" => Ok(Command::Extract {
+            names: filter_of(alloc, found)?,
+        }),
+        "remove" => Ok(Command::Remove {
+            names: filter_of(alloc, found)?,
+        }),
+        _ => Ok(Command::Gcov {
+            test: test_of(alloc, found)?,
+            names: files_of(alloc, found)?,
+        }),
+    }
+}
+
+/// The number of jobs.
+fn jobs_of(found: &ArgMatches<'_>) -> u32
+    requires { HasJobs (rows_of (found_of found.now)) }
+    ensures number { IsNumberOf (rows_of (found_of found.now)) result }
+    ensures bounds { (1 ≤ result) × (result ≤ 64) }
+{
+    found.get_one::<u32>("jobs").unwrap()
+}
+
+/// The names of the files.
+fn files_of(alloc: Global, found: &ArgMatches<'_>) -> Result<Names, Memory>
+    requires { HasSome (codes "FILE") (rows_of (found_of found.now)) }
+    ensures names { IfOk result (λ n. n ≡ values_of (codes "FILE") (rows_of (found_of found.now))) }
+    ensures some { IfOk result (λ n. 1 ≤ length n) }
+{
+    let mut names = Names::new(alloc);
+    push_values(&mut names, alloc, found, "FILE")?;
+    Ok(names)
+}
+
+/// The names of the tracefile and the patterns.
+fn filter_of(alloc: Global, found: &ArgMatches<'_>) -> Result<Names, Memory>
+    requires { HasFilter (rows_of (found_of found.now)) }
+    ensures names { IfOk result (λ n. n ≡ tracefile_and_patterns (rows_of (found_of found.now))) }
+    ensures some { IfOk result (λ n. 2 ≤ length n) }
+{
+    let mut names = Names::new(alloc);
+    push_values(&mut names, alloc, found, "TRACEFILE")?;
+    push_values(&mut names, alloc, found, "PATTERN")?;
+    Ok(names)
+}
+
+/// The name of the test.
+fn test_of(alloc: Global, found: &ArgMatches<'_>) -> Result<Bytes, Memory>
+    requires { HasTest (rows_of (found_of found.now)) }
+    ensures { IfOk result (λ test. first_of (codes "test") (rows_of (found_of found.now)) ≡ Some test) }
+{
+    let name = found.get_str("test").unwrap();
+    Bytes::of(alloc, name.as_bytes())
+}
+
+/// Appends the words that clap found for the argument, in their order.
+fn push_values(
+    names: &mut Names,
+    alloc: Global,
+    found: &ArgMatches<'_>,
+    id: &str,
+) -> Result<(), Memory>
+    ensures { OnOk result (names.new ≡ names.old ++ values_of id.now (rows_of (found_of found.now))) }
+{
+    if let Some(words) = found.get_strs(id) {
+        names.push_copies(alloc, words)?;
+    }
+    Ok(())
+}

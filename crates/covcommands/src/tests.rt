@@ -1,0 +1,87 @@
+//! Calls of the program, as their words. What is wanted was worked out by hand from what a call means; the words of a refusal
+//! are clap's.
+//!
+//! Examples are text, so that they cost the proof of these tests nothing: a line has a call and, behind ` => `, its answer.
+
+use covcommand::{Command, CommandFault, Names, command};
+use std::alloc::Global;
+use std::process::Abort;
+use std::test::*;
+
+mod calls;
+mod help;
+
+/// What the words ask for, without what is promised of it: a test looks at what it does, and its proof is quicker so.
+fn asked(alloc: Global, words: &[String]) -> Result<Command, CommandFault> {
+    command(alloc, words)
+}
+
+/// The words of a call: what stands between spaces, and patterns without their quotes.
+fn words_of(alloc: Global, call: &str) -> Result<Vec<String>, Fail> {
+    let mut words = Vec::new(alloc);
+    for word in call.split_whitespace() {
+        words.push(String::from_str(alloc, word.trim_matches('\''))?)?;
+    }
+    Ok(words)
+}
+
+/// What is said of a call: its command, or its refusal.
+fn answer(alloc: Global, call: &str) -> Result<String, Fail> {
+    let words = words_of(alloc, call)?;
+    match asked(alloc, words.as_slice()) {
+        Ok(command) => told(alloc, &command),
+        Err(fault) => refused(alloc, &fault),
+    }
+}
+
+/// The refusal in words: its number and exit status, and the first line of its text.
+fn refused(alloc: Global, fault: &CommandFault) -> Result<String, Fail> {
+    let text = format!(in alloc; "{fault}")?;
+    let first = text.as_str().lines().next().unwrap_or("");
+    Ok(format!(in alloc; "{} {} {first}", fault.number(), fault.status())?)
+}
+
+/// The command in words: its subcommand, its number of jobs or its test, and its names.
+fn told(alloc: Global, command: &Command) -> Result<String, Fail> {
+    match command {
+        Command::Session => Ok(String::from_str(alloc, "session")?),
+        Command::Merge { jobs, names } => {
+            let head = format!(in alloc; "merge ({jobs})")?;
+            with_names(head, names)
+        }
+        Command::Summary { names } => with_names(String::from_str(alloc, "summary")?, names),
+        Command::Extract { names } => with_names(String::from_str(alloc, "extract")?, names),
+        Command::Remove { names } => with_names(String::from_str(alloc, "remove")?, names),
+        Command::Gcov { test, names } => {
+            let test: String = String::from_utf8_lossy(alloc, test.get())?;
+            with_names(format!(in alloc; "gcov ({test})")?, names)
+        }
+    }
+}
+
+/// The text with each name behind it, in brackets.
+fn with_names(mut text: String, names: &Names) -> Result<String, Fail> {
+    for name in names.get() {
+        text.push_str(" [")?;
+        text.push_str(name.as_str())?;
+        text.push(']')?;
+    }
+    Ok(text)
+}
+
+/// Each line's call has the line's answer.
+fn check_all(rt: &(impl Abort + AllocGlobal), examples: &str) -> Result<(), Fail> {
+    for line in examples.lines() {
+        if let Some((call, wanted)) = line.split_once(" => ") {
+            check(rt, call, wanted)?;
+        }
+    }
+    Ok(())
+}
+
+/// The call has this answer.
+fn check(rt: &(impl Abort + AllocGlobal), call: &str, wanted: &str) -> Result<(), Fail> {
+    let given = answer(rt.alloc(), call)?;
+    assert!(rt; given.as_str() == wanted, "{call} => {given}");
+    Ok(())
+}

@@ -1,0 +1,125 @@
+//! What calls ask for, and how they are refused.
+
+use super::{asked, check_all, told};
+use std::alloc::Global;
+use std::process::Abort;
+use std::test::*;
+
+/// No words but the program's name, and no words at all.
+#[test]
+fn without_a_subcommand(rt: HostRuntime) -> Result<(), Fail> {
+    check_all(
+        &rt,
+        "\
+covcollect => session
+covcollect -- => session
+ => session
+",
+    )
+}
+
+/// Each subcommand, with its names in their order.
+#[test]
+fn subcommands(rt: HostRuntime) -> Result<(), Fail> {
+    check_all(
+        &rt,
+        "\
+covcollect merge a.info => merge (1) [a.info]
+covcollect merge b.info a.info b.info => merge (1) [b.info] [a.info] [b.info]
+covcollect summary b.info a.info => summary [b.info] [a.info]
+covcollect extract a.info '*/src/*' '*.h' => extract [a.info] [*/src/*] [*.h]
+covcollect remove a.info '/usr/*' => remove [a.info] [/usr/*]
+covcollect gcov --test unit main.c.gcov util.c.gcov => gcov (unit) [main.c.gcov] [util.c.gcov]
+covcollect gcov main.c.gcov --test unit => gcov (unit) [main.c.gcov]
+covcollect gcov --test=a=b main.c.gcov => gcov (a=b) [main.c.gcov]
+covcollect gcov --test= main.c.gcov => gcov () [main.c.gcov]
+covcollect merge -- --jobs 4 => merge (1) [--jobs] [4]
+covcollect extract a.info -- -x => extract [a.info] [-x]
+covcollect merge merge => merge (1) [merge]
+",
+    )
+}
+
+/// The number of jobs, from 1 to 64.
+#[test]
+fn jobs(rt: HostRuntime) -> Result<(), Fail> {
+    check_all(
+        &rt,
+        "\
+covcollect merge --jobs 1 a.info => merge (1) [a.info]
+covcollect merge --jobs 64 a.info => merge (64) [a.info]
+covcollect merge --jobs=7 a.info => merge (7) [a.info]
+covcollect merge --jobs 007 a.info => merge (7) [a.info]
+covcollect merge a.info --jobs 2 b.info => merge (2) [a.info] [b.info]
+covcollect merge --jobs 0 a.info => 2 2 error: invalid value '0' for '--jobs <N>': 0 is not in 1..=64
+covcollect merge --jobs 65 a.info => 2 2 error: invalid value '65' for '--jobs <N>': 65 is not in 1..=64
+covcollect merge --jobs x a.info => 2 2 error: invalid value 'x' for '--jobs <N>': invalid digit found in string
+covcollect merge --jobs 2 --jobs 3 a.info => 2 2 error: the argument '--jobs <N>' cannot be used multiple times
+covcollect summary --jobs 2 a.info => 2 2 error: unexpected argument '--jobs' found
+",
+    )
+}
+
+/// Words that are missing, and words that nothing takes.
+#[test]
+fn refusals(rt: HostRuntime) -> Result<(), Fail> {
+    check_all(
+        &rt,
+        "\
+covcollect merge => 2 2 error: the following required arguments were not provided:
+covcollect merge --jobs 2 => 2 2 error: the following required arguments were not provided:
+covcollect merge a.info --jobs => 2 2 error: a value is required for '--jobs <N>' but none was supplied
+covcollect summary => 2 2 error: the following required arguments were not provided:
+covcollect extract => 2 2 error: the following required arguments were not provided:
+covcollect extract a.info => 2 2 error: the following required arguments were not provided:
+covcollect remove a.info => 2 2 error: the following required arguments were not provided:
+covcollect gcov main.c.gcov => 2 2 error: the following required arguments were not provided:
+covcollect gcov --test unit => 2 2 error: the following required arguments were not provided:
+covcollect gcov --test unit --test unit main.c.gcov => 2 2 error: the argument '--test <NAME>' cannot be used multiple times
+covcollect merge -o out a.info => 2 2 error: unexpected argument '-o' found
+covcollect -a a.info => 2 2 error: unexpected argument '-a' found
+covcollect bogus => 2 2 error: unrecognized subcommand 'bogus'
+covcollect a.info => 2 2 error: unrecognized subcommand 'a.info'
+covcollect Merge a.info => 2 2 error: unrecognized subcommand 'Merge'
+covcollect help => 2 2 error: unrecognized subcommand 'help'
+covcollect --version => 2 2 error: unexpected argument '--version' found
+",
+    )
+}
+
+/// A name is a word as it is: with spaces in it, empty, in any script.
+#[test]
+fn names_as_they_are(rt: HostRuntime) -> Result<(), Fail> {
+    let alloc = rt.alloc();
+    let words = [
+        String::from_str(alloc, "covcollect")?,
+        String::from_str(alloc, "summary")?,
+        String::from_str(alloc, "my files/a.info")?,
+        String::from_str(alloc, "")?,
+        String::from_str(alloc, "größe.info")?,
+    ];
+    check_words(
+        &rt,
+        words.as_slice(),
+        "summary [my files/a.info] [] [größe.info]",
+    )
+}
+
+/// The words have this answer.
+fn check_words(
+    rt: &(impl Abort + AllocGlobal),
+    words: &[String],
+    wanted: &str,
+) -> Result<(), Fail> {
+    let given = told_of(rt.alloc(), words)?;
+    assert!(rt; given.as_str() == wanted, "{given}");
+    Ok(())
+}
+
+/// The command of the words, in words.
+fn told_of(alloc: Global, words: &[String]) -> Result<String, Fail> {
+    match asked(alloc, words) {
+        Ok(command) => told(alloc, &command),
+        Err(fault) => Ok(format!(in alloc; "{fault}")?),
+    }
+}

@@ -1,0 +1,138 @@
+//! What help says.
+
+use super::{asked, check_all, told, words_of};
+use covcommand::CommandFault;
+use std::alloc::Global;
+use std::process::Abort;
+use std::test::*;
+
+/// Help is no failure, whatever else the call has.
+#[test]
+fn help_at_both_levels(rt: HostRuntime) -> Result<(), Fail> {
+    check_all(
+        &rt,
+        "\
+covcollect --help => 1 0 Merges, filters and sums up coverage data of lcov and gcov
+covcollect -h => 1 0 Merges, filters and sums up coverage data of lcov and gcov
+covcollect --help merge => 1 0 Merges, filters and sums up coverage data of lcov and gcov
+covcollect merge --help => 1 0 Merges tracefiles: counts add up by test and file (lcov -a)
+covcollect merge -h => 1 0 Merges tracefiles: counts add up by test and file (lcov -a)
+covcollect merge --jobs 4 a.info --help => 1 0 Merges tracefiles: counts add up by test and file (lcov -a)
+covcollect summary --help => 1 0 Tells how much of the code is hit (lcov --summary)
+covcollect extract --help => 1 0 Keeps the source files that match a pattern (lcov -e)
+covcollect remove --help => 1 0 Leaves out the source files that match a pattern (lcov -r)
+covcollect gcov --help => 1 0 Makes a tracefile of what gcov wrote (geninfo)
+",
+    )
+}
+
+/// The help that a call asks for.
+fn help_of(alloc: Global, call: &str) -> Result<String, Fail> {
+    let words = words_of(alloc, call)?;
+    match asked(alloc, words.as_slice()) {
+        Err(CommandFault::Help(text)) => Ok(text),
+        _ => Ok(String::new(alloc)),
+    }
+}
+
+/// The program's help is just this.
+#[test]
+fn the_whole_help(rt: HostRuntime) -> Result<(), Fail> {
+    let help = help_of(rt.alloc(), "covcollect --help")?;
+    check_text(
+        &rt,
+        help.as_str(),
+        "\
+Merges, filters and sums up coverage data of lcov and gcov
+
+Usage: covcollect [COMMAND]
+
+Commands:
+  merge    Merges tracefiles: counts add up by test and file (lcov -a)
+  summary  Tells how much of the code is hit (lcov --summary)
+  extract  Keeps the source files that match a pattern (lcov -e)
+  remove   Leaves out the source files that match a pattern (lcov -r)
+  gcov     Makes a tracefile of what gcov wrote (geninfo)
+
+Options:
+  -h, --help  Print help
+
+Without a subcommand a session is read from standard input: a command on each
+line, answered on standard output. covcollect(1) has its commands.
+
+In place of lcov's calls write (with the patterns in quotes):
+  lcov -a A.info -a B.info -o OUT    covcollect merge A.info B.info > OUT
+  lcov -e A.info '*/src/*' -o OUT    covcollect extract A.info '*/src/*' > OUT
+  lcov -r A.info '/usr/*' -o OUT     covcollect remove A.info '/usr/*' > OUT
+  lcov --summary A.info              covcollect summary A.info
+
+Exit status:
+  0  done
+  1  a file can't be read, or reading or writing failed
+  2  the call is wrong: its words, a pattern or the name of a test
+  3  memory ran out, or the history is full
+  4  a file was refused, or checksums clash; nothing is on standard output
+",
+    )
+}
+
+fn check_text(rt: &impl Abort, given: &str, wanted: &str) -> Result<(), Fail> {
+    assert!(rt; given == wanted, "{given}");
+    Ok(())
+}
+
+/// Each call of the program in a help's examples is one that it takes, with the subcommand that stands there.
+#[test]
+fn examples_are_taken(rt: HostRuntime) -> Result<(), Fail> {
+    check_examples(&rt, "covcollect --help", 4)?;
+    check_examples(&rt, "covcollect merge --help", 2)?;
+    check_examples(&rt, "covcollect summary --help", 1)?;
+    check_examples(&rt, "covcollect extract --help", 2)?;
+    check_examples(&rt, "covcollect remove --help", 2)?;
+    check_examples(&rt, "covcollect gcov --help", 1)
+}
+
+/// The help has so many calls of the program as examples, and takes each.
+fn check_examples(rt: &(impl Abort + AllocGlobal), call: &str, wanted: usize) -> Result<(), Fail> {
+    let help = help_of(rt.alloc(), call)?;
+    let mut examples: usize = 0;
+    for line in help.as_str().lines() {
+        if let Some(example) = example_in(line) {
+            check_example(rt, example)?;
+            examples = examples.saturating_add(1);
+        }
+    }
+    assert!(rt; examples == wanted, "{call} has {examples}");
+    Ok(())
+}
+
+/// The call of the program that a line has as an example, without where its output goes: it is indented, or stands beside a
+/// call of lcov.
+fn example_in(line: &str) -> Option<&str> {
+    let (before, call) = line.strip_prefix("  ")?.split_once("covcollect ")?;
+    if !before.is_empty() && !before.starts_with("lcov ") {
+        return None;
+    }
+    Some(
+        call.split_once(" > ")
+            .map_or(call, |(words, _output)| words),
+    )
+}
+
+/// The program takes the call, and it asks for the subcommand that is its first word.
+fn check_example(rt: &(impl Abort + AllocGlobal), call: &str) -> Result<(), Fail> {
+    let given = told_behind_name(rt.alloc(), call)?;
+    let wanted = call.split_whitespace().next().unwrap_or("");
+    assert!(rt; given.as_str().starts_with(wanted), "{call} => {given}");
+    Ok(())
+}
+
+/// What a call asks for, given without the program's name.
+fn told_behind_name(alloc: Global, call: &str) -> Result<String, Fail> {
+    let call = format!(in alloc; "covcollect {call}")?;
+    let words = words_of(alloc, call.as_str())?;
+    match asked(alloc, words.as_slice()) {
+        Ok(command) => told(alloc, &command),
+        Err(fault) => Ok(format!(in alloc; "{fault}")?),
+    }
+}

@@ -1,0 +1,87 @@
+-- What is refused, in the order of the places, is one list.
+use Rattle.std.proofs.Common.{◌≡◌, ◌∙◌, inl, inr, ℕ, suc, ◌<◌, ◌≤◌, Bool, cond, List, [], ◌∷◌, ◌++◌, length, map, ap, sym, refl, arith, slice_index_or}
+use Rattle.std.proofs.Math.Dec.{eqb}
+use Rattle.std.proofs.lemmas.Bool.Decides.{eqb_tells}
+use Rattle.std.specs.List.{AllByRecursion}
+use Rattle.std.specs.List.Sorted.{IsNonDecreasingBy}
+use Rattle.covjobs.specs.declared.refused.RefusedInput.{RefusedInput}
+use Rattle.covjobs.specs.Collect.{refusal}
+use Rattle.covjobs.proofs.Places.{times}
+use Rattle.covjobs.proofs.Taken.{Fate}
+
+-- no number is above a later one
+abbrev pub Up : List ℕ → Type 0
+Up [] = Unit {0}
+Up (x ∷ xs) = AllByRecursion (λ (y : ℕ). x ≤ y) xs × Up xs
+
+least_comes : (x y : ℕ) (ys : List ℕ) → AllByRecursion (λ (z : ℕ). y ≤ z) ys → 0 < times x (y ∷ ys) → y ≤ x
+least_comes x y ys above some = elim (eqb_tells x y) [
+  | inl (yes_is, same) ↦ omega (arith, same)
+  | inr (no_is, differs) ↦ let none : cond (eqb x y) 1 0 ≡ 0 = ap (λ (b : Bool). cond {A = ℕ} b 1 0) no_is in later x y ys above (omega (arith, none, some))
+]
+  where
+    later : (x y : ℕ) (ys : List ℕ) → AllByRecursion (λ (z : ℕ). y ≤ z) ys → 0 < times x ys → y ≤ x
+    later x y [] above some = absurd (omega (arith, some))
+    later x y (z ∷ ys) above some = elim (eqb_tells x z) [
+      | inl (yes_is, same) ↦ omega (arith, same, above.0)
+      | inr (no_is, differs) ↦ let none : cond (eqb x z) 1 0 ≡ 0 = ap (λ (b : Bool). cond {A = ℕ} b 1 0) no_is in later x y ys above.1 (omega (arith, none, some))
+    ]
+
+comes_first : (x : ℕ) (xs : List ℕ) → 0 < times x (x ∷ xs)
+comes_first x xs = elim (eqb_tells x x) [
+  | inl (yes_is, same) ↦ let one : cond (eqb x x) 1 0 ≡ 1 = ap (λ (b : Bool). cond {A = ℕ} b 1 0) yes_is in omega (arith, one)
+  | inr (no_is, differs) ↦ absurd (differs refl)
+]
+
+-- two such lists are one, if each number comes as often in both
+pub one_order : (xs ys : List ℕ) → Up xs → Up ys → ((k : ℕ) → times k xs ≡ times k ys) → xs ≡ ys
+one_order [] [] up ups same = refl
+one_order [] (y ∷ ys) up ups same = absurd (omega (arith, same y, comes_first y ys))
+one_order (x ∷ xs) [] up ups same = absurd (omega (arith, same x, comes_first x xs))
+one_order (x ∷ xs) (y ∷ ys) up ups same =
+    let low : y ≤ x = least_comes x y ys ups.0 (omega (arith, same x, comes_first x xs)) in
+    let high : x ≤ y = least_comes y x xs up.0 (omega (arith, same y, comes_first y ys)) in
+    let is : x ≡ y = omega (arith, low, high) in
+    let rest : (k : ℕ) → times k xs ≡ times k ys = λ k. (let whole = same k in let head : cond (eqb k x) 1 0 ≡ cond (eqb k y) 1 0 = ap (λ (n : ℕ). cond {A = ℕ} (eqb k n) 1 0) is in omega (arith, whole, head)) in
+    ap (λ (n : ℕ). n ∷ xs) is ∙ ap (λ (zs : List ℕ). y ∷ zs) (one_order xs ys up.1 ups.1 rest)
+
+abbrev pub places_of : List RefusedInput → List ℕ
+places_of inputs = map (λ (r : RefusedInput). r.index) inputs
+
+-- an input that is refused is what became of the input at its place
+abbrev pub IsRefusal : (ℕ → Fate) → RefusedInput → Type 0
+IsRefusal fate r = refusal r.index (fate r.index) ≡ r ∷ []
+
+same_refusal : (fate : ℕ → Fate) (a b : RefusedInput) → IsRefusal fate a → IsRefusal fate b → a.index ≡ b.index → a ≡ b
+same_refusal fate a b of_a of_b same = head_is a b (sym of_a ∙ ap (λ (i : ℕ). refusal i (fate i)) same ∙ of_b)
+  where
+    head_is : (a b : RefusedInput) → ◌≡◌ {A = List RefusedInput} (a ∷ []) (b ∷ []) → a ≡ b
+    head_is a b is = cc
+
+pub one_refused : (fate : ℕ → Fate) (some others : List RefusedInput) → AllByRecursion (IsRefusal fate) some → AllByRecursion (IsRefusal fate) others → places_of some ≡ places_of others → some ≡ others
+one_refused fate [] [] all alls same = refl
+one_refused fate [] (b ∷ others) all alls same = absurd cc
+one_refused fate (a ∷ some) [] all alls same = absurd cc
+one_refused fate (a ∷ some) (b ∷ others) all alls same =
+    ap (λ (r : RefusedInput). r ∷ some) (same_refusal fate a b all.0 alls.0 cc) ∙ ap (λ (rs : List RefusedInput). b ∷ rs) (one_refused fate some others all.1 alls.1 cc)
+
+-- ---- what is sorted goes up
+
+all_from_places : (least : ℕ) (inputs : List RefusedInput) → ((j : ℕ) (d : RefusedInput) → j < length inputs → least ≤ (slice_index_or inputs j d).index) → AllByRecursion (λ (y : ℕ). least ≤ y) (places_of inputs)
+all_from_places least [] above = tt
+all_from_places least (r ∷ inputs) above = (above 0 r (omega arith), all_from_places least inputs (λ j d less. above (suc j) d (omega (arith, less))))
+
+pub up_from_sorted : (inputs : List RefusedInput) → IsNonDecreasingBy (λ (r : RefusedInput). r.index) inputs → Up (places_of inputs)
+up_from_sorted [] sorted = tt
+up_from_sorted (r ∷ inputs) sorted =
+    (all_from_places r.index inputs (λ j d less. sorted 0 (suc j) d (omega arith) (omega (arith, less))), up_from_sorted inputs (λ i j d le less. sorted (suc i) (suc j) d (omega (arith, le)) (omega (arith, less))))
+
+-- ---- what all places bring goes up
+
+pub up_behind : (xs : List ℕ) (n : ℕ) → Up xs → AllByRecursion (λ (x : ℕ). x < n) xs → Up (xs ++ n ∷ [])
+up_behind [] n up below = (tt, tt)
+up_behind (x ∷ xs) n up below = (all_behind x xs n up.0 below.0, up_behind xs n up.1 below.1)
+  where
+    all_behind : (x : ℕ) (xs : List ℕ) (n : ℕ) → AllByRecursion (λ (y : ℕ). x ≤ y) xs → x < n → AllByRecursion (λ (y : ℕ). x ≤ y) (xs ++ n ∷ [])
+    all_behind x [] n above less = (omega (arith, less), tt)
+    all_behind x (y ∷ xs) n above less = (above.0, all_behind x xs n above.1 less)

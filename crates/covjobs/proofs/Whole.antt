@@ -1,0 +1,111 @@
+-- What all workers have done, by one telling of what became of each input.
+use Rattle.std.proofs.Common.{◌≡◌, ◌∙◌, inl, inr, ℕ, zero, suc, ◌+◌, ◌<◌, ◌%◌, Bool, true, IsTrue, List, [], ◌∷◌, length, map, Err, slice_get, ap, sym, refl, subst, arith}
+use Rattle.std.specs.Prelude.{IsSomeAnd}
+use Rattle.std.specs.List.{AllByRecursion, range_with_len}
+use Rattle.std.proofs.Math.Dec.{eqb}
+use Rattle.std.proofs.lemmas.Bool.{eq-eqb, false≢true}
+use Rattle.std.proofs.lemmas.Bool.Decides.{eqb_tells}
+use Rattle.std.proofs.lemmas.Nat.{mod_below}
+use Rattle.covline.specs.Row.{SubmissionData}
+use Rattle.covread.specs.declared.fault.ReadFault.TheVariants as faults
+use Rattle.covbook.specs.Op.{SubmitOp}
+use Rattle.covjobs.specs.Collect.{InputData, IsFate, AreFates, submitted, refusal, places_of_job, submissions_of, refusals_of, ops_in}
+use Rattle.covjobs.specs.Seat.{fresh_seat}
+use Rattle.covjobs.specs.Work.{WorkerData, WorkData, HasDone, HaveDone, work_of}
+use Rattle.covjobs.proofs.Taken.{Fate}
+use Rattle.covjobs.proofs.Together.{brought_own}
+
+-- the work of so many jobs from a number on
+abbrev pub works_from : List InputData → (jobs from count : ℕ) → List WorkData
+works_from inputs jobs from count = map (work_of inputs jobs) (map fresh_seat (range_with_len from count))
+
+-- what became of the inputs of the job at a place
+abbrev fates_at : (works : List WorkData) (workers : List WorkerData) → HaveDone works workers → ℕ → ℕ → Fate
+fates_at [] [] done k = λ index. Err faults.Memory
+fates_at [] (worker ∷ workers) done k = absurd done
+fates_at (work ∷ works) [] done k = absurd done
+fates_at (work ∷ works) (worker ∷ workers) done zero = done.0.taken.fate
+fates_at (work ∷ works) (worker ∷ workers) done (suc k) = fates_at works workers done.1 k
+
+-- a worker has asked and refused what one telling of all inputs says
+pub record HasTold (jobs count : ℕ) (fate : ℕ → Fate) (worker : WorkerData) : Type 0 where
+  pub asked : ops_in worker.receipts ≡ map SubmitOp (submissions_of (places_of_job jobs worker.seat.job) fate count)
+  pub are_refused : worker.refused ≡ refusals_of (places_of_job jobs worker.seat.job) fate count
+
+told : (inputs : List InputData) (jobs job : ℕ) (worker : WorkerData) (done : HasDone (record { inputs = inputs; jobs = jobs; job = job }) worker) (whole : ℕ → Fate)
+    → ((index : ℕ) → index % jobs ≡ job → whole index ≡ done.taken.fate index) → HasTold jobs (length inputs) whole worker
+told inputs jobs job worker done whole same =
+    let own = done.taken.fate in
+    let agree : (index : ℕ) → index < length inputs → places_of_job jobs job index ≡ true → whole index ≡ own index = λ index less meant. same index (is_own jobs job index meant) in
+    record {
+      asked =
+          (subst (λ (j : ℕ). ops_in worker.receipts ≡ map SubmitOp (submissions_of (places_of_job jobs j) whole (length inputs))) (sym done.own)
+          (done.taken.asked ∙ sym (ap (λ (subs : List SubmissionData). map SubmitOp subs) (brought_own (places_of_job jobs job) (λ index. submitted (own index)) (λ index. submitted (whole index)) (length inputs) (λ index less meant. ap (λ (f : Fate). submitted f) (agree index less meant))))));
+      are_refused =
+          (subst (λ (j : ℕ). worker.refused ≡ refusals_of (places_of_job jobs j) whole (length inputs)) (sym done.own)
+          (done.taken.are_refused ∙ sym (brought_own (places_of_job jobs job) (λ index. refusal index (own index)) (λ index. refusal index (whole index)) (length inputs) (λ index less meant. ap (λ (f : Fate). refusal index f) (agree index less meant)))));
+    }
+  where
+    is_own : (jobs job index : ℕ) → eqb (index % jobs) job ≡ true → index % jobs ≡ job
+    is_own jobs job index meant = elim (eqb_tells (index % jobs) job) [
+      | inl (yes_is, same) ↦ same
+      | inr (no_is, differs) ↦ absurd (false≢true (sym no_is ∙ meant))
+    ]
+
+-- all workers have told so, and they are of the jobs in order
+pub record HaveTold (jobs from some count : ℕ) (fate : ℕ → Fate) (workers : List WorkerData) : Type 0 where
+  pub are : map (λ (w : WorkerData). w.seat.job) workers ≡ range_with_len from some
+  pub each : AllByRecursion (HasTold jobs count fate) workers
+
+have_told : (inputs : List InputData) (jobs from some : ℕ) (workers : List WorkerData) (done : HaveDone (works_from inputs jobs from some) workers) (whole : ℕ → Fate)
+    → ((k index : ℕ) → index % jobs ≡ from + k → whole index ≡ fates_at (works_from inputs jobs from some) workers done k index) → HaveTold jobs from some (length inputs) whole workers
+have_told inputs jobs from zero [] done whole same = record { are = refl; each = tt }
+have_told inputs jobs from zero (worker ∷ workers) done whole same = absurd done
+have_told inputs jobs from (suc some) [] done whole same = absurd done
+have_told inputs jobs from (suc some) (worker ∷ workers) done whole same =
+    let rest = have_told inputs jobs (from + 1) some workers done.1 whole (λ k index is. same (suc k) index (is ∙ one_more from k)) in
+    record {
+      are = ap (λ (job : ℕ). job ∷ map (λ (w : WorkerData). w.seat.job) workers) done.0.own ∙ ap (λ (jobs : List ℕ). from ∷ jobs) rest.are;
+      each = (told inputs jobs from worker done.0 whole (λ index is. same 0 index (is ∙ none_more from)), rest.each);
+    }
+  where
+    one_more : (from k : ℕ) → from + 1 + k ≡ from + suc k
+    one_more from k = omega arith
+
+    none_more : (from : ℕ) → from ≡ from + 0
+    none_more from = omega arith
+
+holds_at : (inputs : List InputData) (jobs from some : ℕ) (workers : List WorkerData) (done : HaveDone (works_from inputs jobs from some) workers) (k index : ℕ)
+    → k < some → index < length inputs → index % jobs ≡ from + k → IsSomeAnd (slice_get inputs index) (λ input. IsFate input (fates_at (works_from inputs jobs from some) workers done k index))
+holds_at inputs jobs from zero workers done k index below less is = absurd (omega (arith, below))
+holds_at inputs jobs from (suc some) [] done k index below less is = absurd done
+holds_at inputs jobs from (suc some) (worker ∷ workers) done zero index below less is = done.0.taken.fates index less (true_is (eq-eqb (index % jobs) from (is ∙ none_more from)))
+  where
+    none_more : (from : ℕ) → from + 0 ≡ from
+    none_more from = omega arith
+
+    true_is : {b : Bool} → b ≡ true → IsTrue b
+    true_is e = e
+holds_at inputs jobs from (suc some) (worker ∷ workers) done (suc k) index below less is = holds_at inputs jobs (from + 1) some workers done.1 k index (omega (arith, below)) less (is ∙ one_more from k)
+  where
+    one_more : (from k : ℕ) → from + suc k ≡ from + 1 + k
+    one_more from k = omega arith
+
+-- all that became of the inputs, told as one
+pub record IsWhole (inputs : List InputData) (jobs : ℕ) (workers : List WorkerData) : Type 0 where
+  pub fate : ℕ → Fate
+  pub fates : AreFates inputs fate
+  pub tell : HaveTold jobs 0 jobs (length inputs) fate workers
+
+pub whole_of : (inputs : List InputData) (jobs : ℕ) (workers : List WorkerData) → 0 < jobs → HaveDone (works_from inputs jobs 0 jobs) workers → IsWhole inputs jobs workers
+whole_of inputs jobs workers some done =
+    let at = fates_at (works_from inputs jobs 0 jobs) workers done in
+    let whole : ℕ → Fate = λ index. at (index % jobs) index in
+    record {
+      fate = whole;
+      fates = λ index less. holds_at inputs jobs 0 jobs workers done (index % jobs) index (mod_below index jobs some) less (sym (none_before (index % jobs)));
+      tell = have_told inputs jobs 0 jobs workers done whole (λ k index is. ap (λ (j : ℕ). at j index) (is ∙ none_before k));
+    }
+  where
+    none_before : (k : ℕ) → 0 + k ≡ k
+    none_before k = omega arith

@@ -1,0 +1,10 @@
+use Rattle.std.specs.Prelude.{◌≡◌, ◌++◌, IsTrue, map}
+use Rattle.covjobs.specs.InputView.{input_data}
+use Rattle.covjobs.specs.Work.{work_of}
+use Rattle.covjobs.proofs.workers.fn.work_at_once.scope.Given as goal
+
+-- while each worker could be started, those that are at work and the seats that are left are all
+abbrev pub invariant-loop-seat : goal.invariant-loop-seat
+invariant-loop-seat g l =
+    IsTrue l.all_started
+    → map (λ h. h.promise) l.handles.items ++ map (work_of (map input_data l.inputs.now) l.jobs) l.seat-iterator.rest.items ≡ map (work_of (map input_data l.inputs.now) l.jobs) l.initial.seat-iterator.rest.items

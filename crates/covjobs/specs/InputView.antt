@@ -1,0 +1,8 @@
+-- Inputs of the code, seen as plain data.
+use Rattle.covjobs.specs.declared.input.Input.{Input}
+use Rattle.covjobs.specs.declared.input.Input.TheVariants as inputs
+use Rattle.covjobs.specs.Collect.{InputData, TraceInput, GcovInput}
+
+abbrev pub input_data : {A : Type 0} → Input A → InputData
+input_data (inputs.Trace text) = TraceInput text
+input_data (inputs.Gcov test text) = GcovInput test text

@@ -1,0 +1,95 @@
+//! Why inputs aren't collected.
+
+use crate::name::OpenFault;
+use covbook::{BookFault, GatherFault};
+use covline::Memory;
+use thiserror::Error;
+
+/// Why inputs aren't collected. A job stops at its first `Full` or `Memory`, the others go on to their end, and the fault of
+/// the least job is told.
+#[derive(Clone, Copy, Debug, PartialEq, Eq, Error)]
+pub enum CollectFault {
+    /// Fault 1: there are no jobs, or more than 64. This is tested first.
+    #[error("BadJobs")]
+    BadJobs,
+    /// Fault 2: the history has 1,048,576 entries.
+    #[error("book full")]
+    Full,
+    /// Fault 3: a growth was refused, or a worker couldn't be started.
+    #[error("out of memory")]
+    Memory,
+    /// Fault 4: the history isn't a merge of what the jobs were told.
+    #[error("gather: {0}")]
+    Gather(GatherFault),
+    /// Fault 5: an entry stands behind that of the last operation. This is tested last.
+    #[error("NotLast")]
+    NotLast,
+}
+
+impl CollectFault {
+    ghost use Rattle.std.specs.Prelude.{◌≡◌};
+    ghost use Rattle.covjobs.specs.CollectFault.{collect_number};
+
+    /// The number of the fault, from 1.
+    pub fn number(self) -> u32
+        ensures { result ≡ collect_number self }
+    {
+        match self {
+            CollectFault::BadJobs => 1,
+            CollectFault::Full => 2,
+            CollectFault::Memory => 3,
+            CollectFault::Gather(_) => 4,
+            CollectFault::NotLast => 5,
+        }
+    }
+}
+
+impl From<Memory> for CollectFault {
+    ghost use Rattle.std.specs.Prelude.{◌≡◌};
+    ghost use Rattle.covjobs.specs.declared.collect_fault.CollectFault.TheVariants as faults;
+
+    ghost from_gives = { λ _ e. e ≡ faults.Memory };
+
+    fn from(_refused: Memory) -> CollectFault {
+        CollectFault::Memory
+    }
+}
+
+impl From<OpenFault> for CollectFault {
+    ghost use Rattle.std.specs.Prelude.{◌≡◌};
+    ghost use Rattle.covjobs.specs.CollectFault.{of_open};
+
+    ghost from_gives = { λ fault e. e ≡ of_open fault };
+
+    fn from(fault: OpenFault) -> CollectFault {
+        match fault {
+            OpenFault::BadJobs => CollectFault::BadJobs,
+            OpenFault::Memory => CollectFault::Memory,
+        }
+    }
+}
+
+impl From<BookFault> for CollectFault {
+    ghost use Rattle.std.specs.Prelude.{◌≡◌};
+    ghost use Rattle.covjobs.specs.CollectFault.{of_book};
+
+    ghost from_gives = { λ fault e. e ≡ of_book fault };
+
+    fn from(fault: BookFault) -> CollectFault {
+        match fault {
+            BookFault::Full => CollectFault::Full,
+            BookFault::Memory => CollectFault::Memory,
+        }
+    }
+}
+
+impl From<GatherFault> for CollectFault {
+    ghost use Rattle.std.specs.Prelude.{◌≡◌};
+    ghost use Rattle.covjobs.specs.declared.collect_fault.CollectFault.TheVariants as faults;
+
+    ghost from_gives = { λ fault e. e ≡ faults.Gather fault };
+
+    fn from(fault: GatherFault) -> CollectFault {
+        CollectFault::Gather(fault)
+    }
+}

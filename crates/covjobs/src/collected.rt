@@ -1,0 +1,155 @@
+//! Collecting: many texts into one history, by jobs that work at once.
+
+use crate::collect_fault::CollectFault;
+use crate::gate::Gate;
+use crate::handed::Seats;
+use crate::input::Input;
+use crate::name::{Name, Start};
+use crate::refused::Refused;
+use crate::shared::{Shared, open_book};
+use crate::worker::Worker;
+use crate::workers::work_at_once;
+use covbook::laws::{a_run_goes_on, order_does_not_matter};
+use covbook::{BookFault, Entries, Logs, Op, gather};
+use covline::Memory;
+use std::alloc::Global;
+use std::marker::Brand;
+use std::sync::Wait;
+use std::thread::Threads;
+
+/// What is collected.
+#[derive(Drop)]
+pub struct Collected {
+    /// The history. Its last entry is that of the last operation.
+    pub entries: Entries,
+    /// What each job was told, from job 0 on.
+    pub logs: Logs,
+    /// The inputs that aren't in the history, in their order.
+    pub refused: Refused,
+}
+
+ghost use Rattle.std.specs.Prelude.{◌≡◌, ◌↔◌, ◌<◌, Ok, Err, IfOk, map};
+ghost use Rattle.covbook.specs.View.{op_data};
+ghost use Rattle.covjobs.specs.declared.collect_fault.CollectFault.TheVariants as faults;
+ghost use Rattle.covjobs.specs.Collect.{IsCollected};
+ghost use Rattle.covjobs.specs.InputView.{input_data};
+ghost use Rattle.covjobs.specs.Start.{AreJobs};
+
+/// Collects inputs by so many jobs, which work at once, each in a thread of its own. Job j takes the inputs j, j + jobs,
+/// j + 2 * jobs and so on, in order: it reads the text, outside the book's lock, and submits what was read. A text that isn't
+/// read is refused, and the job goes on. When all have ended, job 0 performs the last operation. Waits for the workers.
+pub fn collect<R: Threads + Wait + Sync, G: Gate + Sync>(
+    rt: &R,
+    alloc: Global,
+    inputs: &[Input],
+    last: &Op,
+    jobs: u32,
+    gate: &G,
+) -> Result<Collected, CollectFault>
+    ensures collected { IfOk result (λ c. IsCollected (map input_data inputs.now) jobs (op_data last.now) c.entries c.logs c.refused) }
+    ensures bad { (result ≡ Err faults.BadJobs) ↔ (AreJobs jobs → ⊥) }
+{
+    let start = Start::new(alloc, jobs)?;
+    collect_named::<R, G, Brand>(rt, alloc, inputs, last, jobs, gate, start)
+}
+
+/// As `collect`, in the book that the start is made for.
+fn collect_named<R: Threads + Wait + Sync, G: Gate + Sync, L: Name + Send + Sync>(
+    rt: &R,
+    alloc: Global,
+    inputs: &[Input],
+    last: &Op,
+    jobs: u32,
+    gate: &G,
+    start: Start,
+) -> Result<Collected, CollectFault>
+    requires name { start.name ≡ L.name }
+    requires parts { start.jobs ≡ L.parts }
+    requires jobs { start.jobs ≡ jobs }
+    requires some { 0 < jobs }
+    ensures collected { IfOk result (λ c. IsCollected (map input_data inputs.now) jobs (op_data last.now) c.entries c.logs c.refused) }
+    ensures jobs_are_good { result ≡ Err faults.BadJobs → ⊥ }
+{
+    let (book, seats) = open_book::<L, Global>(alloc, start)?;
+    let mut workers = all_well(
+        alloc,
+        work_at_once(rt, alloc, &book, gate, seats, jobs, inputs)?,
+    )?;
+    let end = ask_last(rt, alloc, &book, &mut workers, last)?;
+    let (seats, logs, refused) = hand_in(alloc, workers)?;
+    let entries = match book.close(seats) {
+        Ok(entries) => entries,
+        Err(_back) => return Err(CollectFault::NotLast),
+    };
+    gather(entries.get(), logs.get())?;
+    if entries.get().len() as u64 != end {
+        return Err(CollectFault::NotLast);
+    }
+    a_run_goes_on();
+    order_does_not_matter();
+    Ok(Collected {
+        entries,
+        logs,
+        refused,
+    })
+}
+
+ghost use Rattle.covjobs.specs.Work.{FirstAsks, seats_in, logs_in, refused_in};
+ghost use Rattle.std.specs.List.Sorted.{IsPermutation, IsNonDecreasingBy};
+ghost use Rattle.covjobs.specs.declared.refused.RefusedInput.{RefusedInput};
+
+/// The workers, where all of them ended well. Else the fault of the first that didn't.
+fn all_well<L: Name>(
+    alloc: Global,
+    ended: Vec<Result<Worker<L>, BookFault>>,
+) -> Result<Vec<Worker<L>>, BookFault>
+    ensures { IfOk result (λ workers. map Ok workers.items ≡ ended.items) }
+{
+    let mut workers = Vec::with_capacity(alloc, ended.len()).map_err(|_| BookFault::Memory)?;
+    for worker in ended {
+        workers.push(worker?).map_err(|_| BookFault::Memory)?;
+    }
+    Ok(workers)
+}
+
+/// Job 0 performs the last operation. Answers how many entries there are up to it.
+fn ask_last<R: Wait, L: Name>(
+    rt: &R,
+    alloc: Global,
+    book: &Shared<L>,
+    workers: &mut Vec<Worker<L>>,
+    last: &Op,
+) -> Result<u64, BookFault>
+    ensures { IfOk result (λ end. FirstAsks workers.old.items workers.new.items end (op_data last.now)) }
+{
+    match workers.first_mut() {
+        Some(worker) => {
+            worker.ask(rt, alloc, book, last)?;
+            Ok(worker.seen())
+        },
+        None => Err(BookFault::Full),
+    }
+}
+
+/// The seats, the logs, and the refused inputs in their order.
+fn hand_in<L: Name>(
+    alloc: Global,
+    workers: Vec<Worker<L>>,
+) -> Result<(Seats<L>, Logs, Refused), Memory>
+    ensures seats { IfOk result (λ r. r.0 ≡ seats_in workers.items) }
+    ensures logs { IfOk result (λ r. r.1 ≡ logs_in workers.items) }
+    ensures refused { IfOk result (λ r. IsPermutation (refused_in workers.items) r.2) }
+    ensures ascending { IfOk result (λ r. IsNonDecreasingBy (λ (i : RefusedInput). i.index) r.2) }
+{
+    let mut seats = Seats::new(alloc);
+    let mut logs = Logs::new(alloc);
+    let mut refused = Refused::new(alloc);
+    for worker in workers {
+        let (seat, log, own_refused) = worker.into_parts();
+        seats.push(seat)?;
+        logs.push(log)?;
+        refused.append(own_refused)?;
+    }
+    refused.sort();
+    Ok((seats, logs, refused))
+}

@@ -1,0 +1,38 @@
+//! Texts that are to be collected.
+
+use covbook::SubRef;
+use covline::{Bytes, Submission};
+use covread::{ReadFault, read_gcov, read_trace};
+use std::alloc::{Allocator, Global};
+
+/// A text that is to be collected.
+#[derive(Drop)]
+pub enum Input<A: Allocator = Global> {
+    /// A tracefile (geninfo(1), FILES).
+    Trace(Bytes<A>),
+    /// gcov's annotated source (gcov(1)), whose counts are this test's.
+    Gcov { test: Bytes<A>, text: Bytes<A> },
+}
+
+impl<A: Allocator + Copy> Input<A> {
+    ghost use Rattle.covjobs.specs.Collect.{IsFate};
+    ghost use Rattle.covjobs.specs.InputView.{input_data};
+
+    /// What the text is read as, to be submitted, or why it isn't read.
+    pub(crate) fn read(&self, alloc: A) -> Result<SubRef<A>, ReadFault>
+        ensures { IsFate (input_data self.now) result }
+    {
+        Ok(SubRef::of(alloc, self.submission(alloc)?)?)
+    }
+
+    /// The submission that the text is read as.
+    #[tactic(auto, using(crate::proofs::Fates::trace_fate, crate::proofs::Fates::gcov_fate))]
+    fn submission(&self, alloc: A) -> Result<Submission<A>, ReadFault>
+        ensures { IsFate (input_data self.now) result }
+    {
+        match self {
+            Input::Trace(text) => read_trace(alloc, text.get()),
+            Input::Gcov { test, text } => read_gcov(alloc, test.get(), text.get()),
+        }
+    }
+}

@@ -1,0 +1,81 @@
+//! Inputs that were refused.
+
+use covline::Memory;
+use covread::ReadFault;
+use std::alloc::{Allocator, Global};
+use std::marker::Model;
+
+/// An input that was refused: its place among the inputs, counted from 0, and why.
+#[derive(Clone, Copy, Debug, PartialEq, Eq)]
+pub struct RefusedInput {
+    pub index: usize,
+    pub fault: ReadFault,
+}
+
+/// A list of refused inputs. Contracts see its members.
+#[derive(Drop)]
+pub struct Refused<A: Allocator = Global> {
+    inputs: Vec<RefusedInput, A>,
+}
+
+impl<A: Allocator> Model for Refused<A> {
+    ghost use Rattle.std.specs.Prelude.{List};
+    ghost use Rattle.covjobs.specs.declared.refused.RefusedInput.{RefusedInput};
+
+    ghost Value = { List RefusedInput };
+
+    ghost view = { λ a. a.inputs.items };
+}
+
+impl<A: Allocator> Refused<A> {
+    ghost use Rattle.std.specs.Prelude.{◌≡◌, ◌++◌, [], ◌∷◌, OnOk, OnErr};
+    ghost use Rattle.std.specs.List.Sorted.{IsPermutation, IsNonDecreasingBy};
+    ghost use Rattle.covjobs.specs.declared.refused.RefusedInput.{RefusedInput};
+
+    /// The empty list. Takes no memory.
+    pub fn new(alloc: A) -> Refused<A>
+        ensures { result ≡ [] }
+    {
+        Refused {
+            inputs: Vec::new(alloc),
+        }
+    }
+
+    /// Appends an input. A refusal gives it up and leaves the list as it was.
+    pub fn push(&mut self, input: RefusedInput) -> Result<(), Memory>
+        ensures ok { OnOk result (self.new ≡ self.old ++ input ∷ []) }
+        ensures err { OnErr result (self.new ≡ self.old) }
+    {
+        self.inputs.push(input)?;
+        Ok(())
+    }
+
+    /// The inputs in order.
+    pub fn get(&self) -> &[RefusedInput]
+        ensures { result.now ≡ self.now }
+    {
+        self.inputs.as_slice()
+    }
+
+    /// Appends all inputs of another list. A refusal gives up those that aren't appended yet.
+    pub(crate) fn append(&mut self, others: Refused<A>) -> Result<(), Memory>
+        ensures { OnOk result (self.new ≡ self.old ++ others) }
+    {
+        for input in others.inputs {
+            self.push(input)?;
+        }
+        Ok(())
+    }
+
+    /// Puts the inputs in the order of their places.
+    pub(crate) fn sort(&mut self)
+        ensures same { IsPermutation self.old self.new }
+        ensures ascending { IsNonDecreasingBy (λ (r : RefusedInput). r.index) self.new }
+    {
+        self.inputs.as_mut_slice().sort_unstable_by_key(
+            |input| -> usize
+                ensures { result ≡ input.now.index }
+            { input.index },
+        );
+    }
+}

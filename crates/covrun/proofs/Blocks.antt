@@ -1,0 +1,30 @@
+-- A text that is read by blocks.
+use Rattle.std.proofs.Common.{◌≡◌, ℕ, ◌+◌, ◌<◌, ◌≤◌, min, List, [], length, Option, ap, sym, ◌∙◌, subst, arith, length-append}
+use Rattle.std.proofs.KnownBytes.{Consumes-nil, Consumes-trans}
+use Rattle.std.specs.Io.KnownBytes.{Consumes, IsAtEnd}
+use Rattle.covrun.specs.Files.{HasReadBlock}
+
+-- nothing is read yet
+pub read_begun : (left : Option (List ℕ)) (text : List ℕ) → text ≡ [] → Consumes left left text
+read_begun left text is = subst (λ (t : List ℕ). Consumes left left t) (sym is) (Consumes-nil left)
+
+-- one block more
+pub read_on : (old now new : Option (List ℕ)) (text text_after : List ℕ) (room count : ℕ) → Consumes old now text
+    → HasReadBlock now new text text_after room count → Consumes old new text_after
+read_on old now new text text_after room count before (bytes, took, is, long, few, ended) =
+    subst (λ (t : List ℕ). Consumes old new t) (sym is) (Consumes-trans old now new text bytes before took)
+
+pub read_long : (now new : Option (List ℕ)) (text text_after : List ℕ) (room count : ℕ)
+    → HasReadBlock now new text text_after room count → (length text_after ≡ length text + count) × (count ≤ room)
+read_long now new text text_after room count (bytes, took, is, long, few, ended) =
+    (ap length is ∙ length-append text bytes ∙ ap (λ (n : ℕ). length text + n) long, few)
+
+pub read_ended : (now new : Option (List ℕ)) (text text_after : List ℕ) (room count : ℕ)
+    → HasReadBlock now new text text_after room count → count ≡ 0 → 0 < room → IsAtEnd new
+read_ended now new text text_after room count (bytes, took, is, long, few, ended) none wanted = ended none wanted
+
+-- a block has room for as many as are wanted, or is full before
+pub read_within : (now new : Option (List ℕ)) (text text_after : List ℕ) (room block part count : ℕ) → 0 < block → part ≡ min room block
+    → HasReadBlock now new text text_after part count → HasReadBlock now new text text_after room count
+read_within now new text text_after room block part count some is (bytes, took, now_is, long, few, ended) =
+    (bytes, took, now_is, long, omega (arith, few, is), λ none wanted. ended none (omega (arith, some, is, wanted)))

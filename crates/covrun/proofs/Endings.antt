@@ -1,0 +1,69 @@
+-- How a call with work ends, from what its steps answer.
+use Rattle.std.proofs.Common.{◌≡◌, inl, inr, ℕ, List, ◌++◌, Option, Some, None, Ok, Err, map, codes, refl, sym, subst, ap, ◌∙◌}
+use Rattle.std.specs.Io.KnownBytes.{Appends}
+use Rattle.covsession.specs.Session.{said}
+use Rattle.covbook.specs.Op.{EntryData}
+use Rattle.covbook.specs.Gather.{LogData}
+use Rattle.covjobs.specs.Collect.{InputData, IsCollected}
+use Rattle.covjobs.specs.declared.collect_fault.CollectFault.{CollectFault}
+use Rattle.covjobs.specs.declared.refused.RefusedInput.{RefusedInput}
+use Rattle.covcommand.specs.declared.asked.Command.{Command}
+use Rattle.covrun.specs.WorkFault.{IsRefusal, of_work}
+use Rattle.covrun.specs.declared.work.WorkFault.{WorkFault}
+use Rattle.covrun.specs.declared.work.WorkFault.TheVariants.{Words, Memory}
+use Rattle.covcommand.specs.declared.fault.CommandFault.{CommandFault}
+use Rattle.covsession.specs.Program.{TellsSession}
+use Rattle.covrun.specs.Call.{StopsEarly, AreTexts, WorkEnds, WorkTold, SinksData, sinks, IsTold, of_line}
+use Rattle.covrun.specs.Ending.{EndingData, Unreadable, of_collect, of_collected}
+use Rattle.covrun.specs.Work.{WorkData, input_of}
+
+-- its texts were collected
+pub ends_collected : (work : WorkData) (files : List (List ℕ)) → files ≡ work.files → (inputs slice : List InputData) → slice ≡ inputs → (entries : List EntryData) (logs : List LogData) (refused : List RefusedInput) (ending : EndingData)
+    → (texts : List (List ℕ)) × AreTexts files texts × (inputs ≡ map (input_of work.test) texts)
+    → IsCollected slice work.jobs work.last entries logs refused → ending ≡ of_collected files entries refused → WorkEnds work ending
+ends_collected work files named inputs slice same entries logs refused ending (texts, are, from) collected is =
+    inr (inr (
+      texts,
+      Ok (record { entries = entries; logs = logs; refused = refused }),
+      subst (λ (fs : List (List ℕ)). AreTexts fs texts) named are,
+      subst (λ (xs : List InputData). IsCollected xs work.jobs work.last entries logs refused) (same ∙ from) collected,
+      is ∙ ap (λ (fs : List (List ℕ)). of_collected fs entries refused) named,
+    ))
+
+-- they weren't
+pub ends_uncollected : (work : WorkData) (files : List (List ℕ)) → files ≡ work.files → (inputs : List InputData) (fault : CollectFault) (ending : EndingData)
+    → (texts : List (List ℕ)) × AreTexts files texts × (inputs ≡ map (input_of work.test) texts)
+    → ending ≡ of_collect fault → WorkEnds work ending
+ends_uncollected work files named inputs fault ending (texts, are, from) is =
+    inr (inr (texts, Err fault, subst (λ (fs : List (List ℕ)). AreTexts fs texts) named are, tt, is))
+
+-- work that ended is told
+pub told_work : (work : WorkData) (asked : Option WorkData) (ending : EndingData) (status : ℕ) (left left_after : Option (List ℕ)) (old new : SinksData)
+    → Some work ≡ asked → WorkEnds work ending → IsTold ending status old new → WorkTold asked status left left_after old new
+told_work work asked ending status left left_after old new is ends told =
+    subst (λ (w : Option WorkData). WorkTold w status left left_after old new) is (ending, ends, told)
+
+-- a command without work is a session
+pub told_session : (asked : Option WorkData) (status : ℕ) (left left_after : Option (List ℕ)) (old new : SinksData) → None ≡ asked
+    → TellsSession status left left_after old.output new.output old.faults new.faults old.failed_faults new.failed_faults
+    → WorkTold asked status left left_after old new
+told_session asked status left left_after old new is told = subst (λ (w : Option WorkData). WorkTold w status left left_after old new) is told
+
+-- words that give no command
+pub told_line : (fault : CommandFault) (ending : EndingData) → ending ≡ of_line fault → (status : ℕ) (old new : SinksData) → IsTold ending status old new
+    → IsTold (of_line fault) status old new
+told_line fault ending is status old new told = subst (λ (e : EndingData). IsTold e status old new) is told
+
+-- work that isn't begun
+pub stops_early : (command : Command) (fault : WorkFault) (ending : EndingData) → ending ≡ of_work fault → IsRefusal command fault → StopsEarly command ending
+stops_early command (Words fault) ending is refused = inr (fault, is, refused)
+stops_early command Memory ending is refused = inl is
+
+-- a file that can't be read
+pub told_unreadable : (asked : EndingData) (name : List ℕ) → asked ≡ Unreadable name → (status : ℕ) → status ≡ 1
+    → (output : Option (List ℕ)) (failed_output : ℕ) (before after : Option (List ℕ)) (fails fails_after : ℕ) (words : List ℕ)
+    → words ≡ name ++ said (codes ": can't read") → (fails_after ≡ fails → Appends before after words)
+    → IsTold asked status (sinks output failed_output before fails) (sinks output failed_output after fails_after)
+told_unreadable asked name is status one output failed_output before after fails fails_after words spelled complained =
+    subst (λ (e : EndingData). IsTold e status (sinks output failed_output before fails) (sinks output failed_output after fails_after)) (sym is)
+    (one, (refl, refl), λ good. subst (λ (ws : List ℕ). Appends before after ws) spelled (complained good))

@@ -1,0 +1,4 @@
+pub mod Blocks
+pub mod Endings
+pub mod Patterns
+pub mod Reading

@@ -1,0 +1,33 @@
+use Rattle.std.proofs.Common.{◌≡◌, inl, length, refl, ap, ◌∙◌, arith}
+use Rattle.covrun.proofs.Blocks.{read_begun, read_on, read_long, read_ended}
+use Rattle.covrun.proofs.files.read_at_most.Goals as goal
+
+pub loop-room-init : goal.loop-room-init
+loop-room-init g c =
+    let none : length c.new-text.result ≡ 0 = ap length c.new-text.ensures in
+    record {
+      took = read_begun _ _ c.new-text.ensures;
+      room = omega (arith, none);
+      reads = omega (arith, none);
+      failed = refl;
+    }
+
+pub loop-room-preserved : goal.loop-room-preserved
+loop-room-preserved g c =
+    let i = c.loop-room.invariant in
+    let read = c.in_ok-got.ensures.read in
+    let long = read_long _ _ _ _ _ _ read in
+    record {
+      took = read_on _ _ _ _ _ _ _ i.took read;
+      room = omega (arith, i.room, long.0, long.1);
+      reads = omega (arith, i.reads, long.0, c.in_ok-got.ensures.counted);
+      failed = c.in_ok-got.ensures.good ∙ i.failed;
+    }
+
+pub returns-then-got-eq0-clause-read : goal.returns-then-got-eq0-clause-read
+returns-then-got-eq0-clause-read g c =
+    let i = c.loop-room.invariant in
+    let read = c.in_ok-got.ensures.read in (
+      read_on _ _ _ _ _ _ _ i.took read,
+      inl (read_ended _ _ _ _ _ _ read c.if-got-eq0.true c.loop-room-test.true),
+    )

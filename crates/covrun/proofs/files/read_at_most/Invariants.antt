@@ -1,0 +1,15 @@
+use Rattle.std.specs.Prelude.{◌≡◌, ◌+◌, ◌≤◌, length}
+use Rattle.std.specs.Io.KnownBytes.{Consumes}
+use Rattle.covrun.proofs.files.read_at_most.Given as goal
+
+-- so far all that was read is the text, and each read gave a byte
+abbrev pub invariant-loop-room : goal.invariant-loop-room
+invariant-loop-room g l = record {
+  took : Consumes (g.S.Source.left l.initial.source) (g.S.Source.left l.source) l.text;
+  room : length l.text + l.room ≡ l.most;
+  reads : g.S.Source.reads l.source ≤ g.S.Source.reads l.initial.source + length l.text;
+  failed : g.S.Source.failed_reads l.source ≡ g.S.Source.failed_reads l.initial.source;
+}
+
+abbrev pub decreases-loop-room : goal.decreases-loop-room
+decreases-loop-room g l = l.room

@@ -1,0 +1,133 @@
+-- What a call of the program does: in which order its tests stand, and what it leaves on its streams.
+use Rattle.std.specs.Io.KnownBytes.{Appends}
+use Rattle.std.specs.List.{AllByRecursion}
+use Rattle.std.specs.Prelude.{◌≡◌, ◌⊎◌, ◌≤◌, ℕ, suc, List, [], ◌∷◌, ◌++◌, length, map, Option, Some, None, Result, Ok, Err, IfOk, IfErr, true}
+use Rattle.std.specs.String.{string_bytes}
+use Rattle.clap.specs.Words.{subcommand_of, takes, fault_of}
+use Rattle.covread.specs.Outcome.{most_bytes}
+use Rattle.covbook.specs.Op.{EntryData}
+use Rattle.covbook.specs.Gather.{LogData}
+use Rattle.covjobs.specs.Collect.{IsCollected}
+use Rattle.covjobs.specs.declared.collect_fault.CollectFault.{CollectFault}
+use Rattle.covjobs.specs.declared.refused.RefusedInput.{RefusedInput}
+use Rattle.covcommand.specs.Asked.{AsksFor, IsInBounds}
+use Rattle.covcommand.specs.CommandLine.{covcollect}
+use Rattle.covcommand.specs.Fault.{IsToldOf}
+use Rattle.covcommand.specs.declared.asked.Command.{Command}
+use Rattle.covcommand.specs.declared.fault.CommandFault.{CommandFault}
+use Rattle.covcommand.specs.declared.fault.CommandFault.TheVariants as line
+use Rattle.covsession.specs.Program.{fault_status, words_of_fault, TellsSession}
+use Rattle.covsession.specs.Session.{said}
+use Rattle.covsession.specs.declared.session.fault.SessionFault.TheVariants as faults
+use Rattle.covrun.specs.declared.words_fault.WordsFault.{WordsFault}
+use Rattle.covrun.specs.Ending.{EndingData, Prints, BadLine, BadWords, Unreadable, Stopped, status_of, complaint, of_collect, of_collected}
+use Rattle.covrun.specs.Work.{WorkData, work_of, input_of, AreTaken, AreRefused}
+
+-- a text was read of each of the files, and of none more than a byte above what a text may have
+abbrev pub AreTexts : List (List ℕ) → List (List ℕ) → Type 0
+AreTexts files texts = (length texts ≡ length files) × AllByRecursion (λ text. length text ≤ suc most_bytes) texts
+
+-- the files before this one were read, and this one couldn't be
+abbrev pub IsUnreadable : List (List ℕ) → List ℕ → Type 0
+IsUnreadable files name =
+    (before : List (List ℕ)) × (after : List (List ℕ)) × (texts : List (List ℕ)) × (files ≡ before ++ name ∷ after) × AreTexts before texts
+
+-- what was collected, or why nothing was
+pub record CollectedData : Type 0 where
+  pub entries : List EntryData
+  pub logs : List LogData
+  pub refused : List RefusedInput
+
+-- collecting the texts is answered so
+abbrev pub IsAnswer : WorkData → List (List ℕ) → Result CollectedData CollectFault → Type 0
+IsAnswer work texts (Ok c) = IsCollected (map (input_of work.test) texts) work.jobs work.last c.entries c.logs c.refused
+IsAnswer work texts (Err fault) = Unit {0}
+
+-- the ending that belongs to an answer
+abbrev pub ending_of : List (List ℕ) → Result CollectedData CollectFault → EndingData
+ending_of files (Ok c) = of_collected files c.entries c.refused
+ending_of files (Err fault) = of_collect fault
+
+-- the work ends with a file that can't be read, or as what was collected of the files says; or memory ran out
+abbrev pub WorkEnds : WorkData → EndingData → Type 0
+WorkEnds work ending =
+    (ending ≡ Stopped faults.Memory)
+    ⊎ (((name : List ℕ) × (ending ≡ Unreadable name) × IsUnreadable work.files name)
+    ⊎ ((texts : List (List ℕ)) × (answer : Result CollectedData CollectFault)
+    × AreTexts work.files texts × IsAnswer work texts answer × (ending ≡ ending_of work.files answer)))
+
+-- before work is begun the patterns and the test's name are looked at
+abbrev pub StopsEarly : Command → EndingData → Type 0
+StopsEarly command ending =
+    (ending ≡ Stopped faults.Memory) ⊎ ((fault : WordsFault) × (ending ≡ BadWords fault) × AreRefused command fault)
+
+-- how a call ends whose words give no command
+abbrev pub of_line : CommandFault → EndingData
+of_line (line.Help text) = Prints (string_bytes text)
+of_line (line.Line text) = BadLine (string_bytes text)
+of_line line.Memory = Stopped faults.Memory
+
+-- the two streams that a call writes to: what each has taken, where it tells that, and how many of its writes failed
+pub record SinksData : Type 0 where
+  pub output : Option (List ℕ)
+  pub failed_output : ℕ
+  pub faults : Option (List ℕ)
+  pub failed_faults : ℕ
+
+abbrev pub sinks : Option (List ℕ) → ℕ → Option (List ℕ) → ℕ → SinksData
+sinks output failed_output faults failed_faults = record {
+  output = output;
+  failed_output = failed_output;
+  faults = faults;
+  failed_faults = failed_faults;
+}
+
+-- these words went to the stream for faults, unless a write there failed: of that nobody is left to tell
+abbrev pub Complains : List ℕ → SinksData → SinksData → Type 0
+Complains words old new = new.failed_faults ≡ old.failed_faults → Appends old.faults new.faults words
+
+-- nothing was written to the output
+abbrev pub Withholds : SinksData → SinksData → Type 0
+Withholds old new = (new.output ≡ old.output) × (new.failed_output ≡ old.failed_output)
+
+-- all of the text went to the output, and nothing else anywhere
+abbrev pub Delivers : List ℕ → SinksData → SinksData → Type 0
+Delivers text old new =
+    Appends old.output new.output text × (new.failed_output ≡ old.failed_output)
+    × (new.faults ≡ old.faults) × (new.failed_faults ≡ old.failed_faults)
+
+-- a text is delivered, or a write of it failed and that is told; any other ending is told by its status and its words
+abbrev pub IsTold : EndingData → (status : ℕ) → SinksData → SinksData → Type 0
+IsTold (Prints text) status old new =
+    ((status ≡ status_of (Prints text)) × Delivers text old new)
+    ⊎ ((status ≡ fault_status faults.Write) × (new.failed_output ≡ suc old.failed_output) × Complains (said (words_of_fault faults.Write)) old new)
+IsTold ending status old new = (status ≡ status_of ending) × Withholds old new × Complains (complaint ending) old new
+
+-- the words give this command, or this fault in its place, as covcommand says
+pub record AreParsed (words : List (List ℕ)) (parsed : Result Command CommandFault) : Type 0 where
+  pub asks : IfOk parsed (AsksFor (subcommand_of covcollect words))
+  pub bounds : IfOk parsed IsInBounds
+  pub fits : IfOk parsed (λ command. fault_of covcollect words ≡ [])
+  pub taken : takes covcollect words ≡ true → IfErr parsed (λ fault. fault ≡ line.Memory)
+  pub told : IfErr parsed (IsToldOf (fault_of covcollect words))
+
+-- a call that has work ends and is told; one that has none is a session
+abbrev pub WorkTold : Option WorkData → (status : ℕ) → (left left_after : Option (List ℕ)) → SinksData → SinksData → Type 0
+WorkTold (Some work) status left left_after old new = (ending : EndingData) × WorkEnds work ending × IsTold ending status old new
+WorkTold None status left left_after old new =
+    TellsSession status left left_after old.output new.output old.faults new.faults old.failed_faults new.failed_faults
+
+-- a command's words are refused, or taken and then the command is done
+abbrev pub CommandTold : Command → (status : ℕ) → (left left_after : Option (List ℕ)) → SinksData → SinksData → Type 0
+CommandTold command status left left_after old new =
+    ((ending : EndingData) × StopsEarly command ending × IsTold ending status old new)
+    ⊎ (AreTaken command × WorkTold (work_of command) status left left_after old new)
+
+abbrev pub CallTold : Result Command CommandFault → (status : ℕ) → (left left_after : Option (List ℕ)) → SinksData → SinksData → Type 0
+CallTold (Ok command) status left left_after old new = CommandTold command status left left_after old new
+CallTold (Err fault) status left left_after old new = IsTold (of_line fault) status old new
+
+-- a call of these words, by its exit status, what its input has at its beginning and its end, and what its streams took
+abbrev pub IsCall : (words : List (List ℕ)) → (status : ℕ) → (left left_after : Option (List ℕ)) → SinksData → SinksData → Type 0
+IsCall words status left left_after old new =
+    (parsed : Result Command CommandFault) × AreParsed words parsed × CallTold parsed status left left_after old new

@@ -1,0 +1,125 @@
+-- How the call of a subcommand ends: what decides its exit status and what it writes.
+use Rattle.std.specs.List.{flat_map}
+use Rattle.std.specs.Prelude.{ℕ, ◌-◌, length, List, [], ◌∷◌, ◌++◌, Bool, true, false, if◌then◌else◌, Option, Some, None, codes, slice_get}
+use Rattle.covread.specs.declared.fault.ReadFault.{ReadFault}
+use Rattle.covread.specs.declared.fault.ReadFault.TheVariants as reads
+use Rattle.covbook.specs.Op.{EntryData, AnswerData, AcceptedAnswer, ClashAnswer, DroppedAnswer, NoSuchTestAnswer, TextAnswer}
+use Rattle.covjobs.specs.declared.collect_fault.CollectFault.{CollectFault}
+use Rattle.covjobs.specs.declared.collect_fault.CollectFault.TheVariants as collects
+use Rattle.covjobs.specs.declared.refused.RefusedInput.{RefusedInput}
+use Rattle.covsession.specs.Program.{fault_status, words_of_fault}
+use Rattle.covsession.specs.Session.{said, answer_text, refused_text}
+use Rattle.covsession.specs.declared.session.fault.SessionFault.{SessionFault}
+use Rattle.covsession.specs.declared.session.fault.SessionFault.TheVariants as faults
+use Rattle.covrun.specs.declared.words_fault.WordsFault.{WordsFault}
+use Rattle.covrun.specs.declared.words_fault.WordsFault.TheVariants as words
+
+-- it prints a text: that of the last entry, or help; it tells that the words don't fit the command line, or why a pattern or a
+-- test's name is refused; that a file can't be read; that a stream failed or there was no room; that what was collected isn't
+-- what the jobs were told; or the lines of what was refused and what clashed
+pub data EndingData : Type 0 where
+  Prints : (text : List ℕ) → EndingData
+  BadLine : (text : List ℕ) → EndingData
+  BadWords : (fault : WordsFault) → EndingData
+  Unreadable : (name : List ℕ) → EndingData
+  Stopped : (fault : SessionFault) → EndingData
+  Ungathered : EndingData
+  Refuses : (lines : List ℕ) → EndingData
+
+abbrev pub status_of : EndingData → ℕ
+status_of (Prints text) = 0
+status_of (Unreadable name) = 1
+status_of (BadLine text) = 2
+status_of (BadWords fault) = 2
+status_of (Stopped fault) = fault_status fault
+status_of Ungathered = 3
+status_of (Refuses lines) = 4
+
+abbrev pub words_fault_name : WordsFault → List ℕ
+words_fault_name words.TooMany = codes "TooMany"
+words_fault_name words.TooLong = codes "TooLong"
+words_fault_name words.BadTest = codes "BadTest"
+words_fault_name words.BadJobs = codes "BadJobs"
+
+-- what is said on the stream for faults
+abbrev pub complaint : EndingData → List ℕ
+complaint (Prints text) = []
+complaint (BadLine text) = text
+complaint (BadWords fault) = said (words_fault_name fault)
+complaint (Unreadable name) = name ++ said (codes ": can't read")
+complaint (Stopped fault) = said (words_of_fault fault)
+complaint Ungathered = said (codes "gather")
+complaint (Refuses lines) = lines
+
+-- a fault of collecting
+abbrev pub of_collect : CollectFault → EndingData
+of_collect collects.BadJobs = BadWords words.BadJobs
+of_collect collects.Full = Stopped faults.Full
+of_collect collects.Memory = Stopped faults.Memory
+of_collect (collects.Gather fault) = Ungathered
+of_collect collects.NotLast = Ungathered
+
+abbrev pub is_memory : ReadFault → Bool
+is_memory reads.TooLong = false
+is_memory (reads.Line at fault) = false
+is_memory (reads.Outside at) = false
+is_memory (reads.Inside at) = false
+is_memory reads.OpenEnd = false
+is_memory (reads.BadMark at) = false
+is_memory (reads.NoSource at) = false
+is_memory (reads.Percent at) = false
+is_memory (reads.Instances at) = false
+is_memory (reads.Misplaced at) = false
+is_memory reads.LostFunction = false
+is_memory reads.BadTest = false
+is_memory reads.Memory = true
+
+-- memory ran out for one of the refused inputs
+abbrev pub ran_out : List RefusedInput → Bool
+ran_out [] = false
+ran_out (r ∷ refused) = if is_memory r.fault then true else ran_out refused
+
+-- the name of the file at a place
+abbrev pub name_at : Option (List ℕ) → List ℕ
+name_at (Some name) = name
+name_at None = []
+
+-- the line of a refused input, with its file in front, and that of an answer where it is a clash
+abbrev pub refusal_line : List (List ℕ) → RefusedInput → List ℕ
+refusal_line files r = name_at (slice_get files r.index) ++ codes ": " ++ refused_text r.fault
+
+abbrev pub clash_text : AnswerData → List ℕ
+clash_text (AcceptedAnswer number items odd) = []
+clash_text (ClashAnswer clash) = answer_text (ClashAnswer clash)
+clash_text (DroppedAnswer sections) = []
+clash_text NoSuchTestAnswer = []
+clash_text (TextAnswer text) = []
+
+-- first what was refused, in the files' order, then what clashed, in the history's
+abbrev pub complaints : List (List ℕ) → List RefusedInput → List EntryData → List ℕ
+complaints files refused entries = flat_map (refusal_line files) refused ++ flat_map (λ (e : EntryData). clash_text e.answer) entries
+
+abbrev pub text_in : AnswerData → List ℕ
+text_in (AcceptedAnswer number items odd) = []
+text_in (ClashAnswer clash) = []
+text_in (DroppedAnswer sections) = []
+text_in NoSuchTestAnswer = []
+text_in (TextAnswer text) = text
+
+-- the text of the last entry
+abbrev pub text_at : Option EntryData → List ℕ
+text_at (Some e) = text_in e.answer
+text_at None = []
+
+abbrev pub last_text : List EntryData → List ℕ
+last_text entries = text_at (slice_get entries (length entries - 1))
+
+-- a text is printed where there is nothing to complain of
+abbrev pub unless_any : (lines : List ℕ) → (text : List ℕ) → EndingData
+unless_any [] text = Prints text
+unless_any (b ∷ bs) text = Refuses (b ∷ bs)
+
+-- how a call ends that collected this from its files: want of memory alone is told where an input was refused for it
+abbrev pub of_collected : List (List ℕ) → List EntryData → List RefusedInput → EndingData
+of_collected files entries refused =
+    if ran_out refused then Stopped faults.Memory else unless_any (complaints files refused entries) (last_text entries)

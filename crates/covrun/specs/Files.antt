@@ -1,0 +1,31 @@
+-- Private steps: how a file is read.
+use Rattle.std.specs.Io.KnownBytes.{Consumes, IsAtEnd}
+use Rattle.std.specs.Prelude.{◌≡◌, ◌⊎◌, ◌<◌, ◌≤◌, ℕ, suc, List, ◌++◌, length, Option}
+use Rattle.covread.specs.Outcome.{most_bytes}
+use Rattle.covrun.specs.Call.{IsUnreadable}
+use Rattle.covrun.specs.declared.files.FileFault.{FileFault}
+use Rattle.covrun.specs.declared.files.FileFault.TheVariants.{Unreadable, Memory}
+
+-- the bytes were read: all that was left, or as many as are wanted at the most
+abbrev pub HasReadAtMost : ℕ → Option (List ℕ) → Option (List ℕ) → List ℕ → Type 0
+HasReadAtMost most left left_after text = Consumes left left_after text × (IsAtEnd left_after ⊎ (length text ≡ most))
+
+-- all that was left, unless it is too much for a text: then a byte more than a text may have
+abbrev pub HasRead : Option (List ℕ) → Option (List ℕ) → List ℕ → Type 0
+HasRead left left_after text = HasReadAtMost (suc most_bytes) left left_after text
+
+-- one read of at most so many bytes: they stand at the text's end now, and none were read only at the end
+abbrev pub HasReadBlock : (left left_after : Option (List ℕ)) → (text text_after : List ℕ) → (room count : ℕ) → Type 0
+HasReadBlock left left_after text text_after room count =
+    (bytes : List ℕ) × Consumes left left_after bytes × (text_after ≡ text ++ bytes) × (length bytes ≡ count) × (count ≤ room)
+    × (count ≡ 0 → 0 < room → IsAtEnd left_after)
+
+-- why the files aren't read: the first that can't be is told
+abbrev pub IsFileFault : List (List ℕ) → FileFault → Type 0
+IsFileFault files (Unreadable name) = IsUnreadable files name.now
+IsFileFault files Memory = Unit {0}
+
+-- the file of this name can't be read, or memory ran out
+abbrev pub IsUnread : List ℕ → FileFault → Type 0
+IsUnread name (Unreadable file) = file.now ≡ name
+IsUnread name Memory = Unit {0}

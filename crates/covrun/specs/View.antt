@@ -1,0 +1,21 @@
+-- Values of the code, seen as plain data.
+use Rattle.std.specs.String.{string_bytes}
+use Rattle.covbook.specs.View.{op_data}
+use Rattle.covrun.specs.Work.{WorkData}
+use Rattle.covrun.specs.Ending.{EndingData, Prints, BadLine, BadWords, Unreadable, Stopped, Ungathered, Refuses}
+use Rattle.covrun.specs.declared.work.Work.{Work}
+use Rattle.covrun.specs.declared.ending.Ending.{Ending}
+use Rattle.covrun.specs.declared.ending.Ending.TheVariants as endings
+
+abbrev pub work_data : Work → WorkData
+work_data work = record { files = work.files; test = work.test; jobs = work.jobs; last = op_data work.last }
+
+abbrev pub ending_data : Ending → EndingData
+ending_data (endings.Done text) = Prints text
+ending_data (endings.Help text) = Prints (string_bytes text)
+ending_data (endings.Line text) = BadLine (string_bytes text)
+ending_data (endings.Words fault) = BadWords fault
+ending_data (endings.Unreadable name) = Unreadable name.now
+ending_data (endings.Stopped fault) = Stopped fault
+ending_data endings.Ungathered = Ungathered
+ending_data (endings.Refused lines) = Refuses lines.items

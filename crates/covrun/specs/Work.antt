@@ -1,0 +1,70 @@
+-- What a subcommand has to do, and which of its words are refused before any file is read.
+use Rattle.std.specs.List.{AllByRecursion}
+use Rattle.std.specs.Prelude.{◌≡◌, ◌<◌, ◌≤◌, ℕ, List, length, take, drop, Option, Some, None}
+use Rattle.covline.specs.Lawful.{IsGoodTest}
+use Rattle.covreport.specs.Choice.{most_patterns, most_pattern_bytes}
+use Rattle.covbook.specs.Op.{OpData, ReportOp, SummaryOp, ExtractOp, RemoveOp}
+use Rattle.covjobs.specs.Collect.{InputData, TraceInput, GcovInput}
+use Rattle.covcommand.specs.declared.asked.Command.{Command}
+use Rattle.covcommand.specs.declared.asked.Command.TheVariants.{Session, Merge, Summary, Extract, Remove, Gcov}
+use Rattle.covrun.specs.declared.words_fault.WordsFault.{WordsFault}
+use Rattle.covrun.specs.declared.words_fault.WordsFault.TheVariants as words
+
+-- the files to read, the test whose counts they have where they are gcov's, by how many jobs, and what is asked at the end
+pub record WorkData : Type 0 where
+  pub files : List (List ℕ)
+  pub test : Option (List ℕ)
+  pub jobs : ℕ
+  pub last : OpData
+
+-- the first name is the tracefile, the others are patterns
+abbrev pub filtering : (List (List ℕ) → OpData) → List (List ℕ) → WorkData
+filtering op names = record { files = take 1 names; test = None; jobs = 1; last = op (drop 1 names) }
+
+-- what each subcommand has to do; without one there is a session
+abbrev pub work_of : Command → Option WorkData
+work_of Session = None
+work_of (Merge jobs names) = Some (record { files = names; test = None; jobs = jobs; last = ReportOp })
+work_of (Summary names) = Some (record { files = names; test = None; jobs = 1; last = SummaryOp })
+work_of (Extract names) = Some (filtering ExtractOp names)
+work_of (Remove names) = Some (filtering RemoveOp names)
+work_of (Gcov test names) = Some (record { files = names; test = Some test; jobs = 1; last = ReportOp })
+
+-- the text of a file, as what is collected
+abbrev pub input_of : Option (List ℕ) → List ℕ → InputData
+input_of None text = TraceInput text
+input_of (Some test) text = GcovInput test text
+
+abbrev pub IsShort : List ℕ → Type 0
+IsShort pattern = length pattern ≤ most_pattern_bytes
+
+-- the patterns are taken one after another, and the first that isn't taken tells why
+abbrev pub ArePatterns : List (List ℕ) → Type 0
+ArePatterns patterns = (length patterns ≤ most_patterns) × AllByRecursion IsShort patterns
+
+abbrev pub IsPatternFault : List (List ℕ) → WordsFault → Type 0
+IsPatternFault patterns words.TooMany = (most_patterns < length patterns) × AllByRecursion IsShort (take most_patterns patterns)
+IsPatternFault patterns words.TooLong = AllByRecursion IsShort (take most_patterns patterns) → ⊥
+IsPatternFault patterns words.BadTest = ⊥
+IsPatternFault patterns words.BadJobs = ⊥
+
+abbrev pub IsTestFault : List ℕ → WordsFault → Type 0
+IsTestFault test fault = (fault ≡ words.BadTest) × (IsGoodTest test → ⊥)
+
+-- the patterns and the test's name are good
+abbrev pub AreTaken : Command → Type 0
+AreTaken Session = Unit {0}
+AreTaken (Merge jobs names) = Unit {0}
+AreTaken (Summary names) = Unit {0}
+AreTaken (Extract names) = ArePatterns (drop 1 names)
+AreTaken (Remove names) = ArePatterns (drop 1 names)
+AreTaken (Gcov test names) = IsGoodTest test
+
+-- they aren't, for this reason
+abbrev pub AreRefused : Command → WordsFault → Type 0
+AreRefused Session fault = ⊥
+AreRefused (Merge jobs names) fault = ⊥
+AreRefused (Summary names) fault = ⊥
+AreRefused (Extract names) fault = IsPatternFault (drop 1 names) fault
+AreRefused (Remove names) fault = IsPatternFault (drop 1 names) fault
+AreRefused (Gcov test names) fault = IsTestFault test fault

@@ -1,0 +1,33 @@
+-- Private steps: why a subcommand's work isn't begun.
+use Rattle.std.specs.Prelude.{ℕ, List}
+use Rattle.covcommand.specs.declared.asked.Command.{Command}
+use Rattle.covreport.specs.declared.patterns.PatternFault.{PatternFault}
+use Rattle.covreport.specs.declared.patterns.PatternFault.TheVariants as patterns
+use Rattle.covrun.specs.declared.words_fault.WordsFault.TheVariants as words
+use Rattle.covrun.specs.declared.work.WorkFault.{WorkFault}
+use Rattle.covrun.specs.declared.work.WorkFault.TheVariants.{Words, Memory}
+use Rattle.covsession.specs.declared.session.fault.SessionFault.TheVariants as faults
+use Rattle.covrun.specs.Ending.{EndingData, BadWords, Stopped}
+use Rattle.covrun.specs.Work.{AreRefused, IsPatternFault, IsTestFault}
+
+abbrev pub of_pattern : PatternFault → WorkFault
+of_pattern patterns.TooMany = Words words.TooMany
+of_pattern patterns.TooLong = Words words.TooLong
+of_pattern patterns.Memory = Memory
+
+abbrev pub IsRefusal : Command → WorkFault → Type 0
+IsRefusal command (Words fault) = AreRefused command fault
+IsRefusal command Memory = Unit {0}
+
+abbrev pub IsPatternRefusal : List (List ℕ) → WorkFault → Type 0
+IsPatternRefusal patterns (Words fault) = IsPatternFault patterns fault
+IsPatternRefusal patterns Memory = Unit {0}
+
+abbrev pub IsTestRefusal : List ℕ → WorkFault → Type 0
+IsTestRefusal test (Words fault) = IsTestFault test fault
+IsTestRefusal test Memory = Unit {0}
+
+-- the ending that it is
+abbrev pub of_work : WorkFault → EndingData
+of_work (Words fault) = BadWords fault
+of_work Memory = Stopped faults.Memory

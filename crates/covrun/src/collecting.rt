@@ -1,0 +1,210 @@
+//! A subcommand's work: its files are read, collected, and what was collected is looked at.
+
+ghost use Rattle.std.specs.Prelude.{◌≡◌, ◌++◌, ◌≤◌, List, Option, length, map, slice_get, IfOk, OnOk, IfErr};
+ghost use Rattle.std.specs.List.{flat_map};
+ghost use Rattle.std.specs.String.{string_bytes};
+ghost use Rattle.covbook.specs.EntryView.{entry_data};
+ghost use Rattle.covbook.specs.View.{answer_data};
+ghost use Rattle.covsession.specs.declared.session.fault.SessionFault.TheVariants as session_faults;
+ghost use Rattle.covrun.specs.Call.{WorkEnds};
+ghost use Rattle.covrun.specs.Ending.{of_collected, complaints, clash_text, refusal_line, ran_out, is_memory, last_text, name_at, text_in};
+ghost use Rattle.covrun.specs.View.{ending_data, work_data};
+
+use crate::ending::{Ending, ending_of_collect};
+use crate::files::FileFault;
+use crate::inputs::read_files;
+use crate::work::Work;
+use covbook::{Answer, Entry, TextRef};
+use covjobs::{Collected, NoGate, RefusedInput, collect};
+use covline::Bytes;
+use covread::ReadFault;
+use covsession::{Clash, SessionFault, clash_line, refused_line};
+use std::alloc::Global;
+use std::rt::Files;
+use std::sync::Wait;
+use std::thread::Threads;
+
+/// Does the work. The texts are let go when they are collected.
+pub(crate) fn ending_of<'a, R: Files + Threads + Wait + Sync>(
+    rt: &R,
+    alloc: Global,
+    work: &'a Work,
+) -> Ending<'a>
+    ensures { WorkEnds (work_data work.now) (ending_data result) }
+{
+    let files = work.files.get();
+    let inputs = match read_files(rt, alloc, &work.test, files) {
+        Ok(inputs) => inputs,
+        Err(FileFault::Unreadable(name)) => return Ending::Unreadable(name),
+        Err(FileFault::Memory) => return Ending::Stopped(SessionFault::Memory),
+    };
+    match collect(rt, alloc, inputs.as_slice(), &work.last, work.jobs, &NoGate) {
+        Ok(collected) => match ending_of_collected(alloc, files, &collected) {
+            Ok(ending) => ending,
+            Err(fault) => Ending::Stopped(fault),
+        },
+        Err(fault) => ending_of_collect(fault),
+    }
+}
+
+/// What was collected, as the call's ending.
+fn ending_of_collected<'a>(
+    alloc: Global,
+    files: &[String],
+    collected: &Collected,
+) -> Result<Ending<'a>, SessionFault>
+    ensures ending { IfOk result (λ ending. ending_data ending ≡ of_collected (map string_bytes files.now) collected.now.entries collected.now.refused) }
+    ensures fault { IfErr result (λ fault. fault ≡ session_faults.Memory) }
+{
+    let refused = collected.refused.get();
+    if has_run_out(refused) {
+        return Ok(Ending::Stopped(SessionFault::Memory));
+    }
+    let entries = collected.entries.get();
+    let mut lines = Vec::new(alloc);
+    add_refusals(alloc, files, refused, &mut lines)?;
+    add_clashes(alloc, entries, &mut lines)?;
+    if lines.is_empty() {
+        return Ok(Ending::Done(text_at_end(alloc, entries)?));
+    }
+    Ok(Ending::Refused(lines))
+}
+
+/// Whether memory ran out for one of the refused inputs.
+fn has_run_out(refused: &[RefusedInput]) -> bool
+    ensures { result ≡ ran_out refused.now }
+{
+    for input in refused {
+        if is_want_of_memory(input.fault) {
+            return true;
+        }
+    }
+    false
+}
+
+/// Whether this fault is want of memory.
+fn is_want_of_memory(fault: ReadFault) -> bool
+    ensures { result ≡ is_memory fault }
+{
+    match fault {
+        ReadFault::TooLong
+        | ReadFault::Line { .. }
+        | ReadFault::Outside { .. }
+        | ReadFault::Inside { .. }
+        | ReadFault::OpenEnd
+        | ReadFault::BadMark { .. }
+        | ReadFault::NoSource { .. }
+        | ReadFault::Percent { .. }
+        | ReadFault::Instances { .. }
+        | ReadFault::Misplaced { .. }
+        | ReadFault::LostFunction
+        | ReadFault::BadTest => false,
+        ReadFault::Memory => true,
+    }
+}
+
+/// Appends the line of each refused input, with its file in front.
+fn add_refusals(
+    alloc: Global,
+    files: &[String],
+    refused: &[RefusedInput],
+    lines: &mut Vec<u8>,
+) -> Result<(), SessionFault>
+    ensures added { OnOk result (lines.new.items ≡ lines.old.items ++ flat_map (refusal_line (map string_bytes files.now)) refused.now) }
+    ensures fault { IfErr result (λ fault. fault ≡ session_faults.Memory) }
+{
+    for input in refused {
+        add_refusal(alloc, files, *input, lines)?;
+    }
+    Ok(())
+}
+
+/// The name of the file at a place.
+fn file_name(files: &[String], index: usize) -> &[u8]
+    ensures { result.now ≡ name_at (slice_get (map string_bytes files.now) index) }
+{
+    match files.get(index) {
+        Some(name) => name.as_bytes(),
+        None => b"",
+    }
+}
+
+/// Appends the line of a refused input.
+fn add_refusal(
+    alloc: Global,
+    files: &[String],
+    input: RefusedInput,
+    lines: &mut Vec<u8>,
+) -> Result<(), SessionFault>
+    ensures added { OnOk result (lines.new.items ≡ lines.old.items ++ refusal_line (map string_bytes files.now) input) }
+    ensures fault { IfErr result (λ fault. fault ≡ session_faults.Memory) }
+{
+    lines.extend_from_slice(file_name(files, input.index))?;
+    lines.extend_from_slice(b": ")?;
+    let line = refused_line(alloc, input.fault)?;
+    lines.extend_from_slice(line.as_slice())?;
+    Ok(())
+}
+
+/// Appends the line of each clash.
+fn add_clashes(alloc: Global, entries: &[Entry], lines: &mut Vec<u8>) -> Result<(), SessionFault>
+    ensures added { OnOk result (lines.new.items ≡ lines.old.items ++ flat_map (λ e. clash_text e.answer) (map entry_data entries.now)) }
+    ensures fault { IfErr result (λ fault. fault ≡ session_faults.Memory) }
+{
+    for entry in entries {
+        add_clash(alloc, &entry.answer, lines)?;
+    }
+    Ok(())
+}
+
+/// Appends the line of an answer where it is a clash.
+fn add_clash(alloc: Global, answer: &Answer, lines: &mut Vec<u8>) -> Result<(), SessionFault>
+    ensures added { OnOk result (lines.new.items ≡ lines.old.items ++ clash_text (answer_data answer.now)) }
+    ensures fault { IfErr result (λ fault. fault ≡ session_faults.Memory) }
+{
+    match answer {
+        Answer::Clash {
+            file,
+            line,
+            held,
+            given,
+        } => {
+            let clash = Clash {
+                file: file.get(),
+                line: *line,
+                held: held.get(),
+                given: given.get(),
+            };
+            let text = clash_line(alloc, clash)?;
+            lines.extend_from_slice(text.as_slice())?;
+            Ok(())
+        }
+        Answer::Accepted { .. } | Answer::Dropped { .. } | Answer::NoSuchTest | Answer::Text(_) =>
+            Ok(()),
+    }
+}
+
+/// The text of the last entry.
+fn text_at_end(alloc: Global, entries: &[Entry]) -> Result<TextRef, SessionFault>
+    ensures text { IfOk result (λ text. text ≡ last_text (map entry_data entries.now)) }
+    ensures fault { IfErr result (λ fault. fault ≡ session_faults.Memory) }
+{
+    match entries.last() {
+        Some(entry) => text_of_answer(alloc, &entry.answer),
+        None => Ok(TextRef::of(alloc, Bytes::new(alloc))?),
+    }
+}
+
+/// The text of an answer; none where it isn't one.
+fn text_of_answer(alloc: Global, answer: &Answer) -> Result<TextRef, SessionFault>
+    ensures text { IfOk result (λ text. text ≡ text_in (answer_data answer.now)) }
+    ensures fault { IfErr result (λ fault. fault ≡ session_faults.Memory) }
+{
+    match answer {
+        Answer::Text(text) => Ok(text.copy()?),
+        Answer::Accepted { .. }
+        | Answer::Clash { .. }
+        | Answer::Dropped { .. }
+        | Answer::NoSuchTest => Ok(TextRef::of(alloc, Bytes::new(alloc))?),
+    }
+}

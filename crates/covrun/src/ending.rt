@@ -1,0 +1,68 @@
+//! How a call of a subcommand ends.
+
+ghost use Rattle.std.specs.Prelude.{◌≡◌};
+ghost use Rattle.covrun.specs.Call.{of_line};
+ghost use Rattle.covrun.specs.Ending.{of_collect};
+ghost use Rattle.covrun.specs.View.{ending_data};
+ghost use Rattle.covrun.specs.WorkFault.{of_work};
+
+use crate::words_fault::WordsFault;
+use crate::work::WorkFault;
+use covbook::TextRef;
+use covcommand::CommandFault;
+use covjobs::CollectFault;
+use covsession::SessionFault;
+
+/// How a call of a subcommand ends: what decides its exit status and what it writes.
+#[derive(Drop)]
+pub(crate) enum Ending<'a> {
+    /// The text of the last entry is printed.
+    Done(TextRef),
+    /// Help is printed.
+    Help(String),
+    /// The words don't fit the command line.
+    Line(String),
+    /// A pattern or the test's name is refused.
+    Words(WordsFault),
+    /// This file can't be read.
+    Unreadable(&'a str),
+    /// A stream failed, or there was no room.
+    Stopped(SessionFault),
+    /// What was collected isn't what the jobs were told.
+    Ungathered,
+    /// Texts were refused or clashed: these are the lines that tell it.
+    Refused(Vec<u8>),
+}
+
+/// The ending of a call whose words give no command.
+pub(crate) fn ending_of_line<'a>(fault: CommandFault) -> Ending<'a>
+    ensures { ending_data result ≡ of_line fault }
+{
+    match fault {
+        CommandFault::Help(text) => Ending::Help(text),
+        CommandFault::Line(text) => Ending::Line(text),
+        CommandFault::Memory => Ending::Stopped(SessionFault::Memory),
+    }
+}
+
+/// The ending of a call whose texts weren't collected.
+pub(crate) fn ending_of_collect<'a>(fault: CollectFault) -> Ending<'a>
+    ensures { ending_data result ≡ of_collect fault }
+{
+    match fault {
+        CollectFault::BadJobs => Ending::Words(WordsFault::BadJobs),
+        CollectFault::Full => Ending::Stopped(SessionFault::Full),
+        CollectFault::Memory => Ending::Stopped(SessionFault::Memory),
+        CollectFault::Gather(_) | CollectFault::NotLast => Ending::Ungathered,
+    }
+}
+
+/// The ending of a call whose work isn't begun.
+pub(crate) fn ending_of_work<'a>(fault: WorkFault) -> Ending<'a>
+    ensures { ending_data result ≡ of_work fault }
+{
+    match fault {
+        WorkFault::Words(fault) => Ending::Words(fault),
+        WorkFault::Memory => Ending::Stopped(SessionFault::Memory),
+    }
+}

@@ -1,0 +1,145 @@
+//! The files that a subcommand reads.
+
+ghost use Rattle.std.specs.Prelude.{◌≡◌, ◌<◌, ◌≤◌, ◌+◌, ◌^◌, suc, length, IfOk, IfErr};
+ghost use Rattle.covread.specs.Outcome.{most_bytes};
+ghost use Rattle.covrun.specs.Files.{HasRead, HasReadAtMost, HasReadBlock, IsUnread};
+
+use covline::{Bytes, Memory};
+use covread::MOST_BYTES;
+use covsession::{FromRead, SessionFault, Source};
+use std::alloc::{AllocError, Global};
+use std::fs;
+use std::rt::Files;
+
+/// How many bytes one read asks for.
+const BLOCK_BYTES: usize = 65_536;
+
+/// How many bytes of a file are kept: one more than a text may have, which shows that it has too many.
+const MOST_KEPT: usize = MOST_BYTES + 1;
+
+/// Why a file isn't read.
+#[derive(Clone, Copy)]
+pub(crate) enum FileFault<'a> {
+    /// The file of this name can't be opened, or a read of it failed.
+    Unreadable(&'a str),
+    /// A growth was refused.
+    Memory,
+}
+
+/// What the source still has, at most a byte more than a text may have. Faults: `Read` where a read failed, and `Memory`.
+pub(crate) fn read_text<S: Source>(alloc: Global, source: &mut S) -> Result<Bytes, SessionFault>
+    requires reads { S.reads source.old < 2 ^ 62 }
+    requires failed_reads { S.failed_reads source.old < 2 ^ 62 }
+    ensures read { IfOk result (HasRead (S.left source.old) (S.left source.new)) }
+    ensures few { IfOk result (λ text. length text ≤ suc most_bytes) }
+{
+    let mut block = vec![in alloc; 0; BLOCK_BYTES]?;
+    let text = read_at_most(alloc, source, block.as_mut_slice(), MOST_KEPT)?;
+    Ok(text)
+}
+
+/// What the source still has, at most so many bytes, read by way of the block. The limit is a parameter, since no proof should
+/// count up to the one that a text has.
+fn read_at_most<S: Source>(
+    alloc: Global,
+    source: &mut S,
+    block: &mut [u8],
+    most: usize,
+) -> Result<Bytes, SessionFault>
+    requires some { 0 < length block.old }
+    requires most { most < 2 ^ 62 }
+    requires reads { S.reads source.old < 2 ^ 62 }
+    requires failed_reads { S.failed_reads source.old < 2 ^ 62 }
+    ensures read { IfOk result (HasReadAtMost most (S.left source.old) (S.left source.new)) }
+    ensures few { IfOk result (λ text. length text ≤ most) }
+{
+    let mut text = Bytes::new(alloc);
+    let mut room = most;
+    while room > 0 {
+        let got = read_some(source, block, room, &mut text)?;
+        if got == 0 {
+            return Ok(text);
+        }
+        room -= got;
+    }
+    Ok(text)
+}
+
+/// Reads once by way of the block, at most so many bytes.
+fn read_some<S: Source>(
+    source: &mut S,
+    block: &mut [u8],
+    room: usize,
+    text: &mut Bytes,
+) -> Result<usize, SessionFault>
+    requires some { 0 < length block.old }
+    requires reads { S.reads source.old < 2 ^ 63 }
+    requires failed_reads { S.failed_reads source.old < 2 ^ 63 }
+    ensures read { IfOk result (HasReadBlock (S.left source.old) (S.left source.new) text.old text.new room) }
+    ensures counted { IfOk result (λ _. S.reads source.new ≡ S.reads source.old + 1) }
+    ensures good { IfOk result (λ _. S.failed_reads source.new ≡ S.failed_reads source.old) }
+{
+    let most = room.min(block.len());
+    let got = read_block(source, &mut block[..most], text)?;
+    Ok(got)
+}
+
+/// Reads once into the block, appends what was read to the text, and answers how many bytes that are.
+fn read_block<S: Source>(
+    source: &mut S,
+    block: &mut [u8],
+    text: &mut Bytes,
+) -> Result<usize, SessionFault>
+    requires reads { S.reads source.old < 2 ^ 63 }
+    requires failed_reads { S.failed_reads source.old < 2 ^ 63 }
+    ensures read { IfOk result (HasReadBlock (S.left source.old) (S.left source.new) text.old text.new (length block.old)) }
+    ensures counted { IfOk result (λ _. S.reads source.new ≡ S.reads source.old + 1) }
+    ensures good { IfOk result (λ _. S.failed_reads source.new ≡ S.failed_reads source.old) }
+{
+    let Ok(got) = source.read(block) else {
+        return Err(SessionFault::Read);
+    };
+    text.append(&block[..got])?;
+    Ok(got)
+}
+
+/// The text of the file of this name, at most a byte more than a text may have.
+pub(crate) fn file_text<'a, R: Files>(
+    rt: &R,
+    alloc: Global,
+    name: &'a str,
+) -> Result<Bytes, FileFault<'a>>
+    ensures few { IfOk result (λ text. length text ≤ suc most_bytes) }
+    ensures unread { IfErr result (IsUnread name.now) }
+{
+    let Ok(file) = fs::open(rt, name) else {
+        return Err(FileFault::Unreadable(name));
+    };
+    match read_text(alloc, &mut FromRead::new(file)) {
+        Ok(text) => Ok(text),
+        Err(SessionFault::Memory) => Err(FileFault::Memory),
+        Err(_) => Err(FileFault::Unreadable(name)),
+    }
+}
+
+impl<'a> From<Memory> for FileFault<'a> {
+    ghost use Rattle.std.specs.Prelude.{◌≡◌};
+    ghost use Rattle.covrun.specs.declared.files.FileFault.TheVariants as faults;
+
+    ghost from_gives = { λ _ f. f ≡ faults.Memory };
+
+    fn from(_refused: Memory) -> FileFault<'a> {
+        FileFault::Memory
+    }
+}
+
+impl<'a> From<AllocError> for FileFault<'a> {
+    ghost use Rattle.std.specs.Prelude.{◌≡◌};
+    ghost use Rattle.covrun.specs.declared.files.FileFault.TheVariants as faults;
+
+    ghost from_gives = { λ _ f. f ≡ faults.Memory };
+
+    fn from(_refused: AllocError) -> FileFault<'a> {
+        FileFault::Memory
+    }
+}

@@ -1,0 +1,29 @@
+//! The program as a function: its words, files and streams in, its exit status out.
+//!
+//! `run` reads the command line (covcommand). Without a subcommand it is a session (covsession). A subcommand becomes `Work`:
+//! its files are read (`files`), collected by covjobs, and the answer becomes an `Ending`, which `tell` tells by an exit status
+//! and on the two streams.
+//!
+//! A sketch: the program's main function.
+//!
+//! ```text
+//! fn main(rt: HostRuntime) -> ExitCode {
+//!     let mut input = FromRead::new(rt.reader());
+//!     let mut output = FromWrite::new(io::writer(&rt));
+//!     let mut faults = FromWrite::new(rt.stderr());
+//!     ExitCode::from(run(&rt, words, &mut input, &mut output, &mut faults))
+//! }
+//! ```
+#![tactic(auto)]
+
+mod collecting;
+mod ending;
+mod files;
+mod inputs;
+mod program;
+mod told;
+mod words_fault;
+mod work;
+
+pub use program::run;
+pub use words_fault::WordsFault;

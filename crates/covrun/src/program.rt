@@ -1,0 +1,68 @@
+//! The program as a function.
+
+ghost use Rattle.std.specs.Prelude.{◌≡◌, ◌<◌, ◌^◌, map};
+ghost use Rattle.std.specs.String.{string_bytes};
+ghost use Rattle.covrun.specs.Call.{sinks, IsCall, CommandTold};
+
+use crate::collecting::ending_of;
+use crate::ending::{ending_of_line, ending_of_work};
+use crate::told::tell;
+use crate::work::work_for;
+use covcommand::{Command, command};
+use covsession::{Sink, Source, run_session};
+use std::alloc::{AllocGlobal, Global};
+use std::rt::Files;
+use std::sync::Wait;
+use std::thread::Threads;
+
+/// Does what the program does, and answers its exit status. The first of the words is the program's name.
+///
+/// Its tests stand in this order: the command line (2); the patterns, or the test's name of `gcov` (2); the files, of which the
+/// first that can't be read is told (1); a fault of collecting (3); want of memory for one of the texts (3); texts that are
+/// refused, and clashes (4); the output (1). Nothing but the text of a call that succeeds, or help, goes to the output.
+/// Without a subcommand this is a session over the input and the output. Waits for the jobs.
+pub fn run<R: Files + AllocGlobal + Threads + Wait + Sync, I: Source, O: Sink, E: Sink>(
+    rt: &R,
+    words: &[String],
+    input: &mut I,
+    output: &mut O,
+    faults: &mut E,
+) -> u8
+    requires reads { I.reads input.old < 2 ^ 62 }
+    requires failed_reads { I.failed_reads input.old < 2 ^ 62 }
+    requires failed_writes { O.failed_writes output.old < 2 ^ 62 }
+    requires failed_words { E.failed_writes faults.old < 2 ^ 62 }
+    ensures { IsCall (map string_bytes words.now) result (I.left input.old) (I.left input.new)
+        (sinks (O.written output.old) (O.failed_writes output.old) (E.written faults.old) (E.failed_writes faults.old))
+        (sinks (O.written output.new) (O.failed_writes output.new) (E.written faults.new) (E.failed_writes faults.new)) }
+{
+    let alloc = rt.alloc();
+    match command(alloc, words) {
+        Ok(asked) => run_command(rt, alloc, asked, input, output, faults),
+        Err(fault) => tell(&ending_of_line(fault), output, faults),
+    }
+}
+
+/// Does what the command asks for, and answers the exit status.
+fn run_command<R: Files + Threads + Wait + Sync, I: Source, O: Sink, E: Sink>(
+    rt: &R,
+    alloc: Global,
+    asked: Command,
+    input: &mut I,
+    output: &mut O,
+    faults: &mut E,
+) -> u8
+    requires reads { I.reads input.old < 2 ^ 62 }
+    requires failed_reads { I.failed_reads input.old < 2 ^ 62 }
+    requires failed_writes { O.failed_writes output.old < 2 ^ 62 }
+    requires failed_words { E.failed_writes faults.old < 2 ^ 62 }
+    ensures { CommandTold asked result (I.left input.old) (I.left input.new)
+        (sinks (O.written output.old) (O.failed_writes output.old) (E.written faults.old) (E.failed_writes faults.old))
+        (sinks (O.written output.new) (O.failed_writes output.new) (E.written faults.new) (E.failed_writes faults.new)) }
+{
+    match work_for(alloc, asked) {
+        Ok(Some(work)) => tell(&ending_of(rt, alloc, &work), output, faults),
+        Ok(None) => run_session(alloc, input, output, faults),
+        Err(fault) => tell(&ending_of_work(fault), output, faults),
+    }
+}

@@ -1,0 +1,74 @@
+//! Telling how a call ended: its text or its complaint goes to a stream, and the exit status is answered.
+
+ghost use Rattle.std.specs.Prelude.{◌≡◌, ◌<◌, ◌^◌, ◌++◌, IfErr, OnOk, OnErr, suc};
+ghost use Rattle.std.specs.Io.KnownBytes.{Appends};
+ghost use Rattle.covrun.specs.Call.{sinks, IsTold};
+ghost use Rattle.covrun.specs.Ending.{Prints};
+ghost use Rattle.covrun.specs.View.{ending_data};
+ghost use Rattle.covsession.specs.declared.session.fault.SessionFault.TheVariants as session_faults;
+
+use crate::ending::Ending;
+use covsession::{SessionFault, Sink, line_of, put_bytes, status_of};
+
+/// Tells the ending, and answers its exit status.
+pub(crate) fn tell<O: Sink, E: Sink>(ending: &Ending<'_>, output: &mut O, faults: &mut E) -> u8
+    requires output { O.failed_writes output.old < 2 ^ 62 }
+    requires faults { E.failed_writes faults.old < 2 ^ 62 }
+    ensures { IsTold (ending_data ending.now) result
+        (sinks (O.written output.old) (O.failed_writes output.old) (E.written faults.old) (E.failed_writes faults.old))
+        (sinks (O.written output.new) (O.failed_writes output.new) (E.written faults.new) (E.failed_writes faults.new)) }
+{
+    match ending {
+        Ending::Done(text) => print(text.get().get(), output, faults),
+        Ending::Help(text) => print(text.as_bytes(), output, faults),
+        Ending::Line(text) => complain(b"", text.as_bytes(), 2, faults),
+        Ending::Words(fault) => complain(b"", fault.line(), 2, faults),
+        Ending::Unreadable(name) => complain(name.as_bytes(), b": can't read\n", 1, faults),
+        Ending::Stopped(fault) => complain(b"", line_of(*fault), status_of(*fault), faults),
+        Ending::Ungathered => complain(b"", b"gather\n", 3, faults),
+        Ending::Refused(lines) => complain(b"", lines.as_slice(), 4, faults),
+    }
+}
+
+/// Prints a text, or tells that a write of it failed.
+fn print<O: Sink, E: Sink>(text: &[u8], output: &mut O, faults: &mut E) -> u8
+    requires output { O.failed_writes output.old < 2 ^ 62 }
+    requires faults { E.failed_writes faults.old < 2 ^ 62 }
+    ensures { IsTold (Prints text.now) result
+        (sinks (O.written output.old) (O.failed_writes output.old) (E.written faults.old) (E.failed_writes faults.old))
+        (sinks (O.written output.new) (O.failed_writes output.new) (E.written faults.new) (E.failed_writes faults.new)) }
+{
+    match put_out(text, output) {
+        Ok(()) => 0,
+        Err(fault) => complain(b"", line_of(fault), status_of(fault), faults),
+    }
+}
+
+/// Writes all of a text, and has the sink send it on.
+fn put_out<O: Sink>(text: &[u8], output: &mut O) -> Result<(), SessionFault>
+    requires { O.failed_writes output.old < 2 ^ 62 }
+    ensures written { OnOk result (Appends (O.written output.old) (O.written output.new) text.now) }
+    ensures good { OnOk result (O.failed_writes output.new ≡ O.failed_writes output.old) }
+    ensures failed { OnErr result (O.failed_writes output.new ≡ suc (O.failed_writes output.old)) }
+    ensures fault { IfErr result (λ fault. fault ≡ session_faults.Write) }
+{
+    put_bytes(text, output)?;
+    match output.flush() {
+        Ok(()) => Ok(()),
+        Err(_) => Err(SessionFault::Write),
+    }
+}
+
+/// Says these words in two parts on the stream for faults, and answers the exit status. Nobody is left to tell where that
+/// write fails.
+fn complain<E: Sink>(front: &[u8], words: &[u8], status: u8, faults: &mut E) -> u8
+    requires { E.failed_writes faults.old < 2 ^ 62 }
+    ensures status { result ≡ status }
+    ensures said { E.failed_writes faults.new ≡ E.failed_writes faults.old
+        → Appends (E.written faults.old) (E.written faults.new) (front.now ++ words.now) }
+{
+    if put_bytes(front, faults).is_ok() {
+        let _ = put_bytes(words, faults);
+    }
+    status
+}

@@ -1,0 +1,151 @@
+//! What a subcommand has to do.
+
+use crate::words_fault::WordsFault;
+use covbook::Op;
+use covcommand::{Command, Names};
+use covline::{Bytes, Memory, good_test};
+use covreport::{PatternFault, Patterns};
+use std::alloc::{AllocError, Global};
+
+/// What a subcommand has to do: the files to read, the test whose counts they have where they are gcov's, by how many jobs,
+/// and what is asked at the end.
+#[derive(Drop)]
+pub(crate) struct Work {
+    pub(crate) files: Names,
+    pub(crate) test: Option<Bytes>,
+    pub(crate) jobs: u32,
+    pub(crate) last: Op,
+}
+
+/// Why a subcommand's work isn't begun.
+#[derive(Clone, Copy)]
+pub(crate) enum WorkFault {
+    /// Its words are refused.
+    Words(WordsFault),
+    /// A growth was refused.
+    Memory,
+}
+
+impl From<Memory> for WorkFault {
+    ghost use Rattle.std.specs.Prelude.{◌≡◌};
+    ghost use Rattle.covrun.specs.declared.work.WorkFault.TheVariants as faults;
+
+    ghost from_gives = { λ _ f. f ≡ faults.Memory };
+
+    fn from(_refused: Memory) -> WorkFault {
+        WorkFault::Memory
+    }
+}
+
+impl From<AllocError> for WorkFault {
+    ghost use Rattle.std.specs.Prelude.{◌≡◌};
+    ghost use Rattle.covrun.specs.declared.work.WorkFault.TheVariants as faults;
+
+    ghost from_gives = { λ _ f. f ≡ faults.Memory };
+
+    fn from(_refused: AllocError) -> WorkFault {
+        WorkFault::Memory
+    }
+}
+
+impl From<PatternFault> for WorkFault {
+    ghost use Rattle.std.specs.Prelude.{◌≡◌};
+    ghost use Rattle.covrun.specs.WorkFault.{of_pattern};
+
+    ghost from_gives = { λ fault f. f ≡ of_pattern fault };
+
+    fn from(fault: PatternFault) -> WorkFault {
+        match fault {
+            PatternFault::TooMany => WorkFault::Words(WordsFault::TooMany),
+            PatternFault::TooLong => WorkFault::Words(WordsFault::TooLong),
+            PatternFault::Memory => WorkFault::Memory,
+        }
+    }
+}
+
+ghost use Rattle.std.specs.Prelude.{◌≡◌, ◌≤◌, ℕ, List, Option, None, Some, length, map, take, drop, IfOk, IfErr, option_map};
+ghost use Rattle.std.specs.String.{string_bytes};
+ghost use Rattle.covline.specs.Lawful.{IsGoodTest};
+ghost use Rattle.covbook.specs.Op.{OpData};
+ghost use Rattle.covrun.specs.View.{work_data};
+ghost use Rattle.covrun.specs.Work.{work_of, filtering, ArePatterns, AreTaken};
+ghost use Rattle.covrun.specs.WorkFault.{IsRefusal, IsPatternRefusal, IsTestRefusal};
+ghost use Rattle.covrun.specs.declared.work.WorkFault.TheVariants as faults;
+
+/// What the command has to do, once its patterns and its test's name are tested. A session has nothing to do here.
+pub(crate) fn work_for(alloc: Global, command: Command) -> Result<Option<Work>, WorkFault>
+    ensures work { IfOk result (λ work. option_map work_data work ≡ work_of command) }
+    ensures taken { IfOk result (λ _. AreTaken command) }
+    ensures refused { IfErr result (IsRefusal command) }
+{
+    match command {
+        Command::Session => Ok(None),
+        Command::Merge { jobs, names } => Ok(Some(over(names, None, jobs, Op::Report))),
+        Command::Summary { names } => Ok(Some(over(names, None, 1, Op::Summary))),
+        Command::Extract { names } => {
+            let (files, patterns) = split(alloc, &names)?;
+            Ok(Some(over(files, None, 1, Op::Extract(patterns))))
+        }
+        Command::Remove { names } => {
+            let (files, patterns) = split(alloc, &names)?;
+            Ok(Some(over(files, None, 1, Op::Remove(patterns))))
+        }
+        Command::Gcov { test, names } => {
+            test_name(&test)?;
+            Ok(Some(over(names, Some(test), 1, Op::Report)))
+        }
+    }
+}
+
+/// The work over these files.
+fn over(files: Names, test: Option<Bytes>, jobs: u32, last: Op) -> Work
+    ensures { work_data result ≡ work_data (record { files = files; test = test; jobs = jobs; last = last }) }
+{
+    Work {
+        files,
+        test,
+        jobs,
+        last,
+    }
+}
+
+/// Tests the name of a test.
+fn test_name(test: &Bytes) -> Result<(), WorkFault>
+    ensures good { IfOk result (λ _. IsGoodTest test.now) }
+    ensures bad { IfErr result (IsTestRefusal test.now) }
+{
+    if good_test(test.get()) {
+        Ok(())
+    } else {
+        Err(WorkFault::Words(WordsFault::BadTest))
+    }
+}
+
+/// The first name, which is a file's, and the others as patterns.
+fn split(alloc: Global, names: &Names) -> Result<(Names, Patterns), WorkFault>
+    ensures file { IfOk result (λ r. r.0 ≡ take 1 names.now) }
+    ensures patterns { IfOk result (λ r. r.1 ≡ drop 1 names.now) }
+    ensures taken { IfOk result (λ _. ArePatterns (drop 1 names.now)) }
+    ensures refused { IfErr result (IsPatternRefusal (drop 1 names.now)) }
+{
+    let mut files = Names::new(alloc);
+    let Some((file, patterns)) = names.get().split_first() else {
+        return Ok((files, Patterns::new(alloc)));
+    };
+    let patterns = patterns_of(alloc, patterns)?;
+    files.push(file.clone()?)?;
+    Ok((files, patterns))
+}
+
+/// The list of these patterns: the first that it doesn't take tells why.
+fn patterns_of(alloc: Global, words: &[String]) -> Result<Patterns, WorkFault>
+    ensures patterns { IfOk result (λ patterns. patterns ≡ map string_bytes words.now) }
+    ensures taken { IfOk result (λ _. ArePatterns (map string_bytes words.now)) }
+    ensures refused { IfErr result (IsPatternRefusal (map string_bytes words.now)) }
+{
+    let mut patterns = Patterns::new(alloc);
+    for word in words {
+        patterns.add(alloc, word.as_bytes())?;
+    }
+    Ok(patterns)
+}

@@ -1,0 +1,169 @@
+//! Calls that fail: in which order their tests stand, and that nothing is printed then.
+
+ghost use Rattle.std.specs.Prelude.{None};
+
+use super::{called, check_text, play, words_of};
+use covsession::{Failed, FromRead, FromWrite, Sink};
+use std::process::{self, Abort};
+use std::rt::Files;
+use std::sync::Wait;
+use std::test::*;
+use std::thread::Threads;
+
+/// Words that don't fit the command line.
+#[test]
+fn words(rt: HostRuntime) -> Result<(), Fail> {
+    play(
+        &rt,
+        process::id(rt.process()),
+        "\
+! error: invalid value '65' for '--jobs <N>': 65 is not in 1..=64
+! ...
+$ 2 covcollect merge --jobs 65 ~/a.info
+! error: the following required arguments were not provided:
+! ...
+$ 2 covcollect extract ~/a.info
+! error: unrecognized subcommand 'bogus'
+! ...
+$ 2 covcollect bogus
+",
+    )
+}
+
+/// A file that isn't there, and a folder: the first is told, before any text is looked into.
+#[test]
+fn files_that_cannot_be_read(rt: HostRuntime) -> Result<(), Fail> {
+    play(
+        &rt,
+        process::id(rt.process()),
+        "\
+DA:1,1
+@ b.info
+! ~/none.info: can't read
+$ 1 covcollect merge ~/none.info
+! ~/none.info: can't read
+$ 1 covcollect merge --jobs 3 ~/b.info ~/none.info ~/other.info
+! ~: can't read
+$ 1 covcollect summary ~ ~/none.info
+! ~/none.info: can't read
+$ 1 covcollect gcov --test t ~/none.info ~
+",
+    )
+}
+
+/// Refused texts in the order of the files, then clashes in the order of the history.
+#[test]
+fn refusals_and_clashes(rt: HostRuntime) -> Result<(), Fail> {
+    play(
+        &rt,
+        process::id(rt.process()),
+        "\
+TN:t
+SF:/a.c
+DA:1,1,abc
+end_of_record
+@ a.info
+DA:1,1
+@ b.info
+SF:/a.c
+DA:1,1
+@ c.info
+TN:u
+SF:/a.c
+DA:1,1,abd
+end_of_record
+@ d.info
+! ~/b.info: refused Outside at 1
+$ 4 covcollect merge ~/b.info
+! ~/b.info: refused Outside at 1
+! ~/c.info: refused OpenEnd
+$ 4 covcollect merge --jobs 2 ~/b.info ~/a.info ~/c.info
+! ~/b.info: refused Outside at 1
+! ~/b.info: refused Outside at 1
+$ 4 covcollect summary ~/b.info ~/b.info
+! clash /a.c 1 abc abd
+$ 4 covcollect merge ~/a.info ~/d.info
+! clash /a.c 1 abd abc
+! clash /a.c 1 abd abc
+$ 4 covcollect merge ~/d.info ~/a.info ~/a.info
+! ~/c.info: refused OpenEnd
+! clash /a.c 1 abc abd
+$ 4 covcollect merge ~/a.info ~/d.info ~/c.info
+! ~/b.info: refused Outside at 1
+$ 4 covcollect extract ~/b.info *
+",
+    )
+}
+
+/// An output that takes no byte, or takes all and can't send them on.
+#[derive(Drop)]
+struct Closed {
+    takes: bool,
+    failed: u64,
+}
+
+impl Sink for Closed {
+    ghost written = { λ s. None };
+
+    ghost failed_writes = { λ s. s.failed };
+
+    fn write(&mut self, bytes: &[u8]) -> Result<usize, Failed> {
+        if self.takes || bytes.is_empty() {
+            return Ok(bytes.len());
+        }
+        self.failed += 1;
+        Err(Failed)
+    }
+
+    fn flush(&mut self) -> Result<(), Failed> {
+        self.failed += 1;
+        Err(Failed)
+    }
+}
+
+/// The exit status of a call whose output is closed so, and what it says.
+fn call_closed<R: Files + AllocGlobal + Threads + Wait + Sync>(
+    rt: &R,
+    asked: &str,
+    takes: bool,
+) -> Result<(u8, Vec<u8>), Fail> {
+    let words = words_of(rt.alloc(), asked, "")?;
+    let mut faults: Vec<u8> = Vec::new(rt.alloc());
+    let status = {
+        let input: &[u8] = b"";
+        let mut source = FromRead::new(input);
+        let mut sink = Closed { takes, failed: 0 };
+        let mut complaints = FromWrite::new(&mut faults);
+        called(
+            rt,
+            words.as_slice(),
+            &mut source,
+            &mut sink,
+            &mut complaints,
+        )
+    };
+    Ok((status, faults))
+}
+
+/// A call whose output is closed so tells that a write failed.
+fn check_closed<R: Files + AllocGlobal + Threads + Wait + Abort + Sync>(
+    rt: &R,
+    asked: &str,
+    takes: bool,
+) -> Result<(), Fail> {
+    let (status, faults) = call_closed(rt, asked, takes)?;
+    check_text(rt, asked, faults.as_slice(), "write fault\n")?;
+    assert!(rt; status == 1, "{asked}: the status is {status}");
+    Ok(())
+}
+
+/// An output that fails at once, and one that fails when it is to send on what it took.
+#[test]
+fn a_closed_output(rt: HostRuntime) -> Result<(), Fail> {
+    for takes in [false, true] {
+        check_closed(&rt, "covcollect summary /dev/null", takes)?;
+        check_closed(&rt, "covcollect --help", takes)?;
+        check_closed(&rt, "covcollect merge /dev/null /dev/null", true)?;
+    }
+    Ok(())
+}

@@ -1,0 +1,111 @@
+//! Inputs that jobs collect.
+
+use super::turns::{SMALL, check_entries};
+use covbook::Op;
+use covjobs::{CollectFault, Collected, Gate, Input, NoGate, RefusedInput, collect};
+use covline::{Bytes, Memory};
+use covread::ReadFault;
+use std::alloc::Global;
+use std::process::Abort;
+use std::sync::Wait;
+use std::test::*;
+use std::thread::Threads;
+
+const ENTRIES: &[u8] = b"\
+0 submit: accepted 1 2 0 
+0 submit: accepted 2 2 0 
+0 report: TN:t
+SF:/a.c
+DA:1,4
+DA:2,0
+LF:2
+LH:1
+end_of_record
+
+";
+
+/// The tracefile as an input.
+pub(super) fn trace(alloc: Global, text: &[u8]) -> Result<Input, Memory> {
+    Ok(Input::Trace(Bytes::of(alloc, text)?))
+}
+
+/// These tracefiles as inputs.
+fn traces(alloc: Global, texts: &[&[u8]]) -> Result<Vec<Input>, Fail> {
+    let mut inputs = Vec::new(alloc);
+    for text in texts {
+        inputs.push(trace(alloc, text)?)?;
+    }
+    Ok(inputs)
+}
+
+/// What so many jobs collect of the inputs, with the report as the last operation.
+fn report_of<R: Threads + Wait + Sync + AllocGlobal, G: Gate + Sync>(
+    rt: &R,
+    inputs: &[Input],
+    jobs: u32,
+    gate: &G,
+) -> Result<Collected, CollectFault> {
+    collect(rt, rt.alloc(), inputs, &Op::Report, jobs, gate)
+}
+
+/// What so many jobs do collect of the inputs.
+pub(super) fn collected_of<R: Threads + Wait + Sync + AllocGlobal + Abort, G: Gate + Sync>(
+    rt: &R,
+    inputs: &[Input],
+    jobs: u32,
+    gate: &G,
+) -> Collected {
+    match report_of(rt, inputs, jobs, gate) {
+        Ok(collected) => collected,
+        Err(_fault) => panic!(rt; "nothing is collected"),
+    }
+}
+
+/// Whether these alone are refused: one input at this place, outside a section at its first line.
+fn is_outside(refused: &[RefusedInput], index: usize) -> bool {
+    match refused.split_first() {
+        Some((first, [])) => {
+            first.index == index && first.fault == ReadFault::Outside { at: 1 }
+        },
+        _ => false,
+    }
+}
+
+/// The second of three inputs can't be read, and it is all that job 1 has.
+fn one_refused<R: Threads + Wait + Sync + AllocGlobal + Abort>(rt: &R) -> Result<(), Fail> {
+    let inputs = traces(rt.alloc(), &[SMALL, b"DA:1,1", SMALL])?;
+    let collected = collected_of(rt, inputs.as_slice(), 2, &NoGate);
+    assert!(rt; is_outside(collected.refused.get(), 1));
+    assert_eq!(rt; collected.logs.get().len(), 2);
+    check_entries(rt, collected.entries.get(), ENTRIES);
+    Ok(())
+}
+
+#[test]
+fn a_refused_input(rt: HostRuntime) -> Result<(), Fail> {
+    one_refused(&rt)
+}
+
+/// Whether nothing is collected by so many jobs, as there can't be so many.
+fn are_bad<R: Threads + Wait + Sync + AllocGlobal>(rt: &R, jobs: u32) -> bool {
+    match report_of(rt, &[], jobs, &NoGate) {
+        Ok(_collected) => false,
+        Err(fault) => fault == CollectFault::BadJobs,
+    }
+}
+
+#[test]
+fn jobs_to_collect(rt: HostRuntime) {
+    assert!(rt; are_bad(&rt, 0));
+    assert!(rt; !are_bad(&rt, 1));
+    assert!(rt; !are_bad(&rt, 64));
+    assert!(rt; are_bad(&rt, 65));
+}
+
+#[test]
+fn numbers_of_collect_faults(rt: HostRuntime) {
+    assert_eq!(rt; CollectFault::BadJobs.number(), 1);
+    assert_eq!(rt; CollectFault::Full.number(), 2);
+    assert_eq!(rt; CollectFault::Memory.number(), 3);
+    assert_eq!(rt; CollectFault::NotLast.number(), 5);
+}

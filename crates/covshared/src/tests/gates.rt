@@ -1,0 +1,134 @@
+//! Workers run at once: each waits for what only another one does.
+
+use super::collecting::{collected_of, trace};
+use super::turns::SMALL;
+use covjobs::{Gate, Input};
+use std::process::Abort;
+use std::sync::Wait;
+use std::sync::atomic::{AtomicU64, Ordering};
+use std::test::*;
+use std::thread::Threads;
+
+/// How often a flag is looked at until a worker gives up.
+const MOST_TURNS: u64 = 1_000_000_000;
+
+/// A flag that goes up once.
+#[derive(Drop)]
+struct Flag {
+    up: AtomicU64,
+}
+
+impl Flag {
+    fn new() -> Flag {
+        Flag {
+            up: AtomicU64::new(0),
+        }
+    }
+
+    fn raise(&self) {
+        self.up.store(1, Ordering::SeqCst);
+    }
+
+    fn is_up(&self) -> bool {
+        self.up.load(Ordering::SeqCst) == 1
+    }
+
+    /// Turns until the flag is up, or gives up.
+    fn is_seen(&self) -> bool {
+        for _turn in 0..MOST_TURNS {
+            if self.is_up() {
+                return true;
+            }
+        }
+        false
+    }
+}
+
+/// Each of two jobs raises its flag before its first submit, and waits for the other's.
+#[derive(Drop)]
+struct Meeting {
+    came: [Flag; 2],
+    met: [Flag; 2],
+}
+
+impl Gate for Meeting {
+    fn before<R: Wait>(&self, _rt: &R, job: u32, call: u64) {
+        if call > 0 || job > 1 {
+            return;
+        }
+        let (own, other) = if job == 0 { (0, 1) } else { (1, 0) };
+        self.came[own].raise();
+        if self.came[other].is_seen() {
+            self.met[own].raise();
+        }
+    }
+
+    fn after<R: Wait>(&self, _rt: &R, _job: u32, _call: u64) {}
+}
+
+/// One job waits before its first submit until the other's first submit is over.
+#[derive(Drop)]
+struct Order {
+    second: u32,
+    done: Flag,
+    seen: Flag,
+}
+
+impl Gate for Order {
+    fn before<R: Wait>(&self, _rt: &R, job: u32, call: u64) {
+        if call == 0 && job == self.second && self.done.is_seen() {
+            self.seen.raise();
+        }
+    }
+
+    fn after<R: Wait>(&self, _rt: &R, job: u32, call: u64) {
+        if call == 0 && job != self.second {
+            self.done.raise();
+        }
+    }
+}
+
+/// Two jobs take an input each, with this gate.
+fn two_jobs<R: Threads + Wait + Sync + AllocGlobal + Abort, G: Gate + Sync>(
+    rt: &R,
+    gate: &G,
+) -> Result<(), Fail> {
+    let inputs: [Input; 2] = [trace(rt.alloc(), SMALL)?, trace(rt.alloc(), SMALL)?];
+    let collected = collected_of(rt, &inputs, 2, gate);
+    assert_eq!(rt; collected.entries.get().len(), 3);
+    Ok(())
+}
+
+#[test]
+fn both_at_once(rt: HostRuntime) -> Result<(), Fail> {
+    let gate = Meeting {
+        came: [Flag::new(), Flag::new()],
+        met: [Flag::new(), Flag::new()],
+    };
+    two_jobs(&rt, &gate)?;
+    assert!(rt; gate.met[0].is_up());
+    assert!(rt; gate.met[1].is_up());
+    Ok(())
+}
+
+/// The job submits behind the other one.
+fn is_second<R: Threads + Wait + Sync + AllocGlobal + Abort>(rt: &R, job: u32) -> Result<(), Fail> {
+    let gate = Order {
+        second: job,
+        done: Flag::new(),
+        seen: Flag::new(),
+    };
+    two_jobs(rt, &gate)?;
+    assert!(rt; gate.seen.is_up());
+    Ok(())
+}
+
+#[test]
+fn first_job_waits(rt: HostRuntime) -> Result<(), Fail> {
+    is_second(&rt, 0)
+}
+
+#[test]
+fn second_job_waits(rt: HostRuntime) -> Result<(), Fail> {
+    is_second(&rt, 1)
+}
