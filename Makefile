@@ -27,8 +27,9 @@ test: toolchain
 	@scripts/gate
 
 install: build/covcollect
-	install -d $(DESTDIR)$(PREFIX)/bin
+	install -d $(DESTDIR)$(PREFIX)/bin $(DESTDIR)$(PREFIX)/share/man/man1
 	install -m 755 build/covcollect $(DESTDIR)$(PREFIX)/bin/covcollect
+	install -m 644 docs/covcollect.1 $(DESTDIR)$(PREFIX)/share/man/man1/covcollect.1
 
 clean:
 	rm -rf build crates/*/out

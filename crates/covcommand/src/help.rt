@@ -95,7 +95,7 @@ pub(crate) const PATTERNS: &str = "Patterns of whole paths, in quotes";
 pub(crate) const SOURCES: &str = "Files that gcov wrote, read in this order";
 
 /// What `--jobs` says.
-pub(crate) const JOBS: &str = "How many files are read at once, 1 to 64";
+pub(crate) const JOBS: &str = "How many files are parsed at once, 1 to 64";
 
 /// What `--test` says.
 pub(crate) const TEST: &str = "The test that the counts are of; --test= is the empty name";

@@ -1,5 +1,5 @@
-//! Tests of the whole program: sessions, bytes in and bytes out. What no session reaches is tested by covtests, covstores and
-//! covbooks, with the public calls of the crates below. What is wanted was worked out by hand from the formats (geninfo(1),
+//! Tests of sessions, bytes in and bytes out. Whole calls are covruns'. What no session reaches is tested by
+//! covtests, covstores, covbooks and covshared, with the public calls of the crates below. What is wanted was worked out by hand from the formats (geninfo(1),
 //! section FILES; gcov(1)), never taken from an output.
 //!
 //! Examples are text, so that they cost the proof of these tests nothing. `check_all` says how they are written.

@@ -10,6 +10,7 @@ pub mod LastEntry
 pub mod Places
 pub mod Seated
 pub mod Steps
+pub mod Submitted
 pub mod Taken
 pub mod Together
 pub mod Whole

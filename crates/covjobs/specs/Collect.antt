@@ -1,7 +1,8 @@
 -- What workers collect: of each input what it is read as, of each job the submissions of its inputs, and behind all of them one
 -- last operation (lcov(1), --add-tracefile, for many files at once).
-use Rattle.std.specs.Prelude.{◌≡◌, ◌⊎◌, ◌==◌, ℕ, zero, suc, ◌<◌, ◌%◌, if◌then◌else◌, Bool, true, IsTrue, List, [], ◌∷◌, ◌++◌, length, map, slice_get, IsSomeAnd, Result, Ok, Err}
+use Rattle.std.specs.Prelude.{◌≡◌, ◌⊎◌, ◌==◌, ℕ, zero, suc, ◌<◌, ◌≤◌, ◌%◌, if◌then◌else◌, Bool, true, IsTrue, List, [], ◌∷◌, ◌++◌, length, map, slice_get, IsSomeAnd, Result, Ok, Err}
 use Rattle.std.specs.List.{AllByRecursion, range_with_len}
+use Rattle.covline.specs.Lawful.{IsGoodTest}
 use Rattle.covline.specs.Row.{SubmissionData}
 use Rattle.covread.specs.declared.fault.ReadFault.{ReadFault}
 use Rattle.covread.specs.declared.fault.ReadFault.TheVariants as faults
@@ -24,9 +25,14 @@ abbrev pub IsReadAs : InputData → Result SubmissionData ReadFault → Type 0
 IsReadAs (TraceInput text) outcome = trace.IsOutcome text outcome
 IsReadAs (GcovInput test text) outcome = gcov.IsOutcome test text outcome
 
+-- the input's length, and the name of its test, are good: before that memory can't run out
+abbrev pub MayRunOut : InputData → Type 0
+MayRunOut (TraceInput text) = length text ≤ trace.most_bytes
+MayRunOut (GcovInput test text) = (length text ≤ trace.most_bytes) × IsGoodTest test
+
 -- what becomes of an input: what it is read as, or memory ran out
 abbrev pub IsFate : InputData → Result SubmissionData ReadFault → Type 0
-IsFate input fate = IsReadAs input fate ⊎ (fate ≡ Err faults.Memory)
+IsFate input fate = IsReadAs input fate ⊎ (MayRunOut input × (fate ≡ Err faults.Memory))
 
 -- what becomes of each of these inputs, by its place
 abbrev pub AreFates : List InputData → (ℕ → Result SubmissionData ReadFault) → Type 0

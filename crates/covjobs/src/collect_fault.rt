@@ -21,7 +21,8 @@ pub enum CollectFault {
     /// Fault 4: the history isn't a merge of what the jobs were told.
     #[error("gather: {0}")]
     Gather(GatherFault),
-    /// Fault 5: an entry stands behind that of the last operation. This is tested last.
+    /// Fault 5: an entry stands behind that of the last operation, which is tested last; or the book can't be closed, which no
+    /// run meets.
     #[error("NotLast")]
     NotLast,
 }

@@ -38,6 +38,9 @@ ghost use Rattle.covjobs.specs.Start.{AreJobs};
 /// Collects inputs by so many jobs, which work at once, each in a thread of its own. Job j takes the inputs j, j + jobs,
 /// j + 2 * jobs and so on, in order: it reads the text, outside the book's lock, and submits what was read. A text that isn't
 /// read is refused, and the job goes on. When all have ended, job 0 performs the last operation. Waits for the workers.
+///
+/// Counts add up as by lcov(1), --add-tracefile. Faults: `BadJobs` exactly where the jobs aren't 1 to 64, `Full`, `Memory`;
+/// `Gather` and `NotLast` where history and logs don't fit, which no run meets.
 pub fn collect<R: Threads + Wait + Sync, G: Gate + Sync>(
     rt: &R,
     alloc: Global,
@@ -79,6 +82,7 @@ fn collect_named<R: Threads + Wait + Sync, G: Gate + Sync, L: Name + Send + Sync
     let (seats, logs, refused) = hand_in(alloc, workers)?;
     let entries = match book.close(seats) {
         Ok(entries) => entries,
+        // No seat is missing: each worker hands its own in.
         Err(_back) => return Err(CollectFault::NotLast),
     };
     gather(entries.get(), logs.get())?;
@@ -127,6 +131,7 @@ fn ask_last<R: Wait, L: Name>(
             worker.ask(rt, alloc, book, last)?;
             Ok(worker.seen())
         },
+        // There is a worker, as there is at least one job.
         None => Err(BookFault::Full),
     }
 }

@@ -19,6 +19,7 @@ impl<A: Allocator + Copy> Input<A> {
     ghost use Rattle.covjobs.specs.InputView.{input_data};
 
     /// What the text is read as, to be submitted, or why it isn't read.
+    #[tactic(auto, using(crate::proofs::Fates::late_fate))]
     pub(crate) fn read(&self, alloc: A) -> Result<SubRef<A>, ReadFault>
         ensures { IsFate (input_data self.now) result }
     {

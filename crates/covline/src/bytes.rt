@@ -28,6 +28,16 @@ impl<A: Allocator> Bytes<A> {
         }
     }
 
+    /// The empty text, with room for so many bytes: until it has more, it doesn't grow.
+    pub fn with_room(alloc: A, bytes: usize) -> Result<Bytes<A>, Memory>
+        ensures empty { IfOk result (λ b. b ≡ []) }
+        ensures nothing { bytes ≡ 0 → IsOk result }
+    {
+        Ok(Bytes {
+            text: Vec::with_capacity(alloc, bytes)?,
+        })
+    }
+
     /// A copy of the slice.
     pub fn of(alloc: A, text: &[u8]) -> Result<Bytes<A>, Memory>
         ensures { IfOk result (λ b. b ≡ text.now) }

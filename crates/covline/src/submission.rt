@@ -75,7 +75,8 @@ impl<A: Allocator> Submission<A> {
     ghost use Rattle.covline.specs.SectView.{sect_data};
     ghost use Rattle.covline.specs.Lawful.{IsLawful, IsRefusedAs};
 
-    /// The submission of these sections, of whose text so many lines don't fit the others. A refusal gives the sections back: there are too many items, or else a text is unlawful.
+    /// The submission of these sections, of whose text so many lines don't fit the others. A refusal gives the sections back:
+    /// there are too many items, or else a text is unlawful.
     pub fn of(sects: Sects<A>, odd: u64) -> Result<Submission<A>, (Sects<A>, BadSubmission)>
         ensures ok { IfOk result (λ s. s ≡ record { sects = sects; odd = odd }) }
         ensures lawful { IsOk result ↔ IsLawful (record { sects = sects; odd = odd }) }

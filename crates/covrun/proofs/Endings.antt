@@ -5,7 +5,9 @@ use Rattle.covsession.specs.Session.{said}
 use Rattle.covbook.specs.Op.{EntryData}
 use Rattle.covbook.specs.Gather.{LogData}
 use Rattle.covjobs.specs.Collect.{InputData, IsCollected}
+use Rattle.covjobs.specs.Start.{AreJobs}
 use Rattle.covjobs.specs.declared.collect_fault.CollectFault.{CollectFault}
+use Rattle.covjobs.specs.declared.collect_fault.CollectFault.TheVariants as collects
 use Rattle.covjobs.specs.declared.refused.RefusedInput.{RefusedInput}
 use Rattle.covcommand.specs.declared.asked.Command.{Command}
 use Rattle.covrun.specs.WorkFault.{IsRefusal, of_work}
@@ -13,7 +15,7 @@ use Rattle.covrun.specs.declared.work.WorkFault.{WorkFault}
 use Rattle.covrun.specs.declared.work.WorkFault.TheVariants.{Words, Memory}
 use Rattle.covcommand.specs.declared.fault.CommandFault.{CommandFault}
 use Rattle.covsession.specs.Program.{TellsSession}
-use Rattle.covrun.specs.Call.{StopsEarly, AreTexts, WorkEnds, WorkTold, SinksData, sinks, IsTold, of_line}
+use Rattle.covrun.specs.Call.{StopsEarly, AreTexts, WorkEnds, WorkTold, SourceData, SinksData, sinks, IsTold, of_line}
 use Rattle.covrun.specs.Ending.{EndingData, Unreadable, of_collect, of_collected}
 use Rattle.covrun.specs.Work.{WorkData, input_of}
 
@@ -33,21 +35,21 @@ ends_collected work files named inputs slice same entries logs refused ending (t
 -- they weren't
 pub ends_uncollected : (work : WorkData) (files : List (List ℕ)) → files ≡ work.files → (inputs : List InputData) (fault : CollectFault) (ending : EndingData)
     → (texts : List (List ℕ)) × AreTexts files texts × (inputs ≡ map (input_of work.test) texts)
-    → ending ≡ of_collect fault → WorkEnds work ending
-ends_uncollected work files named inputs fault ending (texts, are, from) is =
-    inr (inr (texts, Err fault, subst (λ (fs : List (List ℕ)). AreTexts fs texts) named are, tt, is))
+    → (fault ≡ collects.BadJobs → AreJobs work.jobs → ⊥) → ending ≡ of_collect fault → WorkEnds work ending
+ends_uncollected work files named inputs fault ending (texts, are, from) bad is =
+    inr (inr (texts, Err fault, subst (λ (fs : List (List ℕ)). AreTexts fs texts) named are, bad, is))
 
 -- work that ended is told
-pub told_work : (work : WorkData) (asked : Option WorkData) (ending : EndingData) (status : ℕ) (left left_after : Option (List ℕ)) (old new : SinksData)
-    → Some work ≡ asked → WorkEnds work ending → IsTold ending status old new → WorkTold asked status left left_after old new
-told_work work asked ending status left left_after old new is ends told =
-    subst (λ (w : Option WorkData). WorkTold w status left left_after old new) is (ending, ends, told)
+pub told_work : (work : WorkData) (asked : Option WorkData) (ending : EndingData) (status : ℕ) (before after : SourceData) (old new : SinksData)
+    → after ≡ before → Some work ≡ asked → WorkEnds work ending → IsTold ending status old new → WorkTold asked status before after old new
+told_work work asked ending status before after old new unread is ends told =
+    subst (λ (w : Option WorkData). WorkTold w status before after old new) is (unread, ending, ends, told)
 
 -- a command without work is a session
-pub told_session : (asked : Option WorkData) (status : ℕ) (left left_after : Option (List ℕ)) (old new : SinksData) → None ≡ asked
-    → TellsSession status left left_after old.output new.output old.faults new.faults old.failed_faults new.failed_faults
-    → WorkTold asked status left left_after old new
-told_session asked status left left_after old new is told = subst (λ (w : Option WorkData). WorkTold w status left left_after old new) is told
+pub told_session : (asked : Option WorkData) (status : ℕ) (before after : SourceData) (old new : SinksData) → None ≡ asked
+    → TellsSession status before.left after.left old.output new.output old.faults new.faults old.failed_faults new.failed_faults
+    → WorkTold asked status before after old new
+told_session asked status before after old new is told = subst (λ (w : Option WorkData). WorkTold w status before after old new) is told
 
 -- words that give no command
 pub told_line : (fault : CommandFault) (ending : EndingData) → ending ≡ of_line fault → (status : ℕ) (old new : SinksData) → IsTold ending status old new

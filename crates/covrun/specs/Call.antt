@@ -8,7 +8,9 @@ use Rattle.covread.specs.Outcome.{most_bytes}
 use Rattle.covbook.specs.Op.{EntryData}
 use Rattle.covbook.specs.Gather.{LogData}
 use Rattle.covjobs.specs.Collect.{IsCollected}
+use Rattle.covjobs.specs.Start.{AreJobs}
 use Rattle.covjobs.specs.declared.collect_fault.CollectFault.{CollectFault}
+use Rattle.covjobs.specs.declared.collect_fault.CollectFault.TheVariants as collects
 use Rattle.covjobs.specs.declared.refused.RefusedInput.{RefusedInput}
 use Rattle.covcommand.specs.Asked.{AsksFor, IsInBounds}
 use Rattle.covcommand.specs.CommandLine.{covcollect}
@@ -23,11 +25,11 @@ use Rattle.covrun.specs.declared.words_fault.WordsFault.{WordsFault}
 use Rattle.covrun.specs.Ending.{EndingData, Prints, BadLine, BadWords, Unreadable, Stopped, status_of, complaint, of_collect, of_collected}
 use Rattle.covrun.specs.Work.{WorkData, work_of, input_of, AreTaken, AreRefused}
 
--- a text was read of each of the files, and of none more than a byte above what a text may have
+-- there is a text for each of the files, and none has more than a byte above what a text may have. What a file holds isn't told
 abbrev pub AreTexts : List (List ℕ) → List (List ℕ) → Type 0
 AreTexts files texts = (length texts ≡ length files) × AllByRecursion (λ text. length text ≤ suc most_bytes) texts
 
--- the files before this one were read, and this one couldn't be
+-- this is one of the files; those before it have a text each
 abbrev pub IsUnreadable : List (List ℕ) → List ℕ → Type 0
 IsUnreadable files name =
     (before : List (List ℕ)) × (after : List (List ℕ)) × (texts : List (List ℕ)) × (files ≡ before ++ name ∷ after) × AreTexts before texts
@@ -38,10 +40,10 @@ pub record CollectedData : Type 0 where
   pub logs : List LogData
   pub refused : List RefusedInput
 
--- collecting the texts is answered so
+-- collecting the texts is answered so; there are too few or too many jobs only where there are
 abbrev pub IsAnswer : WorkData → List (List ℕ) → Result CollectedData CollectFault → Type 0
 IsAnswer work texts (Ok c) = IsCollected (map (input_of work.test) texts) work.jobs work.last c.entries c.logs c.refused
-IsAnswer work texts (Err fault) = Unit {0}
+IsAnswer work texts (Err fault) = fault ≡ collects.BadJobs → AreJobs work.jobs → ⊥
 
 -- the ending that belongs to an answer
 abbrev pub ending_of : List (List ℕ) → Result CollectedData CollectFault → EndingData
@@ -66,6 +68,14 @@ abbrev pub of_line : CommandFault → EndingData
 of_line (line.Help text) = Prints (string_bytes text)
 of_line (line.Line text) = BadLine (string_bytes text)
 of_line line.Memory = Stopped faults.Memory
+
+-- the stream that a call reads: what it has left, where it tells that, and how often it was read
+pub record SourceData : Type 0 where
+  pub left : Option (List ℕ)
+  pub reads : ℕ
+
+abbrev pub source : Option (List ℕ) → ℕ → SourceData
+source left reads = record { left = left; reads = reads }
 
 -- the two streams that a call writes to: what each has taken, where it tells that, and how many of its writes failed
 pub record SinksData : Type 0 where
@@ -111,23 +121,25 @@ pub record AreParsed (words : List (List ℕ)) (parsed : Result Command CommandF
   pub taken : takes covcollect words ≡ true → IfErr parsed (λ fault. fault ≡ line.Memory)
   pub told : IfErr parsed (IsToldOf (fault_of covcollect words))
 
--- a call that has work ends and is told; one that has none is a session
-abbrev pub WorkTold : Option WorkData → (status : ℕ) → (left left_after : Option (List ℕ)) → SinksData → SinksData → Type 0
-WorkTold (Some work) status left left_after old new = (ending : EndingData) × WorkEnds work ending × IsTold ending status old new
-WorkTold None status left left_after old new =
-    TellsSession status left left_after old.output new.output old.faults new.faults old.failed_faults new.failed_faults
+-- a call that has work ends and is told, and doesn't read the input; one that has none is a session over it
+abbrev pub WorkTold : Option WorkData → (status : ℕ) → (before after : SourceData) → SinksData → SinksData → Type 0
+WorkTold (Some work) status before after old new =
+    (after ≡ before) × (ending : EndingData) × WorkEnds work ending × IsTold ending status old new
+WorkTold None status before after old new =
+    TellsSession status before.left after.left old.output new.output old.faults new.faults old.failed_faults new.failed_faults
 
--- a command's words are refused, or taken and then the command is done
-abbrev pub CommandTold : Command → (status : ℕ) → (left left_after : Option (List ℕ)) → SinksData → SinksData → Type 0
-CommandTold command status left left_after old new =
-    ((ending : EndingData) × StopsEarly command ending × IsTold ending status old new)
-    ⊎ (AreTaken command × WorkTold (work_of command) status left left_after old new)
+-- a command's words are refused, and the input isn't read; or they are taken and then the command is done
+abbrev pub CommandTold : Command → (status : ℕ) → (before after : SourceData) → SinksData → SinksData → Type 0
+CommandTold command status before after old new =
+    ((after ≡ before) × (ending : EndingData) × StopsEarly command ending × IsTold ending status old new)
+    ⊎ (AreTaken command × WorkTold (work_of command) status before after old new)
 
-abbrev pub CallTold : Result Command CommandFault → (status : ℕ) → (left left_after : Option (List ℕ)) → SinksData → SinksData → Type 0
-CallTold (Ok command) status left left_after old new = CommandTold command status left left_after old new
-CallTold (Err fault) status left left_after old new = IsTold (of_line fault) status old new
+-- words that give no command are told of, and the input isn't read
+abbrev pub CallTold : Result Command CommandFault → (status : ℕ) → (before after : SourceData) → SinksData → SinksData → Type 0
+CallTold (Ok command) status before after old new = CommandTold command status before after old new
+CallTold (Err fault) status before after old new = (after ≡ before) × IsTold (of_line fault) status old new
 
--- a call of these words, by its exit status, what its input has at its beginning and its end, and what its streams took
-abbrev pub IsCall : (words : List (List ℕ)) → (status : ℕ) → (left left_after : Option (List ℕ)) → SinksData → SinksData → Type 0
-IsCall words status left left_after old new =
-    (parsed : Result Command CommandFault) × AreParsed words parsed × CallTold parsed status left left_after old new
+-- a call of these words, by its exit status, what its input is at its beginning and its end, and what its streams took
+abbrev pub IsCall : (words : List (List ℕ)) → (status : ℕ) → (before after : SourceData) → SinksData → SinksData → Type 0
+IsCall words status before after old new =
+    (parsed : Result Command CommandFault) × AreParsed words parsed × CallTold parsed status before after old new

@@ -1,6 +1,6 @@
 //! The files that a subcommand reads.
 
-ghost use Rattle.std.specs.Prelude.{◌≡◌, ◌<◌, ◌≤◌, ◌+◌, ◌^◌, suc, length, IfOk, IfErr};
+ghost use Rattle.std.specs.Prelude.{◌≡◌, ◌<◌, ◌≤◌, ◌+◌, ◌^◌, [], suc, length, IfOk, IfErr};
 ghost use Rattle.covread.specs.Outcome.{most_bytes};
 ghost use Rattle.covrun.specs.Files.{HasRead, HasReadAtMost, HasReadBlock, IsUnread};
 
@@ -9,6 +9,7 @@ use covread::MOST_BYTES;
 use covsession::{FromRead, SessionFault, Source};
 use std::alloc::{AllocError, Global};
 use std::fs;
+use std::fs::OpenFile;
 use std::rt::Files;
 
 /// How many bytes one read asks for.
@@ -26,26 +27,33 @@ pub(crate) enum FileFault<'a> {
     Memory,
 }
 
-/// What the source still has, at most a byte more than a text may have. Faults: `Read` where a read failed, and `Memory`.
-pub(crate) fn read_text<S: Source>(alloc: Global, source: &mut S) -> Result<Bytes, SessionFault>
+/// What the source still has, at most a byte more than a text may have. The text grows once where no more bytes come than are
+/// awaited. Faults: `Read` where a read failed, and `Memory`.
+pub(crate) fn read_text<S: Source>(
+    alloc: Global,
+    awaited: usize,
+    source: &mut S,
+) -> Result<Bytes, SessionFault>
     requires reads { S.reads source.old < 2 ^ 62 }
     requires failed_reads { S.failed_reads source.old < 2 ^ 62 }
     ensures read { IfOk result (HasRead (S.left source.old) (S.left source.new)) }
     ensures few { IfOk result (λ text. length text ≤ suc most_bytes) }
 {
     let mut block = vec![in alloc; 0; BLOCK_BYTES]?;
-    let text = read_at_most(alloc, source, block.as_mut_slice(), MOST_KEPT)?;
+    let empty = Bytes::with_room(alloc, awaited)?;
+    let text = read_at_most(empty, source, block.as_mut_slice(), MOST_KEPT)?;
     Ok(text)
 }
 
-/// What the source still has, at most so many bytes, read by way of the block. The limit is a parameter, since no proof should
-/// count up to the one that a text has.
+/// What the source still has, at most so many bytes, read by way of the block into the empty text. The limit is a parameter,
+/// since no proof should count up to the one that a text has.
 fn read_at_most<S: Source>(
-    alloc: Global,
+    empty: Bytes,
     source: &mut S,
     block: &mut [u8],
     most: usize,
 ) -> Result<Bytes, SessionFault>
+    requires empty { empty ≡ [] }
     requires some { 0 < length block.old }
     requires most { most < 2 ^ 62 }
     requires reads { S.reads source.old < 2 ^ 62 }
@@ -53,7 +61,7 @@ fn read_at_most<S: Source>(
     ensures read { IfOk result (HasReadAtMost most (S.left source.old) (S.left source.new)) }
     ensures few { IfOk result (λ text. length text ≤ most) }
 {
-    let mut text = Bytes::new(alloc);
+    let mut text = empty;
     let mut room = most;
     while room > 0 {
         let got = read_some(source, block, room, &mut text)?;
@@ -103,6 +111,14 @@ fn read_block<S: Source>(
     Ok(got)
 }
 
+/// How many bytes the file has, as far as they are kept. A pipe doesn't tell: 0.
+fn size_of<F: OpenFile>(file: &F) -> usize {
+    match file.metadata() {
+        Ok(metadata) => metadata.len().min(MOST_KEPT as u64) as usize,
+        Err(_) => 0,
+    }
+}
+
 /// The text of the file of this name, at most a byte more than a text may have.
 pub(crate) fn file_text<'a, R: Files>(
     rt: &R,
@@ -115,7 +131,8 @@ pub(crate) fn file_text<'a, R: Files>(
     let Ok(file) = fs::open(rt, name) else {
         return Err(FileFault::Unreadable(name));
     };
-    match read_text(alloc, &mut FromRead::new(file)) {
+    let awaited = size_of(&file);
+    match read_text(alloc, awaited, &mut FromRead::new(file)) {
         Ok(text) => Ok(text),
         Err(SessionFault::Memory) => Err(FileFault::Memory),
         Err(_) => Err(FileFault::Unreadable(name)),

@@ -188,7 +188,8 @@ impl<K: Key + Drop, V: Value, A: Allocator + Copy> Points<K, V, A> {
     }
 
     /// Adds to the value that is to come for what is asked for, in one look-up, and tells the value before and after.
-    /// The look-up costs no search where the guess is the place, or the one just before it. Where memory is refused, anything may be to come after that, and is best forgotten.
+    /// The look-up costs no search where the guess is the place, or the one just before it. Where memory is refused, anything
+    /// may be to come after that, and is best forgotten.
     pub(crate) fn add<Q: Asked<K, A>, M: More<V>>(
         &mut self,
         alloc: A,

@@ -44,8 +44,8 @@ impl<A: Allocator + Copy> Touched<A> {
 }
 
 /// The value of every line, function and branch at its file and test, over the rows that are left of all submissions that
-/// are held, of which there are at most 1,048,576; rows go where their test is dropped. Contracts see these values as sections, how many submissions there are, and what the store keeps
-/// of the files, as they are and as they are to be.
+/// are held, of which there are at most 1,048,576; rows go where their test is dropped. Contracts see these values as
+/// sections, how many submissions there are, and what the store keeps of the files, as they are and as they are to be.
 #[derive(Drop)]
 pub struct Store<A: Allocator = Global> {
     files: BTreeMap<Vec<u8, A>, File<A>, A>,

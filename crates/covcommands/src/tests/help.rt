@@ -76,6 +76,33 @@ Exit status:
     )
 }
 
+/// The help of a subcommand is just this.
+#[test]
+fn the_whole_help_of_gcov(rt: HostRuntime) -> Result<(), Fail> {
+    let help = help_of(rt.alloc(), "covcollect gcov --help")?;
+    check_text(
+        &rt,
+        help.as_str(),
+        "\
+Makes a tracefile of what gcov wrote (geninfo)
+
+Usage: covcollect gcov --test <NAME> <FILE>...
+
+Arguments:
+  <FILE>...  Files that gcov wrote, read in this order
+
+Options:
+      --test <NAME>  The test that the counts are of; --test= is the empty name
+  -h, --help         Print help
+
+Prints the tracefile of annotated source, as the counts of one test. gcov writes
+it without options, or by -b -c with functions and branches:
+  gcov -b -c main.gcda
+  covcollect gcov --test unit main.c.gcov > unit.info
+",
+    )
+}
+
 fn check_text(rt: &impl Abort, given: &str, wanted: &str) -> Result<(), Fail> {
     assert!(rt; given == wanted, "{given}");
     Ok(())

@@ -183,6 +183,16 @@ branch  0 taken 90%
 @ g2.txt
 ! ~/g2.txt: refused Percent at 3
 $ 4 covcollect gcov --test t ~/g1.txt ~/g2.txt
+-:0:Source:a.c
+3:7:x
+@ g3.txt
+> TN:
+> SF:a.c
+> DA:7,6
+> LF:1
+> LH:1
+> end_of_record
+$ 0 covcollect gcov --test= ~/g3.txt ~/g3.txt
 ",
     )
 }

@@ -3,7 +3,7 @@
 ghost use Rattle.std.specs.Prelude.{None};
 
 use super::{called, check_text, play, words_of};
-use covsession::{Failed, FromRead, FromWrite, Sink};
+use covsession::{Failed, FromRead, FromWrite, Sink, Source};
 use std::process::{self, Abort};
 use std::rt::Files;
 use std::sync::Wait;
@@ -18,13 +18,21 @@ fn words(rt: HostRuntime) -> Result<(), Fail> {
         process::id(rt.process()),
         "\
 ! error: invalid value '65' for '--jobs <N>': 65 is not in 1..=64
-! ...
+! 
+! For more information, try '--help'.
 $ 2 covcollect merge --jobs 65 ~/a.info
 ! error: the following required arguments were not provided:
-! ...
+!   <PATTERN>...
+! 
+! Usage: covcollect extract <TRACEFILE> <PATTERN>...
+! 
+! For more information, try '--help'.
 $ 2 covcollect extract ~/a.info
 ! error: unrecognized subcommand 'bogus'
-! ...
+! 
+! Usage: covcollect [COMMAND]
+! 
+! For more information, try '--help'.
 $ 2 covcollect bogus
 ",
     )
@@ -81,6 +89,10 @@ $ 4 covcollect merge --jobs 2 ~/b.info ~/a.info ~/c.info
 ! ~/b.info: refused Outside at 1
 ! ~/b.info: refused Outside at 1
 $ 4 covcollect summary ~/b.info ~/b.info
+! ~/b.info: refused Outside at 1
+! ~/c.info: refused OpenEnd
+! ~/b.info: refused Outside at 1
+$ 4 covcollect merge --jobs 2 ~/b.info ~/c.info ~/b.info
 ! clash /a.c 1 abc abd
 $ 4 covcollect merge ~/a.info ~/d.info
 ! clash /a.c 1 abd abc
@@ -166,4 +178,68 @@ fn a_closed_output(rt: HostRuntime) -> Result<(), Fail> {
         check_closed(&rt, "covcollect merge /dev/null /dev/null", true)?;
     }
     Ok(())
+}
+
+/// An input whose every read fails.
+#[derive(Drop)]
+struct Broken {
+    reads: u64,
+}
+
+impl Source for Broken {
+    ghost left = { λ s. None };
+
+    ghost reads = { λ s. s.reads };
+
+    ghost failed_reads = { λ s. s.reads };
+
+    fn read(&mut self, _buffer: &mut [u8]) -> Result<usize, Failed> {
+        self.reads += 1;
+        Err(Failed)
+    }
+}
+
+/// The exit status of a call whose input is broken, and how often it was read.
+fn call_broken<R: Files + AllocGlobal + Threads + Wait + Sync>(
+    rt: &R,
+    asked: &str,
+) -> Result<(u8, u64), Fail> {
+    let words = words_of(rt.alloc(), asked, "")?;
+    let mut source = Broken { reads: 0 };
+    let mut output: Vec<u8> = Vec::new(rt.alloc());
+    let mut faults: Vec<u8> = Vec::new(rt.alloc());
+    let status = {
+        let mut sink = FromWrite::new(&mut output);
+        let mut complaints = FromWrite::new(&mut faults);
+        called(
+            rt,
+            words.as_slice(),
+            &mut source,
+            &mut sink,
+            &mut complaints,
+        )
+    };
+    Ok((status, source.reads))
+}
+
+/// A call whose input is broken ends with this status, and has read it so often.
+fn check_broken<R: Files + AllocGlobal + Threads + Wait + Abort + Sync>(
+    rt: &R,
+    asked: &str,
+    status: u8,
+    reads: u64,
+) -> Result<(), Fail> {
+    let (given, times) = call_broken(rt, asked)?;
+    assert!(rt; given == status, "{asked}: the status is {given}");
+    assert!(rt; times == reads, "{asked}: the input was read {times} times");
+    Ok(())
+}
+
+/// A session alone reads the input.
+#[test]
+fn a_broken_input(rt: HostRuntime) -> Result<(), Fail> {
+    check_broken(&rt, "covcollect", 1, 1)?;
+    check_broken(&rt, "covcollect merge /dev/null", 0, 0)?;
+    check_broken(&rt, "covcollect --help", 0, 0)?;
+    check_broken(&rt, "covcollect bogus", 2, 0)
 }

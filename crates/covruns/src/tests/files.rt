@@ -1,6 +1,6 @@
 //! Many files, and large ones.
 
-use super::{call, check_text};
+use super::{call, check_text, play};
 use std::alloc::Global;
 use std::fs;
 use std::process::{self, Abort};
@@ -81,5 +81,18 @@ fn the_largest_text(rt: HostRuntime) -> Result<(), Fail> {
         text.as_slice(),
         1,
         (4, "", faults.as_str()),
+    )
+}
+
+/// A file that doesn't end, and tells no size, is read as far as shows that it is too long.
+#[test]
+fn a_file_without_end(rt: HostRuntime) -> Result<(), Fail> {
+    play(
+        &rt,
+        process::id(rt.process()),
+        "\
+! /dev/zero: refused TooLong
+$ 4 covcollect merge /dev/zero
+",
     )
 }

@@ -59,6 +59,7 @@ fn patterns(rt: HostRuntime) -> Result<(), Fail> {
     )?;
     check(&rt, chosen_by(alloc, 65, 1_024)?.as_slice(), 2, "TooMany\n")?;
     check(&rt, chosen_by(alloc, 64, 1_025)?.as_slice(), 2, "TooLong\n")?;
+    check(&rt, chosen_by(alloc, 65, 1_025)?.as_slice(), 2, "TooLong\n")?;
     let mut words = chosen_by(alloc, 64, 1)?;
     words.push(long_word(alloc, 1_025)?)?;
     check(&rt, words.as_slice(), 2, "TooMany\n")

@@ -1,7 +1,7 @@
 //! Inputs that jobs collect.
 
 use super::turns::{SMALL, check_entries};
-use covbook::Op;
+use covbook::{GatherFault, Op};
 use covjobs::{CollectFault, Collected, Gate, Input, NoGate, RefusedInput, collect};
 use covline::{Bytes, Memory};
 use covread::ReadFault;
@@ -30,7 +30,7 @@ pub(super) fn trace(alloc: Global, text: &[u8]) -> Result<Input, Memory> {
 }
 
 /// These tracefiles as inputs.
-fn traces(alloc: Global, texts: &[&[u8]]) -> Result<Vec<Input>, Fail> {
+pub(super) fn traces(alloc: Global, texts: &[&[u8]]) -> Result<Vec<Input>, Fail> {
     let mut inputs = Vec::new(alloc);
     for text in texts {
         inputs.push(trace(alloc, text)?)?;
@@ -107,5 +107,9 @@ fn numbers_of_collect_faults(rt: HostRuntime) {
     assert_eq!(rt; CollectFault::BadJobs.number(), 1);
     assert_eq!(rt; CollectFault::Full.number(), 2);
     assert_eq!(rt; CollectFault::Memory.number(), 3);
+    assert_eq!(rt;
+        CollectFault::Gather(GatherFault::Missing { place: 0 }).number(),
+        4
+    );
     assert_eq!(rt; CollectFault::NotLast.number(), 5);
 }

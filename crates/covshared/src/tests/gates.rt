@@ -1,6 +1,6 @@
 //! Workers run at once: each waits for what only another one does.
 
-use super::collecting::{collected_of, trace};
+use super::collecting::{collected_of, trace, traces};
 use super::turns::SMALL;
 use covjobs::{Gate, Input};
 use std::process::Abort;
@@ -88,6 +88,34 @@ impl Gate for Order {
     }
 }
 
+/// The calls around one job's submits, counted in their order.
+#[derive(Drop)]
+struct Steps {
+    taken: AtomicU64,
+    wrong: Flag,
+}
+
+impl Steps {
+    /// This is job 0's, and the next one.
+    fn take(&self, job: u32, step: u64) {
+        let taken = self.taken.load(Ordering::SeqCst);
+        if job != 0 || step != taken {
+            self.wrong.raise();
+        }
+        self.taken.store(taken.saturating_add(1), Ordering::SeqCst);
+    }
+}
+
+impl Gate for Steps {
+    fn before<R: Wait>(&self, _rt: &R, job: u32, call: u64) {
+        self.take(job, call.saturating_mul(2));
+    }
+
+    fn after<R: Wait>(&self, _rt: &R, job: u32, call: u64) {
+        self.take(job, call.saturating_mul(2).saturating_add(1));
+    }
+}
+
 /// Two jobs take an input each, with this gate.
 fn two_jobs<R: Threads + Wait + Sync + AllocGlobal + Abort, G: Gate + Sync>(
     rt: &R,
@@ -131,4 +159,29 @@ fn first_job_waits(rt: HostRuntime) -> Result<(), Fail> {
 #[test]
 fn second_job_waits(rt: HostRuntime) -> Result<(), Fail> {
     is_second(&rt, 1)
+}
+
+/// One job takes two inputs and one that can't be read, with this gate.
+fn one_job<R: Threads + Wait + Sync + AllocGlobal + Abort, G: Gate + Sync>(
+    rt: &R,
+    gate: &G,
+) -> Result<(), Fail> {
+    let inputs = traces(rt.alloc(), &[SMALL, b"DA:1,1", SMALL])?;
+    let collected = collected_of(rt, inputs.as_slice(), 1, gate);
+    assert_eq!(rt; collected.entries.get().len(), 3);
+    Ok(())
+}
+
+/// What is submitted has a call before it and one after it, by its number. A text that isn't read has none, nor the last
+/// operation.
+#[test]
+fn around_each_submit(rt: HostRuntime) -> Result<(), Fail> {
+    let gate = Steps {
+        taken: AtomicU64::new(0),
+        wrong: Flag::new(),
+    };
+    one_job(&rt, &gate)?;
+    assert!(rt; !gate.wrong.is_up());
+    assert_eq!(rt; gate.taken.load(Ordering::SeqCst), 4);
+    Ok(())
 }

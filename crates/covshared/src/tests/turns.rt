@@ -101,23 +101,23 @@ pub(super) fn check_entries(rt: &(impl Abort + AllocGlobal), entries: &[Entry], 
     check_bytes(rt, text.as_slice(), wanted);
 }
 
-/// Appends the job of each seat, how many of its calls succeeded, and what it has seen, in numbers below 256.
-fn put_seats<L: Name>(numbers: &mut Vec<u8>, seats: &[Seat<L>]) -> Result<(), AllocError> {
+/// Appends the job of each seat, how many of its calls succeeded, and what it has seen.
+fn put_seats<L: Name>(numbers: &mut Vec<u64>, seats: &[Seat<L>]) -> Result<(), AllocError> {
     for seat in seats {
-        numbers.push((seat.job() % 256) as u8)?;
-        numbers.push((seat.calls() % 256) as u8)?;
-        numbers.push((seat.seen() % 256) as u8)?;
+        numbers.push(seat.job() as u64)?;
+        numbers.push(seat.calls())?;
+        numbers.push(seat.seen())?;
     }
     Ok(())
 }
 
 /// The seats show these numbers.
-fn check_seats<L: Name>(rt: &(impl Abort + AllocGlobal), seats: &[Seat<L>], wanted: &[u8]) {
+fn check_seats<L: Name>(rt: &(impl Abort + AllocGlobal), seats: &[Seat<L>], wanted: &[u64]) {
     let mut numbers = Vec::new(rt.alloc());
     if put_seats(&mut numbers, seats).is_err() {
         panic!(rt; "out of memory");
     }
-    check_bytes(rt, numbers.as_slice(), wanted);
+    assert_eq!(rt; numbers.as_slice(), wanted);
 }
 
 fn in_turn<L: Name, R: Wait + Abort + AllocGlobal>(rt: &R, start: Start)

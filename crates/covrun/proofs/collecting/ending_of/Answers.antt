@@ -1,4 +1,4 @@
-use Rattle.std.proofs.Common.{map, ap}
+use Rattle.std.proofs.Common.{Err, map, ap}
 use Rattle.covjobs.specs.InputView.{input_data}
 use Rattle.covrun.specs.View.{work_data}
 use Rattle.covrun.proofs.Endings.{ends_collected, ends_uncollected}
@@ -10,4 +10,4 @@ returns-in-Ok-ending_of_collected g c =
     c.in-Ok.ensures.texts c.in-Ok-collect.ensures.collected c.in-Ok-ending_of_collected.ensures.ending
 
 pub returns : goal.returns
-returns g c = ends_uncollected (work_data c.args.work.now) _ c.get-files.ensures _ _ _ c.in-Ok.ensures.texts c.ending_of_collect.ensures
+returns g c = ends_uncollected (work_data c.args.work.now) _ c.get-files.ensures _ _ _ c.in-Ok.ensures.texts (λ is. (c.in-Err.ensures.bad).0 (ap Err is)) c.ending_of_collect.ensures

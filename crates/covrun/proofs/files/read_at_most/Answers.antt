@@ -4,9 +4,9 @@ use Rattle.covrun.proofs.files.read_at_most.Goals as goal
 
 pub loop-room-init : goal.loop-room-init
 loop-room-init g c =
-    let none : length c.new-text.result ≡ 0 = ap length c.new-text.ensures in
+    let none : length c.args.empty ≡ 0 = ap length c.requires.empty in
     record {
-      took = read_begun _ _ c.new-text.ensures;
+      took = read_begun _ _ c.requires.empty;
       room = omega (arith, none);
       reads = omega (arith, none);
       failed = refl;
