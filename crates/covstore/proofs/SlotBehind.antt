@@ -5,6 +5,7 @@ use Rattle.std.specs.declared.cmp.Ordering.TheVariants.{Less, Equal, Greater}
 use Rattle.std.specs.Ordering.{is_lt, is_eq, is_gt}
 use Rattle.std.specs.List.{AllByRecursion}
 use Rattle.std.specs.Prelude.{None, Some, nat_lt, slice_get}
+use Rattle.std.proofs.lemmas.Bool.{cond-true, cond-false, le-ltb, lt-ltb}
 use Rattle.std.proofs.lemmas.Bool.Decides.{nat_tests}
 use Rattle.covstore.specs.Asked.{IsAsked}
 use Rattle.covstore.specs.Slots.{IsAscending, IsPage, AreSlots, slots_of, page_at, slot_at, behind, before, from, order_at, IsCut, IsGap}
@@ -111,6 +112,13 @@ module _ {K V : Type 0} {cmp : K → K → Ordering} {order : K → Ordering} (a
     where
       apart : {o : Ordering} (p : Ordering) → o ≡ Greater → o ≡ p → (Greater ≡ p → ⊥) → ⊥
       apart p e f none = none (sym e ∙ f)
+
+-- the place behind one that isn't the last of its page, and behind one that is
+pub behind_within : {K V : Type 0} (pages : List (List (K × Option V))) (i j next : ℕ) → next ≡ suc j → suc j < length (page_at pages i) → (i, next) ≡ behind pages (i, j)
+behind_within pages i j next e l = ap (λ at. (i, at)) e ∙ sym (cond-true (nat_lt (suc j) (length (page_at pages i))) (i, suc j) (suc i, 0) (lt-ltb (suc j) (length (page_at pages i)) l))
+
+pub behind_past : {K V : Type 0} (pages : List (List (K × Option V))) (i j next : ℕ) → next ≡ suc i → length (page_at pages i) ≤ suc j → (next, 0) ≡ behind pages (i, j)
+behind_past pages i j next e l = ap (λ page. (page, 0)) e ∙ sym (cond-false (nat_lt (suc j) (length (page_at pages i))) (i, suc j) (suc i, 0) (le-ltb (suc j) (length (page_at pages i)) l))
 
 -- where a page has a slot it is there
 pub number_within : {X : Type 0} (pages : List (List X)) (i : ℕ) → 0 < length (get_or pages i []) → i < length pages

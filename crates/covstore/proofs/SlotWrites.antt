@@ -1,5 +1,5 @@
 -- What the slots are after a write: the key that is put in at its gap, and still ascending.
-use Rattle.std.proofs.Common.{◌≡◌, ℕ, zero, suc, ◌+◌, ◌<◌, ◌≤◌, Bool, true, false, Option, List, [], ◌∷◌, ◌++◌, length, get_or, take, drop, set, map, refl, sym, ap, ◌∙◌, append_assoc, subst, arith}
+use Rattle.std.proofs.Common.{◌≡◌, ℕ, zero, suc, ◌+◌, ◌<◌, ◌≤◌, ◌^◌, Bool, true, false, Option, List, [], ◌∷◌, ◌++◌, length, get_or, take, drop, set, map, refl, sym, ap, ◌∙◌, append_assoc, subst, arith}
 use Rattle.std.specs.Cmp.{IsTotalOrder}
 use Rattle.std.specs.declared.cmp.Ordering.{Ordering}
 use Rattle.std.specs.declared.cmp.Ordering.TheVariants.{Less, Greater}
@@ -13,7 +13,7 @@ use Rattle.covstore.proofs.Leads.{all_append, all_front, all_back, all_weaker}
 use Rattle.covstore.proofs.SlotSearch.{page_read, length_map}
 use Rattle.covstore.proofs.SlotPages.{whole}
 
-take_all : {X : Type 0} (xs : List X) → take (length xs) xs ≡ xs
+pub take_all : {X : Type 0} (xs : List X) → take (length xs) xs ≡ xs
 take_all [] = refl
 take_all (x ∷ xs) = ap (λ rest. x ∷ rest) (take_all xs)
 
@@ -81,6 +81,14 @@ pub seen_page : {P X : Type 0} (items : P → List X) (ps : List P) (pages : Lis
 seen_page items ps pages i p view l e =
     let within : i < length ps = rw (← length_map items ps, view) l in
     ap (λ pages. get_or pages i []) (sym view) ∙ page_read items ps i p within e
+
+-- a page that contracts see is among those that are read
+pub page_within : {P X : Type 0} (items : P → List X) (ps : List P) (pages : List (List X)) (i : ℕ) → map items ps ≡ pages → i < length pages → i < length ps
+page_within items ps pages i view l = rw (← length_map items ps, view) l
+
+-- the pages that contracts see are as many as those that are read
+pub pages_few : {P X : Type 0} (items : P → List X) (ps : List P) (pages : List (List X)) (len : ℕ) → map items ps ≡ pages → len ≡ length ps → len < 2 ^ 64 → length pages < 2 ^ 64
+pages_few items ps pages len view long few = subst (λ pages. length pages < 2 ^ 64) view (omega (arith, length_map items ps, long, few))
 
 pub set_same : {X : Type 0} (pages : List (List X)) (i : ℕ) → set pages i (get_or pages i []) ≡ pages
 set_same [] i = refl

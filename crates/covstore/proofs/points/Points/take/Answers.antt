@@ -1,8 +1,10 @@
-use Rattle.std.proofs.Common.{◌≡◌, ◌∙◌, ap, sym, subst}
-use Rattle.covstore.specs.Coming.{AreAscending, AreColumnsOf, coming_of, with_page}
+use Rattle.std.proofs.Common.{◌≡◌, ◌∷◌, [], ◌∙◌, ℕ, List, Option, ap, arith, length, refl, sym, subst}
+use Rattle.std.proofs.lemmas.List.{length-append}
+use Rattle.covstore.specs.Coming.{AreAscending, AreColumnsOf, IsColumnOf, coming_of, with_page}
 use Rattle.covstore.specs.PointsData.{PointsData}
 use Rattle.covstore.specs.Slots.{filled, slots_of}
 use Rattle.covstore.proofs.Comings.{nothing_coming}
+use Rattle.covstore.proofs.Leads.{all_back}
 use Rattle.covstore.proofs.PointTakes.{columns_left, taken_last}
 use Rattle.covstore.proofs.points.Points.take.Goals as goal
 
@@ -25,3 +27,26 @@ returns-clause-now g c =
     let slots = c.loop-number.self-inside.slots in
     let done : slots ≡ coming_of old.slots old.coming = sym (nothing_coming 0 slots) ∙ ap (coming_of slots) (sym c.in_default.ensures.same) ∙ c.loop-number.invariant.1 in
     ap (λ pages. filled (slots_of pages)) done ∙ ap (λ (points : PointsData g.row.K.Denot g.row.V.Denot). points.coming) c.self.view_is
+
+pub fill-requires : goal.fill-requires
+fill-requires g c =
+    let slots = c.loop-number.self-inside.slots in
+    let last : ℕ × List (Option g.row.V.Denot) = (c.in-Some.number, c.in-Some.column.items) in
+    let fit = (all_back (IsColumnOf slots) c.pop.new.self (last ∷ []) (subst (AreColumnsOf slots) c.in-Some.ensures.some c.loop-number.invariant.0)).0 in
+    record { there = fit.0; fits = ap length c.deref.ensures.value ∙ fit.1 }
+
+pub loop-number-init : goal.loop-number-init
+loop-number-init g c = (c.self.invariant, refl)
+
+pub invariant_of-self : goal.invariant_of-self
+invariant_of-self g c = subst (AreColumnsOf c.loop-number.self-inside.slots) (sym c.in_default.ensures.none) tt
+
+pub returns-clause-coming : goal.returns-clause-coming
+returns-clause-coming g c =
+    let slots = c.loop-number.self-inside.slots in
+    ap (λ columns. filled (slots_of (coming_of slots columns))) (c.in_default.ensures.none ∙ sym c.in_default.ensures.same)
+    ∙ ap (λ pages. filled (slots_of pages)) c.loop-number.invariant.1
+    ∙ ap (λ (points : PointsData g.row.K.Denot g.row.V.Denot). points.coming) c.self.view_is
+
+pub loop-number-smaller : goal.loop-number-smaller
+loop-number-smaller g c = omega (arith, ap length c.in-Some.ensures.some ∙ length-append c.pop.new.self ((c.in-Some.number, c.in-Some.column.items) ∷ []))

@@ -1,10 +1,10 @@
-use Rattle.std.proofs.Common.{◌≡◌, ◌∙◌, ap, drop, length, sym, subst}
+use Rattle.std.proofs.Common.{◌≡◌, ◌∙◌, ap, drop, length, sym, subst, arith}
 use Rattle.std.specs.Vec.{with_items}
 use Rattle.covstore.specs.Coming.{with_column}
 use Rattle.covstore.specs.Slots.{AreSlots, page_at}
 use Rattle.covstore.proofs.ComingWhole.{length_given}
 use Rattle.covstore.proofs.PointTakes.{page_whole, written_back}
-use Rattle.covstore.proofs.SlotWrites.{seen_after, seen_page}
+use Rattle.covstore.proofs.SlotWrites.{page_within, seen_after, seen_page}
 use Rattle.covstore.proofs.slots.Slots.fill.Goals as goal
 
 pub returns : goal.returns
@@ -19,3 +19,12 @@ returns g c =
 pub invariant_of-self : goal.invariant_of-self
 invariant_of-self g c =
     subst (AreSlots g.K.Key.cmp) (sym (returns g c)) (page_whole g.K.Key.cmp c.args.self.now c.args.number c.args.column.now (subst (AreSlots g.K.Key.cmp) c.self.view_is c.self.invariant))
+
+pub index_mut-requires : goal.index_mut-requires
+index_mut-requires g c =
+    omega (arith, page_within (λ page. page.items) c.self.inside.pages.items c.args.self.now c.args.number c.self.view_is c.requires.there, c.self.inside.pages.ok.0)
+
+pub fill_page-requires : goal.fill_page-requires
+fill_page-requires g c =
+    let here = seen_page (λ page. page.items) c.self.inside.pages.items c.args.self.now c.args.number c.index_mut.result.now c.self.view_is c.requires.there c.index_mut.ensures.value in
+    omega (arith, ap length c.deref_mut.ensures.value, ap length here, c.requires.fits)

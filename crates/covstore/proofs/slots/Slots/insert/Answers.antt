@@ -1,7 +1,7 @@
-use Rattle.std.proofs.Common.{ap, ◌∙◌, sym, subst, None}
+use Rattle.std.proofs.Common.{ap, ◌∙◌, sym, subst, None, arith, length}
 use Rattle.std.specs.List.{insert}
 use Rattle.covstore.specs.Slots.{AreSlots}
-use Rattle.covstore.proofs.SlotWrites.{seen_after, seen_page, set_same, put_whole, on_err}
+use Rattle.covstore.proofs.SlotWrites.{page_within, seen_after, seen_page, set_same, put_whole, on_err}
 use Rattle.covstore.proofs.slots.Slots.insert.Goals as goal
 
 pub invariant_of-self : goal.invariant_of-self
@@ -27,3 +27,12 @@ returns-clause-ok g c =
     let here = seen_page (λ page. page.items) c.self.inside.pages.items c.args.self.now c.args.place.page c.index_mut.result.now c.self.view_is c.requires.there c.index_mut.ensures.value in
     let seen = seen_after (λ page. page.items) c.self.inside.pages.items c.args.self.now c.args.place.page c.insert.new.self _ c.self.view_is (c.in_ok-insert.ensures.items ∙ ap (λ page. insert page c.args.place.index (c.args.key, None)) (sym here)) in
     seen
+
+pub index_mut-requires : goal.index_mut-requires
+index_mut-requires g c =
+    omega (arith, page_within (λ page. page.items) c.self.inside.pages.items c.args.self.now c.args.place.page c.self.view_is c.requires.there, c.self.inside.pages.ok.0)
+
+pub insert-requires : goal.insert-requires
+insert-requires g c =
+    let here = seen_page (λ page. page.items) c.self.inside.pages.items c.args.self.now c.args.place.page c.index_mut.result.now c.self.view_is c.requires.there c.index_mut.ensures.value in
+    omega (arith, ap length here, c.requires.gap.on_page, c.index_mut.result.now.ok.0)

@@ -1,10 +1,10 @@
-use Rattle.std.proofs.Common.{◌≡◌, ◌∙◌, Option, List, ap, drop, length, set, sym, subst}
+use Rattle.std.proofs.Common.{◌≡◌, ◌∙◌, Option, List, ap, drop, length, set, sym, subst, arith}
 use Rattle.std.specs.Vec.{with_items}
 use Rattle.covstore.specs.Coming.{column_of, with_column}
 use Rattle.covstore.specs.Slots.{AreSlots, page_at}
 use Rattle.covstore.proofs.ComingWhole.{length_given}
 use Rattle.covstore.proofs.PointTakes.{page_whole, written_back}
-use Rattle.covstore.proofs.SlotWrites.{seen_after, seen_page}
+use Rattle.covstore.proofs.SlotWrites.{page_within, seen_after, seen_page}
 use Rattle.covstore.proofs.slots.Slots.write.Goals as goal
 
 pub returns : goal.returns
@@ -21,3 +21,12 @@ pub invariant_of-self : goal.invariant_of-self
 invariant_of-self g c =
     subst (AreSlots g.K.Key.cmp) (sym (returns g c))
     (page_whole g.K.Key.cmp c.args.self.now c.args.place.page (set (column_of (page_at c.args.self.now c.args.place.page)) c.args.place.index c.args.value) (subst (AreSlots g.K.Key.cmp) c.self.view_is c.self.invariant))
+
+pub index_mut-requires : goal.index_mut-requires
+index_mut-requires g c =
+    omega (arith, page_within (λ page. page.items) c.self.inside.pages.items c.args.self.now c.args.place.page c.self.view_is c.requires.page, c.self.inside.pages.ok.0)
+
+pub write_slot-requires : goal.write_slot-requires
+write_slot-requires g c =
+    let here = seen_page (λ page. page.items) c.self.inside.pages.items c.args.self.now c.args.place.page c.index_mut.result.now c.self.view_is c.requires.page c.index_mut.ensures.value in
+    omega (arith, ap length c.deref_mut.ensures.value, ap length here, c.requires.slot)

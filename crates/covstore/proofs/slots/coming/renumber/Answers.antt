@@ -22,3 +22,9 @@ loop-index-preserved g c =
 
 pub returns : goal.returns
 returns g c = c.loop-index.invariant ∙ front_whole (λ column. (number_after c.args.page column.0, column.1)) c.args.columns.now c.loop-index.index (omega (arith, c.loop-index-test.false))
+
+pub loop-index-smaller : goal.loop-index-smaller
+loop-index-smaller g c = omega (arith, c.loop-index-test.true)
+
+pub bounds-columns-index : goal.bounds-columns-index
+bounds-columns-index g c = omega (arith, c.loop-index-test.true, c.loop-index.auto.columns)

@@ -18,3 +18,21 @@ returns-clause-held g c = ap (λ pages. filled (slots_of pages)) c.in_ok-push_pa
 pub returns-clause-coming : goal.returns-clause-coming
 returns-clause-coming g c =
     ap (λ pages. filled (slots_of (coming_of pages c.args.coming.now))) c.in_ok-push_page.ensures.ok ∙ coming_made_behind c.args.slots.now c.args.coming.now c.args.key c.requires.columns
+
+pub push_page-requires : goal.push_page-requires
+push_page-requires g c = c.requires.last
+
+pub overflow_sub-count : goal.overflow_sub-count
+overflow_sub-count g c = c.if-count-gt0.true
+
+pub returns-in_err-push_page-clause-columns : goal.returns-in_err-push_page-clause-columns
+returns-in_err-push_page-clause-columns g c = subst (λ pages. AreColumnsOf pages c.args.coming.now) (sym c.in_err-push_page.ensures.err) c.requires.columns
+
+pub returns-in_err-push_page-clause-held : goal.returns-in_err-push_page-clause-held
+returns-in_err-push_page-clause-held g c = ap (λ pages. filled (slots_of pages)) c.in_err-push_page.ensures.err
+
+pub put_at-requires-clause-there : goal.put_at-requires-clause-there
+put_at-requires-clause-there g c = omega (arith, c.count-count.ensures, c.if-count-gt0.true)
+
+pub put_at-requires-clause-room : goal.put_at-requires-clause-room
+put_at-requires-clause-room g c = omega (arith, ap length c.page.ensures.now, c.if-page-lt-PAGE.true)

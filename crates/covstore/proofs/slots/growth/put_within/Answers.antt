@@ -59,3 +59,57 @@ pub returns-clause-coming : goal.returns-clause-coming
 returns-clause-coming g c =
     let after = c.put_at-2 in
     subst (λ slots. OnOk after.result (filled (slots_of (coming_of after.new.slots after.new.coming)) ≡ slots)) c.in_ok-split.ensures.coming after.ensures.coming
+
+pub put_at-requires-clause-there : goal.put_at-requires-clause-there
+put_at-requires-clause-there g c = c.requires.there
+
+pub put_at-requires-clause-room : goal.put_at-requires-clause-room
+put_at-requires-clause-room g c = omega (arith, ap length c.page.ensures.now, c.if-page-lt-PAGE.true)
+
+pub put_at-requires-clause-gap : goal.put_at-requires-clause-gap
+put_at-requires-clause-gap g c = c.requires.gap
+
+pub put_at-requires-clause-columns : goal.put_at-requires-clause-columns
+put_at-requires-clause-columns g c = c.requires.columns
+
+pub put_at-requires-then-place-le-HALF-clause-columns : goal.put_at-requires-then-place-le-HALF-clause-columns
+put_at-requires-then-place-le-HALF-clause-columns g c = c.in_ok-split.ensures.columns
+
+pub put_at-requires-2-clause-columns : goal.put_at-requires-2-clause-columns
+put_at-requires-2-clause-columns g c = c.in_ok-split.ensures.columns
+
+pub split-requires-clause-there : goal.split-requires-clause-there
+split-requires-clause-there g c = c.requires.there
+
+pub split-requires-clause-columns : goal.split-requires-clause-columns
+split-requires-clause-columns g c = c.requires.columns
+
+pub returns-in_err-split-clause-columns : goal.returns-in_err-split-clause-columns
+returns-in_err-split-clause-columns g c = c.in_err-split.ensures.columns
+
+pub returns-in_err-split-clause-held : goal.returns-in_err-split-clause-held
+returns-in_err-split-clause-held g c = c.in_err-split.ensures.held
+
+pub returns-then-page-lt-PAGE-clause-held : goal.returns-then-page-lt-PAGE-clause-held
+returns-then-page-lt-PAGE-clause-held g c = c.put_at.ensures.held
+
+pub returns-then-page-lt-PAGE-clause-columns : goal.returns-then-page-lt-PAGE-clause-columns
+returns-then-page-lt-PAGE-clause-columns g c = c.put_at.ensures.columns
+
+pub returns-then-page-lt-PAGE-clause-coming : goal.returns-then-page-lt-PAGE-clause-coming
+returns-then-page-lt-PAGE-clause-coming g c = c.put_at.ensures.coming
+
+pub returns-then-page-lt-PAGE-clause-place : goal.returns-then-page-lt-PAGE-clause-place
+returns-then-page-lt-PAGE-clause-place g c = c.put_at.ensures.place
+
+pub returns-then-place-le-HALF-clause-columns : goal.returns-then-place-le-HALF-clause-columns
+returns-then-place-le-HALF-clause-columns g c = c.put_at-then-place-le-HALF.ensures.columns
+
+pub returns-then-place-le-HALF-clause-place : goal.returns-then-place-le-HALF-clause-place
+returns-then-place-le-HALF-clause-place g c = c.put_at-then-place-le-HALF.ensures.place
+
+pub returns-clause-columns : goal.returns-clause-columns
+returns-clause-columns g c = c.put_at-2.ensures.columns
+
+pub returns-clause-place : goal.returns-clause-place
+returns-clause-place g c = c.put_at-2.ensures.place
