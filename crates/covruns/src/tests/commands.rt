@@ -60,6 +60,13 @@ $ 0 covcollect merge --jobs 2 ~/b.info ~/a.info
 > LH:1
 > end_of_record
 $ 0 covcollect merge --jobs 64 ~/a.info ~/b.info ~/b.info ~/a.info
+> TN:u
+> SF:/a.c
+> DA:2,3
+> LF:1
+> LH:1
+> end_of_record
+$ 0 covcollect merge --jobs 64 ~/b.info
 $ 0 covcollect merge /dev/null
 ",
     )

@@ -3,6 +3,8 @@
 use super::{call, check_text, play};
 use std::alloc::Global;
 use std::fs;
+use std::io::{self, Write};
+use std::os::fd::AsRawFd;
 use std::process::{self, Abort};
 use std::rt::Files;
 use std::sync::Wait;
@@ -95,4 +97,24 @@ fn a_file_without_end(rt: HostRuntime) -> Result<(), Fail> {
 $ 4 covcollect merge /dev/zero
 ",
     )
+}
+
+/// A pipe can be read as a file: what stands in it, as far as its writer's end.
+#[test]
+fn a_pipe(rt: HostRuntime) -> Result<(), Fail> {
+    let (reader, mut writer) = io::pipe(&rt)?;
+    writer.write_all(b"SF:/a.c\nDA:1,3\nend_of_record\n")?;
+    drop(writer);
+    let path = format!(in rt.alloc(); "/proc/self/fd/{}", reader.as_raw_fd())?;
+    let words = merged(rt.alloc(), path.as_str(), 1)?;
+    let told = call(&rt, words.as_slice(), b"");
+    check_text(&rt, path.as_str(), told.faults.as_slice(), "")?;
+    check_text(
+        &rt,
+        path.as_str(),
+        told.output.as_slice(),
+        "TN:\nSF:/a.c\nDA:1,3\nLF:1\nLH:1\nend_of_record\n",
+    )?;
+    assert!(rt; told.status == 0, "the status is {}", told.status);
+    Ok(())
 }
