@@ -1,6 +1,6 @@
 //! Many files, and large ones.
 
-use super::{call, check_text, play};
+use super::{Told, call, check_text, play};
 use std::alloc::Global;
 use std::fs;
 use std::io::{self, Write};
@@ -31,13 +31,23 @@ fn check<R: Files + AllocGlobal + Threads + Wait + Abort + Sync>(
     times: usize,
     wanted: (u8, &str, &str),
 ) -> Result<(), Fail> {
-    let (status, output, faults) = wanted;
     fs::write(rt, path, text)?;
     let words = merged(rt.alloc(), path, times)?;
     let told = call(rt, words.as_slice(), b"");
     fs::remove_file(rt, path)?;
-    check_text(rt, path, told.faults.as_slice(), faults)?;
-    check_text(rt, path, told.output.as_slice(), output)?;
+    check_told(rt, path, &told, wanted)
+}
+
+/// A call ended so: with this status, this output and these faults.
+fn check_told(
+    rt: &(impl Abort + AllocGlobal),
+    asked: &str,
+    told: &Told,
+    wanted: (u8, &str, &str),
+) -> Result<(), Fail> {
+    let (status, output, faults) = wanted;
+    check_text(rt, asked, told.faults.as_slice(), faults)?;
+    check_text(rt, asked, told.output.as_slice(), output)?;
     assert!(rt; told.status == status, "the status is {}", told.status);
     Ok(())
 }
@@ -99,6 +109,43 @@ $ 4 covcollect merge /dev/zero
     )
 }
 
+/// Makes so many files in a folder, the first of which counts 0 for a line, the next 1, and so on, and gives the words of a call
+/// that merges them.
+fn make_files<R: Files + AllocGlobal>(
+    rt: &R,
+    folder: &str,
+    times: usize,
+) -> Result<Vec<String>, Fail> {
+    let mut words = merged(rt.alloc(), folder, 0)?;
+    for number in 0..times {
+        let path = format!(in rt.alloc(); "{folder}/{number}.info")?;
+        let text = format!(in rt.alloc(); "SF:/a.c\nDA:1,{number}\nend_of_record\n")?;
+        fs::write(rt, path.as_str(), text.as_str())?;
+        words.push(path)?;
+    }
+    Ok(words)
+}
+
+/// A thousand files, of which each has another count: 0 + 1 + .. + 999 is 499,500.
+#[test]
+fn a_thousand_files(rt: HostRuntime) -> Result<(), Fail> {
+    let folder = format!(in rt.alloc(); "/tmp/covruns-{}-many", process::id(rt.process()))?;
+    fs::create_dir_all(&rt, folder.as_str())?;
+    let words = make_files(&rt, folder.as_str(), 1_000)?;
+    let told = call(&rt, words.as_slice(), b"");
+    fs::remove_dir_all(&rt, folder.as_str())?;
+    check_told(
+        &rt,
+        folder.as_str(),
+        &told,
+        (
+            0,
+            "TN:\nSF:/a.c\nDA:1,499500\nLF:1\nLH:1\nend_of_record\n",
+            "",
+        ),
+    )
+}
+
 /// A pipe can be read as a file: what stands in it, as far as its writer's end.
 #[test]
 fn a_pipe(rt: HostRuntime) -> Result<(), Fail> {
@@ -108,13 +155,10 @@ fn a_pipe(rt: HostRuntime) -> Result<(), Fail> {
     let path = format!(in rt.alloc(); "/proc/self/fd/{}", reader.as_raw_fd())?;
     let words = merged(rt.alloc(), path.as_str(), 1)?;
     let told = call(&rt, words.as_slice(), b"");
-    check_text(&rt, path.as_str(), told.faults.as_slice(), "")?;
-    check_text(
+    check_told(
         &rt,
         path.as_str(),
-        told.output.as_slice(),
-        "TN:\nSF:/a.c\nDA:1,3\nLF:1\nLH:1\nend_of_record\n",
-    )?;
-    assert!(rt; told.status == 0, "the status is {}", told.status);
-    Ok(())
+        &told,
+        (0, "TN:\nSF:/a.c\nDA:1,3\nLF:1\nLH:1\nend_of_record\n", ""),
+    )
 }
