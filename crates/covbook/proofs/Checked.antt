@@ -1,12 +1,12 @@
 -- What the steps over logs and receipts tell, one after another.
-use Rattle.std.proofs.Common.{◌≡◌, ℕ, zero, suc, ◌+◌, ◌<◌, ◌≤◌, List, [], ◌∷◌, ◌++◌, Option, Some, None, Result, length, get_or, take, drop, map, sym, refl, ap, ◌∙◌, inl, subst, arith}
+use Rattle.std.proofs.Common.{◌≡◌, ℕ, zero, suc, ◌+◌, ◌<◌, ◌≤◌, List, [], ◌∷◌, ◌++◌, Option, Some, None, Result, length, get_or, take, drop, map, sym, refl, ap, ◌∙◌, inl, inr, subst, arith}
 use Rattle.std.specs.Prelude.{◌≢◌, slice_get, IsSomeAnd, option_map}
 use Rattle.std.specs.List.{All, AllByRecursion}
 use Rattle.std.proofs.lemmas.List.{take_more, map-append}
 use Rattle.std.proofs.lemmas.List.Elements.{All-from_recursion, recursion_from_All}
 use Rattle.covbook.specs.declared.entry.Receipt.{Receipt}
 use Rattle.covbook.specs.declared.gather_fault.GatherFault.{GatherFault}
-use Rattle.covbook.specs.declared.gather_fault.GatherFault.TheVariants.{SameJob}
+use Rattle.covbook.specs.declared.gather_fault.GatherFault.TheVariants.{Backwards, Differs, SameJob, Stranger}
 use Rattle.covbook.specs.declared.log.JobLog.{JobLog}
 use Rattle.covbook.specs.Op.{EntryData, ReceiptData}
 use Rattle.covbook.specs.EntryView.{receipt_data}
@@ -84,6 +84,28 @@ receipt_is {X} f entries entry job log index least receipt at own same low =
       subst (λ (o : Option EntryData). IsSomeAnd o (λ (e : EntryData). e.job ≡ job)) there own,
       (subst (λ (o : Option EntryData). IsSomeAnd o (λ (e : EntryData). receipt_of receipt.place e ≡ receipt)) there same, (low, tt)),
     )
+
+-- an entry of another job, one that the receipt doesn't tell, and one whose place is too low
+pub other_job : {X : Type 0} (f : X → EntryData) (entries : List X) (entry : X) (job log index least : ℕ) (receipt : ReceiptData) → slice_get entries receipt.place ≡ Some entry
+    → ((f entry).job ≡ job → ⊥) → FirstFails (claims_of (map f entries) job log index least receipt) (Stranger log index)
+other_job {X} f entries entry job log index least receipt at other =
+    let there = mapped_get f entries receipt.place entry at in
+    inl ((λ own. other (subst (λ (o : Option EntryData). IsSomeAnd o (λ (e : EntryData). e.job ≡ job)) there own)), refl)
+
+pub other_receipt : {X : Type 0} (f : X → EntryData) (entries : List X) (entry : X) (job log index least : ℕ) (receipt : ReceiptData) → slice_get entries receipt.place ≡ Some entry
+    → (f entry).job ≡ job → (receipt_of receipt.place (f entry) ≡ receipt → ⊥) → FirstFails (claims_of (map f entries) job log index least receipt) (Differs log index)
+other_receipt {X} f entries entry job log index least receipt at own differs =
+    let there = mapped_get f entries receipt.place entry at in
+    inr (subst (λ (o : Option EntryData). IsSomeAnd o (λ (e : EntryData). e.job ≡ job)) (sym there) own,
+      inl ((λ same. differs (subst (λ (o : Option EntryData). IsSomeAnd o (λ (e : EntryData). receipt_of receipt.place e ≡ receipt)) there same)), refl))
+
+pub place_before : {X : Type 0} (f : X → EntryData) (entries : List X) (entry : X) (job log index least : ℕ) (receipt : ReceiptData) → slice_get entries receipt.place ≡ Some entry
+    → (f entry).job ≡ job → receipt_of receipt.place (f entry) ≡ receipt → receipt.place < least → FirstFails (claims_of (map f entries) job log index least receipt) (Backwards log index)
+place_before {X} f entries entry job log index least receipt at own same low =
+    let there = sym (mapped_get f entries receipt.place entry at) in
+    inr (subst (λ (o : Option EntryData). IsSomeAnd o (λ (e : EntryData). e.job ≡ job)) there own,
+      inr (subst (λ (o : Option EntryData). IsSomeAnd o (λ (e : EntryData). receipt_of receipt.place e ≡ receipt)) there same,
+      inl ((λ high. omega (arith, low, high)), refl)))
 
 pub receipt_on : {A : Type 0} (entries : List EntryData) (job log least next : ℕ) (receipts : List (Receipt A)) (i : ℕ) (receipt : Receipt A) → i < length receipts → receipt ≡ get_or receipts i receipt
     → AllHold (claims_of entries job log i least (receipt_data receipt)) → next ≡ receipt.place + 1 → (r : Result (Unit {0}) GatherFault)

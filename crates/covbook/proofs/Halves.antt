@@ -2,7 +2,6 @@
 use Rattle.std.proofs.Common.{◌≡◌, ℕ, Bool, true, List, length, sym, ap, ◌∙◌, subst}
 use Rattle.covstore.specs.declared.totals.Totals.{Totals}
 use Rattle.covstore.specs.Stored.{StoreData}
-use Rattle.covstore.specs.Table.{Table}
 use Rattle.covstore.specs.Totals.{totals_of}
 use Rattle.covstore.specs.Without.{sections_of_test, without_test}
 use Rattle.covbook.specs.Held.{BookData, SameBook, IsBook}

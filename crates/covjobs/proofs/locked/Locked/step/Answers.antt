@@ -1,10 +1,12 @@
-use Rattle.std.proofs.Common.{◌≡◌, ◌∙◌, List, length, map, arith, ap}
-use Rattle.std.proofs.lemmas.List.{length-map}
+use Rattle.std.proofs.Common.{◌≡◌, ◌∙◌, List, [], ◌∷◌, ◌++◌, length, map, arith, ap, sym, refl, subst, inr}
+use Rattle.std.proofs.lemmas.List.{length-map, length-append}
+use Rattle.std.proofs.lemmas.Result.{err_from_is_err_and}
 use Rattle.covbook.specs.declared.book.BookFault.TheVariants as faults
 use Rattle.covbook.specs.Op.{EntryData, ReceiptData}
-use Rattle.covbook.specs.EntryView.{entry_data}
+use Rattle.covbook.specs.EntryView.{entry_data, receipt_data}
+use Rattle.covbook.specs.Step.{IsLegal, next_entry}
 use Rattle.covbook.specs.View.{op_data}
-use Rattle.covjobs.proofs.Steps.{entry_behind, is_not_full}
+use Rattle.covjobs.proofs.Steps.{entry_behind, is_not_full, told_behind}
 use Rattle.covjobs.proofs.locked.Locked.step.Goals as goal
 
 pub returns-clause-entry : goal.returns-clause-entry
@@ -29,3 +31,76 @@ returns-clause-full g c =
     is_not_full c.finish-receipt.result faults.Full (length c.args.self.now) c.args.seat.now.seen
     (omega (arith, lay, same, c.in_ok-ready.ensures.ready.ready.room.few))
     (omega (arith, lay, shown, length-map c.entries.result.now (entry_data {A = g.row.A.Denot}), c.seen.ensures, c.if-entries-seen.false))
+
+pub count_call-requires-clause-few : goal.count_call-requires-clause-few
+count_call-requires-clause-few g c =
+    let same : length c.ready.new.self.entries ≡ length c.self.inside.book.entries = ap (λ (xs : List EntryData). length xs) c.in_ok-ready.ensures.same.entries in
+    omega (arith, same, c.self.invariant.counted, c.in_ok-ready.ensures.ready.ready.room.few)
+
+pub count_call-requires-clause-place : goal.count_call-requires-clause-place
+count_call-requires-clause-place g c =
+    let place : c.finish-receipt.result.place ≡ length c.ready.new.self.entries = ap (λ (r : ReceiptData). r.place) c.finish-receipt.ensures.receipt in
+    omega (arith, place, c.in_ok-ready.ensures.ready.ready.room.few)
+
+pub finish-receipt-requires : goal.finish-receipt-requires
+finish-receipt-requires g c = c.in_ok-ready.ensures.ready.ready
+
+pub returns-clause-seat : goal.returns-clause-seat
+returns-clause-seat g c = c.count_call.ensures.seat
+
+pub returns-then-entries-seen-clause-seat : goal.returns-then-entries-seen-clause-seat
+returns-then-entries-seen-clause-seat g c = refl
+
+pub invariant_of-self : goal.invariant_of-self
+invariant_of-self g c = record {
+    legal = c.in_err-ready.ensures.legal;
+    counted = c.self.invariant.counted ∙ sym (ap (λ (xs : List EntryData). length xs) c.in_err-ready.ensures.same.entries);
+    no_part = c.self.invariant.no_part;
+    no_amount = c.self.invariant.no_amount }
+
+pub invariant_of-self-2 : goal.invariant_of-self-2
+invariant_of-self-2 g c =
+    let made = c.in_ok-ready.ready in
+    let behind = next_entry c.ready.new.self.entries made.entry.job made.entry.op ∷ [] in
+    let same : length c.ready.new.self.entries ≡ length c.self.inside.book.entries = ap (λ (xs : List EntryData). length xs) c.in_ok-ready.ensures.same.entries in
+    let grown : length c.finish-receipt.new.self.entries ≡ length (c.ready.new.self.entries ++ behind) = ap (λ (xs : List EntryData). length xs) c.finish-receipt.ensures.entry in
+    record {
+      legal = c.finish-receipt.ensures.legal;
+      counted = omega (arith, same, grown, length-append c.ready.new.self.entries behind, c.self.invariant.counted, c.count_call.ensures.total);
+      no_part = c.self.invariant.no_part;
+      no_amount = c.self.invariant.no_amount }
+
+pub returns-clause-told : goal.returns-clause-told
+returns-clause-told g c =
+    let made = c.in_ok-ready.ready in
+    let for = c.in_ok-ready.ensures.ready in
+    let lay : length c.self.inside.book.entries ≡ length c.args.self.now = ap (λ (xs : List EntryData). length xs) c.self.view_is in
+    let same : length c.ready.new.self.entries ≡ length c.self.inside.book.entries = ap (λ (xs : List EntryData). length xs) c.in_ok-ready.ensures.same.entries in
+    record {
+      legal = subst (λ (h : List EntryData). IsLegal h) c.self.view_is c.self.invariant.legal;
+      few = omega (arith, lay, same, for.ready.room.few);
+      receipt = told_behind c.args.self.now c.ready.new.self.entries made.entry.job made.entry.op (op_data c.args.op.now) (receipt_data c.finish-receipt.result)
+        (c.in_ok-ready.ensures.same.entries ∙ c.self.view_is) for.op c.finish-receipt.ensures.receipt }
+
+pub returns-in_err-ready-clause-told : goal.returns-in_err-ready-clause-told
+returns-in_err-ready-clause-told g c = let p = err_from_is_err_and c.from_residual.result c.from_residual.ensures.1 in rw p.1 tt
+
+pub returns-in_err-ready-clause-entry : goal.returns-in_err-ready-clause-entry
+returns-in_err-ready-clause-entry g c = let p = err_from_is_err_and c.from_residual.result c.from_residual.ensures.1 in rw p.1 tt
+
+pub returns-in_err-ready-clause-seat : goal.returns-in_err-ready-clause-seat
+returns-in_err-ready-clause-seat g c = let p = err_from_is_err_and c.from_residual.result c.from_residual.ensures.1 in rw p.1 refl
+
+pub returns-in_err-ready-clause-seen : goal.returns-in_err-ready-clause-seen
+returns-in_err-ready-clause-seen g c = let p = err_from_is_err_and c.from_residual.result c.from_residual.ensures.1 in rw p.1 tt
+
+pub returns-in_err-ready-clause-refused : goal.returns-in_err-ready-clause-refused
+returns-in_err-ready-clause-refused g c =
+    let p = err_from_is_err_and c.from_residual.result c.from_residual.ensures.1 in
+    rw p.1 (c.in_err-ready.ensures.same.entries ∙ c.self.view_is)
+
+pub returns-then-entries-seen-clause-full : goal.returns-then-entries-seen-clause-full
+returns-then-entries-seen-clause-full g c =
+    let lay : length c.self.inside.book.entries ≡ length c.args.self.now = ap (λ (xs : List EntryData). length xs) c.self.view_is in
+    let shown : length (map (entry_data {A = g.row.A.Denot}) c.entries.result.now) ≡ length c.self.inside.book.entries = ap (λ (xs : List EntryData). length xs) c.entries.ensures.entries in
+    ((λ is. inr (omega (arith, lay, shown, length-map c.entries.result.now (entry_data {A = g.row.A.Denot}), c.seen.ensures, c.if-entries-seen.true))), (λ it. refl))
