@@ -96,16 +96,22 @@ pub other_receipt : {X : Type 0} (f : X → EntryData) (entries : List X) (entry
     → (f entry).job ≡ job → (receipt_of receipt.place (f entry) ≡ receipt → ⊥) → FirstFails (claims_of (map f entries) job log index least receipt) (Differs log index)
 other_receipt {X} f entries entry job log index least receipt at own differs =
     let there = mapped_get f entries receipt.place entry at in
-    inr (subst (λ (o : Option EntryData). IsSomeAnd o (λ (e : EntryData). e.job ≡ job)) (sym there) own,
-      inl ((λ same. differs (subst (λ (o : Option EntryData). IsSomeAnd o (λ (e : EntryData). receipt_of receipt.place e ≡ receipt)) there same)), refl))
+    inr (
+      subst (λ (o : Option EntryData). IsSomeAnd o (λ (e : EntryData). e.job ≡ job)) (sym there) own,
+      inl ((λ same. differs (subst (λ (o : Option EntryData). IsSomeAnd o (λ (e : EntryData). receipt_of receipt.place e ≡ receipt)) there same)), refl),
+    )
 
 pub place_before : {X : Type 0} (f : X → EntryData) (entries : List X) (entry : X) (job log index least : ℕ) (receipt : ReceiptData) → slice_get entries receipt.place ≡ Some entry
     → (f entry).job ≡ job → receipt_of receipt.place (f entry) ≡ receipt → receipt.place < least → FirstFails (claims_of (map f entries) job log index least receipt) (Backwards log index)
 place_before {X} f entries entry job log index least receipt at own same low =
     let there = sym (mapped_get f entries receipt.place entry at) in
-    inr (subst (λ (o : Option EntryData). IsSomeAnd o (λ (e : EntryData). e.job ≡ job)) there own,
-      inr (subst (λ (o : Option EntryData). IsSomeAnd o (λ (e : EntryData). receipt_of receipt.place e ≡ receipt)) there same,
-      inl ((λ high. omega (arith, low, high)), refl)))
+    inr (
+      subst (λ (o : Option EntryData). IsSomeAnd o (λ (e : EntryData). e.job ≡ job)) there own,
+      inr (
+        subst (λ (o : Option EntryData). IsSomeAnd o (λ (e : EntryData). receipt_of receipt.place e ≡ receipt)) there same,
+        inl ((λ high. omega (arith, low, high)), refl),
+      ),
+    )
 
 pub receipt_on : {A : Type 0} (entries : List EntryData) (job log least next : ℕ) (receipts : List (Receipt A)) (i : ℕ) (receipt : Receipt A) → i < length receipts → receipt ≡ get_or receipts i receipt
     → AllHold (claims_of entries job log i least (receipt_data receipt)) → next ≡ receipt.place + 1 → (r : Result (Unit {0}) GatherFault)

@@ -53,10 +53,11 @@ returns-then-entries-seen-clause-seat g c = refl
 
 pub invariant_of-self : goal.invariant_of-self
 invariant_of-self g c = record {
-    legal = c.in_err-ready.ensures.legal;
-    counted = c.self.invariant.counted ∙ sym (ap (λ (xs : List EntryData). length xs) c.in_err-ready.ensures.same.entries);
-    no_part = c.self.invariant.no_part;
-    no_amount = c.self.invariant.no_amount }
+  legal = c.in_err-ready.ensures.legal;
+  counted = c.self.invariant.counted ∙ sym (ap (λ (xs : List EntryData). length xs) c.in_err-ready.ensures.same.entries);
+  no_part = c.self.invariant.no_part;
+  no_amount = c.self.invariant.no_amount;
+}
 
 pub invariant_of-self-2 : goal.invariant_of-self-2
 invariant_of-self-2 g c =
@@ -68,7 +69,8 @@ invariant_of-self-2 g c =
       legal = c.finish-receipt.ensures.legal;
       counted = omega (arith, same, grown, length-append c.ready.new.self.entries behind, c.self.invariant.counted, c.count_call.ensures.total);
       no_part = c.self.invariant.no_part;
-      no_amount = c.self.invariant.no_amount }
+      no_amount = c.self.invariant.no_amount;
+    }
 
 pub returns-clause-told : goal.returns-clause-told
 returns-clause-told g c =
@@ -80,7 +82,8 @@ returns-clause-told g c =
       legal = subst (λ (h : List EntryData). IsLegal h) c.self.view_is c.self.invariant.legal;
       few = omega (arith, lay, same, for.ready.room.few);
       receipt = told_behind c.args.self.now c.ready.new.self.entries made.entry.job made.entry.op (op_data c.args.op.now) (receipt_data c.finish-receipt.result)
-        (c.in_ok-ready.ensures.same.entries ∙ c.self.view_is) for.op c.finish-receipt.ensures.receipt }
+          (c.in_ok-ready.ensures.same.entries ∙ c.self.view_is) for.op c.finish-receipt.ensures.receipt;
+    }
 
 pub returns-in_err-ready-clause-told : goal.returns-in_err-ready-clause-told
 returns-in_err-ready-clause-told g c = let p = err_from_is_err_and c.from_residual.result c.from_residual.ensures.1 in rw p.1 tt
