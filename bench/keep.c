@@ -1,6 +1,6 @@
 /* What keeping costs: reads tracefiles and makes an item of WORDS words for each count, as a history has to keep it, with
- * the names and checksums in memory of their own. It merges nothing, prints nothing and tests hardly anything, so that
- * a program that keeps every item can't take less. With KEEP 0 a section's items take the place of the last one's, with
+ * the names and checksums in memory of their own. It merges nothing, prints nothing and tests hardly anything. Its lists
+ * double as they grow, so it is a measure and no bound. With KEEP 0 a section's items take the place of the last one's, with
  * KEEP 2 the texts are kept too, as those of a merge are, which lends all of them to its workers. For bench/keep.sh. */
 #include <fcntl.h>
 #include <stdint.h>

@@ -4,10 +4,10 @@
 #   bench/keep.sh YARDSTICK TRACEFILE..
 #
 # YARDSTICK is called as `YARDSTICK merge TRACEFILE..`. Beside it bench/keep.c reads the same files, and keeps nothing, or items
-# of 40, 48 or 56 bytes, without the texts or with them (a Rust compiler can lay an item out in 40; Rattle's layout takes 56).
+# of 40, 48 or 56 bytes, without the texts or with them (rustc can lay an item out in 40; Rattle's layout takes 56).
 # Seconds of processor (user and system), the least of nine runs taken in turn, and as multiples of the yardstick's. The last
-# column is the yardstick's time with what the keeping alone costs added: a program that works as fast and keeps as much
-# doesn't take less.
+# column is the yardstick's time with what this way of keeping costs added. It is no bound: a single row moves by a tenth from
+# measure to measure, and lists may grow in better ways than by doubling.
 set -euo pipefail
 [ $# -ge 2 ] || { sed -n '2,4s/^# \{0,1\}//p' "$0" >&2; exit 2; }
 here=$(cd "$(dirname "$0")" && pwd)
