@@ -83,6 +83,7 @@ pub mod SlotSearch
 pub mod SlotPages
 pub mod SlotWrites
 pub mod SlotSplit
+pub mod PageParts
 pub mod Comings
 pub mod SlotPlaces
 pub mod SlotBehind

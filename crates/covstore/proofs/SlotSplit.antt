@@ -1,5 +1,5 @@
 -- A page cut in two: the slots stay, and so does what is before a place and from it on.
-use Rattle.std.proofs.Common.{◌≡◌, ℕ, zero, suc, ◌+◌, ◌<◌, ◌≤◌, Option, List, [], ◌∷◌, ◌++◌, length, take, drop, set, map, refl, sym, ap, ◌∙◌, append_assoc, subst, arith, length-take, length-drop}
+use Rattle.std.proofs.Common.{◌≡◌, ℕ, zero, suc, ◌+◌, ◌<◌, ◌≤◌, Option, List, [], ◌∷◌, ◌++◌, length, take, drop, set, refl, sym, ap, ◌∙◌, append_assoc, subst, arith, length-take, length-drop}
 use Rattle.std.specs.declared.cmp.Ordering.{Ordering}
 use Rattle.std.specs.declared.cmp.Ordering.TheVariants.{Less, Greater}
 use Rattle.std.specs.List.{AllByRecursion, insert}
@@ -59,32 +59,19 @@ pub split_whole : {K V : Type 0} (cmp : K → K → Ordering) (pages : List (Lis
     → AreSlots cmp (with_page_split i pages)
 split_whole cmp pages i l e slots = record { pages_fit = split_fit pages i e slots.pages_fit; ascending = subst (IsAscending cmp) (sym (split_slots pages i l)) slots.ascending }
 
--- the pages as contracts see them
+-- the pages behind the cut
 list_split : {P : Type 0} (ps : List P) (i : ℕ) (p q : P) → i < length ps → insert (set ps i p) (suc i) q ≡ take i ps ++ p ∷ q ∷ drop (suc i) ps
 list_split [] i p q l = absurd (omega arith)
 list_split (r ∷ ps) zero p q l = refl
 list_split (r ∷ ps) (suc i) p q l = ap (λ rest. r ∷ rest) (list_split ps i p q (omega arith))
 
-map_split : {P X : Type 0} (f : P → X) (ps : List P) (i : ℕ) (p q : P) → map f (take i ps ++ p ∷ q ∷ drop (suc i) ps) ≡ take i (map f ps) ++ f p ∷ f q ∷ drop (suc i) (map f ps)
-map_split f [] zero p q = refl
-map_split f [] (suc i) p q = refl
-map_split f (r ∷ ps) zero p q = refl
-map_split f (r ∷ ps) (suc i) p q = ap (λ rest. f r ∷ rest) (map_split f ps i p q)
-
-length_map : {P X : Type 0} (f : P → X) (ps : List P) → length (map f ps) ≡ length ps
-length_map f [] = refl
-length_map f (p ∷ ps) = ap suc (length_map f ps)
-
-pub seen_split : {K V P : Type 0} (items : P → List (K × Option V)) (ps : List P) (pages : List (List (K × Option V))) (i : ℕ) (p q : P) → map items ps ≡ pages → i < length pages
-    → items p ≡ take 256 (page_at pages i) → items q ≡ drop 256 (page_at pages i) → map items (insert (set ps i p) (i + 1) q) ≡ with_page_split i pages
-seen_split {K} {V} {P} items ps pages i p q view l e f =
-    let within : i < length ps = rw (← length_map items ps, view) l in
+pub split_seen : {K V : Type 0} (pages : List (List (K × Option V))) (i : ℕ) (p q : List (K × Option V)) → i < length pages → p ≡ take 256 (page_at pages i) → q ≡ drop 256 (page_at pages i)
+    → insert (set pages i p) (i + 1) q ≡ with_page_split i pages
+split_seen {K} {V} pages i p q within e f =
     let next : i + 1 ≡ suc i = omega arith in
-    ap (λ n. map items (insert (set ps i p) n q)) next
-    ∙ ap (map items) (list_split ps i p q within)
-    ∙ map_split items ps i p q
-    ∙ ap (λ (pages : List (List (K × Option V))). take i pages ++ items p ∷ items q ∷ drop (suc i) pages) view
-    ∙ ap (λ page. take i pages ++ page ∷ items q ∷ drop (suc i) pages) e
+    ap (λ n. insert (set pages i p) n q) next
+    ∙ list_split pages i p q within
+    ∙ ap (λ page. take i pages ++ page ∷ q ∷ drop (suc i) pages) e
     ∙ ap (λ page. take i pages ++ take 256 (page_at pages i) ∷ page ∷ drop (suc i) pages) f
 
 -- ---- a place on the first half

@@ -161,7 +161,7 @@ impl<K: Key, V: Value, A: Allocator> Points<K, V, A> {
         ensures coming { self.new.coming ≡ self.old.coming }
     {
         while let Some((number, column)) = self.coming.pop() {
-            self.slots.fill(number, &column);
+            self.slots.fill(number, column);
         }
     }
 }

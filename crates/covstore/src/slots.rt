@@ -4,18 +4,20 @@
 //! last key, and a slot on it, by a binary search; a walk in order costs no search, where each place is the guess for
 //! the next one. What stands above knows the list of all slots and what a place is, and not how the pages are cut.
 
-ghost use Rattle.std.specs.Prelude.{◌≡◌, ◌↔◌, ◌+◌, ◌^◌, ◌<◌, None, [], ◌∷◌, ◌++◌, IfErr, IfOk, OnErr, OnOk, length, option_map, slice_set};
+ghost use Rattle.std.specs.Prelude.{◌≡◌, ◌+◌, ◌^◌, ◌<◌, None, [], ◌∷◌, ◌++◌, IfErr, IfNone, IfOk, IfSome, OnErr, OnOk, length, option_map};
 ghost use Rattle.std.specs.declared.cmp.Ordering.TheVariants.{Less};
 ghost use Rattle.std.specs.List.{AllByRecursion};
-ghost use Rattle.covstore.specs.Slots.{AreSlots, IsAscending, IsCut, IsGap, IsPlace, behind, ends_before, filled, is_before, lead, order_at, page_at, slot_at, slots_of, value_at, with_empty, with_page_split};
-ghost use Rattle.covstore.specs.Coming.{column_of, with_column, with_page};
+ghost use Rattle.covstore.specs.Slots.{AreSlots, IsAscending, IsCut, IsGap, IsPlace, behind, ends_before, filled, lead, order_at, page_at, slot_at, slots_of, value_at, with_empty, with_page_split};
+ghost use Rattle.covstore.specs.Coming.{column_of, with_page};
 ghost use Rattle.covstore.specs.Assigned.{with_slot};
 ghost use Rattle.covstore.specs.SlotPlace.{at};
 
 pub(crate) mod coming;
 pub(crate) mod growth;
+pub(crate) mod page;
 
-use crate::points::{Asked, Filled, Key, Value, copy_of};
+use crate::points::{Asked, Filled, Key, Value};
+use crate::slots::page::Page;
 use std::alloc::{AllocError, Allocator};
 use std::cmp::Ordering;
 use std::marker::Model;
@@ -43,19 +45,19 @@ impl Place {
 /// The points of one kind, ascending, each with a value or an empty slot. Contracts see the pages of slots.
 #[derive(Drop)]
 pub(crate) struct Slots<K: Key, V, A: Allocator> {
-    pages: Vec<Vec<(K, Option<V>), A>, A>,
+    pages: Vec<Page<K, V, A>, A>,
 }
 
 impl<K: Key, V, A: Allocator> Model for Slots<K, V, A> {
-    ghost use Rattle.std.specs.Prelude.{List, Option, map};
+    ghost use Rattle.std.specs.Prelude.{List, Option};
 
     ghost Value = { List (List (K × Option V)) };
 
     ghost use Rattle.covstore.specs.Slots.{AreSlots};
 
-    ghost view = { λ slots. map (λ page. page.items) slots.pages.items };
+    ghost view = { λ slots. slots.pages.items };
 
-    ghost invariant = { λ slots. AreSlots K.cmp (map (λ page. page.items) slots.pages.items) };
+    ghost invariant = { λ slots. AreSlots K.cmp slots.pages.items };
 }
 
 impl<K: Key, V, A: Allocator> Slots<K, V, A> {
@@ -76,7 +78,7 @@ impl<K: Key, V, A: Allocator> Slots<K, V, A> {
         let mut high = self.pages.len();
         while low < high {
             let middle = low + (high - low) / 2;
-            if ends_before(&self.pages[middle], asked) {
+            if self.pages[middle].ends_before(asked) {
                 low = middle + 1;
             } else {
                 high = middle;
@@ -93,7 +95,10 @@ impl<K: Key, V, A: Allocator> Slots<K, V, A> {
         ensures whole { AreSlots K.cmp self.now }
     {
         let page = self.page_of(asked);
-        let index = index_of(self.page(page), asked);
+        let index = match self.page(page) {
+            Some(page) => page.index_of(asked),
+            None => 0,
+        };
         Place { page, index }
     }
 
@@ -141,8 +146,8 @@ impl<K: Key, V, A: Allocator> Slots<K, V, A> {
         ensures order { result ≡ order_at (λ key. K.cmp key (Q.named asked)) (slot_at self.now (at place)) }
         ensures whole { AreSlots K.cmp self.now }
     {
-        match self.slot_at(place) {
-            Some(slot) => asked.compare(&slot.0),
+        match self.key_at(place) {
+            Some(key) => asked.compare(key),
             None => Ordering::Greater,
         }
     }
@@ -153,9 +158,9 @@ impl<K: Key, V, A: Allocator> Slots<K, V, A> {
         ensures next { at result ≡ behind self.now (at place) }
         ensures whole { AreSlots K.cmp self.now }
     {
-        let page = self.page(place.page);
+        let len = self.len_of(place.page);
         let index = place.index + 1;
-        if index < page.len() {
+        if index < len {
             return Place {
                 page: place.page,
                 index,
@@ -167,12 +172,15 @@ impl<K: Key, V, A: Allocator> Slots<K, V, A> {
         }
     }
 
-    /// The slot at a place.
-    fn slot_at(&self, place: Place) -> Option<&(K, Option<V>)>
-        ensures slot { option_map (λ slot. slot.now) result ≡ slot_at self.now (at place) }
+    /// The key of the slot at a place.
+    fn key_at(&self, place: Place) -> Option<&K>
+        ensures key { option_map (λ key. key.now) result ≡ option_map (λ slot. slot.0) (slot_at self.now (at place)) }
         ensures whole { AreSlots K.cmp self.now }
     {
-        self.page(place.page).get(place.index)
+        match self.page(place.page) {
+            Some(page) => page.key(place.index),
+            None => None,
+        }
     }
 
     /// Tells, for a proof alone, that the slots are whole: no page is empty, and all keys ascend.
@@ -189,17 +197,27 @@ impl<K: Key, V, A: Allocator> Slots<K, V, A> {
         self.pages.len()
     }
 
-    /// The page of this number, and an empty one where there is none.
-    fn page(&self, number: usize) -> &[(K, Option<V>)]
-        ensures now { result.now ≡ page_at self.now number }
-        ensures ascending { IsAscending K.cmp result.now }
+    /// How many slots the page of this number has: none where there is no such page.
+    pub(crate) fn len_of(&self, number: usize) -> usize
+        ensures long { result ≡ length (page_at self.now number) }
         ensures whole { AreSlots K.cmp self.now }
         ensures fits { length self.now < 2 ^ 64 }
     {
-        match self.pages.get(number) {
-            Some(page) => page,
-            None => &[],
+        match self.page(number) {
+            Some(page) => page.len(),
+            None => 0,
         }
+    }
+
+    /// The page of this number, where there is one.
+    fn page(&self, number: usize) -> Option<&Page<K, V, A>>
+        ensures some { IfSome result (λ page. page_at self.now number ≡ page.now) }
+        ensures none { IfNone result (page_at self.now number ≡ []) }
+        ensures ascending { IsAscending K.cmp (page_at self.now number) }
+        ensures whole { AreSlots K.cmp self.now }
+        ensures fits { length self.now < 2 ^ 64 }
+    {
+        self.pages.get(number)
     }
 }
 
@@ -217,8 +235,8 @@ impl<K: Key, V: Value, A: Allocator> Slots<K, V, A> {
     pub(crate) fn value_at(&self, place: Place) -> Option<V>
         ensures { result ≡ value_at self.now (at place) }
     {
-        match self.slot_at(place) {
-            Some(slot) => copy_of(&slot.1),
+        match self.page(place.page) {
+            Some(page) => page.value(place.index),
             None => None,
         }
     }
@@ -227,19 +245,19 @@ impl<K: Key, V: Value, A: Allocator> Slots<K, V, A> {
     fn column(&self, alloc: A, number: usize) -> Result<Vec<Option<V>, A>, AllocError>
         ensures { IfOk result (λ column. column.items ≡ column_of (page_at self.now number)) }
     {
-        self.page(number)
-            .iter()
-            .map(|slot| copy_of(&slot.1))
-            .collect(alloc)
+        match self.page(number) {
+            Some(page) => page.column(alloc),
+            None => Ok(Vec::new(alloc)),
+        }
     }
 
-    /// Writes these values into the slots of a page.
-    pub(crate) fn fill(&mut self, number: usize, column: &[Option<V>])
+    /// Takes these values in place of those of a page.
+    pub(crate) fn fill(&mut self, number: usize, column: Vec<Option<V>, A>)
         requires there { number < length self.old }
-        requires fits { length column.now ≡ length (page_at self.old number) }
-        ensures { self.new ≡ with_page number column.now self.old }
+        requires fits { length column.items ≡ length (page_at self.old number) }
+        ensures { self.new ≡ with_page number column.items self.old }
     {
-        fill_page(&mut self.pages[number], column);
+        self.pages[number].fill(column);
     }
 
     /// Writes a value, or none, into the slot at a place.
@@ -248,11 +266,11 @@ impl<K: Key, V: Value, A: Allocator> Slots<K, V, A> {
         requires slot { place.index < length (page_at self.old place.page) }
         ensures { self.new ≡ with_slot (at place) value self.old }
     {
-        write_slot(&mut self.pages[place.page], place.index, value);
+        self.pages[place.page].write(place.index, value);
     }
 }
 
-impl<K: Key + Drop, V: Drop, A: Allocator + Copy> Slots<K, V, A> {
+impl<K: Key + Drop, V: Value, A: Allocator + Copy> Slots<K, V, A> {
     /// Puts an empty slot on a page that has room for it.
     fn insert(&mut self, place: Place, key: K) -> Result<(), AllocError>
         requires there { place.page < length self.old }
@@ -261,8 +279,7 @@ impl<K: Key + Drop, V: Drop, A: Allocator + Copy> Slots<K, V, A> {
         ensures ok { OnOk result (self.new ≡ with_empty (at place) key self.old) }
         ensures err { OnErr result (self.new ≡ self.old) }
     {
-        self.pages[place.page].insert(place.index, (key, None))?;
-        Ok(())
+        self.pages[place.page].insert(place.index, key)
     }
 
     /// Puts an empty slot on a new page, behind all others.
@@ -271,14 +288,13 @@ impl<K: Key + Drop, V: Drop, A: Allocator + Copy> Slots<K, V, A> {
         ensures ok { OnOk result (self.new ≡ self.old ++ ((key, None) ∷ []) ∷ []) }
         ensures err { OnErr result (self.new ≡ self.old) }
     {
-        let mut page = Vec::new(alloc);
-        page.push((key, None))?;
+        let page = Page::of(alloc, key)?;
         self.pages.push(page)?;
         Ok(())
     }
 
     /// Moves the second half of a full page to a page of its own.
-    fn split(&mut self, number: usize) -> Result<(), AllocError>
+    fn split(&mut self, alloc: A, number: usize) -> Result<(), AllocError>
         requires there { number < length self.old }
         requires full { length (page_at self.old number) ≡ 512 }
         ensures ok { OnOk result (self.new ≡ with_page_split number self.old) }
@@ -286,61 +302,8 @@ impl<K: Key + Drop, V: Drop, A: Allocator + Copy> Slots<K, V, A> {
         ensures err { OnErr result (self.new ≡ self.old) }
     {
         self.pages.reserve(1)?;
-        let behind = self.pages[number].split_off(HALF)?;
+        let behind = self.pages[number].split(alloc)?;
         self.pages.insert(number + 1, behind)?;
         Ok(())
     }
-}
-
-/// Whether the last key of a page comes before what is asked for.
-fn ends_before<K: Key, V, A: Allocator, Q: Asked<K, A>>(page: &[(K, Option<V>)], asked: Q) -> bool
-    ensures { result ≡ ends_before (λ key. K.cmp key (Q.named asked)) page.now }
-{
-    match page.last() {
-        Some(slot) => is_before(slot, asked),
-        None => true,
-    }
-}
-
-/// Whether the key of a slot comes before what is asked for.
-fn is_before<K: Key, V, A: Allocator, Q: Asked<K, A>>(slot: &(K, Option<V>), asked: Q) -> bool
-    ensures { result ≡ is_before (λ key. K.cmp key (Q.named asked)) slot.now }
-{
-    asked.compare(&slot.0).is_lt()
-}
-
-/// The first slot of a page that doesn't come before what is asked for.
-fn index_of<K: Key, V, A: Allocator, Q: Asked<K, A>>(page: &[(K, Option<V>)], asked: Q) -> usize
-    requires { IsAscending K.cmp page.now }
-    ensures { result ≡ lead (is_before (λ key. K.cmp key (Q.named asked))) page.now }
-{
-    let mut low = 0;
-    let mut high = page.len();
-    while low < high {
-        let middle = low + (high - low) / 2;
-        if is_before(&page[middle], asked) {
-            low = middle + 1;
-        } else {
-            high = middle;
-        }
-    }
-    low
-}
-
-/// Writes these values into the slots of one page.
-fn fill_page<K, V: Value>(page: &mut [(K, Option<V>)], column: &[Option<V>])
-    requires { length column.now ≡ length page.old }
-    ensures { page.new ≡ with_column page.old column.now }
-{
-    for index in 0..column.len() {
-        page[index].1 = copy_of(&column[index]);
-    }
-}
-
-/// Writes a value, or none, into a slot of one page.
-fn write_slot<K, V: Value>(page: &mut [(K, Option<V>)], index: usize, value: Option<V>)
-    requires { index < length page.old }
-    ensures { page.new ≡ with_column page.old (slice_set (column_of page.old) index value) }
-{
-    page[index].1 = value;
 }

@@ -1,33 +1,37 @@
 //! The filled slots in order. The walk takes no memory.
 
+use crate::slots::page::{Page, Rest};
 use std::alloc::Allocator;
 use std::marker::Model;
 
 /// Goes over the filled slots of pages. Contracts see the keys that are left, each with its value.
 #[derive(Drop)]
 pub(crate) struct Filled<'a, K, V, A: Allocator> {
-    pages: &'a [Vec<(K, Option<V>), A>],
-    page: &'a [(K, Option<V>)],
+    pages: &'a [Page<K, V, A>],
+    page: Rest<'a, K, V>,
 }
 
 impl<'a, K, V, A: Allocator> Model for Filled<'a, K, V, A> {
-    ghost use Rattle.std.specs.Prelude.{List, ◌++◌, flat_map};
-    ghost use Rattle.covstore.specs.Slots.{filled};
+    ghost use Rattle.std.specs.Prelude.{List, ◌++◌};
+    ghost use Rattle.covstore.specs.Slots.{filled, slots_of};
 
     ghost Value = { List (K × V) };
 
-    ghost view = { λ f. filled f.page.now ++ filled (flat_map (λ page. page.items) f.pages.now) };
+    ghost view = { λ f. filled f.page ++ filled (slots_of f.pages.now) };
 }
 
 impl<'a, K, V, A: Allocator> Filled<'a, K, V, A> {
-    ghost use Rattle.std.specs.Prelude.{◌≡◌, flat_map};
-    ghost use Rattle.covstore.specs.Slots.{filled};
+    ghost use Rattle.std.specs.Prelude.{◌≡◌};
+    ghost use Rattle.covstore.specs.Slots.{filled, slots_of};
 
     /// The filled slots of all pages.
-    pub(crate) fn of(pages: &'a [Vec<(K, Option<V>), A>]) -> Filled<'a, K, V, A>
-        ensures { result ≡ filled (flat_map (λ page. page.items) pages.now) }
+    pub(crate) fn of(pages: &'a [Page<K, V, A>]) -> Filled<'a, K, V, A>
+        ensures { result ≡ filled (slots_of pages.now) }
     {
-        Filled { pages, page: &[] }
+        Filled {
+            pages,
+            page: Rest::none(),
+        }
     }
 }
 
@@ -42,15 +46,15 @@ impl<'a, K, V, A: Allocator> Iterator for Filled<'a, K, V, A> {
 
     fn next(&mut self) -> Option<(&'a K, &'a V)> {
         loop {
-            if let Some((slot, page)) = self.page.split_first() {
+            if let Some((key, value, page)) = self.page.split_first() {
                 self.page = page;
-                if let Some(value) = &slot.1 {
-                    return Some((&slot.0, value));
+                if let Some(value) = value {
+                    return Some((key, value));
                 }
             } else {
                 let (page, pages) = self.pages.split_first()?;
                 self.pages = pages;
-                self.page = page;
+                self.page = page.slots();
             }
         }
     }

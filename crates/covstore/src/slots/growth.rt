@@ -53,7 +53,7 @@ fn put_slot<K: Key + Drop, V: Value, A: Allocator + Copy>(
     ensures place { IfOk result (λ place. IsPlace (λ other. K.cmp other key) slots.new (at place)) }
 {
     if place.page < slots.count() {
-        return put_within(slots, coming, place, key);
+        return put_within(slots, coming, alloc, place, key);
     }
     put_behind(slots, coming, alloc, key)
 }
@@ -62,6 +62,7 @@ fn put_slot<K: Key + Drop, V: Value, A: Allocator + Copy>(
 fn put_within<K: Key + Drop, V: Value, A: Allocator + Copy>(
     slots: &mut Slots<K, V, A>,
     coming: &mut Coming<V, A>,
+    alloc: A,
     place: Place,
     key: K,
 ) -> Result<Place, AllocError>
@@ -73,10 +74,10 @@ fn put_within<K: Key + Drop, V: Value, A: Allocator + Copy>(
     ensures coming { OnOk result (filled (slots_of (coming_of slots.new coming.new)) ≡ filled (slots_of (coming_of slots.old coming.old))) }
     ensures place { IfOk result (λ place. IsPlace (λ other. K.cmp other key) slots.new (at place)) }
 {
-    if slots.page(place.page).len() < PAGE {
+    if slots.len_of(place.page) < PAGE {
         return put_at(slots, coming, place, key);
     }
-    split(slots, coming, place.page)?;
+    split(slots, coming, alloc, place.page)?;
     if place.index <= HALF {
         return put_at(slots, coming, place, key);
     }
@@ -102,10 +103,10 @@ fn put_behind<K: Key + Drop, V: Value, A: Allocator + Copy>(
     ensures place { IfOk result (λ place. IsPlace (λ other. K.cmp other key) slots.new (at place)) }
 {
     let count = slots.count();
-    if count > 0 && slots.page(count - 1).len() < PAGE {
+    if count > 0 && slots.len_of(count - 1) < PAGE {
         let place = Place {
             page: count - 1,
-            index: slots.page(count - 1).len(),
+            index: slots.len_of(count - 1),
         };
         return put_at(slots, coming, place, key);
     }
@@ -146,6 +147,7 @@ fn put_at<K: Key + Drop, V: Value, A: Allocator + Copy>(
 fn split<K: Key + Drop, V: Value, A: Allocator + Copy>(
     slots: &mut Slots<K, V, A>,
     coming: &mut Coming<V, A>,
+    alloc: A,
     number: usize,
 ) -> Result<(), AllocError>
     requires there { number < length slots.old }
@@ -157,7 +159,7 @@ fn split<K: Key + Drop, V: Value, A: Allocator + Copy>(
     ensures ok { OnOk result (slots.new ≡ with_page_split number slots.old) }
     ensures fits { number + 1 < 2 ^ 64 }
 {
-    slots.split(number)?;
+    slots.split(alloc, number)?;
     match coming.split(number) {
         Ok(()) => Ok(()),
         Err(refused) => {

@@ -13,7 +13,7 @@ loop-number-preserved g c =
     let slots = c.loop-number.self-inside.slots in
     let left = c.pop.new.self in
     let parts = c.in-Some.ensures.some in
-    let after : c.fill.new.self ≡ with_page c.in-Some.number c.in-Some.column.items slots = c.fill.ensures ∙ ap (λ values. with_page c.in-Some.number values slots) c.deref.ensures.value in (
+    let after : c.fill.new.self ≡ with_page c.in-Some.number c.in-Some.column.items slots = c.fill.ensures in (
       subst (λ pages. AreColumnsOf pages left) (sym after) (columns_left slots left (c.in-Some.number, c.in-Some.column.items) (subst (AreColumnsOf slots) parts c.loop-number.invariant.0)),
       ap (λ pages. coming_of pages left) after
           ∙ taken_last slots left (c.in-Some.number, c.in-Some.column.items) (subst AreAscending parts c.in-Some.ensures.ascending)
@@ -33,7 +33,7 @@ fill-requires g c =
     let slots = c.loop-number.self-inside.slots in
     let last : ℕ × List (Option g.row.V.Denot) = (c.in-Some.number, c.in-Some.column.items) in
     let fit = (all_back (IsColumnOf slots) c.pop.new.self (last ∷ []) (subst (AreColumnsOf slots) c.in-Some.ensures.some c.loop-number.invariant.0)).0 in
-    record { there = fit.0; fits = ap length c.deref.ensures.value ∙ fit.1 }
+    record { there = fit.0; fits = fit.1 }
 
 pub loop-number-init : goal.loop-number-init
 loop-number-init g c = (c.self.invariant, refl)

@@ -1,24 +1,18 @@
-use Rattle.std.proofs.Common.{◌+◌, ap, length, arith}
+use Rattle.std.proofs.Common.{◌+◌, arith}
 use Rattle.covstore.proofs.SlotWrites.{page_le}
 use Rattle.covstore.proofs.SlotBehind.{behind_past, behind_within, number_within}
 use Rattle.covstore.proofs.slots.Slots.behind.Goals as goal
 
 pub overflow_add-index : goal.overflow_add-index
 overflow_add-index g c =
-    omega (arith, c.requires, page_le c.args.self.now c.args.place.page c.page-page.ensures.whole.pages_fit)
+    omega (arith, c.requires, page_le c.args.self.now c.args.place.page c.len_of-len.ensures.whole.pages_fit)
 
 pub overflow_add-result : goal.overflow_add-result
 overflow_add-result g c =
-    omega (arith, number_within c.args.self.now c.args.place.page (omega (arith, c.requires)), c.page-page.ensures.fits)
+    omega (arith, number_within c.args.self.now c.args.place.page (omega (arith, c.requires)), c.len_of-len.ensures.fits)
 
-pub returns-then-index-page-clause-next : goal.returns-then-index-page-clause-next
-returns-then-index-page-clause-next g c = behind_within c.args.self.now c.args.place.page c.args.place.index (c.args.place.index + 1) (omega arith) (omega (arith, ap length c.page-page.ensures.now, c.if-index-page.true))
+pub returns-then-index-len-clause-next : goal.returns-then-index-len-clause-next
+returns-then-index-len-clause-next g c = behind_within c.args.self.now c.args.place.page c.args.place.index (c.args.place.index + 1) (omega arith) (omega (arith, c.len_of-len.ensures.long, c.if-index-len.true))
 
 pub returns-clause-next : goal.returns-clause-next
-returns-clause-next g c = behind_past c.args.self.now c.args.place.page c.args.place.index (c.args.place.page + 1) (omega arith) (omega (arith, ap length c.page-page.ensures.now, c.if-index-page.false))
-
-pub returns-then-index-page-clause-whole : goal.returns-then-index-page-clause-whole
-returns-then-index-page-clause-whole g c = c.page-page.ensures.whole
-
-pub returns-clause-whole : goal.returns-clause-whole
-returns-clause-whole g c = c.page-page.ensures.whole
+returns-clause-next g c = behind_past c.args.self.now c.args.place.page c.args.place.index (c.args.place.page + 1) (omega arith) (omega (arith, c.len_of-len.ensures.long, c.if-index-len.false))

@@ -1,4 +1,4 @@
-use Rattle.std.proofs.Common.{◌-◌, ap, ◌∙◌, sym, subst, [], ◌∷◌, length, arith, None}
+use Rattle.std.proofs.Common.{◌-◌, ap, ◌∙◌, sym, subst, [], ◌∷◌, arith, None}
 use Rattle.covstore.specs.Coming.{AreColumnsOf, coming_of}
 use Rattle.covstore.specs.Slots.{filled, slots_of}
 use Rattle.covstore.proofs.ComingGrowth.{columns_pushed, coming_made_behind, filled_pushed}
@@ -7,7 +7,7 @@ use Rattle.covstore.proofs.slots.growth.put_behind.Goals as goal
 
 pub put_at-requires-clause-gap : goal.put_at-requires-clause-gap
 put_at-requires-clause-gap g c =
-    last_gap (λ other. g.K.Key.cmp other c.args.key) c.args.slots.now (c.count-count.result - 1) _ (omega (arith, c.count-count.ensures)) (ap length c.page-then-page-lt-PAGE.ensures.now) c.requires.last
+    last_gap (λ other. g.K.Key.cmp other c.args.key) c.args.slots.now (c.count-count.result - 1) _ (omega (arith, c.count-count.ensures)) c.len_of-then-len_of-lt-PAGE.ensures.long c.requires.last
 
 pub returns-clause-columns : goal.returns-clause-columns
 returns-clause-columns g c = subst (λ pages. AreColumnsOf pages c.args.coming.now) (sym c.in_ok-push_page.ensures.ok) (columns_pushed c.args.slots.now c.args.coming.now ((c.args.key, None) ∷ []) c.requires.columns)
@@ -35,4 +35,4 @@ pub put_at-requires-clause-there : goal.put_at-requires-clause-there
 put_at-requires-clause-there g c = omega (arith, c.count-count.ensures, c.if-count-gt0.true)
 
 pub put_at-requires-clause-room : goal.put_at-requires-clause-room
-put_at-requires-clause-room g c = omega (arith, ap length c.page.ensures.now, c.if-page-lt-PAGE.true)
+put_at-requires-clause-room g c = omega (arith, c.len_of.ensures.long, c.if-len_of-lt-PAGE.true)

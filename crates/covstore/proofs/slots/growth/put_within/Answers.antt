@@ -13,28 +13,28 @@ put_at-requires-then-place-le-HALF-clause-room g c =
 
 pub put_at-requires-then-place-le-HALF-clause-gap : goal.put_at-requires-then-place-le-HALF-clause-gap
 put_at-requires-then-place-le-HALF-clause-gap g c =
-    let at_most = page_le c.args.slots.now c.args.place.page c.page.ensures.whole.pages_fit in
-    let full : length (page_at c.args.slots.now c.args.place.page) ≡ 512 = omega (arith, at_most, ap length c.page.ensures.now, c.if-page-lt-PAGE.false) in
+    let at_most = page_le c.args.slots.now c.args.place.page c.len_of.ensures.whole.pages_fit in
+    let full : length (page_at c.args.slots.now c.args.place.page) ≡ 512 = omega (arith, at_most, c.len_of.ensures.long, c.if-len_of-lt-PAGE.false) in
     subst (λ pages. IsGap (λ other. g.K.Key.cmp other c.args.key) pages (c.args.place.page, c.args.place.index)) (sym c.in_ok-split.ensures.ok)
     (gap_low (λ other. g.K.Key.cmp other c.args.key) c.args.slots.now c.args.place.page c.args.place.index c.requires.there full c.if-place-le-HALF.true c.requires.gap)
 
 pub put_at-requires-2-clause-room : goal.put_at-requires-2-clause-room
 put_at-requires-2-clause-room g c =
-    let at_most = page_le c.args.slots.now c.args.place.page c.page.ensures.whole.pages_fit in
+    let at_most = page_le c.args.slots.now c.args.place.page c.len_of.ensures.whole.pages_fit in
     subst (λ pages. length (page_at pages (c.args.place.page + 1)) < 512) (sym c.in_ok-split.ensures.ok) (length_high c.args.slots.now c.args.place.page (c.args.place.page + 1) c.requires.there (omega arith) at_most)
 
 pub put_at-requires-2-clause-gap : goal.put_at-requires-2-clause-gap
 put_at-requires-2-clause-gap g c =
-    let at_most = page_le c.args.slots.now c.args.place.page c.page.ensures.whole.pages_fit in
-    let full : length (page_at c.args.slots.now c.args.place.page) ≡ 512 = omega (arith, at_most, ap length c.page.ensures.now, c.if-page-lt-PAGE.false) in
+    let at_most = page_le c.args.slots.now c.args.place.page c.len_of.ensures.whole.pages_fit in
+    let full : length (page_at c.args.slots.now c.args.place.page) ≡ 512 = omega (arith, at_most, c.len_of.ensures.long, c.if-len_of-lt-PAGE.false) in
     let order = λ (other : g.row.K.Denot). g.K.Key.cmp other c.args.key in
     subst (λ pages. IsGap order pages (c.args.place.page + 1, c.args.place.index - 256)) (sym c.in_ok-split.ensures.ok)
     (gap_behind_half order c.args.slots.now c.args.place.page (c.args.place.page + 1) (c.args.place.index - 256) c.args.place.index c.requires.there full (omega arith) (omega (arith, c.if-place-le-HALF.false)) c.requires.gap)
 
 pub split-requires-clause-full : goal.split-requires-clause-full
 split-requires-clause-full g c =
-    let at_most = page_le c.args.slots.now c.args.place.page c.page.ensures.whole.pages_fit in
-    omega (arith, at_most, ap length c.page.ensures.now, c.if-page-lt-PAGE.false)
+    let at_most = page_le c.args.slots.now c.args.place.page c.len_of.ensures.whole.pages_fit in
+    omega (arith, at_most, c.len_of.ensures.long, c.if-len_of-lt-PAGE.false)
 
 pub put_at-requires-then-place-le-HALF-clause-there : goal.put_at-requires-then-place-le-HALF-clause-there
 put_at-requires-then-place-le-HALF-clause-there g c =
@@ -64,7 +64,7 @@ pub put_at-requires-clause-there : goal.put_at-requires-clause-there
 put_at-requires-clause-there g c = c.requires.there
 
 pub put_at-requires-clause-room : goal.put_at-requires-clause-room
-put_at-requires-clause-room g c = omega (arith, ap length c.page.ensures.now, c.if-page-lt-PAGE.true)
+put_at-requires-clause-room g c = omega (arith, c.len_of.ensures.long, c.if-len_of-lt-PAGE.true)
 
 pub put_at-requires-clause-gap : goal.put_at-requires-clause-gap
 put_at-requires-clause-gap g c = c.requires.gap
@@ -90,17 +90,17 @@ returns-in_err-split-clause-columns g c = c.in_err-split.ensures.columns
 pub returns-in_err-split-clause-held : goal.returns-in_err-split-clause-held
 returns-in_err-split-clause-held g c = c.in_err-split.ensures.held
 
-pub returns-then-page-lt-PAGE-clause-held : goal.returns-then-page-lt-PAGE-clause-held
-returns-then-page-lt-PAGE-clause-held g c = c.put_at.ensures.held
+pub returns-then-len_of-lt-PAGE-clause-held : goal.returns-then-len_of-lt-PAGE-clause-held
+returns-then-len_of-lt-PAGE-clause-held g c = c.put_at.ensures.held
 
-pub returns-then-page-lt-PAGE-clause-columns : goal.returns-then-page-lt-PAGE-clause-columns
-returns-then-page-lt-PAGE-clause-columns g c = c.put_at.ensures.columns
+pub returns-then-len_of-lt-PAGE-clause-columns : goal.returns-then-len_of-lt-PAGE-clause-columns
+returns-then-len_of-lt-PAGE-clause-columns g c = c.put_at.ensures.columns
 
-pub returns-then-page-lt-PAGE-clause-coming : goal.returns-then-page-lt-PAGE-clause-coming
-returns-then-page-lt-PAGE-clause-coming g c = c.put_at.ensures.coming
+pub returns-then-len_of-lt-PAGE-clause-coming : goal.returns-then-len_of-lt-PAGE-clause-coming
+returns-then-len_of-lt-PAGE-clause-coming g c = c.put_at.ensures.coming
 
-pub returns-then-page-lt-PAGE-clause-place : goal.returns-then-page-lt-PAGE-clause-place
-returns-then-page-lt-PAGE-clause-place g c = c.put_at.ensures.place
+pub returns-then-len_of-lt-PAGE-clause-place : goal.returns-then-len_of-lt-PAGE-clause-place
+returns-then-len_of-lt-PAGE-clause-place g c = c.put_at.ensures.place
 
 pub returns-then-place-le-HALF-clause-columns : goal.returns-then-place-le-HALF-clause-columns
 returns-then-place-le-HALF-clause-columns g c = c.put_at-then-place-le-HALF.ensures.columns
