@@ -1,16 +1,16 @@
-# covcollect: build, run the stored session, test, install.
+# covcollect: build, run the stored session, play the calls, test, install.
 # Everything is done by the Rattle toolchain's command rt; nothing else is needed.
 
 PREFIX ?= /usr/local
 PROGRAM = crates/covcollect
 
-.PHONY: all run test install clean toolchain
+.PHONY: all run rows test install clean toolchain
 
 all: build/covcollect
 
 # One line says what is missing, and no target goes on without it.
 toolchain:
-	@command -v rt >/dev/null 2>&1 || { echo "covcollect: the Rattle toolchain's command 'rt' isn't on PATH (rattle-kit-13b is wanted)" >&2; exit 1; }
+	@command -v rt >/dev/null 2>&1 || { echo "covcollect: the Rattle toolchain's command 'rt' isn't on PATH (rattle-kit-13f is wanted)" >&2; exit 1; }
 
 # Proves every crate and builds the program, with a line for each crate; the prover's own words go to build/log.
 build/covcollect: toolchain
@@ -21,6 +21,10 @@ build/covcollect: toolchain
 run: build/covcollect
 	@echo '--- input'; cat $(PROGRAM)/stdin
 	@echo '--- answers'; ./build/covcollect <$(PROGRAM)/stdin
+
+# The scripts of covruns' tests, played on the built program.
+rows: build/covcollect
+	@scripts/rows build/covcollect
 
 # The gate: every proof from nothing, the edits that must fail, the tests and the stored run.
 test: toolchain
