@@ -1,5 +1,5 @@
 # covcollect: build, run the stored session, play the calls, test, install.
-# Everything is done by the Rattle toolchain's command rt; nothing else is needed.
+# Everything is done by the Rattle toolchain's command rt, and by Python 3, which rt itself wants; nothing else is needed.
 
 PREFIX ?= /usr/local
 PROGRAM = crates/covcollect
