@@ -66,7 +66,7 @@ counted_line digits counts rest line count numeral counted small few =
 same_some : {A : Type 0} (x y : A) → Some x ≡ Some y → x ≡ y
 same_some x y e = cc
 
-behind_some : (key line rest : List ℕ) → Some rest ≡ behind_key key line → line ≡ key ++ rest
+pub behind_some : (key line rest : List ℕ) → Some rest ≡ behind_key key line → line ≡ key ++ rest
 behind_some key line rest e =
     elim (begins_or_not key line) [
       | inl begins ↦ let same : rest ≡ begins.0 = same_some rest begins.0 (e ∙ ap (behind_key key) begins.1 ∙ behind_key-same key begins.0) in begins.1 ∙ ap (λ (u : List ℕ). key ++ u) (sym same)
@@ -74,13 +74,13 @@ behind_some key line rest e =
     ]
 
 -- digits, the number that they say and what follows them
-record HasNumber (front rest : List ℕ) (n : ℕ) (before : List ℕ → List ℕ) : Type 0 where
-  digits : List ℕ
-  numeral : IsNumeral digits n
-  small : n < 2 ^ 64
-  parts : front ≡ before digits ++ rest
+pub record HasNumber (front rest : List ℕ) (n : ℕ) (before : List ℕ → List ℕ) : Type 0 where
+  pub digits : List ℕ
+  pub numeral : IsNumeral digits n
+  pub small : n < 2 ^ 64
+  pub parts : front ≡ before digits ++ rest
 
-field_has : (fields rest : List ℕ) (a : Number) (n : ℕ) → Some (a, rest) ≡ field_at fields → a ≡ Value n → HasNumber fields rest n (λ digits. digits ++ comma ∷ [])
+pub field_has : (fields rest : List ℕ) (a : Number) (n : ℕ) → Some (a, rest) ≡ field_at fields → a ≡ Value n → HasNumber fields rest n (λ digits. digits ++ comma ∷ [])
 field_has fields rest a n e is =
     elim (field_or_none fields) [
       | inl f ↦
@@ -95,7 +95,7 @@ field_has fields rest a n e is =
       | inr none ↦ absurd (none-some (a, rest) (sym (e ∙ none)))
     ]
 
-number_has : (fields rest : List ℕ) (a : Number) (n : ℕ) → Some (a, rest) ≡ number_at fields → a ≡ Value n → HasNumber fields rest n (λ digits. digits)
+pub number_has : (fields rest : List ℕ) (a : Number) (n : ℕ) → Some (a, rest) ≡ number_at fields → a ≡ Value n → HasNumber fields rest n (λ digits. digits)
 number_has fields rest a n e is =
     elim (numeral_or_none fields) [
       | inl f ↦

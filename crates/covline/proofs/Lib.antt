@@ -1,5 +1,6 @@
 pub mod Copied
 pub mod Alike
+pub mod BranchLines
 pub mod CountedLines
 pub mod GoodTexts
 pub mod Cut

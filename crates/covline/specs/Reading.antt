@@ -78,6 +78,11 @@ taken_of [] = None
 taken_of (b ∷ []) = if b == minus then Some None else option_map Some (number_of (b ∷ []))
 taken_of (b ∷ c ∷ cs) = option_map Some (number_of (b ∷ c ∷ cs))
 
+-- at the front of the text it is told how often a branch was taken, and this follows
+abbrev pub BeginsWithTaken : List ℕ → Option ℕ → List ℕ → Type 0
+BeginsWithTaken text None rest = text ≡ minus ∷ rest
+BeginsWithTaken text (Some n) rest = Some (Value n, rest) ≡ number_at text
+
 -- whether a checksum may have the byte: all but comma, space, tab, carriage return and line feed
 abbrev pub is_checksum_byte : ℕ → Bool
 is_checksum_byte b = not (b == 44) && (not (b == 32) && (not (b == 9) && (not (b == 13) && not (b == 10))))

@@ -3,11 +3,12 @@
 
 ghost use Rattle.std.specs.Prelude.{◌≡◌, ◌≤◌, ◌++◌, ◌∷◌, [], None, Some, Ok, codes, option_map, Err, MatchResult, IfOk, IfErr, IfSome};
 ghost use Rattle.covline.specs.declared.trace_line.LineFault.{LineFault};
-ghost use Rattle.covline.specs.Spells.{LineData, Line, line_data, Spells, HasFault, BeginsWithLine};
+ghost use Rattle.covline.specs.Spells.{LineData, Line, Branch, line_data, Spells, HasFault, BeginsWithLine};
 ghost use Rattle.covline.specs.Lines.{line_feed};
-ghost use Rattle.covline.specs.Reading.{Gives, behind_key, with_digit, digits_from, number_at, number_of, count_at, before_comma, field_at, taken_of, only_checksum, checksum_of, fit, start_fields, calls_fields, branch_of, branch_fields, line_fields, total_fields, path_fields, read_of};
+ghost use Rattle.covline.specs.Reading.{Gives, BeginsWithTaken, behind_key, with_digit, digits_from, number_at, number_of, count_at, before_comma, field_at, taken_of, only_checksum, checksum_of, fit, start_fields, calls_fields, branch_of, branch_fields, line_fields, total_fields, path_fields, read_of};
 
 use crate::names::good_checksum;
+use crate::point::BranchPoint;
 use crate::trace_line::{LineFault, TotalKind, TraceLine};
 
 /// What digits say.
@@ -333,7 +334,16 @@ fn line_total(rest: &[u8]) -> Result<TraceLine<'_>, LineFault>
 fn behind<'a>(text: &'a [u8], key: &[u8]) -> Option<&'a [u8]>
     ensures { option_map (λ rest. rest.now) result ≡ behind_key key.now text.now }
 {
-    text.strip_prefix(key)
+    let mut left = key;
+    let mut rest = text;
+    while let [byte, more @ ..] = left {
+        match rest {
+            [first, after @ ..] if first == byte => rest = after,
+            _ => return None,
+        }
+        left = more;
+    }
+    Some(rest)
 }
 
 /// A line that begins with `e`, behind that: it ends a section, or says nothing.
@@ -464,4 +474,65 @@ pub fn first_count(text: &[u8]) -> Option<FirstCount<'_>>
         return None;
     };
     Some(FirstCount { line, count, rest })
+}
+
+/// The first line of a text, which tells how often a branch was taken, and what stands behind it.
+#[derive(Clone, Copy)]
+pub struct FirstBranch<'a> {
+    /// The branch.
+    pub point: BranchPoint,
+    /// How often it was taken; none where its block was never executed.
+    pub taken: Option<u64>,
+    /// What stands behind the first line.
+    pub rest: &'a [u8],
+}
+
+/// The number of 64 bits at the front of the text, and what follows the comma behind it.
+fn small_field(text: &[u8]) -> Option<(u64, &[u8])>
+    ensures { IfSome result (λ front. Some (Number.Value front.0, front.1.now) ≡ field_at text.now) }
+{
+    match read_field(text)? {
+        (Number::Value(value), rest) => Some((value, rest)),
+        (Number::TooLarge, _) => None,
+    }
+}
+
+/// The number of 64 bits at the front of the text, and what follows it.
+fn small_number(text: &[u8]) -> Option<(u64, &[u8])>
+    ensures { IfSome result (λ front. Some (Number.Value front.0, front.1.now) ≡ number_at text.now) }
+{
+    match read_number(text)? {
+        (Number::Value(value), rest) => Some((value, rest)),
+        (Number::TooLarge, _) => None,
+    }
+}
+
+/// How often a branch was taken, in 64 bits, at the front of the text, and what follows it: no number for `-`.
+fn front_taken(text: &[u8]) -> Option<(Option<u64>, &[u8])>
+    ensures { IfSome result (λ front. BeginsWithTaken text.now front.0 front.1.now) }
+{
+    if let [b'-', rest @ ..] = text {
+        return Some((None, rest));
+    }
+    let (taken, rest) = small_number(text)?;
+    Some((Some(taken), rest))
+}
+
+/// The first line, where it is `BRDA:` with numbers of 64 bits and nothing else, and a line feed ends it: read in one pass,
+/// as by `first_count`. Any other first line is left to be cut and read.
+#[inline]
+pub fn first_branch(text: &[u8]) -> Option<FirstBranch<'_>>
+    ensures { IfSome result (λ f. BeginsWithLine text.now (Branch f.point.line f.point.block f.point.branch f.taken) f.rest.now) }
+{
+    let (line, rest) = small_field(behind(text, b"BRDA:")?)?;
+    let (block, rest) = small_field(rest)?;
+    let (branch, rest) = small_field(rest)?;
+    let (taken, rest) = front_taken(rest)?;
+    let rest = behind_feed(rest)?;
+    let point = BranchPoint {
+        line,
+        block,
+        branch,
+    };
+    Some(FirstBranch { point, taken, rest })
 }

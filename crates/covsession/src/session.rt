@@ -29,6 +29,7 @@ use covbook::Book;
 pub use fault::SessionFault;
 pub use output::put_bytes;
 use std::alloc::Allocator;
+use std::mem;
 
 // The format of the text that follows a line, where one does.
 fn text_behind(word: Word<'_>, ending: LineEnd) -> Option<Format<'_>>
@@ -49,12 +50,13 @@ fn text_behind(word: Word<'_>, ending: LineEnd) -> Option<Format<'_>>
     }
 }
 
-// Answers the next command.
+// Answers the next command. A text stands in this room, where it has any.
 fn answer_command<I: Source, O: Sink, A: Allocator + Copy>(
     alloc: A,
     book: &mut Book<A>,
     input: &mut Input<'_, I, A>,
     output: &mut Output<'_, O, A>,
+    room: &mut Vec<u8, A>,
 ) -> Result<LineEnd, SessionFault>
     requires { CanCall (moment input.old output.old) }
     ensures takes { IfOk result (λ ending. TakesCommand (moment input.old output.old) (moment input.new output.new)
@@ -65,8 +67,9 @@ fn answer_command<I: Source, O: Sink, A: Allocator + Copy>(
     let ending = input.take_line(&mut line, output)?;
     let word = word_of(line.whole());
     if let Some(format) = text_behind(word, ending) {
-        let (taken, ended) = take_text(alloc, input, output)?;
-        answer_given(alloc, book, Given { format, taken }, output)?;
+        let text_room = mem::replace(room, Vec::new(alloc));
+        let (taken, ended) = take_text(text_room, input, output)?;
+        answer_given(alloc, book, Given { format, taken }, room, output)?;
         return Ok(ended);
     }
     answer_word(alloc, book, word, output)?;
@@ -82,9 +85,10 @@ fn answer_all<I: Source, O: Sink, A: Allocator + Copy>(
     requires { CanCall (moment input.old output.old) }
     ensures { OnOk result (IsDone (moment input.old output.old) (moment input.new output.new)) }
 {
+    let mut room = Vec::new(alloc);
     let mut book = Book::new(alloc);
     loop {
-        match answer_command(alloc, &mut book, input, output)? {
+        match answer_command(alloc, &mut book, input, output, &mut room)? {
             LineEnd::Feed => {}
             LineEnd::Input => return Ok(()),
         }

@@ -1,14 +1,14 @@
 -- A page that gets a column: where it stands, and that nothing else is to come by that.
-use Rattle.std.proofs.Common.{◌≡◌, ℕ, zero, suc, ◌<◌, true, false, Option, List, [], ◌∷◌, ◌++◌, length, take, drop, map, refl, sym, ap, ◌∙◌, subst, arith, length-take}
+use Rattle.std.proofs.Common.{◌≡◌, ℕ, Bool, zero, suc, ◌<◌, true, false, Option, List, [], ◌∷◌, ◌++◌, length, take, drop, map, refl, sym, ap, ◌∙◌, subst, arith, length-take}
 use mathlib.Core.Bool.{false≢true}
-use Rattle.std.specs.Prelude.{Some, None, IsTrue, option_map, slice_get, nat_lt, nat_eq}
+use Rattle.std.specs.Prelude.{Some, None, IsTrue, if◌then◌else◌, option_map, slice_get, nat_lt, nat_eq}
 use Rattle.std.specs.List.{AllByRecursion, insert}
 use Rattle.std.specs.Borrow.{Bor}
 use Rattle.std.specs.Slice.{IsItemAt}
 use Rattle.std.proofs.lemmas.Option.{slice_get_past, slice_get-get_or, slice_get-map}
 use Rattle.std.proofs.lemmas.Bool.Decides.{nat_tests}
 use Rattle.covstore.specs.Slots.{lead, page_at}
-use Rattle.covstore.specs.Coming.{column_of, coming_of, AreAscending, IsColumnOf, AreColumnsOf, IsTouched}
+use Rattle.covstore.specs.Coming.{column_of, coming_of, AreAscending, AreBehind, IsColumnOf, AreColumnsOf, IsTouched}
 use Rattle.covstore.proofs.Leads.{all_append, all_front, all_back, lead_le}
 use Rattle.covstore.proofs.SlotSearch.{length_map}
 use Rattle.covstore.proofs.Comings.{own_coming}
@@ -33,6 +33,26 @@ tells_number a page number e = (λ t. e ∙ ap Some (same_number a page t), λ h
 
 pub tells_none : (page : ℕ) (number : Option ℕ) → number ≡ None → (IsTrue false → number ≡ Some page) × (number ≡ Some page → IsTrue false)
 tells_none page number e = (λ t. absurd (false≢true t), λ h. absurd cc)
+
+-- a column of this number stands behind all of smaller ones
+number_leads_at : {V : Type 0} (column : ℕ × List (Option V)) (columns : List (ℕ × List (Option V))) (page i : ℕ) (less : Bool) → nat_lt column.0 page ≡ less → column.0 < page → i ≡ lead (λ other. nat_lt other.0 page) columns
+    → suc i ≡ (if less then suc (lead (λ other. nat_lt other.0 page) columns) else 0)
+number_leads_at column columns page i true e l same = ap suc same
+number_leads_at column columns page i false e l same = absurd (let other : nat_lt column.0 page ≡ true = grind (arith, nat_tests) in false≢true (sym e ∙ other))
+
+behind_this : {V : Type 0} (number : ℕ) (columns : List (ℕ × List (Option V))) (page i : ℕ) → AreBehind number columns → option_map (λ column. column.0) (slice_get columns i) ≡ Some page → number < page
+behind_this number [] page i behind e = absurd cc
+behind_this number (column ∷ columns) page zero behind e = let same : column.0 ≡ page = cc in subst (λ n. number < n) same behind.0
+behind_this number (column ∷ columns) page (suc i) behind e = behind_this number columns page i behind.1 e
+
+pub number_leads : {V : Type 0} (columns : List (ℕ × List (Option V))) (page i : ℕ) → AreAscending columns → option_map (λ column. column.0) (slice_get columns i) ≡ Some page → i ≡ lead (λ column. nat_lt column.0 page) columns
+number_leads [] page i ascending e = absurd cc
+number_leads (column ∷ columns) page zero ascending e =
+    let same : column.0 ≡ page = cc in
+    let not_less : nat_lt column.0 page ≡ false = grind (arith, nat_tests, same) in
+    rw not_less refl
+number_leads (column ∷ columns) page (suc i) ascending e =
+    number_leads_at column columns page i (nat_lt column.0 page) refl (behind_this column.0 columns page i ascending.0 e) (number_leads columns page i ascending.1 e)
 
 -- ---- a column put in
 

@@ -1,5 +1,5 @@
 -- A page as contracts see it, by its keys and the values beside them.
-use Rattle.std.proofs.Common.{subst, ◌≡◌, ℕ, zero, suc, ◌-◌, ◌<◌, Option, List, [], ◌∷◌, length, get_or, take, drop, set, refl, sym, ap, arith}
+use Rattle.std.proofs.Common.{subst, ◌≡◌, ◌++◌, ℕ, zero, suc, ◌-◌, ◌<◌, Option, List, [], ◌∷◌, length, get_or, take, drop, set, refl, sym, ap, arith}
 use Rattle.std.specs.Prelude.{None, Some, Result, Ok, Err, OnErr, OnOk, option_map, slice_get}
 use Rattle.std.specs.List.{insert, zip}
 use Rattle.std.specs.Ordering.{is_lt}
@@ -66,6 +66,13 @@ zip_insert [] (other ∷ values) i key value e = absurd (omega arith)
 zip_insert (first ∷ keys) [] i key value e = absurd (omega arith)
 zip_insert (first ∷ keys) (other ∷ values) zero key value e = refl
 zip_insert (first ∷ keys) (other ∷ values) (suc i) key value e = ap (λ rest. (first, other) ∷ rest) (zip_insert keys values i key value (omega arith))
+
+-- what is put in behind all others is appended
+pub insert_last : {X : Type 0} (xs : List X) (i : ℕ) (x : X) → i ≡ length xs → xs ++ x ∷ [] ≡ insert xs i x
+insert_last [] zero x e = refl
+insert_last [] (suc i) x e = absurd (omega arith)
+insert_last (first ∷ xs) zero x e = absurd (omega arith)
+insert_last (first ∷ xs) (suc i) x e = ap (λ rest. first ∷ rest) (insert_last xs i x (omega arith))
 
 pub zip_take : {K V : Type 0} (keys : List K) (values : List V) (n : ℕ) → zip (take n keys) (take n values) ≡ take n (zip keys values)
 zip_take keys values zero = refl

@@ -5,14 +5,15 @@ ghost use Rattle.covline.specs.Row.{SubmissionData};
 ghost use Rattle.covread.specs.declared.fault.ReadFault.{ReadFault as Fault};
 ghost use Rattle.covread.specs.Outcome.{most_bytes, IsOutcome, Answers, GrowsLate, IsOrMemory};
 ghost use Rattle.covline.specs.Lines.{lines_of};
-ghost use Rattle.covline.specs.Spells.{LineData, Line, Spells};
+ghost use Rattle.covline.specs.Spells.{LineData, Branch, Line, Spells};
 ghost use Rattle.covread.specs.TraceSteps.{held_data, HasRoom, IsOpen, ReadsTo, TakesLine, misplaced_at};
 
 use crate::fault::{MOST_BYTES, ReadFault};
 use crate::trace::misplaced::Misplaced;
 use crate::trace::reader::Reader;
 use covline::{
-    Submission, each_line_has_one_meaning, first_count, first_line, lines_are_the_text, read_line,
+    BranchPoint, Submission, each_line_has_one_meaning, first_branch, first_count, first_line,
+    lines_are_the_text, read_line,
 };
 use std::alloc::Allocator;
 
@@ -52,7 +53,7 @@ fn read_lines<'a, A: Allocator + Copy>(alloc: A, text: &'a [u8]) -> Result<Reade
 }
 
 /// Takes the first line of what is left of the text, which has this number, and answers what stands behind it. A line
-/// that only counts is read before it is cut, as most lines are such.
+/// that only counts, or tells of a branch, is read before it is cut, as most lines are such.
 #[inline]
 fn take_first<'a, A: Allocator + Copy>(
     reader: &mut Reader<'a, A>,
@@ -67,6 +68,10 @@ fn take_first<'a, A: Allocator + Copy>(
 {
     if let Some(first) = first_count(text) {
         take_count(reader, at, first.line, first.count)?;
+        return Ok(first.rest);
+    }
+    if let Some(first) = first_branch(text) {
+        take_branch(reader, at, first.point, first.taken)?;
         return Ok(first.rest);
     }
     let (line, rest) = first_line(text);
@@ -86,6 +91,23 @@ fn take_count<A: Allocator + Copy>(
     ensures { (text : List ℕ) → Spells text (Line line count None) → (inside : List LineData) → IsOpen reader.old.section inside → TakesLine result (held_data reader.old inside) reader.new text at }
 {
     match reader.keep_count(line, count) {
+        Ok(()) => Ok(()),
+        Err(why) => Err(fault_at(why, at)),
+    }
+}
+
+/// Takes a line with this number that tells how often a branch was taken.
+#[inline]
+fn take_branch<A: Allocator + Copy>(
+    reader: &mut Reader<'_, A>,
+    at: u64,
+    point: BranchPoint,
+    taken: Option<u64>,
+) -> Result<(), ReadFault>
+    requires { (inside : List LineData) × HasRoom reader.old inside }
+    ensures { (text : List ℕ) → Spells text (Branch point.line point.block point.branch taken) → (inside : List LineData) → IsOpen reader.old.section inside → TakesLine result (held_data reader.old inside) reader.new text at }
+{
+    match reader.keep_branch(point, taken) {
         Ok(()) => Ok(()),
         Err(why) => Err(fault_at(why, at)),
     }

@@ -1,7 +1,7 @@
 //! What the reader of a tracefile holds between two lines.
 
 ghost use Rattle.std.specs.Prelude.{◌≡◌, List, [], None};
-ghost use Rattle.covline.specs.Spells.{LineData, line_data, HasSmallNumbers, Test, Path, Line, End};
+ghost use Rattle.covline.specs.Spells.{LineData, line_data, HasSmallNumbers, Test, Path, Branch, Line, End};
 ghost use Rattle.covread.specs.Said.{said_data};
 ghost use Rattle.covread.specs.TraceSteps.{held_data, empty, IsOpen, HasRoom, Steps, ends, EndsLawfully};
 
@@ -10,7 +10,7 @@ use crate::trace::misplaced::Misplaced;
 use crate::trace::said::Said;
 use crate::trace::section::Gathered;
 use crate::trace::settle::{Settled, settle};
-use covline::{Bytes, Sect, Sects, Submission, TraceLine};
+use covline::{BranchPoint, Bytes, Sect, Sects, Submission, TraceLine};
 use std::alloc::Allocator;
 
 /// A section whose end didn't come yet.
@@ -143,6 +143,19 @@ impl<'a, A: Allocator + Copy> Reader<'a, A> {
     {
         if let Some(section) = &mut self.section {
             section.gathered.take_plain(line, count)?;
+            return Ok(());
+        }
+        Err(Misplaced::Outside)
+    }
+
+    /// A line of the open section that tells how often a branch was taken.
+    #[inline]
+    pub fn keep_branch(&mut self, point: BranchPoint, taken: Option<u64>) -> Result<(), Misplaced>
+        requires { (inside : List LineData) × HasRoom self.old inside }
+        ensures { (inside : List LineData) → IsOpen self.old.section inside → Steps result (held_data self.old inside) self.new (Branch point.line point.block point.branch taken) }
+    {
+        if let Some(section) = &mut self.section {
+            section.gathered.take_branch(point, taken)?;
             return Ok(());
         }
         Err(Misplaced::Outside)

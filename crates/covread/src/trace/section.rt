@@ -115,8 +115,9 @@ impl<'a, A: Allocator + Copy> Gathered<'a, A> {
         Ok(())
     }
 
-    /// How often a branch was taken.
-    fn take_branch(&mut self, branch: BranchPoint, taken: Option<u64>) -> Result<(), Memory>
+    /// How often a branch was taken. It takes no memory but for the list.
+    #[inline]
+    pub fn take_branch(&mut self, branch: BranchPoint, taken: Option<u64>) -> Result<(), Memory>
         requires { (inside : List LineData) × IsGathered self.old inside × length inside + 1 < 2 ^ 64 }
         ensures { OnOk result ((inside : List LineData) → IsGathered self.old inside → IsGathered self.new (inside ++ Branch branch.line branch.block branch.branch taken ∷ [])) }
     {

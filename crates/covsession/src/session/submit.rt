@@ -24,9 +24,12 @@ use covline::Submission;
 use covread::{MOST_BYTES, ReadFault, read_gcov, read_trace};
 use std::alloc::Allocator;
 
-/// Takes the lines of a text, up to a line `.`, and answers what they are and how the last line ended.
+/// The longest text whose room is kept for the next one.
+const MOST_KEPT_BYTES: usize = 8_388_608;
+
+/// Takes the lines of a text, up to a line `.`, into this room, and answers what they are and how the last line ended.
 pub fn take_text<I: Source, O: Sink, A: Allocator>(
-    alloc: A,
+    room: Vec<u8, A>,
     input: &mut Input<'_, I, A>,
     output: &mut Output<'_, O, A>,
 ) -> Result<(Taken<A>, LineEnd), SessionFault>
@@ -36,7 +39,7 @@ pub fn take_text<I: Source, O: Sink, A: Allocator>(
         × IsTaken pieces r.1 r.0) }
     ensures fault { IfErr result (λ f. f ≢ session_faults.Full) }
 {
-    let mut text = Text::new(alloc, MOST_BYTES);
+    let mut text = Text::in_room(room, MOST_BYTES);
     loop {
         input.take_lines(&mut text)?;
         let ending = input.take_line(&mut text, output)?;
@@ -135,11 +138,20 @@ pub struct Given<'a, A: Allocator> {
     pub taken: Taken<A>,
 }
 
-/// Answers what was taken of a text. A whole one is let go as soon as it is read.
+/// Keeps the room of a text that was read, unless it is large: a page that is touched for the first time costs more than
+/// reading what stands on it.
+fn keep_room<A: Allocator>(room: &mut Vec<u8, A>, text: Vec<u8, A>) {
+    if text.len() <= MOST_KEPT_BYTES {
+        *room = text;
+    }
+}
+
+/// Answers what was taken of a text. As soon as a whole one is read, its room is kept for the next one, or let go.
 pub fn answer_given<O: Sink, A: Allocator + Copy>(
     alloc: A,
     book: &mut Book<A>,
     given: Given<'_, A>,
+    room: &mut Vec<u8, A>,
     output: &mut Output<'_, O, A>,
 ) -> Result<(), SessionFault>
     requires { output.old.failed_writes < 2 ^ 63 }
@@ -152,7 +164,7 @@ pub fn answer_given<O: Sink, A: Allocator + Copy>(
     match taken {
         Taken::Whole(text) => {
             let read = read_as(alloc, format, text.as_slice());
-            drop(text);
+            keep_room(room, text);
             submit(alloc, book, read, output)
         }
         Taken::TooLong => refuse(alloc, ReadFault::TooLong, output),

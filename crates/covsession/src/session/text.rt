@@ -98,8 +98,18 @@ impl<A: Allocator> Text<A> {
         ensures empty { HasCollected result [] [] }
         ensures limit { result.limit ≡ limit }
     {
+        Text::in_room(Vec::new(alloc), limit)
+    }
+
+    /// No bytes yet, and this room for those to come. What stands in it is given up.
+    pub fn in_room(room: Vec<u8, A>, limit: usize) -> Text<A>
+        ensures empty { HasCollected result [] [] }
+        ensures limit { result.limit ≡ limit }
+    {
+        let mut kept = room;
+        kept.clear();
         Text {
-            kept: Vec::new(alloc),
+            kept,
             limit,
             total: 0,
             begins: 0,

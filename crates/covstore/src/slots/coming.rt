@@ -100,6 +100,11 @@ impl<V: Value, A: Allocator> Coming<V, A> {
         ensures ok { IfOk result (IsTouched slots.now self.old self.new page) }
         ensures err { OnErr result (self.new ≡ self.old) }
     {
+        // A walk in order touches the last column again and again.
+        let last = self.columns.len().saturating_sub(1);
+        if self.has(last, page) {
+            return Ok(last);
+        }
         let index = self.index_of(page);
         if self.has(index, page) {
             return Ok(index);

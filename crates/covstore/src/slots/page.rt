@@ -183,7 +183,13 @@ impl<K: Drop, V: Value, A: Allocator + Copy> Page<K, V, A> {
         ensures ok { OnOk result (self.new ≡ insert self.old index (key, None)) }
         ensures err { OnErr result (self.new ≡ self.old) }
     {
+        // Room for the value first, so that no key is left without one.
         self.values.reserve(1)?;
+        if index == self.keys.len() {
+            self.keys.push(key)?;
+            self.values.push(None)?;
+            return Ok(());
+        }
         self.keys.insert(index, key)?;
         self.values.insert(index, None)?;
         Ok(())

@@ -1,7 +1,9 @@
 //! Calls of the crates below without what they promise: a test looks at values, and its proof is quicker that knows nothing
 //! of them.
 
-use covline::{BadSubmission, Bytes, Item, Items, Memory, Sect, Sects, Submission, TraceLine};
+use covline::{
+    BadSubmission, BranchPoint, Bytes, Item, Items, Memory, Sect, Sects, Submission, TraceLine,
+};
 use covread::{ReadFault, read_gcov, read_trace};
 use std::alloc::Global;
 use std::test::*;
@@ -26,6 +28,12 @@ pub(super) fn put_line(record: &TraceLine<'_>, text: &mut Bytes) -> Result<(), M
 pub(super) fn counted_first(text: &[u8]) -> Option<(u64, u64, usize)> {
     let first = covline::first_count(text)?;
     Some((first.line, first.count, first.rest.len()))
+}
+
+/// What a first line says of a branch, and how many bytes are behind it.
+pub(super) fn branch_first(text: &[u8]) -> Option<(BranchPoint, Option<u64>, usize)> {
+    let first = covline::first_branch(text)?;
+    Some((first.point, first.taken, first.rest.len()))
 }
 
 /// How long the first line of a text is, and what is behind it.

@@ -1,13 +1,13 @@
 //! Calls of covline and covread that no session shows: single records, lists, submissions, and the items of a text.
 
 use super::calls::{
-    append, bytes_of, copied_items, copied_sects, copied_submission, copy_of, counted_first,
-    cut_first, put_line, read, submission_of, text_of,
+    append, branch_first, bytes_of, copied_items, copied_sects, copied_submission, copy_of,
+    counted_first, cut_first, put_line, read, submission_of, text_of,
 };
 use super::{check_bytes, push_line};
 use covline::{
-    BadSubmission, Bytes, Item, Items, LineFault, Memory, Sect, Sects, Submission, Tally,
-    TotalKind, TraceLine, good_test, lines, read_line, without_returns,
+    BadSubmission, BranchPoint, Bytes, Item, Items, LineFault, Memory, Sect, Sects, Submission,
+    Tally, TotalKind, TraceLine, good_test, lines, read_line, without_returns,
 };
 use covread::ReadFault;
 use std::alloc::Global;
@@ -65,6 +65,11 @@ fn check_first(rt: &impl Abort, text: &[u8], wanted: Option<(u64, u64, usize)>) 
     assert_eq!(rt; counted_first(text), wanted);
 }
 
+/// What the first line of a text says of a branch, if it only tells how often it was taken.
+fn check_branch(rt: &impl Abort, text: &[u8], wanted: Option<(BranchPoint, Option<u64>, usize)>) {
+    assert_eq!(rt; branch_first(text), wanted);
+}
+
 /// How the first line of a text is cut.
 fn check_cut(rt: &impl Abort, text: &[u8], wanted: (usize, usize)) {
     assert_eq!(rt; cut_first(text), wanted);
@@ -78,6 +83,22 @@ fn counts_before_a_cut(rt: HostRuntime) {
     check_first(&rt, b"DA:7,12", None);
     check_cut(&rt, b"TN:a\r\nrest", (4, 4));
     check_cut(&rt, b"rest", (4, 0));
+}
+
+/// So is a first line that tells of a branch.
+#[test]
+fn branch_before_a_cut(rt: HostRuntime) {
+    let point = BranchPoint {
+        line: 7,
+        block: 0,
+        branch: 2,
+    };
+    check_branch(&rt, b"BRDA:7,0,2,12\nDA:7,3\n", Some((point, Some(12), 7)));
+    check_branch(&rt, b"BRDA:7,0,2,-\n", Some((point, None, 0)));
+    check_branch(&rt, b"BRDA:7,0,2,-1\n", None);
+    check_branch(&rt, b"BRDA:7,0,2,18446744073709551616\n", None);
+    check_branch(&rt, b"BRDA:7,0,2,12", None);
+    check_branch(&rt, b"BRDA:7,0,2,12\r\n", None);
 }
 
 /// What is read of each line, as it is printed.

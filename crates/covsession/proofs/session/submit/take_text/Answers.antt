@@ -12,7 +12,7 @@ use Rattle.covsession.proofs.SessionPieces.{takes_more, text_done, text_rest, is
 use Rattle.covsession.proofs.session.submit.take_text.Goals as goal
 
 pub loop-text-init : goal.loop-text-init
-loop-text-init g c = ([], tt, λ more. refl, search rules, search rules, c.new-text.ensures.empty, c.new-text.ensures.limit)
+loop-text-init g c = ([], tt, λ more. refl, search rules, search rules, c.in_room-text.ensures.empty, c.in_room-text.ensures.limit)
 
 pub returns-then-is_last-clause-taken : goal.returns-then-is_last-clause-taken
 returns-then-is_last-clause-taken g c =
