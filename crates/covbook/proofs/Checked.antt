@@ -1,9 +1,10 @@
 -- What the steps over logs and receipts tell, one after another.
-use Rattle.std.proofs.Common.{◌≡◌, ℕ, zero, suc, ◌+◌, ◌<◌, ◌≤◌, List, [], ◌∷◌, ◌++◌, Option, Some, None, Result, length, get_or, take, drop, map, sym, refl, ap, ◌∙◌, inl, inr, subst, arith}
-use Rattle.std.specs.Prelude.{◌≢◌, slice_get, IsSomeAnd, option_map}
+use Rattle.std.proofs.Common.{◌≡◌, ℕ, zero, suc, ◌+◌, ◌-◌, ◌<◌, ◌≤◌, Bool, List, [], ◌∷◌, ◌++◌, Option, Some, None, Result, length, get_or, take, drop, map, sym, refl, ap, ◌∙◌, inl, inr, subst, arith}
+use Rattle.std.specs.Prelude.{◌≢◌, ◌↔◌, IsTrue, slice_get, IsSomeAnd, option_map}
 use Rattle.std.specs.List.{All, AllByRecursion}
-use Rattle.std.proofs.lemmas.List.{take_more, map-append}
+use Rattle.std.proofs.lemmas.List.{length-map, take_more, map-append}
 use Rattle.std.proofs.lemmas.List.Elements.{All-from_recursion, recursion_from_All}
+use Rattle.covstore.specs.declared.totals.Totals.{Totals}
 use Rattle.covbook.specs.declared.entry.Receipt.{Receipt}
 use Rattle.covbook.specs.declared.gather_fault.GatherFault.{GatherFault}
 use Rattle.covbook.specs.declared.gather_fault.GatherFault.TheVariants.{Backwards, BadReading, Differs, SameJob, Stranger}
@@ -146,8 +147,24 @@ reading_stops entries log readings i reading within is wrong =
     subst (λ (rs : List Reading). FirstFails (reading_claims entries log i rs) (BadReading log i)) (sym (rest_is readings i reading within is)) (inl (wrong, refl))
 
 -- the totals after the entries up to one
-pub last_at : (entries : List EntryData) (i : ℕ) (e : EntryData) → slice_get entries i ≡ Some e → last_totals (take (suc i) entries) ≡ e.after
+last_at : (entries : List EntryData) (i : ℕ) (e : EntryData) → slice_get entries i ≡ Some e → last_totals (take (suc i) entries) ≡ e.after
 last_at [] i e at = absurd (no_some e at)
 last_at (x ∷ entries) zero e at = ap (λ (y : EntryData). y.after) (some_is x e at)
 last_at (x ∷ []) (suc i) e at = absurd (no_some e at)
 last_at (x ∷ y ∷ entries) (suc i) e at = last_at (y ∷ entries) i e at
+
+pub some_suc : (n : ℕ) → (n ≡ 0 → ⊥) → n ≡ suc (n - 1)
+some_suc zero h = absurd (h refl)
+some_suc (suc n) h = omega arith
+
+pub totals_at_last : {X : Type 0} (f : X → EntryData) (entries : List X) (i upto : ℕ) (e : X) → upto ≡ suc i → slice_get entries i ≡ Some e → (f e).after ≡ last_totals (take upto (map f entries))
+totals_at_last {X} f entries i upto e is at =
+    subst (λ (n : ℕ). (f e).after ≡ last_totals (take n (map f entries))) (sym is) (sym (last_at (map f entries) i (f e) (mapped_get f entries i e at)))
+
+-- a reading with the totals after so many entries
+pub reading_is : {X : Type 0} (f : X → EntryData) (entries : List X) (reading : Reading) (totals : Totals) (same : Bool) → reading.upto ≤ length entries
+    → totals ≡ last_totals (take reading.upto (map f entries)) → IsTrue same ↔ (totals ≡ reading.totals) → IsTrue same ↔ IsReadingOf (map f entries) reading
+reading_is f entries reading totals same within are is = (
+  λ yes. record { within = omega (arith, within, length-map entries f); totals = sym (is.0 yes) ∙ are },
+  λ of. is.1 (are ∙ sym of.totals),
+)
