@@ -18,6 +18,7 @@
 #     COVERAGE_TEST      the command that runs the tests (make check)
 #     COVERAGE_LINES     as --lines
 #     COVERAGE_REMOVE    patterns as of --remove, a line each
+#     COVERAGE_GENINFO   further options of geninfo, say --checksum, or --gcov-tool gcov-13
 #     COVCOLLECT         the program (covcollect)
 #
 # Either command may be several: they are given to bash -euo pipefail -c. The folder of results then has all.info (every source),
@@ -122,7 +123,8 @@ run tests "$tests"
 #    project has no branches (empty), and writes records that lcov2.awk rewrites.
 branches=branch_coverage=1 options=(--ignore-errors empty)
 case $(geninfo --version 2>/dev/null) in *' 1.'*) branches=lcov_branch_coverage=1 options=() ;; esac
-options+=(--quiet --rc "$branches" --test-name "$name")
+read -r -a more <<<"${COVERAGE_GENINFO-}"
+options+=(--quiet --rc "$branches" --test-name "$name" "${more[@]}")
 geninfo "${options[@]}" --initial --output-filename "$next/baseline.new" . >&2
 geninfo "${options[@]}" --output-filename "$next/counted.new" . >&2
 for kind in baseline counted; do
