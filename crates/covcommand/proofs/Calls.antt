@@ -49,3 +49,11 @@ gcov_refused = refl
 pub help_refused : fault_of covcollect (codes "covcollect" ∷ codes "merge" ∷ codes "--help" ∷ []) ≡ kind.DisplayHelp ∷ []
 unfolding clap_on_literals
 help_refused = refl
+
+pub version_refused : fault_of covcollect (codes "covcollect" ∷ codes "--version" ∷ []) ≡ kind.DisplayVersion ∷ []
+unfolding clap_on_literals
+version_refused = refl
+
+pub version_of_one_refused : fault_of covcollect (codes "covcollect" ∷ codes "merge" ∷ codes "--version" ∷ codes "a.info" ∷ []) ≡ kind.UnknownArgument ∷ []
+unfolding clap_on_literals
+version_of_one_refused = refl

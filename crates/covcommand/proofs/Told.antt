@@ -12,24 +12,30 @@ use Rattle.clap.specs.declared.error.kind.ErrorKind.{ErrorKind}
 use Rattle.clap.specs.declared.error.kind.ErrorKind.TheVariants as kind
 use Rattle.covcommand.specs.Fault.{IsToldOf, Tells}
 use Rattle.covcommand.specs.declared.fault.CommandFault.{CommandFault}
-use Rattle.covcommand.specs.declared.fault.CommandFault.TheVariants.{Help, Line, Memory}
+use Rattle.covcommand.specs.declared.fault.CommandFault.TheVariants.{Help, Line, Memory, Version}
 
 help_is_no_memory : kind.OutOfMemory ≡ kind.DisplayHelp → ⊥
 help_is_no_memory e = cc
 
+version_is_no_memory : kind.OutOfMemory ≡ kind.DisplayVersion → ⊥
+version_is_no_memory e = cc
+
 -- want of memory is told as that
 pub told_memory : (k : ErrorKind) (f : CommandFault) → Tells k f → k ≡ kind.OutOfMemory → f ≡ Memory
 told_memory k (Help text) told is = absurd (help_is_no_memory (sym is ∙ told))
-told_memory k (Line text) told is = absurd (told.1 is)
+told_memory k (Line text) told is = absurd (told.2 is)
 told_memory k Memory told is = refl
+told_memory k (Version text) told is = absurd (version_is_no_memory (sym is ∙ told))
 
 -- what is told is among the kinds that clap has for the words
 pub told_of : (k : ErrorKind) (kinds : Kinds) (f : CommandFault) → Tells k f → (k ≡ kind.OutOfMemory) ⊎ IsAmong k kinds → IsToldOf kinds f
 told_of k kinds (Help text) told (inl is) = absurd (help_is_no_memory (sym is ∙ told))
 told_of k kinds (Help text) told (inr among) = subst (λ (x : ErrorKind). IsAmong x kinds) told among
-told_of k kinds (Line text) told (inl is) = absurd (told.1 is)
-told_of k kinds (Line text) told (inr among) = (k, among, told.0)
+told_of k kinds (Line text) told (inl is) = absurd (told.2 is)
+told_of k kinds (Line text) told (inr among) = (k, among, told.0, told.1)
 told_of k kinds Memory told has = tt
+told_of k kinds (Version text) told (inl is) = absurd (version_is_no_memory (sym is ∙ told))
+told_of k kinds (Version text) told (inr among) = subst (λ (x : ErrorKind). IsAmong x kinds) told among
 
 -- a subcommand's name and rows, told apart, are those of the subcommand
 pub both_halves : {X Y : Type 0} (met : Option (X × Y)) (name : X) (rows : Y) → Some name ≡ option_map (λ p. p.0) met

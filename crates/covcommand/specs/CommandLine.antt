@@ -57,9 +57,9 @@ remove = filtering (codes "remove")
 abbrev pub gcov : App
 gcov = with_rule (with_rule (new_app (codes "gcov")) (several (codes "FILE"))) test
 
--- the program, which has no subcommand `help`
+-- the program, which has a version and no subcommand `help`
 abbrev pub program : App
-program = on_top (λ s. record s { disable_help_subcommand = true }) (new_app (codes "covcollect"))
+program = on_top (λ s. record s { disable_help_subcommand = true; has_version = true }) (new_app (codes "covcollect"))
 
 -- the program with its subcommands
 abbrev pub covcollect : App

@@ -4,27 +4,32 @@ use Rattle.clap.specs.Kinds.{IsAmong, Kinds}
 use Rattle.clap.specs.declared.error.kind.ErrorKind.{ErrorKind}
 use Rattle.clap.specs.declared.error.kind.ErrorKind.TheVariants as kind
 use Rattle.covcommand.specs.declared.fault.CommandFault.{CommandFault}
-use Rattle.covcommand.specs.declared.fault.CommandFault.TheVariants.{Help, Line, Memory}
+use Rattle.covcommand.specs.declared.fault.CommandFault.TheVariants.{Help, Line, Memory, Version}
 
 abbrev pub fault_number : CommandFault → ℕ
 fault_number (Help text) = 1
 fault_number (Line text) = 2
 fault_number Memory = 3
+fault_number (Version text) = 4
 
--- the exit status: help is no failure
+-- the exit status: a request for help or for the version is no failure
 abbrev pub fault_status : CommandFault → ℕ
 fault_status (Help text) = 0
 fault_status (Line text) = 2
 fault_status Memory = 3
+fault_status (Version text) = 0
 
 -- what is told of an error of clap's of this kind; memory for its text may be wanting
 abbrev pub Tells : ErrorKind → CommandFault → Type 0
 Tells k (Help text) = k ≡ kind.DisplayHelp
-Tells k (Line text) = (k ≢ kind.DisplayHelp) × (k ≢ kind.OutOfMemory)
+Tells k (Line text) = (k ≢ kind.DisplayHelp) × (k ≢ kind.DisplayVersion) × (k ≢ kind.OutOfMemory)
 Tells k Memory = Unit {0}
+Tells k (Version text) = k ≡ kind.DisplayVersion
 
--- help is told only where clap's kinds for the words have it, and that the line is wrong only where they have another
+-- help and the version are told only where clap's kinds for the words have them, and that the line is wrong only where they
+-- have another
 abbrev pub IsToldOf : Kinds → CommandFault → Type 0
 IsToldOf kinds (Help text) = IsAmong kind.DisplayHelp kinds
-IsToldOf kinds (Line text) = (k : ErrorKind) × IsAmong k kinds × (k ≢ kind.DisplayHelp)
+IsToldOf kinds (Line text) = (k : ErrorKind) × IsAmong k kinds × (k ≢ kind.DisplayHelp) × (k ≢ kind.DisplayVersion)
 IsToldOf kinds Memory = Unit {0}
+IsToldOf kinds (Version text) = IsAmong kind.DisplayVersion kinds

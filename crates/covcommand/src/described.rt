@@ -14,6 +14,7 @@ pub(crate) fn described<'a>(alloc: Global) -> Result<Command<'a>, AllocError>
     ensures { IfOk result (λ c. app_of c ≡ line.covcollect) }
 {
     let program = Command::new(alloc, "covcollect")
+        .version(help::VERSION)
         .about(help::PROGRAM)
         .after_help(help::PROGRAM_END)
         .disable_help_subcommand(true);

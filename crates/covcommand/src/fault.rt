@@ -17,6 +17,9 @@ pub enum CommandFault {
     /// Fault 3: a growth was refused.
     #[error("out of memory")]
     Memory,
+    /// Fault 4: the version was asked for. This is its text, for standard output.
+    #[error("{0}")]
+    Version(String),
 }
 
 impl CommandFault {
@@ -32,6 +35,7 @@ impl CommandFault {
             CommandFault::Help(_) => 1,
             CommandFault::Line(_) => 2,
             CommandFault::Memory => 3,
+            CommandFault::Version(_) => 4,
         }
     }
 
@@ -40,7 +44,7 @@ impl CommandFault {
         ensures { result ≡ fault_status self.now }
     {
         match self {
-            CommandFault::Help(_) => 0,
+            CommandFault::Help(_) | CommandFault::Version(_) => 0,
             CommandFault::Line(_) => 2,
             CommandFault::Memory => 3,
         }
@@ -55,6 +59,7 @@ impl CommandFault {
         }
         match format!(in alloc; "{error}") {
             Ok(text) if error.kind() == ErrorKind::DisplayHelp => CommandFault::Help(text),
+            Ok(text) if error.kind() == ErrorKind::DisplayVersion => CommandFault::Version(text),
             Ok(text) => CommandFault::Line(text),
             Err(_) => CommandFault::Memory,
         }

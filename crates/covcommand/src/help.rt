@@ -1,5 +1,8 @@
 //! What help says to the user. Lines have at most 80 columns, since clap doesn't wrap them.
 
+/// The program's version, which `--version` prints. It stands here alone: the package and the manual page take it from this line.
+pub const VERSION: &str = "0.9.0";
+
 /// What the program is for.
 pub(crate) const PROGRAM: &str = "Merges, filters and sums up coverage data of lcov and gcov";
 

@@ -15,7 +15,7 @@ pub fn calls_are_taken()
     ensures gcov { takes covcollect (codes "covcollect" ∷ codes "gcov" ∷ codes "--test=" ∷ codes "a.c.gcov" ∷ []) ≡ true }
 {}
 
-/// Calls that are refused, and by which kind of clap's.
+/// Calls that are refused, and by which kind of clap's. The program has a version, a subcommand has none.
 pub fn calls_are_refused()
     ensures jobs { fault_of covcollect (codes "covcollect" ∷ codes "merge" ∷ codes "--jobs" ∷ codes "65" ∷ codes "a.info" ∷ [])
         ≡ kind.ValueValidation ∷ [] }
@@ -27,4 +27,8 @@ pub fn calls_are_refused()
         ≡ kind.MissingRequiredArgument ∷ [] }
     ensures help { fault_of covcollect (codes "covcollect" ∷ codes "merge" ∷ codes "--help" ∷ [])
         ≡ kind.DisplayHelp ∷ [] }
+    ensures version { fault_of covcollect (codes "covcollect" ∷ codes "--version" ∷ [])
+        ≡ kind.DisplayVersion ∷ [] }
+    ensures version_of_one { fault_of covcollect (codes "covcollect" ∷ codes "merge" ∷ codes "--version" ∷ codes "a.info" ∷ [])
+        ≡ kind.UnknownArgument ∷ [] }
 {}

@@ -22,6 +22,7 @@ mod reading;
 
 pub use asked::Command;
 pub use fault::CommandFault;
+pub use help::VERSION;
 pub use laws::{calls_are_refused, calls_are_taken};
 pub use names::Names;
 pub use reading::command;

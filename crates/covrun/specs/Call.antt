@@ -66,6 +66,7 @@ StopsEarly command ending =
 -- how a call ends whose words give no command
 abbrev pub of_line : CommandFault → EndingData
 of_line (line.Help text) = Prints (string_bytes text)
+of_line (line.Version text) = Prints (string_bytes text)
 of_line (line.Line text) = BadLine (string_bytes text)
 of_line line.Memory = Stopped faults.Memory
 

@@ -18,7 +18,7 @@ use covsession::SessionFault;
 pub(crate) enum Ending<'a> {
     /// The text of the last entry is printed.
     Done(TextRef),
-    /// Help is printed.
+    /// Help, or the version, is printed.
     Help(String),
     /// The words don't fit the command line.
     Line(String),
@@ -39,7 +39,7 @@ pub(crate) fn ending_of_line<'a>(fault: CommandFault) -> Ending<'a>
     ensures { ending_data result ≡ of_line fault }
 {
     match fault {
-        CommandFault::Help(text) => Ending::Help(text),
+        CommandFault::Help(text) | CommandFault::Version(text) => Ending::Help(text),
         CommandFault::Line(text) => Ending::Line(text),
         CommandFault::Memory => Ending::Stopped(SessionFault::Memory),
     }

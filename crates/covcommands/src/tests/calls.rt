@@ -82,7 +82,8 @@ covcollect bogus => 2 2 error: unrecognized subcommand 'bogus'
 covcollect a.info => 2 2 error: unrecognized subcommand 'a.info'
 covcollect Merge a.info => 2 2 error: unrecognized subcommand 'Merge'
 covcollect help => 2 2 error: unrecognized subcommand 'help'
-covcollect --version => 2 2 error: unexpected argument '--version' found
+covcollect merge --version a.info => 2 2 error: unexpected argument '--version' found
+covcollect merge -V a.info => 2 2 error: unexpected argument '-V' found
 ",
     )
 }

@@ -1,7 +1,7 @@
 //! What help says.
 
-use super::{asked, check_all, told, words_of};
-use covcommand::CommandFault;
+use super::{asked, check, check_all, told, words_of};
+use covcommand::{CommandFault, VERSION};
 use std::alloc::Global;
 use std::process::Abort;
 use std::test::*;
@@ -24,6 +24,28 @@ covcollect remove --help => 1 0 Leaves out the source files that match a pattern
 covcollect gcov --help => 1 0 Makes a tracefile of what gcov wrote (geninfo)
 ",
     )
+}
+
+/// A request for the version is no failure, whatever else the call has.
+#[test]
+fn version(rt: HostRuntime) -> Result<(), Fail> {
+    let wanted = format!(in rt.alloc(); "4 0 covcollect {VERSION}")?;
+    check(&rt, "covcollect --version", wanted.as_str())?;
+    check(&rt, "covcollect -V", wanted.as_str())?;
+    check(&rt, "covcollect --version merge", wanted.as_str())
+}
+
+/// The version is one line: the program's name and its number.
+#[test]
+fn the_whole_version(rt: HostRuntime) -> Result<(), Fail> {
+    let alloc = rt.alloc();
+    let words = words_of(alloc, "covcollect --version")?;
+    let text = match asked(alloc, words.as_slice()) {
+        Err(CommandFault::Version(text)) => text,
+        _ => String::new(alloc),
+    };
+    let wanted = format!(in alloc; "covcollect {VERSION}\n")?;
+    check_text(&rt, text.as_str(), wanted.as_str())
 }
 
 /// The help that a call asks for.
@@ -55,7 +77,8 @@ Commands:
   gcov     Makes a tracefile of what gcov wrote (geninfo)
 
 Options:
-  -h, --help  Print help
+  -h, --help     Print help
+  -V, --version  Print version
 
 Without a subcommand a session is read from standard input: a command on each
 line, answered on standard output. covcollect(1) has its commands.

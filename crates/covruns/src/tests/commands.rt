@@ -204,9 +204,9 @@ $ 0 covcollect gcov --test= ~/g3.txt ~/g3.txt
     )
 }
 
-/// Without a subcommand a session is answered, and help is printed where it is asked for.
+/// Without a subcommand a session is answered; help and the version are printed where they are asked for.
 #[test]
-fn session_and_help(rt: HostRuntime) -> Result<(), Fail> {
+fn session_help_and_version(rt: HostRuntime) -> Result<(), Fail> {
     play(
         &rt,
         process::id(rt.process()),
@@ -237,6 +237,8 @@ $ 0 covcollect --help
 > Tells how much of the code is hit (lcov --summary)
 > ...
 $ 0 covcollect summary --help
+> covcollect ...
+$ 0 covcollect --version
 ",
     )
 }

@@ -1,4 +1,4 @@
-use Rattle.covcommand.proofs.Calls.{jobs_refused, no_jobs_refused, extract_refused, gcov_refused, help_refused}
+use Rattle.covcommand.proofs.Calls.{jobs_refused, no_jobs_refused, extract_refused, gcov_refused, help_refused, version_refused, version_of_one_refused}
 use Rattle.covcommand.proofs.laws.calls_are_refused.Goals as goal
 
 pub returns : goal.returns
@@ -8,4 +8,6 @@ returns c = record {
   extract = extract_refused;
   gcov = gcov_refused;
   help = help_refused;
+  version = version_refused;
+  version_of_one = version_of_one_refused;
 }
