@@ -1,44 +1,43 @@
-# Rewrites a tracefile of LCOV 2, coverage.py or llvm-cov in the form of LCOV 1.x, which covcollect reads.
+# Converts a tracefile of LCOV 2, coverage.py or llvm-cov to the format of LCOV 1.x, which covcollect reads.
 #
 #     LC_ALL=C awk -f lcov2.awk new.info > plain.info
 #     LC_ALL=C awk -v branches=plain -f lcov2.awk new.info > plain.info
 #
-# branches=all (what holds where it isn't said) keeps every branch, branches=plain leaves out those of exceptions,
-# branches=none leaves out all. LC_ALL=C makes every awk take names as bytes. Runs with mawk, gawk and busybox awk.
+# branches=all (the default) keeps all branches, branches=plain drops those of exceptions, branches=none drops all. With LC_ALL=C
+# every awk treats names as bytes. Works with mawk, gawk and busybox awk.
 #
-# Exit status: 0 done; 1 a line can't be rewritten: it is named on standard error, and the output ends inside of a section, so
-# that covcollect refuses it (OpenEnd); 2 the call is wrong. A file of version 1 comes out as it is, without carriage returns at
-# the ends of its lines.
+# Exit status: 0 done; 1 a line can't be converted; 2 wrong call. For status 1, standard error names the line and the output ends
+# inside a section, so covcollect refuses it (OpenEnd). A file of version 1 is copied, without carriage returns at line ends.
 
 BEGIN {
     if (branches == "")
         branches = "all"
     if (branches !~ /^(all|plain|none)$/)
-        stop(2, "lcov2.awk: branches is all, plain or none, not '" branches "'")
+        stop(2, "lcov2.awk: branches must be all, plain or none, not '" branches "'")
 }
 
 { sub(/\r+$/, "") }
 
-# Version 1 has no comments, no versions of sources, and no conditions (MC/DC).
+# Version 1 doesn't have comments, source versions and conditions (MC/DC).
 /^#/ || /^VER:/ || /^(MCDC|MCF|MCH):/ { next }
 
-# A section is held until its end, since the lines that a function's lines are read by may come after them.
-# Where a section opens inside of another one, both are printed, and covcollect refuses the second SF line.
+# A section is held until its end, because FN and FNA lines depend on other lines, which may come later. If a section opens inside
+# another one, both are printed, and covcollect refuses the second SF line.
 /^SF:/ { close_section(); open = 1 }
 
 open { held[++lines] = $0; at[lines] = FNR; note($0); if ($0 ~ /^end_of_record/) close_section(); next }
 
 { print }
 
-# A section that was cut off is printed without its end, and covcollect refuses it.
+# A section that is cut off stays open, so covcollect refuses it.
 END { if (!stopped) close_section() ; exit stopped }
 
-# Notes what other lines of the section are read by.
+# Notes what the conversion of other lines depends on.
 function note(text,   fields) {
-    # The names that have counts.
+    # Functions with a count.
     if (text ~ /^FNDA:[^,]*,./)
         named[after_comma(text)] = 1
-    # FNL:<index>,<start>[,<end>] is the place of all functions with this index.
+    # FNL:<index>,<start>[,<end>] has the start line of all functions with this index.
     else if (text ~ /^FNL:[0-9]+,[0-9]+(,[0-9]+)?$/) {
         split(substr(text, 5), fields, ",")
         start[fields[1]] = fields[2]
@@ -47,12 +46,11 @@ function note(text,   fields) {
 }
 
 function close_section(   i) {
-    # In version 1 each name of an FN line has a count. A section in which one has none is of version 2.
+    # In version 1 every function of an FN line has a count under the same name. Otherwise the section is of version 2.
     version2 = 0
     for (i = 1; i <= lines; i++)
         if (held[i] ~ /^FN:/ && !(after_comma(held[i]) in named))
             version2 = 1
-    # A total that is left out comes behind its records, so that is known by then.
     for (i = 1; i <= lines && !stopped; i++)
         put(held[i], at[i])
     lines = open = grouped = left_out = 0
@@ -63,25 +61,24 @@ function put(text, line) {
     if (text ~ /^FN:/)
         put_start(text)
     else if (text ~ /^FNL:/) {
-        # Its start line is printed with each of its names.
         if (text !~ /^FNL:[0-9]+,[0-9]+(,[0-9]+)?$/)
             refuse(text, line, "isn't FNL:<index>,<start>[,<end>]")
     } else if (text ~ /^FNA:/)
         put_alias(text, line)
     else if (text ~ /^BRDA:/)
         put_branch(text, line)
-    # With FNL and FNA the totals count places; in version 1 they count names. covcollect counts them anew.
+    # With FNL and FNA these totals count start lines, in version 1 they count names. covcollect doesn't need them.
     else if (text ~ /^FN[FH]:/ && grouped)
         return
-    # The totals of branches don't fit where some were left out.
+    # These totals are wrong if branches were dropped.
     else if (text ~ /^BR[FH]:/ && (left_out || branches == "none"))
         return
     else
         print text
 }
 
-# FN:<start>,<end>,<name> loses its end line. A name may itself begin with digits and a comma: what has a count is the name,
-# and where both have one, it is the shorter in a section of version 2.
+# FN:<start>,<end>,<name> loses its end line, which is optional. A name may itself begin with digits and a comma, so the name is what
+# has a count. If both have one, it is the shorter.
 function put_start(text,   name, rest) {
     if (version2 && text ~ /^FN:[0-9]+,[0-9]+,./) {
         rest = after_comma(text)
@@ -94,7 +91,7 @@ function put_start(text,   name, rest) {
     print text
 }
 
-# FNA:<index>,<count>,<name> becomes FN and FNDA: each name of a place is a function of its own, as geninfo of version 1 has it.
+# FNA:<index>,<count>,<name> becomes FN and FNDA. Each name is a function of its own, as geninfo 1.x writes it.
 function put_alias(text, line,   rest, place) {
     rest = substr(text, 5)
     place = substr(rest, 1, index(rest, ",") - 1)
@@ -102,17 +99,16 @@ function put_alias(text, line,   rest, place) {
     if (text !~ /^FNA:[0-9]+,[0-9]+,./)
         refuse(text, line, "isn't FNA:<index>,<count>,<name>")
     else if (!(place in start))
-        refuse(text, line, "has no FNL line with its index in this section")
+        refuse(text, line, "has no FNL line in its section")
     else {
         print "FN:" start[place] "," after_comma(rest)
         print "FNDA:" rest
     }
 }
 
-# BRDA:<line>,[<marks>]<block>,<branch>,<taken>: the marks are e (the branch of an exception) or f (the one that falls through),
-# and U (excluded from coverage, in no total). In version 1 such branches have no marks, and excluded ones aren't there.
-# What fits this form with no mark and a number as its branch comes out as it is; what doesn't fit at all does too, and
-# covcollect refuses it.
+# BRDA:<line>,[<marks>]<block>,<branch>,<taken>. The marks are e (exception) or f (fall through), and U (excluded from coverage, in no
+# total). Version 1 writes the branches of exceptions without marks, and excluded ones not at all. A line that doesn't have this form
+# is copied, and covcollect refuses it.
 function put_branch(text, line,   head, rest, marks, block, branch, taken, kind) {
     if (text !~ /^BRDA:[0-9]+,[ef]?U?[0-9]+,.+,(-|[0-9]+)$/) {
         print text
@@ -124,19 +120,19 @@ function put_branch(text, line,   head, rest, marks, block, branch, taken, kind)
     marks = block
     gsub(/[0-9]/, "", marks)
     block = substr(block, length(marks) + 1)
-    # The branch may be an expression with commas in it: the count is what follows the last one.
+    # The branch can be an expression with commas. The count follows the last comma.
     rest = after_comma(rest)
     match(rest, /,(-|[0-9]+)$/)
     branch = substr(rest, 1, RSTART - 1)
     taken = substr(rest, RSTART)
-    # An expression in place of a number: the branches of a block are numbered in their order, from 0, as LCOV 2 itself does.
-    # So files add up where the tool writes a line's branches in the same order every time.
+    # If the branch is an expression, the branches of its block are numbered from 0 in their order, as in LCOV 2. So counts are added up
+    # correctly if the tool always writes the branches of a line in the same order.
     kind = branch ~ /^[0-9]+$/ ? "number" : "expression"
     if (kind == "expression")
         branch = order[head block] + 0
     order[head block]++
     if ((head block) in kinds && kinds[head block] != kind)
-        refuse(text, line, "is in a block of which some branches have numbers and others don't")
+        refuse(text, line, "is in a block that has both numbers and expressions")
     else if (marks ~ /U/ || branches == "none")
         ;
     else if (marks ~ /e/ && branches == "plain")

@@ -1,13 +1,13 @@
 #!/usr/bin/env bash
-# A job of the array that merge-farm submits: merges one share of the tracefiles.
+# A job of the array that merge-farm submits. It merges one share of the tracefiles.
 #     share.sbatch WORK PROGRAM
-# WORK/share.NNNNNN.list has their names, each ended by a zero byte; the merge becomes WORK/share.NNNNNN.info, whole or not at all.
-# covcollect's messages are the job's output, its status is the job's and, where it isn't 0, stands in WORK/share.NNNNNN.status.
+# Reads the names from WORK/share.NNNNNN.list, each ended by a zero byte, and writes WORK/share.NNNNNN.info. If the merge fails, the
+# job ends with covcollect's status and also writes it to WORK/share.NNNNNN.status.
 set -euo pipefail
 work=$1 program=$2
 share=$(printf '%s/share.%06d' "$work" "$SLURM_ARRAY_TASK_ID")
 trap 'rm -f "$share.part"' EXIT
-# A job that Slurm starts again begins anew.
+# Slurm may start a job a second time.
 rm -f "$share.status"
 mapfile -d '' -t names <"$share.list"
 status=0

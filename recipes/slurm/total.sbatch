@@ -1,7 +1,7 @@
 #!/usr/bin/env bash
-# The last job that merge-farm submits, which Slurm runs once all shares have ended well: merges the merges.
+# The last job that merge-farm submits. Slurm starts it when every share has succeeded. It merges the shares.
 #     total.sbatch WORK PROGRAM OUT COUNT remove|keep
-# OUT comes whole or not at all. remove removes WORK then, keep leaves that to merge-farm, which looks for WORK/done.
+# Writes OUT, through a temporary name. Then it removes WORK, or keeps it and creates WORK/done for merge-farm.
 set -euo pipefail
 work=$1 program=$2 out=$3 count=$4 end=$5
 cd "$work"
@@ -11,7 +11,7 @@ fail() { # STATUS
     exit "$1"
 }
 rm -f total.status
-# Every share is there: else the text would be one of a part of the tracefiles.
+# If a share were missing, OUT would have only a part of the counts.
 shares=()
 for ((number = 0; number < count; number++)); do
     share=$(printf 'share.%06d.info' "$number")
