@@ -147,21 +147,22 @@ COLUMNS = ("kind", "size", "files", "bytes", "program", "user", "system", "clock
 
 
 class Table:
-    """A file of results. A row that isn't a number where one could stand has `-`."""
+    """A file of results, which has its name once it is whole. A cell where no number stands has `-`."""
 
     def __init__(self, folder, name, head):
         self.name = f"{folder}/{name}.tsv"
-        with open(self.name, "w", encoding="utf-8") as to:
+        with open(f"{self.name}.new", "w", encoding="utf-8") as to:
             to.writelines(f"# {key}: {value}\n" for key, value in head.items())
             to.write("# user, system, clock: seconds; bytes, peak: bytes; instructions: counted by callgrind\n")
             to.write("\t".join(COLUMNS) + "\n")
 
-    def add(self, kind, size, files, length, program, run=None, instructions=None):
-        row = [kind, size, files, length, program]
-        row += [f"{run.user:.3f}", f"{run.system:.3f}", f"{run.clock:.3f}", run.peak] if run else ["-"] * 4
-        row.append("-" if instructions is None else instructions)
-        with open(self.name, "a", encoding="utf-8") as to:
+    def add(self, kind, size, files, length, program, run, instructions="-"):
+        row = [kind, size, files, length, program, f"{run.user:.4f}", f"{run.system:.4f}", f"{run.clock:.4f}", run.peak, instructions]
+        with open(f"{self.name}.new", "a", encoding="utf-8") as to:
             to.write("\t".join(map(str, row)) + "\n")
+
+    def close(self):
+        os.replace(f"{self.name}.new", self.name)
 
 
 def read_table(folder, name):
@@ -183,9 +184,8 @@ def read_table(folder, name):
         row = dict(zip(COLUMNS, cells))
         for column in ("size", "files", "bytes", "peak", "instructions"):
             row[column] = None if row[column] == "-" else int(row[column])
-        for column in ("user", "system", "clock"):
-            row[column] = None if row[column] == "-" else float(row[column])
-        row["processor"] = None if row["user"] is None else row["user"] + row["system"]
+        row["clock"] = float(row["clock"])
+        row["processor"] = float(row["user"]) + float(row["system"])
         rows.append(row)
     return head, rows
 

@@ -821,27 +821,36 @@ struct Digits {
     padded: [[u8; 4]; 10_000],
 }
 
+static DIGITS: Digits = Digits::new();
+
 impl Digits {
-    fn new() -> Digits {
+    const fn new() -> Digits {
         let mut digits = Digits { plain: [[0; 4]; 10_000], padded: [[0; 4]; 10_000] };
-        for value in 0..10_000usize {
-            let four = [value / 1000, value / 100 % 10, value / 10 % 10, value % 10].map(|digit| b'0' + digit as u8);
-            digits.padded[value] = four;
-            let length = length_of(value as u64);
-            digits.plain[value][..length].copy_from_slice(&four[4 - length..]);
+        let mut value = 0;
+        while value < 10_000 {
+            let (length, mut rest, mut place) = (length_of(value as u64), value, 4);
+            while place > 0 {
+                place -= 1;
+                digits.padded[value][place] = b'0' + (rest % 10) as u8;
+                rest /= 10;
+            }
+            while place < length {
+                digits.plain[value][place] = digits.padded[value][4 - length + place];
+                place += 1;
+            }
+            value += 1;
         }
         digits
     }
 }
 
 #[inline(always)]
-fn length_of(value: u64) -> usize {
+const fn length_of(value: u64) -> usize {
     1 + (value > 9) as usize + (value > 99) as usize + (value > 999) as usize
 }
 
 /// Standard output, by large writes. What is written between two calls of `room` is less than a kilobyte.
 struct Output {
-    digits: Box<Digits>,
     bytes: Vec<u8>,
     used: usize,
 }
@@ -850,7 +859,7 @@ const FULL: usize = 1 << 17;
 
 impl Output {
     fn new() -> Output {
-        Output { digits: Box::new(Digits::new()), bytes: vec![0; FULL + 1024], used: 0 }
+        Output { bytes: vec![0; FULL + 1024], used: 0 }
     }
 
     #[inline(always)]
@@ -877,15 +886,15 @@ impl Output {
     #[inline(always)]
     fn number(&mut self, value: u64) {
         if value < 10_000 {
-            let four = self.digits.plain[value as usize];
+            let four = DIGITS.plain[value as usize];
             self.put(&four);
             self.used -= 4 - length_of(value);
         } else if value < 100_000_000 {
             let (high, low) = (value / 10_000, value % 10_000);
-            let four = self.digits.plain[high as usize];
+            let four = DIGITS.plain[high as usize];
             self.put(&four);
             self.used -= 4 - length_of(high);
-            let four = self.digits.padded[low as usize];
+            let four = DIGITS.padded[low as usize];
             self.put(&four);
         } else {
             self.large(value as u128);
