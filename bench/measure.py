@@ -108,12 +108,12 @@ def same(first, second):
 
 
 def told(words):
-    """The first line that a program says, or that it isn't there."""
+    """The first line that a program says, if any, or that it isn't there."""
     try:
         ended = subprocess.run(words, capture_output=True, text=True, check=False, cwd=ROOT)
     except OSError:
         return "not installed"
-    return (ended.stdout.strip() or ended.stderr.strip() or "unknown").splitlines()[0]
+    return (ended.stdout.strip() or ended.stderr.strip()).partition("\n")[0]
 
 
 def about_machine(program, command, sizes):
@@ -122,6 +122,7 @@ def about_machine(program, command, sizes):
         models = [line.split(":", 1)[1].strip() for line in text if line.startswith("model name")]
     with open("/proc/meminfo", encoding="utf-8") as text:
         memory = next(int(line.split()[1]) for line in text if line.startswith("MemTotal"))
+    # the results and their document are written anew anyway
     changed = told(["git", "status", "--porcelain", "--untracked-files=no", "--", ".", ":!bench/results", ":!docs"])
     commit = told(["git", "rev-parse", "--short=12", "HEAD"])
     return {
@@ -136,7 +137,7 @@ def about_machine(program, command, sizes):
         "lcov": told(["lcov", "--version"]).replace("lcov: LCOV version ", ""),
         "grcov": told(["grcov", "--version"]).replace("grcov ", ""),
         "valgrind": told(["valgrind", "--version"]),
-        "commit": commit if changed == "unknown" else f"{commit}, with changes",
+        "commit": f"{commit} with changes" if changed else commit,
         "program": os.path.relpath(program, ROOT),
         "command": command,
         "sizes": sizes,
