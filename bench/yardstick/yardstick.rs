@@ -1151,7 +1151,8 @@ impl Store {
 /// How many different points there are, and how many of them are hit in some test. Empties the list.
 fn points<K: Ord>(all: &mut Vec<(K, bool)>) -> (u128, u128) {
     if !all.is_sorted() {
-        all.sort_unstable();
+        // the sections of several tests are runs in order, which this sort uses
+        all.sort();
     }
     let told = all.chunk_by(|first, second| first.0 == second.0).fold((0, 0), |(found, hit), same| (found + 1, hit + same.iter().any(|point| point.1) as u128));
     all.clear();
