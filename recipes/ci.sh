@@ -89,7 +89,9 @@ if [ -e "$output" ] && [ ! -f "$output/own.info" ] && [ -n "$(ls -A "$output" 2>
 fi
 mkdir -p "$(dirname "$output")"
 next=$(mktemp -d "$(dirname "$output")/.coverage.XXXXXX")
-trap 'rm -rf "$next" "$next.old"' EXIT
+trap 'trap "" INT TERM HUP; rm -rf "$next" "$next.old"' EXIT
+trap 'exit 130' INT
+trap 'exit 143' TERM HUP
 chmod 755 "$next"
 
 # covcollect reports what is wrong on standard error. The job ends with its status.
