@@ -1,0 +1,162 @@
+#!/usr/bin/env bash
+# The coverage job of a C or C++ project: builds it with --coverage, runs its tests and writes a report. Tracefiles of other jobs can
+# be added. Copy ci.sh and lcov2.awk into one folder of your project and run ci.sh in the project's top folder:
+#
+#     COVERAGE_BUILD='make CFLAGS="--coverage -O0"' COVERAGE_TEST='make check' ci/ci.sh --lines 80 jobs/*.info
+#
+# ci.sh [OPTION]... [TRACEFILE]...
+#
+#     --lines PERCENT    fail if fewer lines are hit, for example 80 or 79.95 (up to 6 decimals)
+#     --remove PATTERN   leave out source files that match; can be repeated (default: '/usr/*')
+#     --test-name NAME   the test name in the tracefile (default: unit)
+#     --output FOLDER    the folder of results, which is replaced as a whole (default: coverage)
+#     --jobs N           read N tracefiles at once (default: 4)
+#     --no-html          don't run genhtml
+#
+#     COVERAGE_BUILD     the command that builds with --coverage (default: make CFLAGS='--coverage -O0' LDFLAGS=--coverage)
+#     COVERAGE_TEST      the command that runs the tests (default: make check)
+#     COVERAGE_LINES     the same as --lines
+#     COVERAGE_REMOVE    patterns like those of --remove, one on each line
+#     COVERAGE_GENINFO   more options for geninfo, for example --checksum or --gcov-tool gcov-13
+#     COVCOLLECT         the program (default: covcollect)
+#
+# COVERAGE_BUILD and COVERAGE_TEST run in bash -euo pipefail, so each can be several commands. The folder of results has all.info
+# (every source), own.info (without the removed ones), summary.txt and html/. If a step fails, the folder of the last run stays as it
+# is.
+#
+# Exit status: 0 done; 1 the tests wrote no counts; 2 wrong call, or something is missing; 4 a tracefile is refused or checksums clash
+# (covcollect names the file or the line on standard error); 5 too few lines are hit (the results are written); otherwise the status
+# of the command that failed.
+set -euo pipefail
+
+say() { printf 'ci.sh: %s\n' "$*" >&2; }
+wrong() { say "$*"; exit 2; }
+
+threshold=${COVERAGE_LINES-}
+patterns=()
+while IFS= read -r pattern; do
+    [ -z "$pattern" ] || patterns+=("$pattern")
+done <<<"${COVERAGE_REMOVE-}"
+build=${COVERAGE_BUILD-"make CFLAGS='--coverage -O0' LDFLAGS=--coverage"}
+tests=${COVERAGE_TEST-make check}
+name=unit
+output=coverage
+jobs=4
+html=yes
+handed=()
+while [ $# -gt 0 ]; do
+    case $1 in
+        --lines|--remove|--test-name|--output|--jobs) [ $# -gt 1 ] || wrong "$1 needs a value" ;;
+    esac
+    case $1 in
+        --lines) threshold=$2; shift ;;
+        --remove) patterns+=("$2"); shift ;;
+        --test-name) name=$2; shift ;;
+        --output) output=$2; shift ;;
+        --jobs) jobs=$2; shift ;;
+        --no-html) html=no ;;
+        --help) sed -n '2,/^set /{/^#/s/^# \{0,1\}//p}' "$0"; exit 0 ;;
+        --) shift; handed+=("$@"); break ;;
+        -*) wrong "unknown option $1, see ci.sh --help" ;;
+        *) handed+=("$1") ;;
+    esac
+    shift
+done
+[ ${#patterns[@]} -gt 0 ] || patterns=('/usr/*')
+if [ -n "$threshold" ]; then
+    [[ $threshold =~ ^([0-9]{1,3})(\.([0-9]{1,6}))?$ ]] || wrong "--lines: $threshold isn't a percentage such as 80 or 79.95"
+    # 79.95 becomes 7995 with a scale of 100.
+    whole=${BASH_REMATCH[1]} part=${BASH_REMATCH[3]}
+    scale=$((10 ** ${#part}))
+    wanted=$((10#$whole$part))
+    [ "$wanted" -le $((100 * scale)) ] || wrong "--lines: $threshold is above 100"
+fi
+
+here=$(cd "$(dirname "${BASH_SOURCE[0]}")" && pwd)
+program=${COVCOLLECT-covcollect}
+for needed in "$program" geninfo awk; do
+    command -v "$needed" >/dev/null || wrong "$needed isn't there (geninfo and genhtml are part of lcov)"
+done
+[ $html = no ] || command -v genhtml >/dev/null || wrong "genhtml isn't there (it is part of lcov; or use --no-html)"
+[ -f "$here/lcov2.awk" ] || wrong "$here/lcov2.awk isn't there: copy it beside ci.sh"
+for file in "${handed[@]}"; do
+    [ -e "$file" ] || wrong "$file isn't there"
+done
+# Only an empty folder, or one from an earlier run, is replaced.
+output=${output%/}
+if [ -e "$output" ] && [ ! -f "$output/own.info" ] && [ -n "$(ls -A "$output" 2>&1)" ]; then
+    wrong "$output exists and isn't a folder of results: choose another --output"
+fi
+mkdir -p "$(dirname "$output")"
+next=$(mktemp -d "$(dirname "$output")/.coverage.XXXXXX")
+trap 'rm -rf "$next" "$next.old"' EXIT
+chmod 755 "$next"
+
+# covcollect reports what is wrong on standard error. The job ends with its status.
+collect() { # FILE WORDS...: runs covcollect WORDS and writes its output to FILE
+    local file=$1 status=0
+    shift
+    "$program" "$@" >"$next/part" || status=$?
+    if [ $status -eq 4 ]; then
+        say "covcollect $1: a tracefile is refused or checksums clash, see above; $output is unchanged"
+    elif [ $status -ne 0 ]; then
+        say "covcollect $1 failed with status $status; $output is unchanged"
+    fi
+    [ $status -eq 0 ] || exit $status
+    mv "$next/part" "$next/$file"
+}
+
+# 1. Build and test. Without the find, counts of an earlier run in this folder would be added to those of this run.
+find . -name '*.gcda' -delete
+run() { # WHAT COMMAND
+    local status=0
+    bash -euo pipefail -c "$2" || status=$?
+    [ $status -eq 0 ] || { say "the $1 failed with status $status"; exit $status; }
+}
+run build "$build"
+run tests "$tests"
+[ -n "$(find . -name '*.gcda' -print -quit)" ] || { say "the tests wrote no counts (*.gcda): were they built with --coverage, in this folder?"; exit 1; }
+
+# 2. Capture the counts, and a baseline with a count of 0 for every line that was compiled. Without the baseline, sources that no test
+#    runs are missing and the rate is too high. LCOV 2 has another name for the branch option, fails if a project has no branches
+#    (empty), and writes records that lcov2.awk converts.
+branches=branch_coverage=1 options=(--ignore-errors empty)
+case $(geninfo --version 2>/dev/null) in *' 1.'*) branches=lcov_branch_coverage=1 options=() ;; esac
+read -r -a more <<<"${COVERAGE_GENINFO-}"
+options+=(--quiet --rc "$branches" --test-name "$name" "${more[@]}")
+geninfo "${options[@]}" --initial --output-filename "$next/baseline.new" . >&2
+geninfo "${options[@]}" --output-filename "$next/counted.new" . >&2
+for kind in baseline counted; do
+    LC_ALL=C awk -f "$here/lcov2.awk" "$next/$kind.new" >"$next/$kind.info"
+    rm "$next/$kind.new"
+done
+
+# 3. Merge, remove what isn't the project's own, summarize.
+collect all.info merge --jobs "$jobs" -- "$next/baseline.info" "$next/counted.info" "${handed[@]}"
+collect own.info remove -- "$next/all.info" "${patterns[@]}"
+collect summary.txt summary -- "$next/own.info"
+rm "$next/baseline.info" "$next/counted.info"
+if [ $html = yes ]; then
+    genhtml --quiet --rc "$branches" --branch-coverage --output-directory "$next/html" "$next/own.info" >&2
+fi
+
+# 4. Replace the results of the last run.
+[ ! -e "$output" ] || mv "$output" "$next.old"
+mv "$next" "$output"
+cat "$output/summary.txt"
+
+# 5. Compare the counts with the threshold. The percentage in the summary is rounded, so it isn't used.
+if [ -n "$threshold" ]; then
+    hit=0 found=0
+    if [[ $(<"$output/summary.txt") =~ lines\.+:\ [0-9.]+%\ \(([0-9]+)\ of\ ([0-9]+)\ lines? ]]; then
+        hit=${BASH_REMATCH[1]} found=${BASH_REMATCH[2]}
+    fi
+    if [ "$found" -eq 0 ]; then
+        say "no lines found, $threshold% needed"
+        exit 5
+    fi
+    if [ $((hit * 100 * scale)) -lt $((wanted * found)) ]; then
+        say "$hit of $found lines are hit, $threshold% needed"
+        exit 5
+    fi
+fi

@@ -1,0 +1,100 @@
+# Merges the tracefiles of many machines with GNU make: one merge for each machine, in parallel, then a merge of these. The result
+# is byte for byte that of a single merge.
+#
+#     make -f farm.mk -j 8                          # merges machines/NAME/*.info into farm.info
+#     make -f farm.mk -j 8 FARM=/net/jobs TOTAL=night.info SHARES=/tmp/shares
+#
+# FARM         the folder that has a folder of tracefiles for each machine (default: machines)
+# TOTAL        the merged tracefile (default: farm.info)
+# SHARES       a folder for the merge of each machine, for farm.mk alone (default: TOTAL.shares)
+# EMPTY        what to do with a machine that has no tracefile: skip it with a message, or fail (default: skip)
+# JOBS         how many tracefiles the last merge reads at once (default: 4)
+# COVCOLLECT   the program (default: covcollect)
+#
+# A machine is merged again only if one of its tracefiles changed, appeared or vanished. The total is merged again if a machine's
+# merge changed, or if a machine appeared or vanished. Each target is written to a temporary name and then moved. If a merge fails,
+# covcollect names the tracefile on standard error, make fails, and the target keeps its old content.
+#
+# Machine names consist of letters, digits, '.', '_' and '-' and begin with a letter or digit. Tracefile names end in .info, can have
+# any other bytes, and are ignored if they begin with a dot: so a machine can write to .NAME and rename it when it is complete.
+#
+# The last merge refuses a share above 67,108,864 bytes (TooLong) and one with a sum of 2^64 or more (NumberTooLarge), and names it.
+# Then use smaller folders, or a single merge. A total has up to some 2,000 machines: all shares are on one command line.
+
+FARM ?= machines
+TOTAL ?= farm.info
+SHARES ?= $(TOTAL).shares
+EMPTY ?= skip
+JOBS ?= 4
+COVCOLLECT ?= covcollect
+
+SHELL := bash
+.SHELLFLAGS := -euo pipefail -c
+export LC_ALL := C
+.SUFFIXES:
+MAKEFLAGS += --no-builtin-rules
+
+ifneq ($(filter-out skip fail,$(EMPTY)),)
+    $(error EMPTY must be skip or fail, not '$(EMPTY)')
+endif
+ifneq ($(words [$(FARM)] [$(TOTAL)] [$(SHARES)]),3)
+    $(error FARM, TOTAL and SHARES must not have spaces)
+endif
+ifeq ($(wildcard $(FARM)/.),)
+    $(error FARM: the folder $(FARM) isn't there)
+endif
+
+# Reject machine names that make can't handle. If a folder can't be read, find fails, and so does make.
+fine = $(if $(filter-out 0,$(.SHELLSTATUS)),$(error can't read the folders of $(FARM), see above))
+odd := $(shell find -L $(FARM) -mindepth 1 -maxdepth 1 -type d ! -name '.*' \
+    \( -name '*[!A-Za-z0-9._-]*' -o ! -name '[A-Za-z0-9]*' \) -print -quit | tr -c 'A-Za-z0-9./_\n-' '?')
+$(fine)
+ifneq ($(odd),)
+    $(error $(odd): a machine name must have only letters, digits, '.', '_' and '-', and begin with a letter or digit)
+endif
+# The machines with tracefiles, and those without.
+folders := $(shell find -L $(FARM) -mindepth 1 -maxdepth 1 -type d ! -name '.*' -printf '%f\n' | sort)
+$(fine)
+tracefiles = find -L $(FARM)/$(1) -mindepth 1 -maxdepth 1 ! -type d -name '*.info' ! -name '.*'
+machines := $(shell for name in $(folders); do \
+    first=$$($(call tracefiles,$$name) -print -quit); [ -z "$$first" ] || echo $$name; done)
+$(fine)
+empty := $(filter-out $(machines),$(folders))
+ifneq ($(empty),)
+    ifeq ($(EMPTY),fail)
+        $(error no tracefile in $(addprefix $(FARM)/,$(empty)))
+    endif
+    $(shell echo 'farm.mk: skipped, no tracefile in $(addprefix $(FARM)/,$(empty))' >&2)
+endif
+ifeq ($(machines),)
+    $(error no tracefile in any folder of $(FARM))
+endif
+
+.PHONY: all again
+all: $(TOTAL)
+
+$(TOTAL): $(SHARES)/machines $(machines:%=$(SHARES)/%.info)
+	@echo 'farm.mk: makes $@ (shares: $(words $(machines)))' >&2
+	@$(COVCOLLECT) merge --jobs $(JOBS) -- $(machines:%=$(SHARES)/%.info) >$@.new || { rm -f $@.new; exit 1; }
+	@mv -f $@.new $@
+
+# The merge of one machine, of the files in its list. If they don't fit on one command line, xargs runs several merges. Their outputs
+# in a row are a tracefile too.
+$(machines:%=$(SHARES)/%.info): $(SHARES)/%.info: $(SHARES)/%.list
+	@echo 'farm.mk: makes $@' >&2
+	@sed -z 's/^[^ ]* [^ ]* [^ ]* //' $< | xargs -0 $(COVCOLLECT) merge -- >$@.new || { rm -f $@.new; exit 1; }
+	@mv -f $@.new $@
+
+# A machine's list has the inode, size, time and name of each tracefile. It is always made, but replaced only if it differs, so the
+# merge is made again only then. The list of machines does the same for the total.
+replace = if cmp -s $@.new $@; then rm $@.new; else mv -f $@.new $@; fi
+$(machines:%=$(SHARES)/%.list): $(SHARES)/%.list: again | $(SHARES)/
+	@$(call tracefiles,$*) -printf '%i %s %T@ %p\0' | sort -z >$@.new
+	@$(replace)
+
+$(SHARES)/machines: again | $(SHARES)/
+	@printf '%s\n' $(machines) >$@.new
+	@$(replace)
+
+$(SHARES)/:
+	@mkdir -p $@
