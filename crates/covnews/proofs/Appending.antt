@@ -42,7 +42,7 @@ goes_on history seen entry upto long next legal prefix true is =
       entry ∷ [],
       None,
       tt,
-      record { length = ap words_at after; legal = legal_with_next history entry legal comes },
+      record { word = ap words_at after; legal = legal_with_next history entry legal comes },
       inl (refl, refl),
       rw is (ap (λ (h : List EntryData). h ++ entry ∷ []) (sym all)),
     )
@@ -53,7 +53,7 @@ goes_on history seen entry upto long next legal prefix false is =
       [],
       None,
       tt,
-      record { length = ap words_at after; legal = subst IsLegal (sym all) legal },
+      record { word = ap words_at after; legal = subst IsLegal (sym all) legal },
       inl (refl, refl),
       rw is tt,
     )
@@ -63,4 +63,4 @@ pub may_append : (seen : List EntryData) (entry : EntryData) (upto : ℕ) → le
     → Moves IsPublished shown moved 0 (seen_as seen) (λ n. either (n == upto) (upto + 1) n) (Appends (step 0 upto (upto + 1) entry) (seen_as seen))
 may_append seen entry upto long next words history kept prefix away =
     let May : List Cell → Type 0 = λ w. (0 < length w) × ((cell w 0).1 ≡ true) × GoesOn seen entry upto w history in
-    subst May (sym kept.length) (omega arith, refl, goes_on history seen entry upto long next kept.legal prefix (length history == upto) refl)
+    subst May (sym kept.word) (omega arith, refl, goes_on history seen entry upto long next kept.legal prefix (length history == upto) refl)

@@ -1,9 +1,9 @@
 -- What a publisher is to its callers.
 use Rattle.std.specs.Prelude.{ℕ, List}
-use Rattle.logbook.specs.Pages.{Book}
+pub use Rattle.logbook.specs.Pages.{Book}
 use Rattle.covbook.specs.Op.{EntryData}
 
--- the name of the book whose history begins here
+-- which book's history it is that begins here
 pub record OpeningData : Type 0 where
   pub book : Book
 

@@ -41,6 +41,8 @@ mod news;
 mod noted;
 mod publisher;
 mod showing;
+#[cfg(test)]
+mod tests;
 
 pub use fault::ReaderFault;
 pub use live::Live;
