@@ -6,14 +6,15 @@ use Rattle.std.proofs.lemmas.List.{take_more, map-append}
 use Rattle.std.proofs.lemmas.List.Elements.{All-from_recursion, recursion_from_All}
 use Rattle.covbook.specs.declared.entry.Receipt.{Receipt}
 use Rattle.covbook.specs.declared.gather_fault.GatherFault.{GatherFault}
-use Rattle.covbook.specs.declared.gather_fault.GatherFault.TheVariants.{Backwards, Differs, SameJob, Stranger}
+use Rattle.covbook.specs.declared.gather_fault.GatherFault.TheVariants.{Backwards, BadReading, Differs, SameJob, Stranger}
 use Rattle.covbook.specs.declared.log.JobLog.{JobLog}
+use Rattle.covbook.specs.declared.reading.Reading.{Reading}
 use Rattle.covbook.specs.Op.{EntryData, ReceiptData}
 use Rattle.covbook.specs.EntryView.{receipt_data}
-use Rattle.covbook.specs.Gather.{LogData, AllHold, FirstFails, claim, claims_of, job_claims, receipt_claims, log_claims}
+use Rattle.covbook.specs.Gather.{LogData, AllHold, IsReadingOf, FirstFails, claim, claims_of, claims_of_log, job_claims, reading_claims, receipt_claims, log_claims}
 use Rattle.covbook.specs.GatherSteps.{Tells}
 use Rattle.covbook.specs.LogView.{log_data}
-use Rattle.covbook.specs.Step.{receipt_of}
+use Rattle.covbook.specs.Step.{last_totals, receipt_of}
 use Rattle.covbook.proofs.Claims.{first_left, rest_is, tells_behind}
 use Rattle.covbook.proofs.PlaceCounts.{all_mapped, all_unmapped}
 
@@ -24,6 +25,9 @@ found_at (y ∷ ys) (suc i) x within is = found_at ys i x (omega (arith, within)
 
 no_some : {X : Type 0} (x : X) → None ≡ Some x → ⊥
 no_some x e = cc
+
+some_is : {X : Type 0} (x y : X) → Some x ≡ Some y → x ≡ y
+some_is x y e = cc
 
 mapped_get : {X Y : Type 0} (f : X → Y) (xs : List X) (i : ℕ) (x : X) → slice_get xs i ≡ Some x → slice_get (map f xs) i ≡ Some (f x)
 mapped_get f [] i x e = absurd (no_some x e)
@@ -62,17 +66,17 @@ job_stops {A} logs i log within is seen =
 -- ---- logs
 
 pub log_on : {A : Type 0} (entries : List EntryData) (logs : List (JobLog A)) (i : ℕ) (log : JobLog A) → i < length logs → log ≡ get_or logs i log
-    → AllHold (receipt_claims entries (log_data log).job i 0 0 (log_data log).receipts) → (r : Result (Unit {0}) GatherFault)
+    → AllHold (claims_of_log entries i (log_data log)) → (r : Result (Unit {0}) GatherFault)
     → Tells r (log_claims entries (i + 1) (map log_data (drop (i + 1) logs))) → Tells r (log_claims entries i (map log_data (drop i logs)))
 log_on {A} entries logs i log within is all r told =
     subst (λ (ls : List (JobLog A)). Tells r (log_claims entries i (map log_data ls))) (sym (rest_is logs i log within is))
-    (tells_behind r (receipt_claims entries (log_data log).job i 0 0 (log_data log).receipts) (log_claims entries (i + 1) (map log_data (drop (i + 1) logs))) all told)
+    (tells_behind r (claims_of_log entries i (log_data log)) (log_claims entries (i + 1) (map log_data (drop (i + 1) logs))) all told)
 
 pub log_stops : {A : Type 0} (entries : List EntryData) (logs : List (JobLog A)) (i : ℕ) (log : JobLog A) (f : GatherFault) → i < length logs → log ≡ get_or logs i log
-    → FirstFails (receipt_claims entries (log_data log).job i 0 0 (log_data log).receipts) f → FirstFails (log_claims entries i (map log_data (drop i logs))) f
+    → FirstFails (claims_of_log entries i (log_data log)) f → FirstFails (log_claims entries i (map log_data (drop i logs))) f
 log_stops {A} entries logs i log f within is fails =
     subst (λ (ls : List (JobLog A)). FirstFails (log_claims entries i (map log_data ls)) f) (sym (rest_is logs i log within is))
-    (first_left (receipt_claims entries (log_data log).job i 0 0 (log_data log).receipts) (log_claims entries (i + 1) (map log_data (drop (i + 1) logs))) f fails)
+    (first_left (claims_of_log entries i (log_data log)) (log_claims entries (i + 1) (map log_data (drop (i + 1) logs))) f fails)
 
 -- ---- receipts
 
@@ -127,3 +131,23 @@ pub receipt_stops : {A : Type 0} (entries : List EntryData) (job log least : ℕ
 receipt_stops {A} entries job log least receipts i receipt f within is fails =
     subst (λ (rs : List (Receipt A)). FirstFails (receipt_claims entries job log i least (map receipt_data rs)) f) (sym (rest_is receipts i receipt within is))
     (first_left (claims_of entries job log i least (receipt_data receipt)) (receipt_claims entries job log (i + 1) (receipt.place + 1) (map receipt_data (drop (i + 1) receipts))) f fails)
+
+-- ---- readings
+
+pub reading_on : (entries : List EntryData) (log : ℕ) (readings : List Reading) (i : ℕ) (reading : Reading) → i < length readings → reading ≡ get_or readings i reading → IsReadingOf entries reading
+    → (r : Result (Unit {0}) GatherFault) → Tells r (reading_claims entries log (i + 1) (drop (i + 1) readings)) → Tells r (reading_claims entries log i (drop i readings))
+reading_on entries log readings i reading within is right r told =
+    subst (λ (rs : List Reading). Tells r (reading_claims entries log i rs)) (sym (rest_is readings i reading within is))
+    (tells_behind r (claim (IsReadingOf entries reading) (BadReading log i) ∷ []) (reading_claims entries log (i + 1) (drop (i + 1) readings)) (right, tt) told)
+
+pub reading_stops : (entries : List EntryData) (log : ℕ) (readings : List Reading) (i : ℕ) (reading : Reading) → i < length readings → reading ≡ get_or readings i reading
+    → (IsReadingOf entries reading → ⊥) → FirstFails (reading_claims entries log i (drop i readings)) (BadReading log i)
+reading_stops entries log readings i reading within is wrong =
+    subst (λ (rs : List Reading). FirstFails (reading_claims entries log i rs) (BadReading log i)) (sym (rest_is readings i reading within is)) (inl (wrong, refl))
+
+-- the totals after the entries up to one
+pub last_at : (entries : List EntryData) (i : ℕ) (e : EntryData) → slice_get entries i ≡ Some e → last_totals (take (suc i) entries) ≡ e.after
+last_at [] i e at = absurd (no_some e at)
+last_at (x ∷ entries) zero e at = ap (λ (y : EntryData). y.after) (some_is x e at)
+last_at (x ∷ []) (suc i) e at = absurd (no_some e at)
+last_at (x ∷ y ∷ entries) (suc i) e at = last_at (y ∷ entries) i e at
