@@ -93,7 +93,7 @@ pub receipts_of_log : (entries : List EntryData) (number : ℕ) (log : LogData) 
 receipts_of_log entries number log is =
     receipts_are entries log.job number 0 0 log.receipts (all_any (λ (p : ℕ). 0 ≤ p) (λ (p : ℕ). omega arith) (places log.receipts)) is.rise is.own is.same
 
-log_holds : (entries : List EntryData) (number : ℕ) (log : LogData) → AllHold (claims_of_log entries number log) → IsRightLog entries log
+pub log_holds : (entries : List EntryData) (number : ℕ) (log : LogData) → AllHold (claims_of_log entries number log) → IsRightLog entries log
 log_holds entries number log h =
     let receipts = receipt_claims entries log.job number 0 0 log.receipts in
     let readings = reading_claims entries number 0 log.readings in
@@ -102,7 +102,7 @@ log_holds entries number log h =
       readings = readings_hold entries number 0 log.readings (all_right receipts readings h);
     }
 
-log_is : (entries : List EntryData) (number : ℕ) (log : LogData) → IsRightLog entries log → AllHold (claims_of_log entries number log)
+pub log_is : (entries : List EntryData) (number : ℕ) (log : LogData) → IsRightLog entries log → AllHold (claims_of_log entries number log)
 log_is entries number log is =
     all_join (receipt_claims entries log.job number 0 0 log.receipts) (reading_claims entries number 0 log.readings) (receipts_of_log entries number log is.receipts)
     (readings_are entries number 0 log.readings is.readings)
@@ -130,7 +130,7 @@ both_right entries logs kept readings =
 
 -- ---- the entries
 
-later : (start place : ℕ) → start ≤ place → (start ≡ place → ⊥) → start + 1 ≤ place
+pub later : (start place : ℕ) → start ≤ place → (start ≡ place → ⊥) → start + 1 ≤ place
 later start place low other = grind (arith, low, other)
 
 entries_hold : (logs : List LogData) (start : ℕ) (entries : List EntryData) → AllHold (entry_claims logs start entries) → (place : ℕ) → start ≤ place → place < start + length entries → Contains (places_in logs) place
@@ -179,7 +179,7 @@ gathered_holds entries logs g =
     let kept = log_claims entries 0 logs in
     let m = g.merge in
     all_join (jobs ++ kept) (entry_claims logs 0 entries) (all_join jobs kept (jobs_differ 0 [] logs tt m.differ) (logs_are entries 0 logs (both_right entries logs m.kept g.readings)))
-    (entries_are logs 0 entries (λ place high. m.whole place (omega (arith, high))))
+    (entries_are logs 0 entries (λ place low high. m.whole place (omega (arith, high))))
 
 pub jobs_from : (logs : List LogData) → AllHold (job_claims 0 [] logs) → Differ (jobs_of logs)
 jobs_from logs h = (jobs_hold 0 [] logs h).1

@@ -136,7 +136,7 @@ fn check_readings<A: Allocator>(
 {
     let readings = log.readings.get();
     for (index, reading) in readings.iter().enumerate() {
-        if !is_reading_of(*reading, entries) {
+        if !is_reading_of(reading, entries) {
             return Err(GatherFault::BadReading { log: number, index });
         }
     }
@@ -144,8 +144,8 @@ fn check_readings<A: Allocator>(
 }
 
 /// Whether so many entries are there, and the totals are those after them.
-fn is_reading_of<A: Allocator>(reading: Reading, entries: &[Entry<A>]) -> bool
-    ensures { IsTrue result ↔ IsReadingOf (map entry_data entries.now) reading }
+fn is_reading_of<A: Allocator>(reading: &Reading, entries: &[Entry<A>]) -> bool
+    ensures { IsTrue result ↔ IsReadingOf (map entry_data entries.now) reading.now }
 {
     match totals_after(entries, reading.upto) {
         Some(totals) => totals == reading.totals,
