@@ -8,9 +8,8 @@ use Rattle.covbook.specs.declared.gather_fault.GatherFault.{GatherFault}
 use Rattle.covbook.specs.declared.gather_fault.GatherFault.TheVariants.{Backwards, BadReading, Differs, Missing, SameJob, Stranger}
 use Rattle.covbook.specs.declared.reading.Reading.{Reading}
 use Rattle.covbook.specs.Op.{EntryData, ReceiptData}
-use Rattle.covbook.specs.Step.{last_totals}
 use Rattle.covbook.specs.Cause.{IsRightLog, IsSameJob, IsFirstWrongLog, IsFirstWrongReceipt, IsFirstWrongReading, IsStranger, IsDiffering, IsNotAbove, IsBackwards, IsNoReadingOf, IsBadReading, IsMissing, first_receipts}
-use Rattle.covbook.specs.Gather.{LogData, jobs_of, places_in, Differ, IsOfJob, IsReceiptOf, IsLogOf, IsReadingOf, Claim, AllHold, FirstFails, IsGatherFault, claims_of, claims_of_log, job_claims, receipt_claims, reading_claims, log_claims, entry_claims, gather_claims}
+use Rattle.covbook.specs.Gather.{LogData, jobs_of, places_in, Differ, IsOfJob, IsReceiptOf, IsLogOf, IsReadingOf, Claim, AllHold, FirstFails, IsGatherFault, claims_of, claims_of_log, job_claims, receipt_claims, reading_claims, log_claims, entry_claims}
 use Rattle.covbook.proofs.Checked.{no_some, some_is}
 use Rattle.covbook.proofs.Claims.{all_join, all_left, all_right, first_left, first_right}
 use Rattle.covbook.proofs.Gathered.{job_told, log_told}

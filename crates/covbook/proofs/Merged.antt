@@ -7,7 +7,7 @@ use Rattle.covbook.specs.declared.gather_fault.GatherFault.TheVariants.{Missing}
 use Rattle.covbook.specs.declared.reading.Reading.{Reading}
 use Rattle.covbook.specs.Op.{EntryData, ReceiptData}
 use Rattle.covbook.specs.Cause.{IsRightLog}
-use Rattle.covbook.specs.Gather.{LogData, jobs_of, places_in, Rise, Differ, IsOfJob, IsReceiptOf, IsLogOf, IsMerge, IsReadingOf, AreReadingsOf, IsGathered, AllHold, FirstFails, job_claims, receipt_claims, reading_claims, claims_of_log, log_claims, entry_claims, gather_claims}
+use Rattle.covbook.specs.Gather.{LogData, jobs_of, places_in, Rise, Differ, IsOfJob, IsReceiptOf, IsLogOf, IsReadingOf, AreReadingsOf, IsGathered, AllHold, FirstFails, job_claims, receipt_claims, reading_claims, claims_of_log, log_claims, entry_claims, gather_claims}
 use Rattle.covbook.proofs.Claims.{all_join, all_left, all_right}
 use Rattle.covbook.proofs.PlaceCounts.{all_weaker, all_both, all_any, all_joined, all_before, all_behind}
 

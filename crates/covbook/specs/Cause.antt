@@ -1,6 +1,6 @@
 -- What each fault of a gathering says: what is wrong at the log, receipt, reading or place that it names, where all that comes
 -- before it in the order of faults is right.
-use Rattle.std.specs.Prelude.{◌≡◌, ◌≢◌, ℕ, ◌-◌, ◌<◌, ◌≤◌, ◌⊎◌, List, length, slice_get, take, IsSomeAnd}
+use Rattle.std.specs.Prelude.{◌≢◌, ℕ, ◌-◌, ◌<◌, ◌≤◌, ◌⊎◌, List, length, slice_get, take, IsSomeAnd}
 use Rattle.std.specs.List.{AllByRecursion, Contains}
 use Rattle.covbook.specs.declared.reading.Reading.{Reading}
 use Rattle.covbook.specs.Op.{EntryData, ReceiptData}

@@ -33,7 +33,7 @@ impl Rule<NotedEntry, u64> for Legality {
     ghost moves = { λ _ _ _ _. Unit {0} };
 }
 
-/// A step trades nothing.
+/// What a step trades with its caller: nothing.
 pub struct NoGain;
 
 impl Gain<NotedEntry, u64> for NoGain {

@@ -69,8 +69,8 @@ impl<L: Name> Outcome<Mark, ()> for OfBook<L> {
     ghost then = { λ _ _ shown _. shown.seen.book ≡ L.book };
 }
 
-/// What shows readers a mark, and another one after it.
+/// What shows marks to readers.
 pub(crate) type MarkWriter<L, A> = Writer<Mark, Mark, (), OfBook<L>, A>;
 
-/// What reads the mark that is shown now.
+/// What reads the mark that is shown.
 pub(crate) type MarkReader<L, A> = Reader<Mark, (), OfBook<L>, A>;

@@ -30,8 +30,7 @@ impl<L: Name, A: Allocator> Model for Showing<L, A> {
 impl<L: Name, A: Allocator> Drop for Showing<L, A> {
     fn drop(self) {
         let Showing { writer } = self;
-        // Sound, as nothing is freed: the readers' table stays where it is. `ManuallyDrop::new` does the same for types that
-        // are `Drop`.
+        // Sound, since nothing is freed: the table that the readers share stays where it is.
         let _left = unsafe { ManuallyDrop::new_unchecked(writer) };
     }
 }
@@ -61,8 +60,8 @@ impl<L: Name, A: Allocator + Copy> Showing<L, A> {
         let mark = news.mark();
         let writer = MarkWriter::new(alloc, mark.copy(), mark.copy(), readers as usize)?;
         let mut showing = Showing { writer };
-        // The first mark that is appended makes room for four. There are never more: one is shown, one is to be shown, and
-        // at the first time this one.
+        // The first mark that is appended makes room for four, and there are never more than three: those that were shown
+        // the last time, two of them at first, and the next one.
         showing.writer.append(mark.copy()).map_err(|_| AllocError)?;
         Ok(showing)
     }

@@ -1,4 +1,4 @@
-use Rattle.std.proofs.Common.{◌≡◌, ◌∙◌, List, Ok, Err, map, sym, subst, true≢false}
+use Rattle.std.proofs.Common.{◌∙◌, List, Ok, Err, map, sym, subst, true≢false}
 use Rattle.std.proofs.lemmas.List.{drop_all}
 use Rattle.covbook.specs.declared.gather_fault.GatherFault.TheVariants.{BadReading}
 use Rattle.covbook.specs.declared.reading.Reading.{Reading}

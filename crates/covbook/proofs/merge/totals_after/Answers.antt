@@ -1,4 +1,4 @@
-use Rattle.std.proofs.Common.{◌≤◌, ◌-◌, ◌<◌, length, sym, arith}
+use Rattle.std.proofs.Common.{◌-◌, ◌<◌, length, sym, arith}
 use Rattle.std.proofs.lemmas.Bool.{ltb-true}
 use Rattle.covbook.specs.EntryView.{entry_data}
 use Rattle.covbook.proofs.Checked.{found_at, some_suc, totals_at_last}
