@@ -6,7 +6,8 @@ use covbook::{
     Answer, BookFault, Entries, Entry, GatherFault, JobLog, Op, Reading, Receipt, SubRef, gather,
 };
 use covjobs::{
-    CloseFault, Done, Live, Name, News, OpenFault, ReaderFault, Seat, Seats, Shared, Start, open_book,
+    CloseFault, Done, Live, Name, News, OpenFault, ReaderFault, Seat, Seats, Shared, Start,
+    open_book,
 };
 use covline::{Bytes, Memory};
 use covread::read_trace;

@@ -108,7 +108,7 @@ fn read_by_two<R: Threads + Wait + Sync + AllocGlobal + Abort>(rt: &R) -> Result
     Ok(())
 }
 
-/// Behind each submit a job reads the totals once, and not behind the last operation.
+/// After each submit a job reads the totals once, and not after the last operation.
 #[test]
 fn a_reading_for_each_submit(rt: HostRuntime) -> Result<(), Fail> {
     read_by_two(&rt)

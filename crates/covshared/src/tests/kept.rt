@@ -150,7 +150,7 @@ fn read_in_first(rt: &impl Abort, logs: &mut [JobLog], reading: Reading) {
     }
 }
 
-/// Behind two submissions the totals aren't zeros.
+/// After two submissions the totals aren't zeros.
 #[test]
 fn a_bad_reading(rt: HostRuntime) -> Result<(), Fail> {
     let (entries, mut logs) = history(&rt, ASKED)?;

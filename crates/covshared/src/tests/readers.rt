@@ -39,7 +39,7 @@ fn check_small<L: Name>(rt: &impl Abort, live: &mut Live<L>, upto: u64) {
     check_reading(rt, totals(live), upto, 2, 1);
 }
 
-/// The news are of so many entries, behind which the totals are those of the small tracefile.
+/// The news are of so many entries, after which the totals are those of the small tracefile.
 fn check_news<L: Name>(rt: &impl Abort, news: &News<L>, upto: u64) {
     check_reading(rt, reading(news), upto, 2, 1);
 }
@@ -81,7 +81,7 @@ fn a_submit_is_read(rt: HostRuntime) -> Result<(), Fail> {
     Ok(())
 }
 
-/// One reader has read the last entry, one was made behind it and one before the first, and these were never asked. Then the
+/// One reader has read the last entry; one was made after it and one before the first, and these two were never asked. Then the
 /// book is closed.
 fn kept_over_close<L: Name, R: Wait + Abort + AllocGlobal>(rt: &R, start: Start)
     requires name { start.name ≡ L.name }
@@ -247,11 +247,7 @@ fn keep_reading(rt: &impl Abort, readings: &mut Readings, reading: Reading) {
 }
 
 /// The reader learns the last news, and reads once more.
-fn read_last<L: Name>(
-    rt: &impl Abort,
-    watched: Watched<L>,
-    last: Option<News<L>>,
-) -> Readings {
+fn read_last<L: Name>(rt: &impl Abort, watched: Watched<L>, last: Option<News<L>>) -> Readings {
     let Watched {
         mut live,
         mut readings,
