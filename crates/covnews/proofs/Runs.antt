@@ -2,7 +2,8 @@
 use Rattle.std.proofs.Common.{◌≡◌, List, [], ◌∷◌, ◌++◌, ap, refl, subst, sym}
 use mathlib.Core.List.{IsPrefix}
 use Rattle.covbook.specs.Op.{EntryData}
-use Rattle.covbook.specs.Step.{Table, IsLegal, answer_of, answers_from, answers_in, last_totals, ops_in, table_after, table_from, totals_at, totals_from, totals_in}
+use Rattle.covstore.specs.Table.{Table}
+use Rattle.covbook.specs.Step.{IsLegal, answer_of, answers_from, answers_in, last_totals, ops_in, table_after, table_from, totals_at, totals_from, totals_in}
 use Rattle.covnews.specs.History.{ComesNext}
 
 -- the entry's answer is that of the run at its end
