@@ -9,7 +9,7 @@ use Rattle.covread.specs.declared.fault.ReadFault.TheVariants as faults
 use Rattle.covread.specs.Outcome as trace
 use Rattle.covread.specs.GcovOutcome as gcov
 use Rattle.covbook.specs.Op.{OpData, SubmitOp, EntryData, ReceiptData}
-use Rattle.covbook.specs.Gather.{LogData, IsMerge}
+use Rattle.covbook.specs.Gather.{LogData, IsMerge, IsGathered}
 use Rattle.covbook.specs.Order.{AreAgreeing}
 use Rattle.covbook.specs.Step.{IsLegal, table_of, answer_of}
 use Rattle.covbook.specs.Texts.{IsText}
@@ -93,12 +93,14 @@ pub record EndsWith (submissions : List SubmissionData) (last : OpData) (entries
   pub asker : entry.job ≡ 0
   pub text : IsText last → AreAgreeing submissions → entry.answer ≡ answer_of (table_of (map SubmitOp submissions)) last
 
--- what is collected of inputs by so many jobs: what became of each input decides all but the order in which jobs took turns
+-- what is collected of inputs by so many jobs: what became of each input decides all but the order in which jobs took turns, and
+-- what they read meanwhile, which is right at the history
 pub record IsCollected (inputs : List InputData) (jobs : ℕ) (last : OpData) (entries : List EntryData) (logs : List LogData) (refused : List RefusedInput) : Type 0 where
   pub fate : ℕ → Result SubmissionData ReadFault
   pub fates : AreFates inputs fate
   pub legal : IsLegal entries
   pub merge : IsMerge entries logs
+  pub gathered : IsGathered entries logs
   pub asked : AreJobLogs fate (length inputs) jobs last logs
   pub are_refused : refused ≡ refusals_of all_places fate (length inputs)
   pub ends : EndsWith (submissions_of all_places fate (length inputs)) last entries

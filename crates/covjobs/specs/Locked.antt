@@ -3,10 +3,12 @@ use Rattle.std.specs.Prelude.{◌≡◌, ℕ, List, length}
 use Rattle.covbook.specs.Op.{EntryData}
 use Rattle.covbook.specs.Step.{IsLegal}
 
--- the history is legal, and the count of the calls is the number of its entries; the share beside it, which no seat has, has
+-- the history is legal, and it is what readers are shown, and all that was noted for them; the count of the calls is the number of its entries; the share beside it, which no seat has, has
 -- no part of the count. That the store stands for the last table of the history's run is the book's own invariant
-pub record IsLocked (entries : List EntryData) (total parts amount : ℕ) : Type 0 where
+pub record IsLocked (entries noted published : List EntryData) (total parts amount : ℕ) : Type 0 where
   pub legal : IsLegal entries
+  pub all_noted : noted ≡ entries
+  pub all_published : published ≡ entries
   pub counted : total ≡ length entries
   pub no_part : parts ≡ 0
   pub no_amount : amount ≡ 0

@@ -1,11 +1,13 @@
 -- What a shared book is made of.
 use Rattle.std.specs.Prelude.{◌≡◌, ℕ, ◌≤◌, List, []}
+use Rattle.logbook.specs.Pages.{Book}
 use Rattle.covbook.specs.Op.{EntryData}
 
--- the name of a book to come, and how many jobs share it
+-- the name of the count of a book to come, how many jobs share the book, and the book's name
 pub record StartData : Type 0 where
   pub name : ℕ
   pub jobs : ℕ
+  pub book : Book
 
 -- so many jobs may share a book
 pub record AreJobs (jobs : ℕ) : Type 0 where

@@ -4,6 +4,7 @@ use Rattle.std.specs.List.{flat_map}
 use Rattle.covline.specs.Row.{SubmissionData}
 use Rattle.covread.specs.declared.fault.ReadFault.{ReadFault}
 use Rattle.covbook.specs.declared.book.BookFault.{BookFault}
+use Rattle.covbook.specs.declared.reading.Reading.{Reading}
 use Rattle.covbook.specs.Gather.{LogData}
 use Rattle.covbook.specs.Op.{OpData, SubmitOp, ReceiptData}
 use Rattle.covjobs.specs.declared.refused.RefusedInput.{RefusedInput}
@@ -24,10 +25,11 @@ pub record Asks (receipts after : List ReceiptData) (seen : ℕ) (op : OpData) :
   pub asked : receipt.op ≡ op
   pub place : receipt.place + 1 ≡ seen
 
--- what a worker has: its seat, what it keeps of its calls, and which of its inputs are refused
+-- what a worker has: its seat, what it keeps of its calls, what it read of the totals, and which of its inputs are refused
 pub record WorkerData : Type 0 where
   pub seat : SeatData
   pub receipts : List ReceiptData
+  pub readings : List Reading
   pub refused : List RefusedInput
 
 -- the work of a job of so many: its share of the inputs
@@ -62,7 +64,7 @@ AreDoneIfWell works ended = (workers : List WorkerData) → map Ok workers ≡ e
 
 -- what all workers hand in: their seats, their logs, and all that they refused, in the order of the places
 abbrev pub log_of : WorkerData → LogData
-log_of worker = record { job = worker.seat.job; receipts = worker.receipts; readings = [] }
+log_of worker = record { job = worker.seat.job; receipts = worker.receipts; readings = worker.readings }
 
 abbrev pub seats_in : List WorkerData → List SeatData
 seats_in workers = map (λ (w : WorkerData). w.seat) workers
@@ -73,7 +75,7 @@ logs_in workers = map log_of workers
 abbrev pub refused_in : List WorkerData → List RefusedInput
 refused_in workers = flat_map (λ (w : WorkerData). w.refused) workers
 
--- the first worker asks an operation, and nothing else changes but its seat; the book has now so many entries up to it
+-- the first worker asks an operation and reads nothing, and nothing else changes but its seat; the book has now so many entries up to it
 pub record FirstAsks (workers after : List WorkerData) (end : ℕ) (op : OpData) : Type 0 where
   pub first : WorkerData
   pub next : WorkerData
@@ -82,4 +84,5 @@ pub record FirstAsks (workers after : List WorkerData) (end : ℕ) (op : OpData)
   pub new : after ≡ next ∷ others
   pub job : next.seat.job ≡ first.seat.job
   pub asks : Asks first.receipts next.receipts end op
+  pub readings : next.readings ≡ first.readings
   pub refused : next.refused ≡ first.refused

@@ -4,7 +4,7 @@ use crate::collect_fault::CollectFault;
 use crate::gate::Gate;
 use crate::handed::Seats;
 use crate::input::Input;
-use crate::name::{Name, Start};
+use crate::name::Start;
 use crate::refused::Refused;
 use crate::shared::{Shared, open_book};
 use crate::worker::Worker;
@@ -12,6 +12,7 @@ use crate::workers::work_at_once;
 use covbook::laws::{a_run_goes_on, order_does_not_matter};
 use covbook::{BookFault, Entries, Logs, Op, gather};
 use covline::Memory;
+use covnews::Name;
 use std::alloc::Global;
 use std::marker::Brand;
 use std::sync::Wait;
@@ -22,7 +23,7 @@ use std::thread::Threads;
 pub struct Collected {
     /// The history. Its last entry is that of the last operation.
     pub entries: Entries,
-    /// What each job was told, from job 0 on.
+    /// What each job was told, from job 0 on, and what it read of the totals.
     pub logs: Logs,
     /// The inputs that aren't in the history, in their order.
     pub refused: Refused,
@@ -37,10 +38,11 @@ ghost use Rattle.covjobs.specs.Start.{AreJobs};
 
 /// Collects inputs by so many jobs, which work at once, each in a thread of its own. Job j takes the inputs j, j + jobs,
 /// j + 2 * jobs and so on, in order: it reads the text, outside the book's lock, and submits what was read. A text that isn't
-/// read is refused, and the job goes on. When all have ended, job 0 performs the last operation. Waits for the workers.
+/// read is refused, and the job goes on. Behind each submit the job reads the totals once, without the lock; where there is no
+/// place for its reader it has no readings. When all have ended, job 0 performs the last operation. Waits for the workers.
 ///
 /// Counts add up as by lcov(1), --add-tracefile. Faults: `BadJobs` exactly where the jobs aren't 1 to 64, `Full`, `Memory`;
-/// `Gather` and `NotLast` where history and logs don't fit, which no run meets.
+/// `Gather` and `NotLast` where history and logs don't fit, which no run meets. A reader for which there is no memory is `Memory`.
 pub fn collect<R: Threads + Wait + Sync, G: Gate + Sync>(
     rt: &R,
     alloc: Global,
@@ -68,6 +70,7 @@ fn collect_named<R: Threads + Wait + Sync, G: Gate + Sync, L: Name + Send + Sync
 ) -> Result<Collected, CollectFault>
     requires name { start.name ≡ L.name }
     requires parts { start.jobs ≡ L.parts }
+    requires book { start.book ≡ L.book }
     requires jobs { start.jobs ≡ jobs }
     requires some { 0 < jobs }
     ensures collected { IfOk result (λ c. IsCollected (map input_data inputs.now) jobs (op_data last.now) c.entries c.logs c.refused) }
@@ -80,8 +83,8 @@ fn collect_named<R: Threads + Wait + Sync, G: Gate + Sync, L: Name + Send + Sync
     )?;
     let end = ask_last(rt, alloc, &book, &mut workers, last)?;
     let (seats, logs, refused) = hand_in(alloc, workers)?;
-    let entries = match book.close(seats) {
-        Ok(entries) => entries,
+    let entries = match book.close(rt, seats) {
+        Ok((entries, _news)) => entries,
         // No seat is missing: each worker hands its own in.
         Err(_back) => return Err(CollectFault::NotLast),
     };
@@ -150,7 +153,7 @@ fn hand_in<L: Name>(
     let mut logs = Logs::new(alloc);
     let mut refused = Refused::new(alloc);
     for worker in workers {
-        let (seat, log, own_refused) = worker.into_parts(alloc);
+        let (seat, log, own_refused) = worker.into_parts();
         seats.push(seat)?;
         logs.push(log)?;
         refused.append(own_refused)?;

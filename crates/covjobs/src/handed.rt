@@ -1,8 +1,8 @@
 //! Seats that are handed out and handed in.
 
-use crate::name::Name;
 use crate::seat::Seat;
 use covline::Memory;
+use covnews::Name;
 use std::alloc::{Allocator, Global};
 use std::marker::Model;
 use std::sync::ledger::Share;

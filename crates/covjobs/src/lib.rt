@@ -4,6 +4,9 @@
 //! seat performs steps on the book by it (`Shared::perform`); each is one step of the book's table, taken while its lock is
 //! held. `Shared::close` takes all seats back and gives the history, which has exactly one entry for each call that succeeded.
 //!
+//! A reader of the totals (`Shared::reader`, `Live`) waits for nobody: it takes no lock. Each call's news, and those that `close`
+//! gives, tell a reader of at least so many entries, whatever it was shown (`Live::learn`).
+//!
 //! Which book a seat is of, the types say: a function that uses a book is generic in the book's name `L: Name`, and its caller
 //! calls it at `Brand` and says in its `Invariants.antt` that this names the start (`docs/ARCHITECTURE.md` has the lines).
 //!
@@ -13,11 +16,13 @@
 //! fn run<L: Name>(rt: &impl Wait, alloc: Global, start: Start) -> Result<(), Fail>
 //!     requires name { start.name ≡ L.name }
 //!     requires jobs { start.jobs ≡ L.parts }
+//!     requires book { start.book ≡ L.book }
 //! {
 //!     let (book, seats) = open_book::<L, Global>(alloc, start)?;
+//!     let mut live = book.reader(rt)?; // for a thread that watches: live.totals()
 //!     // each thread: book.perform(rt, alloc, &mut seat, &op)?
-//!     match book.close(seats) {
-//!         Ok(entries) => .., // all seats were handed in
+//!     match book.close(rt, seats) {
+//!         Ok((entries, news)) => .., // all seats were handed in
 //!         Err((book, seats, CloseFault::Missing { job })) => ..,
 //!     }
 //! }
@@ -43,7 +48,9 @@ pub use collected::{Collected, collect};
 pub use gate::{Gate, NoGate};
 pub use handed::Seats;
 pub use input::Input;
-pub use name::{MOST_JOBS, Name, OpenFault, Start};
+pub use covbook::Reading;
+pub use covnews::{Live, Name, News, ReaderFault};
+pub use name::{MOST_JOBS, OpenFault, Start};
 pub use refused::{Refused, RefusedInput};
 pub use seat::Seat;
-pub use shared::{CloseFault, Done, Shared, open_book};
+pub use shared::{CloseFault, Done, MOST_READERS, Shared, open_book};

@@ -1,21 +1,15 @@
-//! What a shared book is made of, and how it is named.
+//! What a shared book is made of.
 
 use covbook::Book;
 use covline::Memory;
+use covnews::Opening;
 use std::alloc::{Allocator, Global};
-use std::marker::{Brand, Model};
-use std::sync::ledger::{Blank, Ledger};
+use std::marker::Model;
+use std::sync::ledger::Blank;
 use thiserror::Error;
 
 /// How many jobs share one book at the most.
 pub const MOST_JOBS: u32 = 64;
-
-/// The name of a shared book. Its seats have the same name, and a seat of another name isn't of this book. It has no
-/// functions: a caller makes a `Start`, and does the rest in a function over `L: Name`, called at `Brand`, which there names
-/// that start.
-pub trait Name: Ledger {}
-
-impl Name for Brand {}
 
 /// Why no book is opened.
 #[derive(Clone, Copy, Debug, PartialEq, Eq, Error)]
@@ -51,13 +45,14 @@ impl From<Memory> for OpenFault {
     }
 }
 
-/// What a shared book is made of: an empty book, and the count of its calls. Contracts see its name, and how many jobs share
-/// it.
+/// What a shared book is made of: an empty book, the count of its calls, and the opening of what is published of it. Contracts
+/// see the name of the count, how many jobs share the book, and the name of the book.
 #[derive(Drop)]
 pub struct Start<A: Allocator = Global> {
     jobs: u32,
     count: Blank,
     book: Book<A>,
+    opening: Opening,
 }
 
 impl<A: Allocator> Model for Start<A> {
@@ -65,7 +60,7 @@ impl<A: Allocator> Model for Start<A> {
 
     ghost Value = { StartData };
 
-    ghost view = { λ a. record { name = a.count.name; jobs = a.jobs } };
+    ghost view = { λ a. record { name = a.count.name; jobs = a.jobs; book = a.opening.book } };
 
     ghost invariant = { λ a. IsStart a.jobs a.count.parts a.book.entries };
 }
@@ -87,6 +82,7 @@ impl<A: Allocator + Copy> Start<A> {
             jobs,
             count: Blank::new(u64::from(jobs)),
             book: Book::new(alloc),
+            opening: Opening::new(),
         })
     }
 }
@@ -95,14 +91,15 @@ impl<A: Allocator> Start<A> {
     ghost use Rattle.std.specs.Prelude.{◌≡◌, []};
     ghost use Rattle.covjobs.specs.Start.{AreJobs};
 
-    /// How many jobs there are, the count without a call, and the empty book.
-    pub(crate) fn into_parts(self) -> (u32, Blank, Book<A>)
+    /// How many jobs there are, the count without a call, the empty book, and the opening of what is published of it.
+    pub(crate) fn into_parts(self) -> (u32, Blank, Book<A>, Opening)
         ensures jobs { result.0 ≡ self.jobs }
         ensures bounds { AreJobs self.jobs }
         ensures name { result.1.name ≡ self.name }
         ensures parts { result.1.parts ≡ self.jobs }
-        ensures book { result.2.entries ≡ [] }
+        ensures entries { result.2.entries ≡ [] }
+        ensures book { result.3.book ≡ self.book }
     {
-        (self.jobs, self.count, self.book)
+        (self.jobs, self.count, self.book, self.opening)
     }
 }

@@ -1,6 +1,6 @@
 //! The seat of a job: by it the job performs its steps.
 
-use crate::name::Name;
+use covnews::Name;
 use std::marker::Model;
 use std::sync::ledger::{Book, Share};
 

@@ -2,14 +2,18 @@
 
 use crate::handed::{Seats, seats_for};
 use crate::locked::Locked;
-use crate::name::{Name, Start};
+use crate::name::Start;
 use crate::seat::Seat;
 use covbook::{BookFault, Entries, Op, Receipt};
 use covline::Memory;
+use covnews::{Live, Name, News, Publisher, ReaderFault};
 use std::alloc::{Allocator, Global};
 use std::marker::Model;
 use std::sync::{Mutex, Wait};
 use thiserror::Error;
+
+/// How many readers are made of one book at the most.
+pub const MOST_READERS: u32 = 64;
 
 /// A book under a lock, which threads share by reference. Contracts see how many jobs it is for.
 #[derive(Drop)]
@@ -29,10 +33,11 @@ impl<L: Name, A: Allocator> Model for Shared<L, A> {
     ghost invariant = { λ a. a.jobs ≡ L.parts };
 }
 
-/// What a call that succeeded is answered.
+/// What a call that succeeded is answered: its receipt, and news of the history that ends with its entry.
 #[derive(Drop)]
-pub struct Done<A: Allocator = Global> {
+pub struct Done<L: Name, A: Allocator = Global> {
     pub receipt: Receipt<A>,
+    pub news: News<L>,
 }
 
 /// Why a book isn't closed.
@@ -67,13 +72,15 @@ pub fn open_book<L: Name, A: Allocator + Copy>(
 ) -> Result<(Shared<L, A>, Seats<L, A>), Memory>
     requires name { start.name ≡ L.name }
     requires jobs { start.jobs ≡ L.parts }
+    requires book { start.book ≡ L.book }
     ensures jobs { IfOk result (λ r. r.0.jobs ≡ start.jobs) }
     ensures seats { IfOk result (λ r. r.1 ≡ first_seats start.jobs) }
 {
-    let (jobs, count, book) = start.into_parts();
+    let (jobs, count, book, opening) = start.into_parts();
+    let publisher = Publisher::new(alloc, opening, MOST_READERS)?;
     let (count, mut all) = count.open::<L>();
     let seats = seats_for(alloc, jobs, &mut all)?;
-    let locked = Mutex::new(Locked::new(book, count, all));
+    let locked = Mutex::new(Locked::new(book, count, all, publisher));
     Ok((Shared { jobs, locked }, seats))
 }
 
@@ -81,26 +88,29 @@ impl<L: Name, A: Allocator + Copy> Shared<L, A> {
     ghost use Rattle.std.specs.Prelude.{◌≡◌, ◌≤◌, IfOk, MatchResult};
     ghost use Rattle.covbook.specs.View.{op_data};
     ghost use Rattle.covbook.specs.EntryView.{receipt_data};
-    ghost use Rattle.covjobs.specs.Call.{IsTold};
+    ghost use Rattle.covjobs.specs.Call.{IsTold, IsNewsOf};
     ghost use Rattle.covjobs.specs.Seat.{after_call};
 
-    /// One step of the book by the seat's job, answered as the table answers it behind a legal history. Waits for the lock, and
-    /// holds it for the step alone. `Full` is answered where the history is full, and where it is shorter than what the seat has
-    /// seen, which no seat of this book meets. After a refusal the book's history and content and the seat are as they were.
+    /// One step of the book by the seat's job, answered as the table answers it behind a legal history. The news are of the history
+    /// that ends with the call's entry, which readers are shown from then on. Waits for the lock, and holds it for the step alone;
+    /// waits for readers that still read what was shown two steps ago. `Full` is answered where the history is full, and where it
+    /// is shorter than what the seat has seen, which no seat of this book meets. After a refusal the book's history and content,
+    /// what readers are shown, and the seat are as they were.
     pub fn perform<R: Wait>(
         &self,
         rt: &R,
         alloc: A,
         seat: &mut Seat<L>,
         op: &Op<A>,
-    ) -> Result<Done<A>, BookFault>
+    ) -> Result<Done<L, A>, BookFault>
         ensures asked { IfOk result (λ d. op_data d.receipt.op ≡ op_data op.now) }
         ensures told { IfOk result (λ d. IsTold (op_data op.now) (receipt_data d.receipt)) }
+        ensures news { IfOk result (λ d. IsNewsOf seat.old.job (op_data op.now) (receipt_data d.receipt) d.news) }
         ensures seen { IfOk result (λ d. seat.old.seen ≤ d.receipt.place) }
         ensures seat { MatchResult result (λ d. seat.new ≡ after_call seat.old d.receipt.place) (λ _. seat.new ≡ seat.old) }
     {
-        let receipt = self.locked.lock(rt).step(alloc, seat, op)?;
-        Ok(Done { receipt })
+        let (receipt, news) = self.locked.lock(rt).step(rt, alloc, seat, op)?;
+        Ok(Done { receipt, news })
     }
 }
 
@@ -111,20 +121,31 @@ impl<L: Name, A: Allocator> Shared<L, A> {
     ghost use Rattle.covjobs.specs.Handed.{AllAreSeated, IsLeastMissing};
     ghost use Rattle.covjobs.specs.CloseFault.{told_job};
 
-    /// Closes the book and gives its history, where the seat of each job is handed in. Else all is handed back, with the least
-    /// job whose seat is missing. Waits for nobody, and takes no memory.
-    pub fn close(
+    /// A reader of the totals, which waits for nobody once it is made; it begins with the history as it is now. `NoPlace` where 64
+    /// readers were made, or earlier where no free place is found. Waits for the lock.
+    pub fn reader<R: Wait>(&self, rt: &R) -> Result<Live<L, A>, ReaderFault>
+        ensures { IfOk result (λ live. IsLegal live) }
+    {
+        self.locked.lock(rt).reader()
+    }
+
+    /// Closes the book, where the seat of each job is handed in, and gives its history, with news of it. Else all is handed back,
+    /// with the least job whose seat is missing. Takes no memory. May wait for a reader to leave. Readers are then shown nothing
+    /// new: they answer the longest history that they saw or learned.
+    pub fn close<R: Wait>(
         self,
+        rt: &R,
         seats: Seats<L, A>,
-    ) -> Result<Entries<A>, (Shared<L, A>, Seats<L, A>, CloseFault)>
+    ) -> Result<(Entries<A>, News<L>), (Shared<L, A>, Seats<L, A>, CloseFault)>
         ensures seated { MatchResult result (λ _. AllAreSeated self.jobs seats) (λ back. IsLeastMissing self.jobs seats (told_job back.2)) }
-        ensures history { IfOk result (λ entries. IsLegal entries) }
-        ensures calls { IfOk result (λ entries. length entries ≡ calls_in seats) }
+        ensures history { IfOk result (λ closed. IsLegal closed.0) }
+        ensures calls { IfOk result (λ closed. length closed.0 ≡ calls_in seats) }
+        ensures news { IfOk result (λ closed. closed.1 ≡ closed.0) }
         ensures back { MatchResult result (λ _. Unit {0}) (λ back. (back.0 ≡ self) × (back.1 ≡ seats)) }
     {
         if let Some(job) = seats.missing(self.jobs) {
             return Err((self, seats, CloseFault::Missing { job }));
         }
-        Ok(self.locked.into_inner().into_entries(seats))
+        Ok(self.locked.into_inner().close(rt, seats))
     }
 }

@@ -2,21 +2,25 @@
 
 use crate::gate::Gate;
 use crate::input::Input;
-use crate::name::Name;
 use crate::refused::{Refused, RefusedInput};
 use crate::seat::Seat;
 use crate::shared::Shared;
 use covbook::{BookFault, JobLog, Op, Readings, Receipts, SubRef};
+use covline::Memory;
+use covnews::{Live, Name, News, ReaderFault};
 use std::alloc::{Allocator, Global};
 use std::marker::Model;
 use std::sync::Wait;
 
-/// A job at work: its seat, what it keeps of its calls, and which of its inputs are refused. Contracts see all three.
+/// A job at work: its seat, what it keeps of its calls, what it read of the totals, and which of its inputs are refused. Contracts
+/// see all four. Its reader is there where there was a place for one.
 #[derive(Drop)]
 pub(crate) struct Worker<L: Name, A: Allocator = Global> {
     seat: Seat<L>,
     receipts: Receipts<A>,
+    readings: Readings<A>,
     refused: Refused<A>,
+    live: Option<Live<L, A>>,
 }
 
 impl<L: Name, A: Allocator> Model for Worker<L, A> {
@@ -24,7 +28,7 @@ impl<L: Name, A: Allocator> Model for Worker<L, A> {
 
     ghost Value = { WorkerData };
 
-    ghost view = { λ a. record { seat = a.seat; receipts = a.receipts; refused = a.refused } };
+    ghost view = { λ a. record { seat = a.seat; receipts = a.receipts; readings = a.readings; refused = a.refused } };
 }
 
 impl<L: Name, A: Allocator + Copy> Worker<L, A> {
@@ -36,7 +40,7 @@ impl<L: Name, A: Allocator + Copy> Worker<L, A> {
     ghost use Rattle.covjobs.specs.Work.{Takes, Asks};
 
     /// The job's worker, which has done nothing yet.
-    fn new(alloc: A, seat: Seat<L>) -> Worker<L, A>
+    fn new(alloc: A, seat: Seat<L>, live: Option<Live<L, A>>) -> Worker<L, A>
         ensures seat { result.seat ≡ seat }
         ensures receipts { result.receipts ≡ [] }
         ensures refused { result.refused ≡ [] }
@@ -44,7 +48,9 @@ impl<L: Name, A: Allocator + Copy> Worker<L, A> {
         Worker {
             seat,
             receipts: Receipts::new(alloc),
+            readings: Readings::new(alloc),
             refused: Refused::new(alloc),
+            live,
         }
     }
 
@@ -67,7 +73,7 @@ impl<L: Name, A: Allocator + Copy> Worker<L, A> {
         }
     }
 
-    /// Submits, between the two calls of the gate, and keeps the receipt.
+    /// Submits, between the two calls of the gate, and keeps the receipt and then a reading.
     fn submit<R: Wait, G: Gate>(
         &mut self,
         rt: &R,
@@ -84,29 +90,45 @@ impl<L: Name, A: Allocator + Copy> Worker<L, A> {
         gate.before(rt, job, call);
         let kept = self.ask(rt, alloc, book, &Op::Submit(submission));
         gate.after(rt, job, call);
-        kept
+        self.read(&kept?)?;
+        Ok(())
     }
 
-    /// Performs the operation, and keeps the receipt, which is of the place below the one that the job has seen now.
+    /// Performs the operation, and keeps the receipt, which is of the place below the one that the job has seen now. Answers news of
+    /// the history that ends with it.
     pub(crate) fn ask<R: Wait>(
         &mut self,
         rt: &R,
         alloc: A,
         book: &Shared<L, A>,
         op: &Op<A>,
-    ) -> Result<(), BookFault>
+    ) -> Result<News<L>, BookFault>
         ensures job { self.new.seat.job ≡ self.old.seat.job }
         ensures asked { IfOk result (λ _. Asks self.old.receipts self.new.receipts self.new.seat.seen (op_data op.now)) }
+        ensures readings { self.new.readings ≡ self.old.readings }
         ensures refused { self.new.refused ≡ self.old.refused }
     {
         let done = book.perform(rt, alloc, &mut self.seat, op)?;
         self.receipts.push(done.receipt)?;
+        Ok(done.news)
+    }
+
+    /// Keeps one reading that is at least as late as the news, where the job has a reader.
+    fn read(&mut self, news: &News<L>) -> Result<(), Memory>
+        ensures seat { self.new.seat ≡ self.old.seat }
+        ensures receipts { self.new.receipts ≡ self.old.receipts }
+        ensures refused { self.new.refused ≡ self.old.refused }
+    {
+        if let Some(live) = &mut self.live {
+            live.learn(news);
+            self.readings.push(live.totals())?;
+        }
         Ok(())
     }
 }
 
 impl<L: Name, A: Allocator> Worker<L, A> {
-    ghost use Rattle.std.specs.Prelude.{◌≡◌, []};
+    ghost use Rattle.std.specs.Prelude.{◌≡◌};
 
     /// The place behind that of the job's last call.
     pub(crate) fn seen(&self) -> u64
@@ -115,21 +137,22 @@ impl<L: Name, A: Allocator> Worker<L, A> {
         self.seat.seen()
     }
 
-    /// The job's seat, its log, which has no readings, and which of its inputs are refused. Takes no memory.
-    pub(crate) fn into_parts(self, alloc: A) -> (Seat<L>, JobLog<A>, Refused<A>)
+    /// The job's seat, its log, and which of its inputs are refused. Takes no memory.
+    pub(crate) fn into_parts(self) -> (Seat<L>, JobLog<A>, Refused<A>)
         ensures seat { result.0 ≡ self.seat }
         ensures job { result.1.job ≡ self.seat.job }
         ensures receipts { result.1.receipts ≡ self.receipts }
-        ensures readings { result.1.readings ≡ [] }
+        ensures readings { result.1.readings ≡ self.readings }
         ensures refused { result.2 ≡ self.refused }
     {
         let Worker {
             seat,
             receipts,
+            readings,
             refused,
+            live: _,
         } = self;
         let job = seat.job();
-        let readings = Readings::new(alloc);
         let log = JobLog {
             job,
             receipts,
@@ -143,7 +166,8 @@ ghost use Rattle.std.specs.Prelude.{◌≡◌, ◌<◌, IfOk, length, map};
 ghost use Rattle.covjobs.specs.Collect.{HasTaken, places_of_job};
 ghost use Rattle.covjobs.specs.InputView.{input_data};
 
-/// Does the work of a job of so many: takes its inputs in order. Ends at the first fault.
+/// Does the work of a job of so many: takes its inputs in order. Ends at the first fault. Where there is no place for one more
+/// reader the job has no readings.
 pub(crate) fn work<R: Wait, G: Gate, L: Name, A: Allocator + Copy>(
     rt: &R,
     alloc: A,
@@ -158,13 +182,26 @@ pub(crate) fn work<R: Wait, G: Gate, L: Name, A: Allocator + Copy>(
     ensures taken { IfOk result (λ w. HasTaken (map input_data inputs.now) jobs seat.job (length inputs.now) w.receipts w.refused) }
 {
     let job = seat.job();
-    let mut worker = Worker::new(alloc, seat);
+    let live = reader_of(rt, book)?;
+    let mut worker = Worker::new(alloc, seat, live);
     for (index, input) in inputs.iter().enumerate() {
         if is_of_job(index, jobs, job) {
             worker.take(rt, alloc, book, gate, index, input)?;
         }
     }
     Ok(worker)
+}
+
+/// A reader of the book, where there is a place for one.
+fn reader_of<R: Wait, L: Name, A: Allocator>(
+    rt: &R,
+    book: &Shared<L, A>,
+) -> Result<Option<Live<L, A>>, BookFault> {
+    match book.reader(rt) {
+        Ok(live) => Ok(Some(live)),
+        Err(ReaderFault::NoPlace) => Ok(None),
+        Err(ReaderFault::Memory) => Err(BookFault::Memory),
+    }
 }
 
 /// Whether the input at this place is one of the job's, of so many.

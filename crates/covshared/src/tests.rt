@@ -10,6 +10,7 @@ mod collecting;
 mod gates;
 mod jobs;
 mod kept;
+mod readers;
 mod refusals;
 mod said;
 mod threads;

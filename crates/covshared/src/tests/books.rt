@@ -3,10 +3,10 @@
 
 ghost use Rattle.std.specs.Prelude.{◌≡◌};
 
-use super::calls::{close, drop_of, open, perform, submit};
+use super::calls::{close, done, drop_of, open, submit};
 use super::turns::SMALL;
 use covbook::{Entries, JobLog, Op, Readings, Receipt, Receipts};
-use covjobs::{Name, Seat, Shared, Start};
+use covjobs::{Done, Name, News, Seat, Shared, Start};
 use std::alloc::{Allocator, Global};
 use std::process::Abort;
 use std::sync::Wait;
@@ -19,6 +19,7 @@ pub(super) fn opened<L: Name, A: Allocator + Copy>(
 ) -> (Shared<L, A>, Vec<Seat<L>, A>)
     requires name { start.name ≡ L.name }
     requires jobs { start.jobs ≡ L.parts }
+    requires book { start.book ≡ L.book }
 {
     match open::<L, A>(alloc, start) {
         Ok((book, seats)) => (book, seats.into_vec()),
@@ -26,16 +27,25 @@ pub(super) fn opened<L: Name, A: Allocator + Copy>(
     }
 }
 
+/// The history of the book, whose seats are all here, and news of it.
+pub(super) fn closed<L: Name, A: Allocator, R: Wait + Abort>(
+    rt: &R,
+    book: Shared<L, A>,
+    seats: Vec<Seat<L>, A>,
+) -> (Entries<A>, News<L>) {
+    match close(rt, book, seats) {
+        Ok((entries, news)) => (entries, news),
+        Err(_back) => panic!(rt; "a seat is missing"),
+    }
+}
+
 /// The history of the book, whose seats are all here.
-pub(super) fn closed<L: Name, A: Allocator>(
-    rt: &impl Abort,
+pub(super) fn history_of<L: Name, A: Allocator, R: Wait + Abort>(
+    rt: &R,
     book: Shared<L, A>,
     seats: Vec<Seat<L>, A>,
 ) -> Entries<A> {
-    match close(book, seats) {
-        Ok(entries) => entries,
-        Err(_back) => panic!(rt; "a seat is missing"),
-    }
+    closed(rt, book, seats).0
 }
 
 /// The operation of this name, of one that submits the small tracefile.
@@ -57,6 +67,20 @@ pub(super) fn op_of(rt: &impl Abort, alloc: Global, name: &[u8]) -> Op {
     }
 }
 
+/// The seat's call succeeds, with this receipt and these news.
+pub(super) fn done_of<L: Name, R: Wait + Abort>(
+    rt: &R,
+    alloc: Global,
+    book: &Shared<L>,
+    seat: &mut Seat<L>,
+    op: &Op,
+) -> Done<L> {
+    match done(rt, alloc, book, seat, op) {
+        Ok(done) => done,
+        Err(_fault) => panic!(rt; "a step is refused"),
+    }
+}
+
 /// The seat's call succeeds, with this receipt.
 pub(super) fn receipt_of<L: Name, R: Wait + Abort>(
     rt: &R,
@@ -65,10 +89,7 @@ pub(super) fn receipt_of<L: Name, R: Wait + Abort>(
     seat: &mut Seat<L>,
     op: &Op,
 ) -> Receipt {
-    match perform(rt, alloc, book, seat, op) {
-        Ok(receipt) => receipt,
-        Err(_fault) => panic!(rt; "a step is refused"),
-    }
+    done_of(rt, alloc, book, seat, op).receipt
 }
 
 /// The log takes the receipt.
@@ -78,7 +99,7 @@ pub(super) fn keep(rt: &impl Abort, log: &mut JobLog, receipt: Receipt) {
     }
 }
 
-/// A log without receipts for each seat.
+/// A log without receipts and readings for each seat.
 pub(super) fn empty_logs<L: Name>(
     rt: &impl Abort,
     alloc: Global,

@@ -3,9 +3,12 @@
 ghost use Rattle.std.specs.Prelude.{◌≡◌};
 
 use covbook::{
-    Answer, BookFault, Entries, Entry, GatherFault, JobLog, Op, Receipt, SubRef, gather,
+    Answer, BookFault, Entries, Entry, GatherFault, JobLog, Op, Reading, Receipt, SubRef, gather,
 };
-use covjobs::{CloseFault, Done, Name, OpenFault, Seat, Seats, Shared, Start, open_book};
+use covjobs::{
+    CloseFault, Done, Live, Name, News, OpenFault, ReaderFault, Seat, Seats, Shared, Start,
+    open_book,
+};
 use covline::{Bytes, Memory};
 use covread::read_trace;
 use std::alloc::{Allocator, Global};
@@ -21,18 +24,19 @@ pub(super) fn open<L: Name, A: Allocator + Copy>(
 ) -> Result<(Shared<L, A>, Seats<L, A>), Memory>
     requires name { start.name ≡ L.name }
     requires jobs { start.jobs ≡ L.parts }
+    requires book { start.book ≡ L.book }
 {
     open_book::<L, A>(alloc, start)
 }
 
 /// The call as the book answers it.
-fn done<L: Name, A: Allocator + Copy, R: Wait>(
+pub(super) fn done<L: Name, A: Allocator + Copy, R: Wait>(
     rt: &R,
     alloc: A,
     book: &Shared<L, A>,
     seat: &mut Seat<L>,
     op: &Op<A>,
-) -> Result<Done<A>, BookFault> {
+) -> Result<Done<L, A>, BookFault> {
     book.perform(rt, alloc, seat, op)
 }
 
@@ -46,11 +50,28 @@ pub(super) fn perform<L: Name, A: Allocator + Copy, R: Wait>(
     Ok(done(rt, alloc, book, seat, op)?.receipt)
 }
 
-pub(super) fn close<L: Name, A: Allocator>(
+pub(super) fn close<L: Name, A: Allocator, R: Wait>(
+    rt: &R,
     book: Shared<L, A>,
     seats: Vec<Seat<L>, A>,
-) -> Result<Entries<A>, (Shared<L, A>, Seats<L, A>, CloseFault)> {
-    book.close(Seats::of(seats))
+) -> Result<(Entries<A>, News<L>), (Shared<L, A>, Seats<L, A>, CloseFault)> {
+    book.close(rt, Seats::of(seats))
+}
+
+pub(super) fn reader<L: Name, R: Wait>(rt: &R, book: &Shared<L>) -> Result<Live<L>, ReaderFault> {
+    book.reader(rt)
+}
+
+pub(super) fn learn<L: Name>(live: &mut Live<L>, news: &News<L>) {
+    live.learn(news);
+}
+
+pub(super) fn totals<L: Name>(live: &mut Live<L>) -> Reading {
+    live.totals()
+}
+
+pub(super) fn reading<L: Name>(news: &News<L>) -> Reading {
+    news.reading()
 }
 
 /// No seats.

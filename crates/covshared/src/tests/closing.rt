@@ -2,7 +2,7 @@
 
 ghost use Rattle.std.specs.Prelude.{◌≡◌};
 
-use super::books::{closed, op_of, opened, receipt_of};
+use super::books::{history_of, op_of, opened, receipt_of};
 use super::calls::{close, none, start, with};
 use super::turns::check_entries;
 use covjobs::{CloseFault, Name, Seat, Shared, Start};
@@ -22,14 +22,14 @@ const ENTRIES: &[u8] = b"\
 ";
 
 /// The book isn't closed, since the seat of this job is missing, and is handed back with the seats.
-fn close_without<L: Name>(
-    rt: &impl Abort,
+fn close_without<L: Name, R: Wait + Abort>(
+    rt: &R,
     book: Shared<L>,
     seats: Vec<Seat<L>>,
     job: u32,
 ) -> (Shared<L>, Vec<Seat<L>>) {
-    match close(book, seats) {
-        Ok(_entries) => panic!(rt; "no seat is missing"),
+    match close(rt, book, seats) {
+        Ok(_closed) => panic!(rt; "no seat is missing"),
         Err((book, seats, fault)) => {
             assert_eq!(rt; fault, CloseFault::Missing { job });
             (book, seats.into_vec())
@@ -88,13 +88,14 @@ fn refused_once<L: Name, R: Wait + Abort + AllocGlobal>(
 fn kept_back<L: Name, R: Wait + Abort + AllocGlobal>(rt: &R, start: Start)
     requires name { start.name ≡ L.name }
     requires jobs { start.jobs ≡ L.parts }
+    requires book { start.book ≡ L.book }
 {
     let (book, mut seats) = opened::<L, _>(rt, rt.alloc(), start);
     assert_eq!(rt; seats.len(), 2);
     let last = seats.pop();
     let (book, seats) = refused_once(rt, book, seats);
     let (book, _none) = close_without(rt, book, none(rt.alloc()), 0);
-    let entries = closed(rt, book, with_last(rt, seats, last));
+    let entries = history_of(rt, book, with_last(rt, seats, last));
     check_entries(rt, entries.get(), ENTRIES);
 }
 

@@ -1,7 +1,7 @@
 //! Inputs that jobs collect.
 
 use super::turns::{SMALL, check_entries};
-use covbook::{GatherFault, Op};
+use covbook::{GatherFault, JobLog, Op};
 use covjobs::{CollectFault, Collected, Gate, Input, NoGate, RefusedInput, collect};
 use covline::{Bytes, Memory};
 use covread::ReadFault;
@@ -84,6 +84,34 @@ fn one_refused<R: Threads + Wait + Sync + AllocGlobal + Abort>(rt: &R) -> Result
 #[test]
 fn a_refused_input(rt: HostRuntime) -> Result<(), Fail> {
     one_refused(&rt)
+}
+
+/// The log has so many receipts and readings.
+fn check_log(rt: &impl Abort, log: Option<&JobLog>, receipts: usize, readings: usize) {
+    match log {
+        Some(log) => {
+            assert_eq!(rt; log.receipts.get().len(), receipts);
+            assert_eq!(rt; log.readings.get().len(), readings);
+        }
+        None => panic!(rt; "no log"),
+    }
+}
+
+/// Job 0 submits two of three inputs and asks for the report, job 1 submits one.
+fn read_by_two<R: Threads + Wait + Sync + AllocGlobal + Abort>(rt: &R) -> Result<(), Fail> {
+    let inputs = traces(rt.alloc(), &[SMALL, SMALL, SMALL])?;
+    let collected = collected_of(rt, inputs.as_slice(), 2, &NoGate);
+    let logs = collected.logs.get();
+    assert_eq!(rt; logs.len(), 2);
+    check_log(rt, logs.first(), 3, 2);
+    check_log(rt, logs.get(1), 1, 1);
+    Ok(())
+}
+
+/// After each submit a job reads the totals once, and not after the last operation.
+#[test]
+fn a_reading_for_each_submit(rt: HostRuntime) -> Result<(), Fail> {
+    read_by_two(&rt)
 }
 
 /// Whether nothing is collected by so many jobs, as there can't be so many.

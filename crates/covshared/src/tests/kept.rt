@@ -3,11 +3,12 @@
 
 ghost use Rattle.std.specs.Prelude.{◌≡◌};
 
-use super::books::{closed, empty_logs, keep, op_of, opened, receipt_of};
+use super::books::{empty_logs, history_of, keep, op_of, opened, receipt_of};
 use super::calls::{copied, gathered, start};
 use super::turns::ASKED;
-use covbook::{Answer, Entries, GatherFault, JobLog, Op, Readings, Receipt, Receipts};
+use covbook::{Answer, Entries, GatherFault, JobLog, Op, Reading, Readings, Receipt, Receipts};
 use covjobs::{Name, Seat, Shared, Start};
+use covstore::Totals;
 use std::alloc::Global;
 use std::marker::Brand;
 use std::process::Abort;
@@ -38,6 +39,7 @@ fn in_turn<L: Name, R: Wait + Abort + AllocGlobal>(
 ) -> (Entries, Vec<JobLog>)
     requires name { start.name ≡ L.name }
     requires jobs { start.jobs ≡ L.parts }
+    requires book { start.book ≡ L.book }
 {
     let alloc = rt.alloc();
     let (book, mut seats) = opened::<L, _>(rt, alloc, start);
@@ -50,7 +52,7 @@ fn in_turn<L: Name, R: Wait + Abort + AllocGlobal>(
         logs.as_mut_slice(),
         lines,
     );
-    (closed(rt, book, seats), logs)
+    (history_of(rt, book, seats), logs)
 }
 
 /// The history of a book that two jobs share, who ask in turn what the lines name, and what each of them kept.
@@ -136,5 +138,28 @@ fn another_history(rt: HostRuntime) -> Result<(), Fail> {
     let (_entries, logs) = history(&rt, ASKED)?;
     let (entries, _logs) = history(&rt, b"summary\nreport\ndrop\nsummary\nsubmit\nsubmit")?;
     check_differs(&rt, &entries, logs.as_slice());
+    Ok(())
+}
+
+/// The first log gets this reading.
+fn read_in_first(rt: &impl Abort, logs: &mut [JobLog], reading: Reading) {
+    if let Some(log) = logs.first_mut() {
+        if log.readings.push(reading).is_err() {
+            panic!(rt; "out of memory");
+        }
+    }
+}
+
+/// After two submissions the totals aren't zeros.
+#[test]
+fn a_bad_reading(rt: HostRuntime) -> Result<(), Fail> {
+    let (entries, mut logs) = history(&rt, ASKED)?;
+    let reading = Reading {
+        upto: 2,
+        totals: Totals::default(),
+    };
+    read_in_first(&rt, logs.as_mut_slice(), reading);
+    let told = gathered(entries.get(), logs.as_slice());
+    assert!(&rt; told == Err(GatherFault::BadReading { log: 0, index: 0 }));
     Ok(())
 }

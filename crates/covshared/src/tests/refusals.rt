@@ -2,7 +2,7 @@
 
 ghost use Rattle.std.specs.Prelude.{◌≡◌};
 
-use super::books::{closed, opened};
+use super::books::{history_of, opened};
 use super::calls::{perform, start};
 use covbook::{BookFault, Op};
 use covjobs::{Name, Seat, Shared, Start};
@@ -72,6 +72,7 @@ fn check_refusal<L: Name, A: Allocator + Copy, R: Wait + Abort>(
 fn no_room<L: Name, A: Allocator + Copy, R: Wait + Abort>(rt: &R, alloc: A, start: Start<A>)
     requires name { start.name ≡ L.name }
     requires jobs { start.jobs ≡ L.parts }
+    requires book { start.book ≡ L.book }
 {
     let (book, mut seats) = opened::<L, A>(rt, alloc, start);
     if let Some(seat) = seats.first_mut() {
@@ -81,13 +82,13 @@ fn no_room<L: Name, A: Allocator + Copy, R: Wait + Abort>(rt: &R, alloc: A, star
 }
 
 /// The closed history has as many entries as the only seat counts calls.
-fn check_length<L: Name, A: Allocator>(
-    rt: &impl Abort,
+fn check_length<L: Name, A: Allocator, R: Wait + Abort>(
+    rt: &R,
     book: Shared<L, A>,
     seats: Vec<Seat<L>, A>,
 ) {
     let calls = calls_of(rt, seats.as_slice());
-    let entries = closed(rt, book, seats);
+    let entries = history_of(rt, book, seats);
     assert_eq!(rt; entries.get().len() as u64, calls);
 }
 
@@ -110,6 +111,7 @@ fn a_heap_without_room(rt: HostRuntime) -> Result<(), Fail> {
 fn full<L: Name, R: Wait + Abort + AllocGlobal>(rt: &R, start: Start)
     requires name { start.name ≡ L.name }
     requires jobs { start.jobs ≡ L.parts }
+    requires book { start.book ≡ L.book }
 {
     let (book, mut seats) = opened::<L, _>(rt, rt.alloc(), start);
     if let Some(seat) = seats.first_mut() {

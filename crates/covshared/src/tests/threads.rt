@@ -2,7 +2,7 @@
 
 ghost use Rattle.std.specs.Prelude.{◌≡◌};
 
-use super::books::{closed, empty_logs, keep, op_of, opened, receipt_of};
+use super::books::{empty_logs, history_of, keep, op_of, opened, receipt_of};
 use super::calls::{gathered, start};
 use super::check_bytes;
 use covbook::{Answer, Entry, JobLog, Op, Receipt};
@@ -110,6 +110,7 @@ fn at_once<L: Name + Send + Sync, R: Threads + Wait + Abort + AllocGlobal + Sync
 )
     requires name { start.name ≡ L.name }
     requires jobs { start.jobs ≡ L.parts }
+    requires book { start.book ≡ L.book }
 {
     let alloc = rt.alloc();
     let (book, mut seats) = opened::<L, _>(rt, alloc, start);
@@ -124,7 +125,7 @@ fn at_once<L: Name + Send + Sync, R: Threads + Wait + Abort + AllocGlobal + Sync
         &small,
     );
     check_reports(rt, &book, seats.as_mut_slice(), logs.as_mut_slice());
-    check_history(rt, closed(rt, book, seats).get(), logs.as_slice());
+    check_history(rt, history_of(rt, book, seats).get(), logs.as_slice());
 }
 
 #[test]

@@ -2,7 +2,7 @@
 
 ghost use Rattle.std.specs.Prelude.{◌≡◌};
 
-use super::books::{closed, op_of, opened, receipt_of};
+use super::books::{history_of, op_of, opened, receipt_of};
 use super::calls::start;
 use super::check_bytes;
 use super::said::{put_entries, put_receipt};
@@ -123,12 +123,13 @@ fn check_seats<L: Name>(rt: &(impl Abort + AllocGlobal), seats: &[Seat<L>], want
 fn in_turn<L: Name, R: Wait + Abort + AllocGlobal>(rt: &R, start: Start)
     requires name { start.name ≡ L.name }
     requires jobs { start.jobs ≡ L.parts }
+    requires book { start.book ≡ L.book }
 {
     let (book, mut seats) = opened::<L, _>(rt, rt.alloc(), start);
     check_seats(rt, seats.as_slice(), &[0, 0, 0, 1, 0, 0]);
     check_answers(rt, rt.alloc(), &book, seats.as_mut_slice(), RECEIPTS);
     check_seats(rt, seats.as_slice(), &[0, 3, 5, 1, 3, 6]);
-    check_entries(rt, closed(rt, book, seats).get(), ENTRIES);
+    check_entries(rt, history_of(rt, book, seats).get(), ENTRIES);
 }
 
 #[test]

@@ -1,7 +1,7 @@
 use Rattle.std.proofs.Common.{◌≡◌, ◌∙◌, List, Global, length, map, refl, ap, subst, arith}
 use Rattle.std.proofs.lemmas.List.{length-map}
 use Rattle.covbook.specs.EntryView.{entry_data}
-use Rattle.covbook.specs.Gather.{LogData, IsMerge}
+use Rattle.covbook.specs.Gather.{LogData, IsGathered}
 use Rattle.covbook.specs.LogView.{log_data}
 use Rattle.covbook.specs.Op.{EntryData}
 use Rattle.covbook.specs.View.{op_data}
@@ -21,11 +21,11 @@ returns-clause-collected g c =
     let done : HaveDone (works_from inputs jobs 0 jobs) workers =
     subst (λ (seats : List SeatData). HaveDone (map (work_of inputs jobs) seats) workers) (c.in_ok-book.ensures.seats ∙ ap first_seats c.requires.jobs)
     (c.in_ok-work_at_once.ensures workers c.in_ok-workers.ensures) in
-    let merge : IsMerge entries c.in_ok-seats.logs =
-    subst (λ (logs : List LogData). IsMerge entries logs) c.get-2.ensures
-    (subst (λ (es : List EntryData). IsMerge es (map (log_data {A = Global}) c.get-2.result.now)) c.get.ensures (c.in_ok-gather.ensures.gathered.0 refl).merge) in
+    let gathered : IsGathered entries c.in_ok-seats.logs =
+    subst (λ (logs : List LogData). IsGathered entries logs) c.get-2.ensures
+    (subst (λ (es : List EntryData). IsGathered es (map (log_data {A = Global}) c.get-2.result.now)) c.get.ensures (c.in_ok-gather.ensures.gathered.0 refl)) in
     let told : length (map (entry_data {A = Global}) c.get-3.result.now) ≡ length entries = ap (λ (es : List EntryData). length es) c.get-3.ensures in
     let long : length entries ≡ c.in_ok-end.end = omega (arith, told, length-map c.get-3.result.now (entry_data {A = Global}), c.if-get-end.false) in
     all_collected inputs jobs c.in_ok-end.end (op_data c.args.last.now) workers c.ask_last.new.workers.items entries c.in_ok-seats.logs c.in_ok-seats.refused c.requires.some done
-    c.in_ok-end.ensures c.in_ok-seats.ensures.logs c.in_ok-seats.ensures.refused c.in_ok-seats.ensures.ascending c.in-Ok.ensures.history merge long
+    c.in_ok-end.ensures c.in_ok-seats.ensures.logs c.in_ok-seats.ensures.refused c.in_ok-seats.ensures.ascending c.in-Ok.ensures.history gathered long
     c.a_run_goes_on.ensures.answers c.order_does_not_matter.ensures.texts

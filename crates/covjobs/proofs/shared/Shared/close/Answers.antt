@@ -5,8 +5,8 @@ use Rattle.covjobs.proofs.Seated.{all_need_seats}
 use Rattle.covjobs.proofs.shared.Shared.close.Goals as goal
 
 -- each of the count's parts has a seat, since each job has one
-pub into_entries-requires : goal.into_entries-requires
-into_entries-requires g c = omega (arith, c.self.invariant, all_need_seats c.self.inside.jobs c.args.seats c.in_default.ensures)
+pub close-requires : goal.close-requires
+close-requires g c = omega (arith, c.self.invariant, all_need_seats c.self.inside.jobs c.args.seats c.in_default.ensures)
 
 pub returns-clause-seated : goal.returns-clause-seated
 returns-clause-seated g c = subst (λ (s : SharedData). AllAreSeated s.jobs c.args.seats) c.self.view_is c.in_default.ensures

@@ -1,0 +1,309 @@
+//! Readers of the totals, which take no lock.
+
+ghost use Rattle.std.specs.Prelude.{◌≡◌};
+
+use super::books::{closed, done_of, keep, op_of, opened};
+use super::calls::{gathered, learn, reader, reading, start, totals};
+use covbook::{JobLog, Op, Reading, Readings, Receipts};
+use covjobs::{Live, Name, News, ReaderFault, Seat, Shared, Start};
+use std::alloc::Global;
+use std::marker::Brand;
+use std::process::Abort;
+use std::sync::Wait;
+use std::test::*;
+use std::thread::{Threads, join};
+
+/// A reader of the book.
+fn reader_of<L: Name, R: Wait + Abort>(rt: &R, book: &Shared<L>) -> Live<L> {
+    match reader(rt, book) {
+        Ok(live) => live,
+        Err(_fault) => panic!(rt; "no reader"),
+    }
+}
+
+/// The reading is of so many entries, and finds so many lines and hits so many of them, and nothing else.
+fn check_reading(rt: &impl Abort, reading: Reading, upto: u64, found: u64, hit: u64) {
+    let totals = reading.totals;
+    assert_eq!(rt; reading.upto, upto);
+    assert_eq!(rt; (totals.lf, totals.lh), (found, hit));
+    assert_eq!(rt; (totals.ff, totals.fh, totals.bf, totals.bh), (0, 0, 0, 0));
+}
+
+/// The reader gives no entries.
+fn check_none<L: Name>(rt: &impl Abort, live: &mut Live<L>) {
+    check_reading(rt, totals(live), 0, 0, 0);
+}
+
+/// The reader gives the totals of the small tracefile, after so many entries.
+fn check_small<L: Name>(rt: &impl Abort, live: &mut Live<L>, upto: u64) {
+    check_reading(rt, totals(live), upto, 2, 1);
+}
+
+/// The news are of so many entries, after which the totals are those of the small tracefile.
+fn check_news<L: Name>(rt: &impl Abort, news: &News<L>, upto: u64) {
+    check_reading(rt, reading(news), upto, 2, 1);
+}
+
+/// Job 0 submits the small tracefile.
+fn submitted<L: Name, R: Wait + Abort>(
+    rt: &R,
+    alloc: Global,
+    book: &Shared<L>,
+    seats: &mut [Seat<L>],
+) -> News<L> {
+    let op = op_of(rt, alloc, b"submit");
+    match seats.first_mut() {
+        Some(seat) => done_of(rt, alloc, book, seat, &op).news,
+        None => panic!(rt; "no seat"),
+    }
+}
+
+/// Two readers are made before a submit. One learns its news, the other only looks.
+fn read_by_two<L: Name, R: Wait + Abort + AllocGlobal>(rt: &R, start: Start)
+    requires name { start.name ≡ L.name }
+    requires jobs { start.jobs ≡ L.parts }
+    requires book { start.book ≡ L.book }
+{
+    let (book, mut seats) = opened::<L, _>(rt, rt.alloc(), start);
+    let mut first = reader_of(rt, &book);
+    let mut second = reader_of(rt, &book);
+    check_none(rt, &mut first);
+    let news = submitted(rt, rt.alloc(), &book, seats.as_mut_slice());
+    learn(&mut first, &news);
+    check_small(rt, &mut first, 1);
+    check_small(rt, &mut second, 1);
+    let _closed = closed(rt, book, seats);
+}
+
+#[test]
+fn a_submit_is_read(rt: HostRuntime) -> Result<(), Fail> {
+    read_by_two::<Brand, _>(&rt, start(rt.alloc(), 1)?);
+    Ok(())
+}
+
+/// One reader has read the last entry; one was made after it and one before the first, and these two were never asked. Then the
+/// book is closed.
+fn kept_over_close<L: Name, R: Wait + Abort + AllocGlobal>(rt: &R, start: Start)
+    requires name { start.name ≡ L.name }
+    requires jobs { start.jobs ≡ L.parts }
+    requires book { start.book ≡ L.book }
+{
+    let (book, mut seats) = opened::<L, _>(rt, rt.alloc(), start);
+    let mut early = reader_of(rt, &book);
+    let mut asked = reader_of(rt, &book);
+    let _news = submitted(rt, rt.alloc(), &book, seats.as_mut_slice());
+    check_small(rt, &mut asked, 1);
+    let mut late = reader_of(rt, &book);
+    let (_entries, news) = closed(rt, book, seats);
+    check_small(rt, &mut asked, 1);
+    check_small(rt, &mut late, 1);
+    check_none(rt, &mut early);
+    learn(&mut early, &news);
+    check_small(rt, &mut early, 1);
+}
+
+#[test]
+fn readers_of_a_closed_book(rt: HostRuntime) -> Result<(), Fail> {
+    kept_over_close::<Brand, _>(&rt, start(rt.alloc(), 1)?);
+    Ok(())
+}
+
+/// So many readers of the book.
+fn readers_of<L: Name, R: Wait + Abort>(
+    rt: &R,
+    alloc: Global,
+    book: &Shared<L>,
+    count: u64,
+) -> Vec<Live<L>> {
+    let mut readers = Vec::new(alloc);
+    for _reader in 0..count {
+        if readers.push(reader_of(rt, book)).is_err() {
+            panic!(rt; "out of memory");
+        }
+    }
+    readers
+}
+
+/// Whether the book has no place for one more reader.
+fn has_no_place<L: Name, R: Wait>(rt: &R, book: &Shared<L>) -> bool {
+    match reader(rt, book) {
+        Ok(_live) => false,
+        Err(fault) => fault == ReaderFault::NoPlace,
+    }
+}
+
+/// There are places for 64 readers, which are let go before the book is closed.
+fn all_places<L: Name, R: Wait + Abort + AllocGlobal>(rt: &R, start: Start)
+    requires name { start.name ≡ L.name }
+    requires jobs { start.jobs ≡ L.parts }
+    requires book { start.book ≡ L.book }
+{
+    let (book, seats) = opened::<L, _>(rt, rt.alloc(), start);
+    let readers = readers_of(rt, rt.alloc(), &book, 64);
+    assert!(rt; has_no_place(rt, &book));
+    drop(readers);
+    let _closed = closed(rt, book, seats);
+}
+
+#[test]
+fn places_for_readers(rt: HostRuntime) -> Result<(), Fail> {
+    all_places::<Brand, _>(&rt, start(rt.alloc(), 1)?);
+    Ok(())
+}
+
+#[test]
+fn numbers_of_reader_faults(rt: HostRuntime) {
+    assert_eq!(rt; ReaderFault::NoPlace.number(), 1);
+    assert_eq!(rt; ReaderFault::Memory.number(), 2);
+}
+
+/// How often the small tracefile is submitted, and the totals are read, at once.
+const TIMES: u64 = 1000;
+
+/// What a job kept of its submits, its seat among the seats, and the news of the last one.
+#[derive(Drop)]
+struct Told<L: Name> {
+    seats: Vec<Seat<L>>,
+    log: JobLog,
+    last: Option<News<L>>,
+}
+
+/// Job 0 submits the small tracefile many times.
+fn submit_often<L: Name, R: Wait + Abort>(
+    rt: &R,
+    alloc: Global,
+    book: &Shared<L>,
+    mut seats: Vec<Seat<L>>,
+) -> Told<L> {
+    let mut log = empty_log(alloc);
+    let small = op_of(rt, alloc, b"submit");
+    let mut last = None;
+    if let Some(seat) = seats.first_mut() {
+        for _time in 0..TIMES {
+            last = Some(submit_once(rt, alloc, book, seat, &mut log, &small));
+        }
+    }
+    Told { seats, log, last }
+}
+
+/// The log of job 0, with nothing in it.
+fn empty_log(alloc: Global) -> JobLog {
+    JobLog {
+        job: 0,
+        receipts: Receipts::new(alloc),
+        readings: Readings::new(alloc),
+    }
+}
+
+/// Submits, keeps the receipt, and gives the news.
+fn submit_once<L: Name, R: Wait + Abort>(
+    rt: &R,
+    alloc: Global,
+    book: &Shared<L>,
+    seat: &mut Seat<L>,
+    log: &mut JobLog,
+    op: &Op,
+) -> News<L> {
+    let done = done_of(rt, alloc, book, seat, op);
+    keep(rt, log, done.receipt);
+    done.news
+}
+
+/// What a reader read, and the reader.
+#[derive(Drop)]
+struct Watched<L: Name> {
+    live: Live<L>,
+    readings: Readings,
+}
+
+/// Reads as often. The number of entries never falls.
+fn watch<L: Name>(rt: &impl Abort, alloc: Global, mut live: Live<L>) -> Watched<L> {
+    let mut readings = Readings::new(alloc);
+    let mut seen = 0;
+    for _time in 0..TIMES {
+        let reading = totals(&mut live);
+        check_rises(rt, reading, seen);
+        seen = reading.upto;
+        keep_reading(rt, &mut readings, reading);
+    }
+    Watched { live, readings }
+}
+
+/// The reading has no fewer entries than were seen, at most as many as are submitted, and their totals.
+fn check_rises(rt: &impl Abort, reading: Reading, seen: u64) {
+    assert!(rt; seen <= reading.upto);
+    assert!(rt; reading.upto <= TIMES);
+    if reading.upto == 0 {
+        check_reading(rt, reading, 0, 0, 0);
+    } else {
+        check_reading(rt, reading, reading.upto, 2, 1);
+    }
+}
+
+fn keep_reading(rt: &impl Abort, readings: &mut Readings, reading: Reading) {
+    if readings.push(reading).is_err() {
+        panic!(rt; "out of memory");
+    }
+}
+
+/// The reader learns the last news, and reads once more.
+fn read_last<L: Name>(rt: &impl Abort, watched: Watched<L>, last: Option<News<L>>) -> Readings {
+    let Watched {
+        mut live,
+        mut readings,
+    } = watched;
+    match last {
+        Some(news) => learn(&mut live, &news),
+        None => panic!(rt; "no seat"),
+    }
+    let reading = totals(&mut live);
+    check_reading(rt, reading, TIMES, 2, 1);
+    keep_reading(rt, &mut readings, reading);
+    readings
+}
+
+/// The closed book has an entry for each submit, and is gathered with what was kept and read.
+fn check_closed<L: Name, R: Wait + Abort>(
+    rt: &R,
+    book: Shared<L>,
+    seats: Vec<Seat<L>>,
+    log: JobLog,
+) {
+    let (entries, news) = closed(rt, book, seats);
+    assert_eq!(rt; entries.get().len(), 1000);
+    check_news(rt, &news, TIMES);
+    assert_eq!(rt; log.readings.get().len(), 1001);
+    assert!(rt; gathered(entries.get(), &[log]).is_ok());
+}
+
+fn read_while_written<L: Name + Send + Sync, R: Threads + Wait + Abort + AllocGlobal + Sync>(
+    rt: &R,
+    start: Start,
+)
+    requires name { start.name ≡ L.name }
+    requires jobs { start.jobs ≡ L.parts }
+    requires book { start.book ≡ L.book }
+{
+    let alloc = rt.alloc();
+    let (book, seats) = opened::<L, _>(rt, alloc, start);
+    let live = reader_of(rt, &book);
+    let (told, watched) = join(
+        rt,
+        || submit_often(rt, alloc, &book, seats),
+        || watch(rt, alloc, live),
+    );
+    let Told { seats, log, last } = told;
+    let readings = read_last(rt, watched, last);
+    let log = JobLog {
+        job: log.job,
+        receipts: log.receipts,
+        readings,
+    };
+    check_closed(rt, book, seats, log);
+}
+
+#[test]
+fn read_at_once(rt: HostRuntime) -> Result<(), Fail> {
+    read_while_written::<Brand, _>(&rt, start(rt.alloc(), 1)?);
+    Ok(())
+}
