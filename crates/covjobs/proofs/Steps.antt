@@ -1,6 +1,8 @@
 -- A step under the lock, told by the history that lay there before it.
 use Rattle.std.proofs.Common.{◌≡◌, ◌∙◌, ◌⊎◌, inl, inr, ℕ, ◌<◌, ◌≤◌, List, [], ◌∷◌, ◌++◌, length, Result, Ok, Err, refl, sym, ap, arith, subst}
 use Rattle.std.proofs.lemmas.List.{length_push}
+use Rattle.covbook.specs.declared.book.BookFault.{BookFault}
+use Rattle.covbook.specs.declared.book.BookFault.TheVariants as faults
 use Rattle.covbook.specs.Op.{OpData, EntryData, ReceiptData}
 use Rattle.covbook.specs.Step.{IsLegal, answer_of, next_entry, receipt_of, table_of, ops_in, most_entries}
 use Rattle.covjobs.specs.Call.{IsNewsOf}
@@ -28,6 +30,14 @@ ok_is_no_err value fault is = cc
 pub takes_more : (entries seen : ℕ) → entries < most_entries → seen ≤ entries → (entries ≡ most_entries) ⊎ (entries < seen) → ⊥
 takes_more entries seen few long (inl is) = omega arith
 takes_more entries seen few long (inr is) = omega arith
+
+-- such a history isn't the cause of an answer, and the answer isn't this fault
+pub is_not_full : {T E : Type 0} (answer : Result T E) (fault : E) (entries seen : ℕ) → (answer ≡ Err fault → ⊥) → entries < most_entries → seen ≤ entries
+    → (answer ≡ Err fault → (entries ≡ most_entries) ⊎ (entries < seen)) × ((entries ≡ most_entries) ⊎ (entries < seen) → answer ≡ Err fault)
+is_not_full answer fault entries seen other few long = (λ is. absurd (other is), λ full. absurd (takes_more entries seen few long full))
+
+pub no_room_is_not_full : {T : Type 0} → ◌≡◌ {A = Result T BookFault} (Err faults.Memory) (Err faults.Full) → ⊥
+no_room_is_not_full is = cc
 
 -- the entry that was made ready comes next in what was noted, which is the history as it was made ready
 pub comes_next : (noted ready : List EntryData) (entry made : EntryData) → noted ≡ ready → entry ≡ made → made ≡ next_entry ready made.job made.op → ComesNext noted entry

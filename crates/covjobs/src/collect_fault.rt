@@ -18,7 +18,7 @@ pub enum CollectFault {
     /// Fault 3: a growth was refused, or a worker couldn't be started.
     #[error("out of memory")]
     Memory,
-    /// Fault 4: the history isn't a merge of what the jobs were told.
+    /// Fault 4: the history isn't gathered from the jobs' logs: it is no merge of them, or a reading is wrong.
     #[error("gather: {0}")]
     Gather(GatherFault),
     /// Fault 5: an entry stands behind that of the last operation, which is tested last; or the book can't be closed, which no

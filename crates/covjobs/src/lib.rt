@@ -45,11 +45,11 @@ mod workers;
 
 pub use collect_fault::CollectFault;
 pub use collected::{Collected, collect};
+pub use covbook::Reading;
+pub use covnews::{Live, Name, News, ReaderFault};
 pub use gate::{Gate, NoGate};
 pub use handed::Seats;
 pub use input::Input;
-pub use covbook::Reading;
-pub use covnews::{Live, Name, News, ReaderFault};
 pub use name::{MOST_JOBS, OpenFault, Start};
 pub use refused::{Refused, RefusedInput};
 pub use seat::Seat;

@@ -33,7 +33,7 @@ impl<L: Name, A: Allocator> Model for Locked<L, A> {
 }
 
 impl<L: Name, A: Allocator + Copy> Locked<L, A> {
-    ghost use Rattle.std.specs.Prelude.{◌≡◌, ◌⊎◌, ◌<◌, ◌≤◌, ◌++◌, [], ◌∷◌, length, IfOk, OnOk, OnErr, Err, MatchResult};
+    ghost use Rattle.std.specs.Prelude.{◌≡◌, ◌↔◌, ◌⊎◌, ◌<◌, ◌≤◌, ◌++◌, [], ◌∷◌, length, IfOk, OnOk, OnErr, Err, MatchResult};
     ghost use Rattle.covbook.specs.declared.book.BookFault.TheVariants as faults;
     ghost use Rattle.covbook.specs.View.{op_data};
     ghost use Rattle.covbook.specs.EntryView.{receipt_data};
@@ -66,7 +66,7 @@ impl<L: Name, A: Allocator + Copy> Locked<L, A> {
 
     /// One step of the book by the seat's job, with all that belongs to it: the history is published with its entry. All that can
     /// be refused comes first, so a refusal leaves the history, what is published of it, and the seat as they were. Waits for
-    /// readers that still read what was published before the last time.
+    /// readers that still read what was published two steps ago.
     pub(crate) fn step<R: Wait>(
         &mut self,
         rt: &R,
@@ -81,16 +81,16 @@ impl<L: Name, A: Allocator + Copy> Locked<L, A> {
         ensures seat { MatchResult result (λ r. seat.new ≡ after_call seat.old r.0.place) (λ _. seat.new ≡ seat.old) }
         ensures seen { IfOk result (λ r. seat.old.seen ≤ r.0.place) }
         ensures refused { OnErr result (self.new ≡ self.old) }
-        ensures full { (length self.old ≡ most_entries) ⊎ (length self.old < seat.old.seen) → result ≡ Err faults.Full }
+        ensures full { (result ≡ Err faults.Full) ↔ ((length self.old ≡ most_entries) ⊎ (length self.old < seat.old.seen)) }
     {
         if (self.book.entries().len() as u64) < seat.seen() {
             return Err(BookFault::Full);
         }
         let ready = self.book.ready(alloc, seat.job(), op)?;
-        // This publisher alone has the history of this book, so `None` doesn't come; that it is alone is in its type, which no
-        // proof reads. Nothing is changed yet, so the step is given up, as where the history takes no more.
+        // `None` isn't met, since no other publisher has this history; no contract says so. Nothing is changed yet, so the step
+        // is refused. It isn't refused as `Full`, which has a cause that can be seen.
         let Some(news) = self.publisher.note(ready.entry()) else {
-            return Err(BookFault::Full);
+            return Err(BookFault::Memory);
         };
         let receipt = self.book.finish(ready);
         seat.count_call(&mut self.count, receipt.place);
@@ -100,13 +100,15 @@ impl<L: Name, A: Allocator + Copy> Locked<L, A> {
 }
 
 impl<L: Name, A: Allocator> Locked<L, A> {
-    ghost use Rattle.std.specs.Prelude.{◌≡◌, ◌≤◌, length, IfOk};
+    ghost use Rattle.std.specs.Prelude.{◌≡◌, ◌≤◌, length, IfOk, IfErr};
     ghost use Rattle.covbook.specs.Step.{IsLegal};
     ghost use Rattle.covjobs.specs.Seat.{calls_in};
+    ghost use Rattle.covnews.specs.declared.fault.ReaderFault.TheVariants as reader_faults;
 
-    /// One more reader of what is published, which is the history.
+    /// One more reader of what is published, which is the history. Takes no memory.
     pub(crate) fn reader(&mut self) -> Result<Live<L, A>, ReaderFault>
         ensures live { IfOk result (λ live. live ≡ self.old) }
+        ensures fault { IfErr result (λ fault. fault ≡ reader_faults.NoPlace) }
         ensures legal { IsLegal self.old }
         ensures same { self.new ≡ self.old }
     {

@@ -15,7 +15,8 @@ use thiserror::Error;
 /// How many readers are made of one book at the most.
 pub const MOST_READERS: u32 = 64;
 
-/// A book under a lock, which threads share by reference. Contracts see how many jobs it is for.
+/// A book under a lock, which threads share by reference. Contracts see how many jobs it is for. A book that is dropped, and not
+/// closed, keeps the memory that it shares with its readers (some 17 KB).
 #[derive(Drop)]
 pub struct Shared<L: Name, A: Allocator = Global> {
     jobs: u32,
@@ -77,9 +78,9 @@ pub fn open_book<L: Name, A: Allocator + Copy>(
     ensures seats { IfOk result (λ r. r.1 ≡ first_seats start.jobs) }
 {
     let (jobs, count, book, opening) = start.into_parts();
-    let publisher = Publisher::new(alloc, opening, MOST_READERS)?;
     let (count, mut all) = count.open::<L>();
     let seats = seats_for(alloc, jobs, &mut all)?;
+    let publisher = Publisher::new(alloc, opening, MOST_READERS)?;
     let locked = Mutex::new(Locked::new(book, count, all, publisher));
     Ok((Shared { jobs, locked }, seats))
 }
@@ -115,16 +116,18 @@ impl<L: Name, A: Allocator + Copy> Shared<L, A> {
 }
 
 impl<L: Name, A: Allocator> Shared<L, A> {
-    ghost use Rattle.std.specs.Prelude.{◌≡◌, length, IfOk, MatchResult};
+    ghost use Rattle.std.specs.Prelude.{◌≡◌, length, IfOk, IfErr, MatchResult};
     ghost use Rattle.covbook.specs.Step.{IsLegal};
     ghost use Rattle.covjobs.specs.Seat.{calls_in};
+    ghost use Rattle.covnews.specs.declared.fault.ReaderFault.TheVariants as reader_faults;
     ghost use Rattle.covjobs.specs.Handed.{AllAreSeated, IsLeastMissing};
     ghost use Rattle.covjobs.specs.CloseFault.{told_job};
 
-    /// A reader of the totals, which waits for nobody once it is made; it begins with the history as it is now. `NoPlace` where 64
-    /// readers were made, or earlier where no free place is found. Waits for the lock.
+    /// A reader of the totals, which waits for nobody once it is made. `NoPlace` if 64 readers were made, dropped ones among them,
+    /// or earlier if no free place is found. Takes no memory, so `Memory` isn't answered. Waits for the lock.
     pub fn reader<R: Wait>(&self, rt: &R) -> Result<Live<L, A>, ReaderFault>
-        ensures { IfOk result (λ live. IsLegal live) }
+        ensures legal { IfOk result (λ live. IsLegal live) }
+        ensures fault { IfErr result (λ fault. fault ≡ reader_faults.NoPlace) }
     {
         self.locked.lock(rt).reader()
     }

@@ -200,6 +200,7 @@ fn reader_of<R: Wait, L: Name, A: Allocator>(
     match book.reader(rt) {
         Ok(live) => Ok(Some(live)),
         Err(ReaderFault::NoPlace) => Ok(None),
+        // A reader takes no memory, so this isn't met.
         Err(ReaderFault::Memory) => Err(BookFault::Memory),
     }
 }

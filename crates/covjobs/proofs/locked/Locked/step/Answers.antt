@@ -1,4 +1,4 @@
-use Rattle.std.proofs.Common.{◌≡◌, ◌∙◌, List, [], ◌∷◌, ◌++◌, length, map, arith, ap, sym, refl, subst}
+use Rattle.std.proofs.Common.{◌≡◌, ◌∙◌, inr, List, [], ◌∷◌, ◌++◌, length, map, arith, ap, sym, refl, subst}
 use Rattle.std.proofs.lemmas.List.{length-map, length-append}
 use Rattle.std.proofs.lemmas.Result.{err_from_is_err_and}
 use Rattle.covbook.specs.declared.book.BookFault.TheVariants as faults
@@ -7,7 +7,7 @@ use Rattle.covbook.specs.EntryView.{entry_data, receipt_data}
 use Rattle.covbook.specs.Step.{IsLegal, next_entry}
 use Rattle.covbook.specs.View.{op_data}
 use Rattle.covnews.specs.Publisher.{PublisherData}
-use Rattle.covjobs.proofs.Steps.{comes_next, entry_behind, news_of, noted_is, takes_more, told_behind}
+use Rattle.covjobs.proofs.Steps.{comes_next, entry_behind, is_not_full, news_of, no_room_is_not_full, noted_is, ok_is_no_err, told_behind}
 use Rattle.covjobs.proofs.locked.Locked.step.Goals as goal
 
 pub returns-clause-entry : goal.returns-clause-entry
@@ -78,12 +78,25 @@ returns-clause-full g c =
     let lay : length c.self.inside.book.entries ≡ length c.args.self.now = ap (λ (xs : List EntryData). length xs) c.self.view_is in
     let same : length c.ready.new.self.entries ≡ length c.self.inside.book.entries = ap (λ (xs : List EntryData). length xs) c.in_ok-ready.ensures.same.entries in
     let shown : length (map (entry_data {A = g.row.A.Denot}) c.entries.result.now) ≡ length c.self.inside.book.entries = ap (λ (xs : List EntryData). length xs) c.entries.ensures.entries in
-    λ full. absurd (takes_more (length c.args.self.now) c.args.seat.now.seen
+    is_not_full _ faults.Full (length c.args.self.now) c.args.seat.now.seen (ok_is_no_err _ faults.Full)
     (omega (arith, lay, same, c.in_ok-ready.ensures.ready.ready.room.few))
-    (omega (arith, lay, shown, length-map c.entries.result.now (entry_data {A = g.row.A.Denot}), c.seen.ensures, c.if-entries-seen.false)) full)
+    (omega (arith, lay, shown, length-map c.entries.result.now (entry_data {A = g.row.A.Denot}), c.seen.ensures, c.if-entries-seen.false))
+
+-- where the entry isn't noted, the history takes more
+pub returns-in_default-clause-full : goal.returns-in_default-clause-full
+returns-in_default-clause-full g c =
+    let lay : length c.self.inside.book.entries ≡ length c.args.self.now = ap (λ (xs : List EntryData). length xs) c.self.view_is in
+    let same : length c.ready.new.self.entries ≡ length c.self.inside.book.entries = ap (λ (xs : List EntryData). length xs) c.in_ok-ready.ensures.same.entries in
+    let shown : length (map (entry_data {A = g.row.A.Denot}) c.entries.result.now) ≡ length c.self.inside.book.entries = ap (λ (xs : List EntryData). length xs) c.entries.ensures.entries in
+    is_not_full _ faults.Full (length c.args.self.now) c.args.seat.now.seen no_room_is_not_full
+    (omega (arith, lay, same, c.in_ok-ready.ensures.ready.ready.room.few))
+    (omega (arith, lay, shown, length-map c.entries.result.now (entry_data {A = g.row.A.Denot}), c.seen.ensures, c.if-entries-seen.false))
 
 pub returns-then-entries-seen-clause-full : goal.returns-then-entries-seen-clause-full
-returns-then-entries-seen-clause-full g c = λ full. refl
+returns-then-entries-seen-clause-full g c =
+    let lay : length c.self.inside.book.entries ≡ length c.args.self.now = ap (λ (xs : List EntryData). length xs) c.self.view_is in
+    let shown : length (map (entry_data {A = g.row.A.Denot}) c.entries.result.now) ≡ length c.self.inside.book.entries = ap (λ (xs : List EntryData). length xs) c.entries.ensures.entries in
+    ((λ is. inr (omega (arith, lay, shown, length-map c.entries.result.now (entry_data {A = g.row.A.Denot}), c.seen.ensures, c.if-entries-seen.true))), (λ it. refl))
 
 pub invariant_of-self : goal.invariant_of-self
 invariant_of-self g c = record {
