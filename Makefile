@@ -1,39 +1,56 @@
-# covcollect: build, run the stored session, play the calls, test, install.
-# Everything is done by the Rattle toolchain's command rt, and by Python 3, which rt itself wants; nothing else is needed.
+# covcollect: run the stored session, build, test, install, package. 'make help' lists the targets.
+# What runs, proves and builds is the Rattle toolchain's command rt, with Python 3, which rt itself wants. 'make package'
+# wants Debian's dpkg-dev too.
 
 PREFIX ?= /usr/local
 PROGRAM = crates/covcollect
 
-.PHONY: all run rows test install clean toolchain
+.PHONY: all run rows test install uninstall package package-check clean help toolchain
 
+## make: proves every crate and builds the program, build/covcollect
 all: build/covcollect
 
 # One line says what is missing, and no target goes on without it.
 toolchain:
 	@command -v rt >/dev/null 2>&1 || { echo "covcollect: the Rattle toolchain's command 'rt' isn't on PATH (rattle-kit-13f is wanted)" >&2; exit 1; }
 
-# Proves every crate and builds the program, with a line for each crate; the prover's own words go to build/log.
+# There is a line for each crate; the prover's own words go to build/log.
 build/covcollect: toolchain
 	@scripts/build
 	@cmp -s $(PROGRAM)/out/covcollect $@ || cp $(PROGRAM)/out/covcollect $@
 
-# The stored session: its input, and what the program answers.
-run: build/covcollect
-	@echo '--- input'; cat $(PROGRAM)/stdin
-	@echo '--- answers'; ./build/covcollect <$(PROGRAM)/stdin
+## make run: compiles the sources with checks on and runs the stored session; proves nothing, and takes a minute or two
+run: toolchain
+	@scripts/session
 
-# The scripts of covruns' tests, played on the built program.
+## make rows: plays the calls of the tests' scripts on build/covcollect
 rows: build/covcollect
 	@scripts/rows build/covcollect
 
-# The gate: every proof from nothing, the edits that must fail, the tests and the stored run.
+## make test: the gate: every proof from nothing, the edits that must fail, the tests, the stored session, the calls
 test: toolchain
 	@scripts/gate
 
+## make install: installs the program, its manual page and the completions below PREFIX (/usr/local), in DESTDIR if given
 install: build/covcollect
-	install -d $(DESTDIR)$(PREFIX)/bin $(DESTDIR)$(PREFIX)/share/man/man1
-	install -m 755 build/covcollect $(DESTDIR)$(PREFIX)/bin/covcollect
-	install -m 644 docs/covcollect.1 $(DESTDIR)$(PREFIX)/share/man/man1/covcollect.1
+	scripts/install build/covcollect "$(DESTDIR)$(PREFIX)"
 
+## make uninstall: removes all files that 'make install' wrote, with the same PREFIX and DESTDIR
+uninstall:
+	scripts/install --remove "$(DESTDIR)$(PREFIX)"
+
+## make package: builds a tar archive and a Debian package of the program in build/
+package: build/covcollect
+	@scripts/package
+
+## make package-check: installs, tries and removes both packages in a fresh Debian (as root)
+package-check:
+	@scripts/package-check
+
+## make clean: removes all that was built
 clean:
 	rm -rf build crates/*/out
+
+## make help: lists the targets
+help:
+	@sed -n 's/^## \([^:]*\): /\1\t/p' Makefile | expand -t 22

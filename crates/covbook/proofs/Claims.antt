@@ -44,6 +44,9 @@ tells_behind (Ok x) xs ys a t = all_join xs ys a t
 tells_behind (Err f) xs ys a t = first_right xs ys f a t
 
 -- what is left of a list, with its first element
+pub rest_at : {X : Type 0} (xs : List X) (i : ℕ) (d x : X) → i < length xs → x ≡ get_or xs i d → drop i xs ≡ x ∷ drop (i + 1) xs
+rest_at {X} xs i d x within is =
+    drop-cons xs i d within ∙ ap (λ (y : X). y ∷ drop (suc i) xs) (sym is) ∙ ap (λ (n : ℕ). x ∷ drop n xs) (sym (add-one i))
+
 pub rest_is : {X : Type 0} (xs : List X) (i : ℕ) (x : X) → i < length xs → x ≡ get_or xs i x → drop i xs ≡ x ∷ drop (i + 1) xs
-rest_is {X} xs i x within is =
-    drop-cons xs i x within ∙ ap (λ (y : X). y ∷ drop (suc i) xs) (sym is) ∙ ap (λ (n : ℕ). x ∷ drop n xs) (sym (add-one i))
+rest_is xs i x within is = rest_at xs i x x within is

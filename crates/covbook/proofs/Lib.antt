@@ -11,3 +11,4 @@ pub mod Once
 pub mod LogPlaces
 pub mod Checked
 pub mod Gathered
+pub mod Causes

@@ -1,11 +1,13 @@
--- All claims on logs hold exactly where the entries are a merge of the logs.
+-- All claims on logs hold exactly where the history is gathered from them.
 use Rattle.std.proofs.Common.{◌≡◌, ℕ, ◌+◌, ◌<◌, ◌≤◌, List, [], ◌∷◌, ◌++◌, length, map, sym, ap, inl, inr, subst, arith}
 use Rattle.std.specs.Prelude.{◌≢◌}
 use Rattle.std.specs.List.{AllByRecursion, Contains}
 use Rattle.std.proofs.lemmas.Bool.{cases_eq}
 use Rattle.covbook.specs.declared.gather_fault.GatherFault.TheVariants.{Missing}
+use Rattle.covbook.specs.declared.reading.Reading.{Reading}
 use Rattle.covbook.specs.Op.{EntryData, ReceiptData}
-use Rattle.covbook.specs.Gather.{LogData, jobs_of, places_in, Rise, Differ, IsOfJob, IsReceiptOf, IsLogOf, IsMerge, AllHold, FirstFails, job_claims, receipt_claims, log_claims, entry_claims, merge_claims}
+use Rattle.covbook.specs.Cause.{IsRightLog}
+use Rattle.covbook.specs.Gather.{LogData, jobs_of, places_in, Rise, Differ, IsOfJob, IsReceiptOf, IsLogOf, IsReadingOf, AreReadingsOf, IsGathered, AllHold, FirstFails, job_claims, receipt_claims, reading_claims, claims_of_log, log_claims, entry_claims, gather_claims}
 use Rattle.covbook.proofs.Claims.{all_join, all_left, all_right}
 use Rattle.covbook.proofs.PlaceCounts.{all_weaker, all_both, all_any, all_joined, all_before, all_behind}
 
@@ -69,25 +71,66 @@ receipts_are entries job log index least (r ∷ receipts) low rise own same = (
   ),
 )
 
+-- ---- the readings of a log
+
+pub readings_hold : (entries : List EntryData) (log index : ℕ) (readings : List Reading) → AllHold (reading_claims entries log index readings) → AllByRecursion (IsReadingOf entries) readings
+readings_hold entries log index [] h = tt
+readings_hold entries log index (r ∷ readings) h = (h.0, readings_hold entries log (index + 1) readings h.1)
+
+pub readings_are : (entries : List EntryData) (log index : ℕ) (readings : List Reading) → AllByRecursion (IsReadingOf entries) readings → AllHold (reading_claims entries log index readings)
+readings_are entries log index [] h = tt
+readings_are entries log index (r ∷ readings) h = (h.0, readings_are entries log (index + 1) readings h.1)
+
 -- ---- the logs
 
-pub logs_hold : (entries : List EntryData) (number : ℕ) (logs : List LogData) → AllHold (log_claims entries number logs) → AllByRecursion (IsLogOf entries) logs
-logs_hold entries number [] h = tt
-logs_hold entries number (log ∷ logs) h =
-    let claims = receipt_claims entries log.job number 0 0 log.receipts in
-    let w = receipts_hold entries log.job number 0 0 log.receipts (all_left claims (log_claims entries (number + 1) logs) h) in
-    (record { rise = w.rise; own = w.own; same = w.same }, logs_hold entries (number + 1) logs (all_right claims (log_claims entries (number + 1) logs) h))
+-- the receipts of a log, as far as they are looked at
+pub log_of_receipts : (entries : List EntryData) (number : ℕ) (log : LogData) → AllHold (receipt_claims entries log.job number 0 0 log.receipts) → IsLogOf entries log
+log_of_receipts entries number log h =
+    let w = receipts_hold entries log.job number 0 0 log.receipts h in
+    record { rise = w.rise; own = w.own; same = w.same }
 
-logs_are : (entries : List EntryData) (number : ℕ) (logs : List LogData) → AllByRecursion (IsLogOf entries) logs → AllHold (log_claims entries number logs)
+pub receipts_of_log : (entries : List EntryData) (number : ℕ) (log : LogData) → IsLogOf entries log → AllHold (receipt_claims entries log.job number 0 0 log.receipts)
+receipts_of_log entries number log is =
+    receipts_are entries log.job number 0 0 log.receipts (all_any (λ (p : ℕ). 0 ≤ p) (λ (p : ℕ). omega arith) (places log.receipts)) is.rise is.own is.same
+
+pub log_holds : (entries : List EntryData) (number : ℕ) (log : LogData) → AllHold (claims_of_log entries number log) → IsRightLog entries log
+log_holds entries number log h =
+    let receipts = receipt_claims entries log.job number 0 0 log.receipts in
+    let readings = reading_claims entries number 0 log.readings in
+    record {
+      receipts = log_of_receipts entries number log (all_left receipts readings h);
+      readings = readings_hold entries number 0 log.readings (all_right receipts readings h);
+    }
+
+pub log_is : (entries : List EntryData) (number : ℕ) (log : LogData) → IsRightLog entries log → AllHold (claims_of_log entries number log)
+log_is entries number log is =
+    all_join (receipt_claims entries log.job number 0 0 log.receipts) (reading_claims entries number 0 log.readings) (receipts_of_log entries number log is.receipts)
+    (readings_are entries number 0 log.readings is.readings)
+
+pub logs_right : (entries : List EntryData) (number : ℕ) (logs : List LogData) → AllHold (log_claims entries number logs) → AllByRecursion (IsRightLog entries) logs
+logs_right entries number [] h = tt
+logs_right entries number (log ∷ logs) h =
+    let claims = claims_of_log entries number log in (
+      log_holds entries number log (all_left claims (log_claims entries (number + 1) logs) h),
+      logs_right entries (number + 1) logs (all_right claims (log_claims entries (number + 1) logs) h),
+    )
+
+pub logs_are : (entries : List EntryData) (number : ℕ) (logs : List LogData) → AllByRecursion (IsRightLog entries) logs → AllHold (log_claims entries number logs)
 logs_are entries number [] h = tt
 logs_are entries number (log ∷ logs) h =
-    all_join (receipt_claims entries log.job number 0 0 log.receipts) (log_claims entries (number + 1) logs)
-    (receipts_are entries log.job number 0 0 log.receipts (all_any (λ (p : ℕ). 0 ≤ p) (λ (p : ℕ). omega arith) (places log.receipts)) h.0.rise h.0.own h.0.same)
-    (logs_are entries (number + 1) logs h.1)
+    all_join (claims_of_log entries number log) (log_claims entries (number + 1) logs) (log_is entries number log h.0) (logs_are entries (number + 1) logs h.1)
+
+pub logs_hold : (entries : List EntryData) (number : ℕ) (logs : List LogData) → AllHold (log_claims entries number logs) → AllByRecursion (IsLogOf entries) logs
+logs_hold entries number logs h = all_weaker (IsRightLog entries) (IsLogOf entries) (λ (log : LogData) (is : IsRightLog entries log). is.receipts) logs (logs_right entries number logs h)
+
+both_right : (entries : List EntryData) (logs : List LogData) → AllByRecursion (IsLogOf entries) logs → AllByRecursion (AreReadingsOf entries) logs → AllByRecursion (IsRightLog entries) logs
+both_right entries logs kept readings =
+    all_weaker (λ (log : LogData). IsLogOf entries log × AreReadingsOf entries log) (IsRightLog entries)
+    (λ (log : LogData) (is : IsLogOf entries log × AreReadingsOf entries log). record { receipts = is.0; readings = is.1 }) logs (all_both (IsLogOf entries) (AreReadingsOf entries) logs kept readings)
 
 -- ---- the entries
 
-later : (start place : ℕ) → start ≤ place → (start ≡ place → ⊥) → start + 1 ≤ place
+pub later : (start place : ℕ) → start ≤ place → (start ≡ place → ⊥) → start + 1 ≤ place
 later start place low other = grind (arith, low, other)
 
 entries_hold : (logs : List LogData) (start : ℕ) (entries : List EntryData) → AllHold (entry_claims logs start entries) → (place : ℕ) → start ≤ place → place < start + length entries → Contains (places_in logs) place
@@ -114,24 +157,32 @@ entries_miss logs start (e ∷ entries) place low high missing told = elim (case
 
 -- ---- all of them
 
-pub merge_from : (entries : List EntryData) (logs : List LogData) → AllHold (merge_claims entries logs) → IsMerge entries logs
-merge_from entries logs h =
+pub gathered_from : (entries : List EntryData) (logs : List LogData) → AllHold (gather_claims entries logs) → IsGathered entries logs
+gathered_from entries logs h =
     let jobs = job_claims 0 [] logs in
     let kept = log_claims entries 0 logs in
     let all = entry_claims logs 0 entries in
     let both = all_left (jobs ++ kept) all h in
+    let right = logs_right entries 0 logs (all_right jobs kept both) in
     record {
-      differ = (jobs_hold 0 [] logs (all_left jobs kept both)).1;
-      kept = logs_hold entries 0 logs (all_right jobs kept both);
-      whole = λ place high. entries_hold logs 0 entries (all_right (jobs ++ kept) all h) place (omega arith) (omega (arith, high));
+      merge = record {
+        differ = (jobs_hold 0 [] logs (all_left jobs kept both)).1;
+        kept = logs_hold entries 0 logs (all_right jobs kept both);
+        whole = λ place high. entries_hold logs 0 entries (all_right (jobs ++ kept) all h) place (omega arith) (omega (arith, high));
+      };
+      readings = all_weaker (IsRightLog entries) (AreReadingsOf entries) (λ (log : LogData) (is : IsRightLog entries log). is.readings) logs right;
     }
 
-pub merge_holds : (entries : List EntryData) (logs : List LogData) → IsMerge entries logs → AllHold (merge_claims entries logs)
-merge_holds entries logs m =
+pub gathered_holds : (entries : List EntryData) (logs : List LogData) → IsGathered entries logs → AllHold (gather_claims entries logs)
+gathered_holds entries logs g =
     let jobs = job_claims 0 [] logs in
     let kept = log_claims entries 0 logs in
-    all_join (jobs ++ kept) (entry_claims logs 0 entries) (all_join jobs kept (jobs_differ 0 [] logs tt m.differ) (logs_are entries 0 logs m.kept))
+    let m = g.merge in
+    all_join (jobs ++ kept) (entry_claims logs 0 entries) (all_join jobs kept (jobs_differ 0 [] logs tt m.differ) (logs_are entries 0 logs (both_right entries logs m.kept g.readings)))
     (entries_are logs 0 entries (λ place low high. m.whole place (omega (arith, high))))
 
 pub jobs_from : (logs : List LogData) → AllHold (job_claims 0 [] logs) → Differ (jobs_of logs)
 jobs_from logs h = (jobs_hold 0 [] logs h).1
+
+pub jobs_to : (logs : List LogData) → Differ (jobs_of logs) → AllHold (job_claims 0 [] logs)
+jobs_to logs differ = jobs_differ 0 [] logs tt differ

@@ -1,16 +1,18 @@
--- A history gathered from what each job kept of it: when its entries are a merge of the jobs' logs, and the first fault where
--- they aren't.
-use Rattle.std.specs.Prelude.{◌≡◌, ◌≢◌, ℕ, ◌+◌, ◌<◌, ◌≤◌, ◌⊎◌, List, [], ◌∷◌, ◌++◌, length, map, slice_get, IsSomeAnd}
+-- A history gathered from what each job kept of it: when its entries are a merge of the jobs' logs and all readings are right,
+-- and the first fault where they aren't.
+use Rattle.std.specs.Prelude.{◌≡◌, ◌≢◌, ℕ, ◌+◌, ◌<◌, ◌≤◌, ◌⊎◌, List, [], ◌∷◌, ◌++◌, length, map, slice_get, take, IsSomeAnd}
 use Rattle.std.specs.List.{AllByRecursion, Contains, flat_map}
 use Rattle.covbook.specs.declared.gather_fault.GatherFault.{GatherFault}
-use Rattle.covbook.specs.declared.gather_fault.GatherFault.TheVariants.{Stranger, Differs, Backwards, Missing, SameJob}
+use Rattle.covbook.specs.declared.gather_fault.GatherFault.TheVariants.{Stranger, Differs, Backwards, Missing, BadReading, SameJob}
+use Rattle.covbook.specs.declared.reading.Reading.{Reading}
 use Rattle.covbook.specs.Op.{EntryData, ReceiptData}
-use Rattle.covbook.specs.Step.{receipt_of}
+use Rattle.covbook.specs.Step.{last_totals, receipt_of}
 
--- a log: the receipts that a job kept, in the order of its calls
+-- a log: the receipts that a job kept, in the order of its calls, and its readings
 pub record LogData : Type 0 where
   pub job : ℕ
   pub receipts : List ReceiptData
+  pub readings : List Reading
 
 -- the places that a log's receipts tell, and those that logs tell
 abbrev pub places_of : LogData → List ℕ
@@ -52,6 +54,19 @@ pub record IsMerge (entries : List EntryData) (logs : List LogData) : Type 0 whe
   pub kept : AllByRecursion (IsLogOf entries) logs
   pub whole : (place : ℕ) → place < length entries → Contains (places_in logs) place
 
+-- a reading is of a history: so many entries are there, and its totals are those after them, all zeros where they are none
+pub record IsReadingOf (entries : List EntryData) (r : Reading) : Type 0 where
+  pub within : r.upto ≤ length entries
+  pub totals : r.totals ≡ last_totals (take r.upto entries)
+
+abbrev pub AreReadingsOf : List EntryData → LogData → Type 0
+AreReadingsOf entries log = AllByRecursion (IsReadingOf entries) log.readings
+
+-- a history is gathered from logs: its entries are a merge of them, and each reading of each log is of the history
+pub record IsGathered (entries : List EntryData) (logs : List LogData) : Type 0 where
+  pub merge : IsMerge entries logs
+  pub readings : AllByRecursion (AreReadingsOf entries) logs
+
 -- what has to hold, and the fault where it doesn't
 pub record Claim : Type 1 where
   pub holds : Type 0
@@ -81,24 +96,33 @@ abbrev pub claims_of : List EntryData → (job log index least : ℕ) → Receip
 claims_of entries job log index least r =
     claim (IsOfJob entries job r) (Stranger log index) ∷ claim (IsReceiptOf entries r) (Differs log index) ∷ claim (least ≤ r.place) (Backwards log index) ∷ []
 
--- the receipts of a log, from this index on, and the logs, from this number on
+-- the receipts of a log, from this index on
 abbrev pub receipt_claims : List EntryData → (job log index least : ℕ) → List ReceiptData → List {1} Claim
 receipt_claims entries job log index least [] = []
 receipt_claims entries job log index least (r ∷ receipts) = claims_of entries job log index least r ++ receipt_claims entries job log (index + 1) (r.place + 1) receipts
 
+-- the readings of a log, from this index on
+abbrev pub reading_claims : List EntryData → (log index : ℕ) → List Reading → List {1} Claim
+reading_claims entries log index [] = []
+reading_claims entries log index (r ∷ readings) = claim (IsReadingOf entries r) (BadReading log index) ∷ reading_claims entries log (index + 1) readings
+
+-- a log: its receipts, then its readings; and the logs, from this number on
+abbrev pub claims_of_log : List EntryData → (number : ℕ) → LogData → List {1} Claim
+claims_of_log entries number log = receipt_claims entries log.job number 0 0 log.receipts ++ reading_claims entries number 0 log.readings
+
 abbrev pub log_claims : List EntryData → (number : ℕ) → List LogData → List {1} Claim
 log_claims entries number [] = []
-log_claims entries number (log ∷ logs) = receipt_claims entries log.job number 0 0 log.receipts ++ log_claims entries (number + 1) logs
+log_claims entries number (log ∷ logs) = claims_of_log entries number log ++ log_claims entries (number + 1) logs
 
 -- each entry, from this place on, is in a log
 abbrev pub entry_claims : List LogData → (place : ℕ) → List EntryData → List {1} Claim
 entry_claims logs place [] = []
 entry_claims logs place (e ∷ entries) = claim (Contains (places_in logs) place) (Missing place) ∷ entry_claims logs (place + 1) entries
 
--- all that makes entries a merge of logs, in the order in which faults are told
-abbrev pub merge_claims : List EntryData → List LogData → List {1} Claim
-merge_claims entries logs = job_claims 0 [] logs ++ log_claims entries 0 logs ++ entry_claims logs 0 entries
+-- all that makes a history gathered from logs, in the order in which faults are told
+abbrev pub gather_claims : List EntryData → List LogData → List {1} Claim
+gather_claims entries logs = job_claims 0 [] logs ++ log_claims entries 0 logs ++ entry_claims logs 0 entries
 
 -- the fault that is told of entries and logs
 abbrev pub IsGatherFault : List EntryData → List LogData → GatherFault → Type 0
-IsGatherFault entries logs fault = FirstFails (merge_claims entries logs) fault
+IsGatherFault entries logs fault = FirstFails (gather_claims entries logs) fault

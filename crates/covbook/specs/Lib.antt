@@ -11,5 +11,6 @@ pub mod ChangeView
 pub mod Order
 pub mod GatherFault
 pub mod Gather
+pub mod Cause
 pub mod GatherSteps
 pub mod LogView

@@ -2,8 +2,8 @@
 
 use thiserror::Error;
 
-/// Why a history isn't a merge of logs. Logs, receipts and places are counted from 0. The faults are told in this order: jobs
-/// first, then the logs in turn with their receipts in turn, and the missing entry last.
+/// Why a history isn't gathered from logs. Logs, receipts, readings and places are counted from 0. The faults are told in this
+/// order: jobs first, then the logs in turn, in each its receipts and then its readings, and the missing entry last.
 #[derive(Clone, Copy, Debug, PartialEq, Eq, Error)]
 pub enum GatherFault {
     /// Fault 1: at the receipt's place there is no entry, or one of another job.
@@ -18,6 +18,9 @@ pub enum GatherFault {
     /// Fault 4: this is the least place whose entry is in no log.
     #[error("missing")]
     Missing { place: u64 },
+    /// Fault 5: the reading counts more entries than there are, or its totals aren't those after so many entries.
+    #[error("bad reading")]
+    BadReading { log: usize, index: usize },
     /// Fault 6: an earlier log has the same job. This is tested first.
     #[error("same job")]
     SameJob { log: usize },
@@ -36,6 +39,7 @@ impl GatherFault {
             GatherFault::Differs { .. } => 2,
             GatherFault::Backwards { .. } => 3,
             GatherFault::Missing { .. } => 4,
+            GatherFault::BadReading { .. } => 5,
             GatherFault::SameJob { .. } => 6,
         }
     }

@@ -1,8 +1,10 @@
 //! Laws of the definitions that this crate's contracts cite. The functions do nothing: the contract is the law.
 
-ghost use Rattle.std.specs.Prelude.{◌≡◌, ◌↔◌, List, [], ◌∷◌, ◌++◌, map, Contains};
+ghost use Rattle.std.specs.Prelude.{◌≡◌, ◌↔◌, ℕ, List, [], ◌∷◌, ◌++◌, map, Contains};
 ghost use Rattle.covbook.specs.declared.gather_fault.GatherFault.{GatherFault};
-ghost use Rattle.covbook.specs.Gather.{AllHold, IsGatherFault, IsMerge, LogData, merge_claims};
+ghost use Rattle.covbook.specs.declared.gather_fault.GatherFault.TheVariants.{Stranger, Differs, Backwards, Missing, BadReading, SameJob};
+ghost use Rattle.covbook.specs.Cause.{IsBackwards, IsBadReading, IsDiffering, IsMissing, IsSameJob, IsStranger};
+ghost use Rattle.covbook.specs.Gather.{AllHold, IsGathered, IsGatherFault, LogData, gather_claims};
 ghost use Rattle.covbook.specs.Op.{EntryData, OpData, SubmitOp, ClashAnswer};
 ghost use Rattle.covbook.specs.Order.{submissions_in, AreTheSame, AreAgreeing, OnlySubmitsAndAsks};
 ghost use Rattle.covbook.specs.Step.{answer_of, answers_to, table_after, table_of, totals_at, totals_to};
@@ -44,10 +46,21 @@ pub fn order_does_not_matter()
     order_of_submissions_does_not_matter();
 }
 
-/// The claims on entries and logs, one after another, all hold exactly where the entries are a merge of the logs. Where one
+/// The claims on entries and logs, one after another, all hold exactly where the history is gathered from the logs. Where one
 /// doesn't, one fault alone is the first.
-pub fn claims_make_a_merge()
-    ensures merge { (entries : List EntryData) (logs : List LogData) → AllHold (merge_claims entries logs) ↔ IsMerge entries logs }
+pub fn claims_make_a_gathering()
+    ensures gathered { (entries : List EntryData) (logs : List LogData) → AllHold (gather_claims entries logs) ↔ IsGathered entries logs }
     ensures fault { (entries : List EntryData) (logs : List LogData) (some other : GatherFault) → IsGatherFault entries logs some → IsGatherFault entries logs other → some ≡ other }
-    ensures none { (entries : List EntryData) (logs : List LogData) (fault : GatherFault) → IsGatherFault entries logs fault → ¬ IsMerge entries logs }
+    ensures none { (entries : List EntryData) (logs : List LogData) (fault : GatherFault) → IsGatherFault entries logs fault → ¬ IsGathered entries logs }
+{}
+
+/// Each fault is told exactly where it has its cause: what is wrong at the log, receipt, reading or place that it names, where
+/// all that comes before it is right.
+pub fn each_fault_has_its_cause()
+    ensures stranger { (entries : List EntryData) (logs : List LogData) (log index : ℕ) → IsGatherFault entries logs (Stranger log index) ↔ IsStranger entries logs log index }
+    ensures differs { (entries : List EntryData) (logs : List LogData) (log index : ℕ) → IsGatherFault entries logs (Differs log index) ↔ IsDiffering entries logs log index }
+    ensures backwards { (entries : List EntryData) (logs : List LogData) (log index : ℕ) → IsGatherFault entries logs (Backwards log index) ↔ IsBackwards entries logs log index }
+    ensures missing { (entries : List EntryData) (logs : List LogData) (place : ℕ) → IsGatherFault entries logs (Missing place) ↔ IsMissing entries logs place }
+    ensures bad_reading { (entries : List EntryData) (logs : List LogData) (log index : ℕ) → IsGatherFault entries logs (BadReading log index) ↔ IsBadReading entries logs log index }
+    ensures same_job { (entries : List EntryData) (logs : List LogData) (log : ℕ) → IsGatherFault entries logs (SameJob log) ↔ IsSameJob logs log }
 {}

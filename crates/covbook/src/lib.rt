@@ -7,8 +7,8 @@
 //! A caller with something to do in between takes a step in two halves: `Book::ready` makes all that can be refused, and what
 //! it makes tells the totals behind the step (`Ready::after`); `Book::finish` takes the step, and no memory.
 //!
-//! Several jobs that share a book keep their receipts, each in a `JobLog`; `gather` tells whether the history is a merge of
-//! these logs, or the first fault.
+//! Several jobs that share a book keep their receipts and the totals that they read, each in a `JobLog`; `gather` tells whether
+//! the history is a merge of these logs and each reading has its totals, or the first fault.
 //!
 //! A sketch, which no test runs:
 //!
@@ -31,6 +31,7 @@ mod log;
 mod merge;
 mod op;
 mod places;
+mod reading;
 mod ready;
 mod shared;
 
@@ -40,5 +41,6 @@ pub use gather_fault::GatherFault;
 pub use log::{JobLog, Logs};
 pub use merge::gather;
 pub use op::{Answer, Op};
+pub use reading::{Reading, Readings};
 pub use ready::Ready;
 pub use shared::{SubRef, TextRef};

@@ -1,15 +1,17 @@
-//! What jobs keep of a history: their receipts.
+//! What jobs keep of a history: their receipts and readings.
 
 use crate::entry::Receipts;
+use crate::reading::Readings;
 use covline::Memory;
 use std::alloc::{Allocator, Global};
 use std::marker::Model;
 
-/// The receipts that one job kept, in the order of its calls.
+/// The receipts that one job kept, in the order of its calls, and the totals that it read.
 #[derive(Drop)]
 pub struct JobLog<A: Allocator = Global> {
     pub job: u32,
     pub receipts: Receipts<A>,
+    pub readings: Readings<A>,
 }
 
 /// A list of logs. Contracts see what they say.

@@ -1,26 +1,28 @@
 //! Gathering: the entries of a history against what each job kept of it.
 
-ghost use Rattle.std.specs.Prelude.{◌≡◌, ◌≢◌, ◌↔◌, ◌+◌, [], Err, IfOk, IsOk, IsTrue, map};
+ghost use Rattle.std.specs.Prelude.{◌≡◌, ◌≢◌, ◌↔◌, ◌+◌, ◌<◌, ◌≤◌, [], Err, IfOk, IsOk, IsTrue, MatchOption, length, map, take};
 ghost use Rattle.std.specs.List.{All};
 ghost use Rattle.covbook.specs.declared.gather_fault.GatherFault.{GatherFault};
 ghost use Rattle.covbook.specs.EntryView.{entry_data, receipt_data};
-ghost use Rattle.covbook.specs.Gather.{IsGatherFault, IsMerge, claims_of, job_claims, log_claims, receipt_claims};
+ghost use Rattle.covbook.specs.Gather.{IsGathered, IsGatherFault, IsReadingOf, claims_of, claims_of_log, job_claims, log_claims, reading_claims, receipt_claims};
 ghost use Rattle.covbook.specs.GatherSteps.{Tells};
 ghost use Rattle.covbook.specs.LogView.{log_data};
-ghost use Rattle.covbook.specs.Step.{receipt_of};
+ghost use Rattle.covbook.specs.Step.{last_totals, receipt_of};
 
 use crate::entry::{Entry, Receipt};
 use crate::gather_fault::GatherFault;
 use crate::log::JobLog;
 use crate::places::least_missing;
+use crate::reading::Reading;
+use covstore::Totals;
 use std::alloc::Allocator;
 
-/// Says yes exactly where the entries are a merge of the logs: the logs' jobs differ, in each log the places rise, each receipt
-/// is that of an entry of the log's job, and each entry is in a log. Else tells the first fault (`GatherFault` has their order).
-/// Takes no memory. The time is linear in entries, receipts and the bytes that are compared, but for the logs' jobs, which are
-/// compared each with each.
+/// Says yes exactly where the entries are a merge of the logs and the readings are right: the logs' jobs differ, in each log the
+/// places rise, each receipt is that of an entry of the log's job, each entry is in a log, and each reading has the totals after
+/// its number of entries. Else tells the first fault (`GatherFault` has their order). Takes no memory. The time is linear in
+/// entries, receipts, readings and the bytes that are compared, but for the logs' jobs, which are compared each with each.
 pub fn gather<A: Allocator>(entries: &[Entry<A>], logs: &[JobLog<A>]) -> Result<(), GatherFault>
-    ensures merge { IsOk result ↔ IsMerge (map entry_data entries.now) (map log_data logs.now) }
+    ensures gathered { IsOk result ↔ IsGathered (map entry_data entries.now) (map log_data logs.now) }
     ensures fault { (fault : GatherFault) → (result ≡ Err fault) ↔ IsGatherFault (map entry_data entries.now) (map log_data logs.now) fault }
 {
     check_jobs(logs)?;
@@ -50,13 +52,26 @@ fn is_new_job<A: Allocator>(job: u32, logs: &[JobLog<A>]) -> bool
     logs.iter().all(|log| log.job != job)
 }
 
-/// Whether all receipts of all logs are those of the log's entries, and their places rise.
+/// Whether all logs are of the history, with their readings.
 fn check_logs<A: Allocator>(entries: &[Entry<A>], logs: &[JobLog<A>]) -> Result<(), GatherFault>
     ensures { Tells result (log_claims (map entry_data entries.now) 0 (map log_data logs.now)) }
 {
     for (number, log) in logs.iter().enumerate() {
-        check_receipts(entries, number, log)?;
+        check_log(entries, number, log)?;
     }
+    Ok(())
+}
+
+/// Whether the log with this number is of the history: first its receipts, then its readings.
+fn check_log<A: Allocator>(
+    entries: &[Entry<A>],
+    number: usize,
+    log: &JobLog<A>,
+) -> Result<(), GatherFault>
+    ensures { Tells result (claims_of_log (map entry_data entries.now) number (log_data log.now)) }
+{
+    check_receipts(entries, number, log)?;
+    check_readings(entries, number, log)?;
     Ok(())
 }
 
@@ -109,4 +124,43 @@ fn is_receipt_of<A: Allocator>(receipt: &Receipt<A>, entry: &Entry<A>) -> bool
     ensures { IsTrue result ↔ (receipt_of receipt.now.place (entry_data entry.now) ≡ receipt_data receipt.now) }
 {
     entry.op.is_same(&receipt.op) && entry.answer.is_same(&receipt.answer)
+}
+
+/// Whether the readings of the log with this number are of the history.
+fn check_readings<A: Allocator>(
+    entries: &[Entry<A>],
+    number: usize,
+    log: &JobLog<A>,
+) -> Result<(), GatherFault>
+    ensures { Tells result (reading_claims (map entry_data entries.now) number 0 (log_data log.now).readings) }
+{
+    let readings = log.readings.get();
+    for (index, reading) in readings.iter().enumerate() {
+        if !is_reading_of(reading, entries) {
+            return Err(GatherFault::BadReading { log: number, index });
+        }
+    }
+    Ok(())
+}
+
+/// Whether so many entries are there, and the totals are those after them.
+fn is_reading_of<A: Allocator>(reading: &Reading, entries: &[Entry<A>]) -> bool
+    ensures { IsTrue result ↔ IsReadingOf (map entry_data entries.now) reading.now }
+{
+    match totals_after(entries, reading.upto) {
+        Some(totals) => totals == reading.totals,
+        None => false,
+    }
+}
+
+/// The totals after the first entries, of which there are so many: those of the last one, and zeros where they are none. `None`
+/// where there are fewer.
+fn totals_after<A: Allocator>(entries: &[Entry<A>], upto: u64) -> Option<Totals>
+    ensures { MatchOption result (length entries.now < upto) (λ totals. (upto ≤ length entries.now) × (totals ≡ last_totals (take upto (map entry_data entries.now)))) }
+{
+    if upto == 0 {
+        return Some(Totals::default());
+    }
+    let last = entries.get((upto - 1) as usize)?;
+    Some(last.after)
 }

@@ -72,6 +72,13 @@ impl<A: Allocator> Ready<A> {
         self.entry.after
     }
 
+    /// The entry that the step appends. Takes no memory.
+    pub fn entry(&self) -> &Entry<A>
+        ensures { entry_data result.now ≡ self.now.entry }
+    {
+        &self.entry
+    }
+
     /// The entry, its receipt, and what is done to the store.
     pub(crate) fn into_parts(self) -> (Entry<A>, Receipt<A>, Change<A>)
         ensures entry { entry_data result.0 ≡ self.entry }

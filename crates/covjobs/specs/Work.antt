@@ -62,7 +62,7 @@ AreDoneIfWell works ended = (workers : List WorkerData) → map Ok workers ≡ e
 
 -- what all workers hand in: their seats, their logs, and all that they refused, in the order of the places
 abbrev pub log_of : WorkerData → LogData
-log_of worker = record { job = worker.seat.job; receipts = worker.receipts }
+log_of worker = record { job = worker.seat.job; receipts = worker.receipts; readings = [] }
 
 abbrev pub seats_in : List WorkerData → List SeatData
 seats_in workers = map (λ (w : WorkerData). w.seat) workers

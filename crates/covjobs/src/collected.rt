@@ -150,7 +150,7 @@ fn hand_in<L: Name>(
     let mut logs = Logs::new(alloc);
     let mut refused = Refused::new(alloc);
     for worker in workers {
-        let (seat, log, own_refused) = worker.into_parts();
+        let (seat, log, own_refused) = worker.into_parts(alloc);
         seats.push(seat)?;
         logs.push(log)?;
         refused.append(own_refused)?;

@@ -6,7 +6,7 @@ use crate::name::Name;
 use crate::refused::{Refused, RefusedInput};
 use crate::seat::Seat;
 use crate::shared::Shared;
-use covbook::{BookFault, JobLog, Op, Receipts, SubRef};
+use covbook::{BookFault, JobLog, Op, Readings, Receipts, SubRef};
 use std::alloc::{Allocator, Global};
 use std::marker::Model;
 use std::sync::Wait;
@@ -106,7 +106,7 @@ impl<L: Name, A: Allocator + Copy> Worker<L, A> {
 }
 
 impl<L: Name, A: Allocator> Worker<L, A> {
-    ghost use Rattle.std.specs.Prelude.{◌≡◌};
+    ghost use Rattle.std.specs.Prelude.{◌≡◌, []};
 
     /// The place behind that of the job's last call.
     pub(crate) fn seen(&self) -> u64
@@ -115,11 +115,12 @@ impl<L: Name, A: Allocator> Worker<L, A> {
         self.seat.seen()
     }
 
-    /// The job's seat, its log, and which of its inputs are refused. Takes no memory.
-    pub(crate) fn into_parts(self) -> (Seat<L>, JobLog<A>, Refused<A>)
+    /// The job's seat, its log, which has no readings, and which of its inputs are refused. Takes no memory.
+    pub(crate) fn into_parts(self, alloc: A) -> (Seat<L>, JobLog<A>, Refused<A>)
         ensures seat { result.0 ≡ self.seat }
         ensures job { result.1.job ≡ self.seat.job }
         ensures receipts { result.1.receipts ≡ self.receipts }
+        ensures readings { result.1.readings ≡ [] }
         ensures refused { result.2 ≡ self.refused }
     {
         let Worker {
@@ -128,7 +129,13 @@ impl<L: Name, A: Allocator> Worker<L, A> {
             refused,
         } = self;
         let job = seat.job();
-        (seat, JobLog { job, receipts }, refused)
+        let readings = Readings::new(alloc);
+        let log = JobLog {
+            job,
+            receipts,
+            readings,
+        };
+        (seat, log, refused)
     }
 }
 

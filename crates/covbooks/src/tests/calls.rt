@@ -48,6 +48,18 @@ fn after_ready(alloc: Global, book: &mut Book, op: &Op) -> Result<Totals, BookFa
     Ok(ready.after())
 }
 
+/// The job and the totals of the entry of a step that is made ready and dropped.
+pub(super) fn entry_ready(
+    alloc: Global,
+    book: &mut Book,
+    job: u32,
+    op: &Op,
+) -> Result<(u32, Totals), BookFault> {
+    let ready = book.ready(alloc, job, op)?;
+    let entry = ready.entry();
+    Ok((entry.job, entry.after))
+}
+
 pub(super) fn entries(book: &Book) -> &[Entry] {
     book.entries()
 }

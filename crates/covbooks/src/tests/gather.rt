@@ -5,8 +5,11 @@ use super::calls::{
 };
 use super::said::put_answer;
 use super::script::{op_of, run};
-use covbook::{Answer, Book, Entry, GatherFault, JobLog, Logs, Receipt, Receipts, TextRef};
+use covbook::{
+    Answer, Book, Entry, GatherFault, JobLog, Logs, Reading, Readings, Receipt, Receipts, TextRef,
+};
 use covline::Bytes;
+use covstore::Totals;
 use std::alloc::Global;
 use std::process::Abort;
 use std::test::*;
@@ -76,7 +79,19 @@ fn receipt_of(
     })
 }
 
-/// The log that a line tells: its job, and behind it the words of its receipts.
+/// The reading of so many entries, with so many lines found and hit and nothing else; each is a digit.
+fn reading_of(upto: u8, lines_found: u8, lines_hit: u8) -> Reading {
+    let mut totals = Totals::default();
+    totals.lf = u64::from(number_of(lines_found));
+    totals.lh = u64::from(number_of(lines_hit));
+    Reading {
+        upto: u64::from(number_of(upto)),
+        totals,
+    }
+}
+
+/// The log that a line tells: its job, and after it the words of its receipts and readings. A reading has `=` after its number
+/// of entries.
 fn log_of(
     rt: &(impl Abort + AllocGlobal),
     entries: &[Entry],
@@ -84,13 +99,19 @@ fn log_of(
 ) -> Result<JobLog, Fail> {
     let mut job = 0;
     let mut receipts = Receipts::new(rt.alloc());
+    let mut readings = Readings::new(rt.alloc());
     for word in words.split(|byte| *byte == b' ') {
         match *word {
             [digit] => job = u32::from(number_of(digit)),
+            [upto, b'=', found, hit] => readings.push(reading_of(upto, found, hit))?,
             _ => receipts.push(receipt_of(rt, entries, word)?)?,
         }
     }
-    Ok(JobLog { job, receipts })
+    Ok(JobLog {
+        job,
+        receipts,
+        readings,
+    })
 }
 
 /// A word and a number.
@@ -110,6 +131,7 @@ fn fault_in_words(alloc: Global, fault: &GatherFault) -> Result<String, Fail> {
         GatherFault::Differs { log, index } => placed(alloc, "Differs", *log, *index),
         GatherFault::Backwards { log, index } => placed(alloc, "Backwards", *log, *index),
         GatherFault::Missing { place } => counted(alloc, "Missing", *place),
+        GatherFault::BadReading { log, index } => placed(alloc, "BadReading", *log, *index),
         GatherFault::SameJob { log } => counted(alloc, "SameJob", *log as u64),
     }
 }
@@ -212,7 +234,43 @@ const EXAMPLES: &[u8] = b"0 000 222 444
 1 100
 1
 > SameJob 2
-= jobs come before receipts";
+= jobs come before receipts
+0 000 222 444 6=21
+1 111 333 555
+> yes
+= the totals after all entries
+0 000 222 444
+1 111 333 555 1=21 0=00 3=21
+> yes
+= readings in any order
+0 000 222 444 7=21
+1 111 333 555
+> BadReading 0 0
+= more entries than there are
+0 000 222 444 2=00
+1 111 333 555
+> BadReading 0 0
+= zeros after two entries
+0 000 222 444
+1 111 333 555 0=21
+> BadReading 1 0
+= totals of lines after no entries
+0 000 222 444 6=21 2=20
+1 111 333 555
+> BadReading 0 1
+= another number of lines that are hit
+0 000 222 444 2=00
+1 111 333
+> BadReading 0 0
+= a reading comes before a missing entry
+0 000 222 424 2=00
+1 111 333 555
+> Differs 0 2
+= a receipt comes before a reading of its log
+0 000 222 444 2=00
+1 111 333 55!
+> BadReading 0 0
+= a reading comes before a receipt of the next log";
 
 #[test]
 fn what_two_jobs_kept(rt: HostRuntime) -> Result<(), Fail> {

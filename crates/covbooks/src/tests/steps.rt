@@ -1,6 +1,6 @@
 //! Steps in two halves, and tests that are dropped.
 
-use super::calls::{after_dropped, hand_in, totals};
+use super::calls::{after_dropped, entry_ready, hand_in, submit, totals};
 use super::script::{check_lines, check_run};
 use covbook::Book;
 use covstore::Totals;
@@ -33,6 +33,20 @@ fn halves_of_a_step(rt: HostRuntime) -> Result<(), Fail> {
     check_dropped(&rt, &mut book, second, 3, 2)?;
     let report = b"1 report > TN:t\nSF:/a.c\nDA:1,2\nDA:2,0\nLF:2\nLH:1\nend_of_record\n; 2 1 \n";
     check_run(&rt, &mut book, b"0 report", report)
+}
+
+/// The entry of a step that is made ready is the asking job's, with the totals that stand after it.
+#[test]
+fn the_entry_of_a_step(rt: HostRuntime) -> Result<(), Fail> {
+    let mut book = Book::new(rt.alloc());
+    let op = submit(
+        rt.alloc(),
+        b"TN:t\nSF:/a.c\nDA:1,2\nDA:2,0\nend_of_record\n",
+    )?;
+    let (job, after) = entry_ready(rt.alloc(), &mut book, 3, &op)?;
+    assert_eq!(rt; job, 3);
+    check_lines(&rt, &after, 2, 1);
+    Ok(())
 }
 
 /// One line of one of three tests and five files.

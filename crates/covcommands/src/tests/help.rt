@@ -35,16 +35,20 @@ fn version(rt: HostRuntime) -> Result<(), Fail> {
     check(&rt, "covcollect --version merge", wanted.as_str())
 }
 
+/// The version that a call asks for.
+fn version_of(alloc: Global, call: &str) -> Result<String, Fail> {
+    let words = words_of(alloc, call)?;
+    match asked(alloc, words.as_slice()) {
+        Err(CommandFault::Version(text)) => Ok(text),
+        _ => Ok(String::new(alloc)),
+    }
+}
+
 /// The version is one line: the program's name and its number.
 #[test]
 fn the_whole_version(rt: HostRuntime) -> Result<(), Fail> {
-    let alloc = rt.alloc();
-    let words = words_of(alloc, "covcollect --version")?;
-    let text = match asked(alloc, words.as_slice()) {
-        Err(CommandFault::Version(text)) => text,
-        _ => String::new(alloc),
-    };
-    let wanted = format!(in alloc; "covcollect {VERSION}\n")?;
+    let text = version_of(rt.alloc(), "covcollect --version")?;
+    let wanted = format!(in rt.alloc(); "covcollect {VERSION}\n")?;
     check_text(&rt, text.as_str(), wanted.as_str())
 }
 

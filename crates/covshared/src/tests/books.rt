@@ -5,7 +5,7 @@ ghost use Rattle.std.specs.Prelude.{◌≡◌};
 
 use super::calls::{close, drop_of, open, perform, submit};
 use super::turns::SMALL;
-use covbook::{Entries, JobLog, Op, Receipt, Receipts};
+use covbook::{Entries, JobLog, Op, Readings, Receipt, Receipts};
 use covjobs::{Name, Seat, Shared, Start};
 use std::alloc::{Allocator, Global};
 use std::process::Abort;
@@ -89,6 +89,7 @@ pub(super) fn empty_logs<L: Name>(
         let log = JobLog {
             job: seat.job(),
             receipts: Receipts::new(alloc),
+            readings: Readings::new(alloc),
         };
         if logs.push(log).is_err() {
             panic!(rt; "out of memory");

@@ -6,7 +6,7 @@ ghost use Rattle.std.specs.Prelude.{◌≡◌};
 use super::books::{closed, empty_logs, keep, op_of, opened, receipt_of};
 use super::calls::{copied, gathered, start};
 use super::turns::ASKED;
-use covbook::{Answer, Entries, GatherFault, JobLog, Op, Receipt, Receipts};
+use covbook::{Answer, Entries, GatherFault, JobLog, Op, Readings, Receipt, Receipts};
 use covjobs::{Name, Seat, Shared, Start};
 use std::alloc::Global;
 use std::marker::Brand;
@@ -102,6 +102,7 @@ fn report_log(rt: &impl Abort, alloc: Global, answer: Answer) -> JobLog {
     let mut log = JobLog {
         job: 0,
         receipts: Receipts::new(alloc),
+        readings: Readings::new(alloc),
     };
     let receipt = Receipt {
         place: 4,

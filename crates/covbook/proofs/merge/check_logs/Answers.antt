@@ -8,20 +8,20 @@ use Rattle.covbook.specs.LogView.{log_data}
 use Rattle.covbook.proofs.Checked.{log_on, log_stops}
 use Rattle.covbook.proofs.merge.check_logs.Goals as goal
 
-pub returns-in_err-check_receipts : goal.returns-in_err-check_receipts
-returns-in_err-check_receipts g c =
+pub returns-in_err-check_log : goal.returns-in_err-check_log
+returns-in_err-check_log g c =
     let p = err_from_is_err_and c.from_residual.result c.from_residual.ensures.1 in
-    let f = c.in_err-check_receipts.field-0.0 in
+    let f = c.in_err-check_log.field-0.0 in
     rw (p.1, p.2)
     (c.loop-number.invariant (Err f)
     (log_stops (map entry_data c.args.entries.now) c.args.logs.now c.loop-number.number c.index-logs-number.result f c.loop-number-test.true c.index-logs-number.is
-    c.in_err-check_receipts.ensures))
+    c.in_err-check_log.ensures))
 
 pub loop-number-preserved : goal.loop-number-preserved
 loop-number-preserved g c = λ r told.
     c.loop-number.invariant r
     (log_on (map entry_data c.args.entries.now) c.args.logs.now c.loop-number.number c.index-logs-number.result c.loop-number-test.true c.index-logs-number.is
-    c.in_ok-check_receipts.ensures r told)
+    c.in_ok-check_log.ensures r told)
 
 pub returns : goal.returns
 returns g c =

@@ -23,7 +23,7 @@ returns-clause-collected g c =
     (c.in_ok-work_at_once.ensures workers c.in_ok-workers.ensures) in
     let merge : IsMerge entries c.in_ok-seats.logs =
     subst (λ (logs : List LogData). IsMerge entries logs) c.get-2.ensures
-    (subst (λ (es : List EntryData). IsMerge es (map (log_data {A = Global}) c.get-2.result.now)) c.get.ensures (c.in_ok-gather.ensures.merge.0 refl)) in
+    (subst (λ (es : List EntryData). IsMerge es (map (log_data {A = Global}) c.get-2.result.now)) c.get.ensures (c.in_ok-gather.ensures.gathered.0 refl).merge) in
     let told : length (map (entry_data {A = Global}) c.get-3.result.now) ≡ length entries = ap (λ (es : List EntryData). length es) c.get-3.ensures in
     let long : length entries ≡ c.in_ok-end.end = omega (arith, told, length-map c.get-3.result.now (entry_data {A = Global}), c.if-get-end.false) in
     all_collected inputs jobs c.in_ok-end.end (op_data c.args.last.now) workers c.ask_last.new.workers.items entries c.in_ok-seats.logs c.in_ok-seats.refused c.requires.some done

@@ -1,0 +1,84 @@
+# Completes the words of covcollect in bash. bash-completion reads this file by itself from share/bash-completion/completions,
+# as long as it is named covcollect there.
+
+# _covcollect_sources TRACEFILE: suggests the source files of the tracefile that begin with the word at the cursor, as patterns
+# that match just these. They are quoted for the shell as the word is.
+_covcollect_sources() {
+    local file=$1 path word
+    case $file in
+        [\"\']*) file=${file:1:${#file}-2} ;;
+        '~/'*) file=$HOME/${file:2} ;;
+    esac
+    file=${file//\\/}
+    [[ -f $file ]] || return
+    compopt -o nosort 2>/dev/null
+    while IFS= read -r path; do
+        case $cur in
+            \'*) word=\'${path//\'/\'\\\'\'} ;;
+            \"*) word=\"${path//[\"\\\$\`]/\\&} ;;
+            *) printf -v word %q "$path" ;;
+        esac
+        [[ $word == "$cur"* ]] || continue
+        # What begins with a quote keeps the one that is typed, and bash closes it.
+        [[ $cur == [\"\']* ]] && word=${word:1}
+        COMPREPLY+=("$word")
+    done < <(LC_ALL=C sed '/^SF:/!d; s///; s/\r*$//; s/[[\\*?]/\\&/g' -- "$file" | LC_ALL=C sort -u)
+}
+
+_covcollect() {
+    local cur prev words cword split
+    _init_completion -s || return
+
+    # The words before the cursor without options: the subcommand, and how many come after it.
+    local subcommand='' tracefile='' others=0 ended='' i
+    for ((i = 1; i < cword; i++)); do
+        if [[ -z $ended && ${words[i]} == -- ]]; then
+            ended=1
+        elif [[ -z $ended && ${words[i]} == -* ]]; then
+            # The value of an option is a word of its own, where it isn't part of the option's.
+            [[ ${words[i]} == --jobs || ${words[i]} == --test ]] && ((i++))
+        elif [[ -z $subcommand ]]; then
+            subcommand=${words[i]}
+        else
+            ((others++)) || tracefile=${words[i]}
+        fi
+    done
+
+    if [[ -z $ended ]]; then
+        case $subcommand$prev in
+            merge--jobs)
+                # The number of processors, of which 64 can be used.
+                i=$(nproc 2>/dev/null)
+                COMPREPLY=($(compgen -W "$((i > 64 ? 64 : i))" -- "$cur"))
+                return
+                ;;
+            gcov--test)
+                return
+                ;;
+        esac
+        if [[ $cur == -* ]]; then
+            local options='-h --help'
+            case $subcommand in
+                '') options+=' -V --version' ;;
+                merge) options+=' --jobs' ;;
+                gcov) options+=' --test' ;;
+            esac
+            COMPREPLY=($(compgen -W "$options" -- "$cur"))
+            return
+        fi
+    fi
+
+    case $subcommand in
+        '') COMPREPLY=($(compgen -W 'merge summary extract remove gcov' -- "$cur")) ;;
+        merge | summary) _filedir info ;;
+        gcov) _filedir gcov ;;
+        extract | remove)
+            if ((others == 0)); then
+                _filedir info
+            else
+                _covcollect_sources "$tracefile"
+            fi
+            ;;
+    esac
+} &&
+    complete -F _covcollect covcollect

@@ -1,0 +1,10 @@
+use Rattle.std.proofs.Common.{◌≡◌}
+use Rattle.covbook.specs.Step.{IsLegal}
+use Rattle.covnews.proofs.Runs.{legal_before}
+use Rattle.covnews.proofs.news.News.of.Goals as goal
+
+-- the token was seen, so it is a prefix of a history that the rule keeps legal
+pub invariant_of-result : goal.invariant_of-result
+invariant_of-result g c =
+    let legal : IsLegal c.args.mark.now.seen.log = legal_before c.args.mark.now.seen.log c.learn.new.self.log c.learn.ensures.3 c.learn.ensures.4.1.legal in
+    rw c.copy.ensures (c.requires, legal)

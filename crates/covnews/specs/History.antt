@@ -1,0 +1,23 @@
+-- Published histories. `IsPrefix shorter longer` says that the longer list begins with the shorter one: some rest follows.
+use Rattle.std.specs.Prelude.{◌≡◌, ℕ, ◌==◌, true, List, [], ◌∷◌, ◌++◌, length, MatchBool}
+pub use mathlib.Core.List.{IsPrefix}
+use Rattle.logbook.specs.Pages.{Book, Cell, Named, Step, View}
+use Rattle.covbook.specs.Op.{EntryData}
+use Rattle.covbook.specs.Step.{IsLegal, next_entry}
+
+-- the entry comes next in the history: it is the one that its job and its operation append to it
+abbrev pub ComesNext : List EntryData → EntryData → Type 0
+ComesNext history entry = entry ≡ next_entry history entry.job entry.op
+
+-- a published history is legal, and the first of the two words beside it is its length. The second one isn't used
+pub record IsPublished (words : List Cell) (history : List EntryData) : Type 0 where
+  pub word : words ≡ (length history, true) ∷ (0, true) ∷ []
+  pub legal : IsLegal history
+
+-- the word of a book that holds the length of its published history
+abbrev pub length_of : Book → Named
+length_of book = record { tracked = true; key = 0; book = book }
+
+-- the step appended the entry to the history that had been seen. Where it found another length, this says nothing
+abbrev pub Appends : Step EntryData → View EntryData ℕ → ℕ → View EntryData ℕ → Type 0
+Appends step before found after = MatchBool (found == step.old) (after.0 ≡ before.0 ++ step.ask ∷ []) (Unit {0})

@@ -1,0 +1,4 @@
+pub mod History
+pub mod Mark
+pub mod Publisher
+pub mod ReaderFault

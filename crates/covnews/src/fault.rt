@@ -1,0 +1,25 @@
+//! Why no reader is made.
+ghost use Rattle.std.specs.Prelude.{◌≡◌};
+ghost use Rattle.covnews.specs.ReaderFault.{reader_fault_number};
+
+use thiserror::Error;
+
+/// Why no reader is made.
+#[derive(Clone, Copy, Debug, PartialEq, Eq, Error)]
+pub enum ReaderFault {
+    /// As many readers were made as there may be. It may also be answered earlier, where no free place is found.
+    #[error("NoPlace")]
+    NoPlace = 1,
+    /// A growth was refused.
+    #[error("out of memory")]
+    Memory = 2,
+}
+
+impl ReaderFault {
+    /// The number of the fault, from 1.
+    pub fn number(self) -> u32
+        ensures { result ≡ reader_fault_number self }
+    {
+        self as u32
+    }
+}

@@ -1,0 +1,61 @@
+//! The published history. Its entries exist in proofs alone; in memory it is the word of its length. A token is a prefix of it
+//! that was seen.
+
+use crate::noted::NotedEntry;
+use covbook::Entry;
+use logbook::{Gain, Plain, Play, Rule, Seen, Word};
+use std::alloc::Allocator;
+
+/// The word that holds the length of a published history.
+pub(crate) type Length = Word<NotedEntry, u64, Legality>;
+
+/// A prefix of a published history that was seen. It takes no bytes.
+pub(crate) type SeenHistory = Seen<NotedEntry, u64, Legality>;
+
+/// The rule of a published history: it is legal, at every length.
+pub struct Legality;
+
+impl Rule<NotedEntry, u64> for Legality {
+    ghost use Rattle.std.specs.Prelude.{[]};
+    ghost use base.Fml.{ftrue};
+    ghost use Rattle.covnews.specs.History.{IsPublished};
+
+    ghost holds = { λ words history. IsPublished words history };
+
+    ghost first = { [] };
+
+    ghost hinted = { λ _ _. Unit {0} };
+
+    ghost shows = { λ _. [] };
+
+    ghost keeps = { λ _ _. ftrue };
+
+    ghost moves = { λ _ _ _ _. Unit {0} };
+}
+
+/// What a step trades with its caller: nothing.
+pub struct NoGain;
+
+impl Gain<NotedEntry, u64> for NoGain {
+    ghost use base.Fml.{ftrue};
+
+    ghost after = { λ _ _ _. ftrue };
+}
+
+/// The step that appends an entry.
+pub struct Append;
+
+impl Play<NotedEntry, u64> for Append {
+    ghost use Rattle.covnews.specs.History.{Appends};
+
+    ghost then = { Appends };
+}
+
+impl<A: Allocator> Plain<Entry<A>, NotedEntry, u64> for Append {
+    ghost use Rattle.std.specs.Prelude.{None};
+    ghost use Rattle.covbook.specs.EntryView.{entry_data};
+
+    ghost ask = { λ entry. entry_data entry };
+
+    ghost state = { λ _. None };
+}

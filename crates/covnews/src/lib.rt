@@ -1,0 +1,51 @@
+//! What a shared book publishes to readers that wait for nobody.
+//!
+//! The one who holds the book's lock has its `Publisher`. It notes each new entry (`Publisher::note`) and then shows readers
+//! how many entries there are and the totals after them (`Publisher::publish`). A reader (`Live`) asks for these totals at any
+//! time, with no lock and no wait: `left_right` keeps two copies of what is shown.
+//!
+//! `News` are a copy of what was published once. A reader that learns them never tells of fewer entries again, also where it
+//! hasn't seen them itself, and after the book was closed.
+//!
+//! What is published is a legal history (covbook's `IsLegal`) and never changes but by growing at its end, so any two of its
+//! states are prefixes of one history. In memory there is only its length, its last totals and a token without bytes; the
+//! entries themselves stay in the book. The contracts of `Publisher`, `News` and `Live` speak of the list of entries that they
+//! stand for. Which book a publisher, a reader or news are of, the types say, by the book's name `L: Name`.
+//!
+//! A sketch, which no test runs:
+//!
+//! ```text
+//! fn run<L: Name>(rt: &impl Wait, alloc: Global, opening: Opening, mut book: Book) -> Result<(), Fail>
+//!     requires { opening.book ≡ L.book }
+//! {
+//!     let mut publisher = Publisher::<L>::new(alloc, opening, 64)?;
+//!     let mut live = publisher.reader()?; // may go to another thread
+//!     let ready = book.ready(alloc, 0, &Op::Summary)?;
+//!     let news = publisher.note(ready.entry()); // None can't come; the caller gives the step up
+//!     book.finish(ready);
+//!     publisher.publish(rt);
+//!     assert_eq!(live.totals().upto, 1);
+//!     live.learn(&publisher.close(rt));
+//! }
+//! run::<Brand>(&rt, alloc, Opening::new(), Book::new(alloc))
+//! ```
+#![tactic(auto)]
+
+mod fault;
+mod history;
+pub mod laws;
+mod live;
+mod mark;
+mod name;
+mod news;
+mod noted;
+mod publisher;
+mod showing;
+#[cfg(test)]
+mod tests;
+
+pub use fault::ReaderFault;
+pub use live::Live;
+pub use name::{Name, Opening};
+pub use news::News;
+pub use publisher::Publisher;

@@ -1,0 +1,86 @@
+//! Readers that wait for nobody.
+
+use crate::mark::{MarkReader, OfBook};
+use crate::name::Name;
+use crate::news::News;
+use core::mem::replace_with;
+use covbook::Reading;
+use std::alloc::{Allocator, Global};
+use std::marker::Model;
+
+/// A reader of what is published, which waits for nobody. Contracts see the longest history that it saw or learned, at first the
+/// one that was published when it was made.
+#[derive(Drop)]
+pub struct Live<L: Name, A: Allocator = Global> {
+    longest: News<L>,
+    reader: MarkReader<L, A>,
+}
+
+impl<L: Name, A: Allocator> Model for Live<L, A> {
+    ghost use Rattle.std.specs.Prelude.{List};
+    ghost use Rattle.covbook.specs.Op.{EntryData};
+
+    ghost Value = { List EntryData };
+
+    ghost view = { λ live. live.longest };
+}
+
+/// News of what is published, where the reader is given a view.
+fn look<L: Name, A: Allocator>(reader: MarkReader<L, A>) -> (MarkReader<L, A>, Option<News<L>>) {
+    match reader.enter_as::<OfBook<L>>() {
+        Ok(reading) => {
+            let news = News::of(reading.get());
+            (reading.leave(), Some(news))
+        }
+        Err(reader) => (reader, None),
+    }
+}
+
+impl<L: Name, A: Allocator> Live<L, A> {
+    ghost use Rattle.std.specs.Prelude.{◌≡◌, ◌⊎◌, length};
+    ghost use Rattle.covbook.specs.Step.{IsLegal, last_totals};
+    ghost use Rattle.covnews.specs.History.{IsPrefix};
+
+    /// A reader that begins with these news.
+    pub(crate) fn new(news: News<L>, reader: MarkReader<L, A>) -> Live<L, A>
+        ensures { result ≡ news }
+    {
+        Live {
+            longest: news,
+            reader,
+        }
+    }
+
+    /// Learns the news: later readings have at least their entries. Takes no memory, and waits for nobody.
+    pub fn learn(&mut self, news: &News<L>)
+        ensures one { (self.new ≡ self.old) ⊎ (self.new ≡ news.now) }
+        ensures own { IsPrefix self.old self.new }
+        ensures news { IsPrefix news.now self.new }
+    {
+        self.longest = self.longest.longer(news);
+    }
+
+    /// The totals that are published. They are of no fewer entries than this reader saw or learned; where it is given no view, as
+    /// after the publisher was closed, they are those of the longest history that it saw or learned. Takes no memory, and waits
+    /// for nobody.
+    pub fn totals(&mut self) -> Reading
+        ensures own { IsPrefix self.old self.new }
+        ensures legal { IsLegal self.new }
+        ensures upto { result.upto ≡ length self.new }
+        ensures totals { result.totals ≡ last_totals self.new }
+    {
+        let news = self.published();
+        self.learn(&news);
+        self.longest.reading()
+    }
+
+    /// News of what is published, or of what this reader saw or learned where it is given no view.
+    fn published(&mut self) -> News<L>
+        ensures { self.new ≡ self.old }
+    {
+        match replace_with(&mut self.reader, (), |reader, _| look(reader)) {
+            Some(news) => news,
+            None => self.longest.copy(),
+        }
+    }
+}

@@ -1,0 +1,76 @@
+//! What readers are shown.
+ghost use Rattle.std.specs.Prelude.{◌≡◌};
+ghost use Rattle.covnews.specs.Mark.{Describes};
+
+use crate::history::SeenHistory;
+use crate::name::Name;
+use covstore::Totals;
+use crossbeam_utils::rule::{Outcome, Protocol};
+use left_right::Absorb;
+use left_right::reader::Reader;
+use left_right::writer::Writer;
+use std::alloc::AllocError;
+use std::marker::PhantomData;
+
+/// How many entries a published history has, and the totals after the last of them. The token says which history: contracts
+/// see its entries as `seen.log`.
+#[derive(Drop)]
+pub struct Mark {
+    pub upto: u64,
+    pub totals: Totals,
+    pub seen: SeenHistory,
+    pub ghost describes: { Describes upto totals seen.log },
+}
+
+impl Mark {
+    /// An equal mark. Takes no memory.
+    pub(crate) fn copy(&self) -> Mark
+        ensures { result ≡ self.now }
+    {
+        Mark {
+            upto: self.upto,
+            totals: self.totals,
+            seen: self.seen.again(),
+        }
+    }
+}
+
+impl Absorb<Mark> for Mark {
+    type State = Mark;
+
+    ghost state = { λ mark. mark };
+
+    ghost applied = { λ _ next. next };
+
+    ghost never_fails = { Unit {0} };
+
+    fn absorb_first(&mut self, next: &Mark, _other: &Mark) -> Result<(), AllocError> {
+        *self = next.copy();
+        Ok(())
+    }
+}
+
+/// The rule of what readers are shown: each mark is of the book of this name.
+pub struct OfBook<L> {
+    name: PhantomData<L>,
+}
+
+impl<L: Name> Protocol<Mark, ()> for OfBook<L> {
+    ghost use Rattle.std.specs.Prelude.{◌≡◌};
+
+    ghost holds = { λ mark _. mark.seen.book ≡ L.book };
+
+    ghost first = { tt };
+}
+
+impl<L: Name> Outcome<Mark, ()> for OfBook<L> {
+    ghost use Rattle.std.specs.Prelude.{◌≡◌};
+
+    ghost then = { λ _ _ shown _. shown.seen.book ≡ L.book };
+}
+
+/// What shows marks to readers.
+pub(crate) type MarkWriter<L, A> = Writer<Mark, Mark, (), OfBook<L>, A>;
+
+/// What reads the mark that is shown.
+pub(crate) type MarkReader<L, A> = Reader<Mark, (), OfBook<L>, A>;

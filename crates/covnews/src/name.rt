@@ -1,0 +1,62 @@
+//! How a shared book is named, and what its published history begins with.
+
+use crate::history::{Legality, Length, SeenHistory};
+use crate::noted::NotedEntry;
+use logbook::{Seen, Start, Word};
+use std::marker::{Brand, Model};
+use std::sync::ledger::Ledger;
+
+/// The name of a shared book: of the count of its calls (`Ledger`), and of its published history. It has no functions. Whatever
+/// has the same name is of the same book.
+pub trait Name: Ledger {
+    ghost use Rattle.logbook.specs.Pages.{Book};
+
+    // Which published history it is.
+    ghost book: { Book };
+}
+
+impl Name for Brand {
+    ghost book = { record { number = 0; log_name = 0; cells_name = 0 } };
+}
+
+/// What a published history begins with: no entry. Contracts see the name of the book that it is opened for.
+#[derive(Drop)]
+pub struct Opening {
+    length: Length,
+    seen: SeenHistory,
+}
+
+impl Model for Opening {
+    ghost use Rattle.std.specs.Prelude.{◌≡◌, []};
+    ghost use Rattle.covnews.specs.History.{length_of};
+    ghost use Rattle.covnews.specs.Publisher.{OpeningData};
+
+    ghost Value = { OpeningData };
+
+    ghost view = { λ opening. record { book = opening.seen.book } };
+
+    ghost invariant = { λ opening. (opening.seen.log ≡ []) × (opening.length ≡ length_of opening.seen.book) };
+}
+
+impl Opening {
+    ghost use Rattle.std.specs.Prelude.{◌≡◌, []};
+    ghost use Rattle.covnews.specs.History.{length_of};
+
+    /// The opening of one book. Takes no memory.
+    pub fn new() -> Opening {
+        let (seen, mut first, _second) = Seen::open(Start::alone(), 0, 0);
+        Opening {
+            length: Word::tracked(0, &mut first),
+            seen,
+        }
+    }
+
+    /// The word of the history's length, and the token of the history without an entry.
+    pub(crate) fn into_parts(self) -> (Length, SeenHistory)
+        ensures length { result.0 ≡ length_of self.book }
+        ensures book { result.1.book ≡ self.book }
+        ensures empty { result.1.log ≡ [] }
+    {
+        (self.length, self.seen)
+    }
+}

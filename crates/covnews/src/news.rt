@@ -1,0 +1,147 @@
+//! News of a published history.
+
+use crate::history::{Append, Length, NoGain, SeenHistory};
+use crate::mark::Mark;
+use crate::name::Name;
+use crate::noted::NotedEntry;
+use covbook::{Entry, Reading};
+use covstore::Totals;
+use logbook::Offer;
+use std::alloc::Allocator;
+use std::marker::{Model, PhantomData};
+
+/// What was published once: how many entries, and the totals after the last of them. Contracts see the entries. They are legal.
+#[derive(Drop)]
+pub struct News<L: Name> {
+    mark: Mark,
+    name: PhantomData<L>,
+}
+
+impl<L: Name> Model for News<L> {
+    ghost use Rattle.std.specs.Prelude.{◌≡◌, List};
+    ghost use Rattle.covbook.specs.Op.{EntryData};
+    ghost use Rattle.covbook.specs.Step.{IsLegal};
+
+    ghost Value = { List EntryData };
+
+    ghost view = { λ news. news.mark.seen.log };
+
+    ghost invariant = { λ news. (news.mark.seen.book ≡ L.book) × IsLegal news.mark.seen.log };
+}
+
+impl<L: Name> News<L> {
+    ghost use Rattle.std.specs.Prelude.{◌≡◌, ◌<◌, ◌⊎◌, ◌++◌, ◌∷◌, [], length, IfSome};
+    ghost use Rattle.covbook.specs.EntryView.{entry_data};
+    ghost use Rattle.covbook.specs.Step.{IsLegal, last_totals, most_entries};
+    ghost use Rattle.covnews.specs.History.{IsPrefix, ComesNext, length_of};
+
+    /// How many entries the history has, and the totals after the last of them. Takes no memory.
+    pub fn reading(&self) -> Reading
+        ensures upto { result.upto ≡ length self.now }
+        ensures totals { result.totals ≡ last_totals self.now }
+        ensures legal { IsLegal self.now }
+    {
+        Reading {
+            upto: self.mark.upto,
+            totals: self.mark.totals,
+        }
+    }
+
+    /// A copy of the news. Takes no memory.
+    pub fn copy(&self) -> News<L>
+        ensures { result ≡ self.now }
+    {
+        News {
+            mark: self.mark.copy(),
+            name: PhantomData,
+        }
+    }
+
+    /// News of the history without an entry.
+    pub(crate) fn first(seen: SeenHistory) -> News<L>
+        requires book { seen.book ≡ L.book }
+        requires empty { seen.log ≡ [] }
+        ensures { result ≡ [] }
+    {
+        News {
+            mark: Mark {
+                upto: 0,
+                totals: Totals::default(),
+                seen,
+            },
+            name: PhantomData,
+        }
+    }
+
+    /// News of the history that a mark is of.
+    pub(crate) fn of(mark: &Mark) -> News<L>
+        requires { mark.now.seen.book ≡ L.book }
+        ensures { result ≡ mark.now.seen.log }
+    {
+        let mut seen = mark.seen.again();
+        seen.learn(&mark.seen);
+        News {
+            mark: mark.copy(),
+            name: PhantomData,
+        }
+    }
+
+    /// The mark of the history.
+    pub(crate) fn mark(&self) -> &Mark
+        ensures book { result.now.seen.book ≡ L.book }
+        ensures history { result.now.seen.log ≡ self.now }
+    {
+        &self.mark
+    }
+
+    /// The longer of two. Both are prefixes of it, since both are of one book.
+    pub(crate) fn longer(&self, other: &News<L>) -> News<L>
+        ensures one { (result ≡ self.now) ⊎ (result ≡ other.now) }
+        ensures this { IsPrefix self.now result }
+        ensures that { IsPrefix other.now result }
+    {
+        let mut both = self.mark.seen.again();
+        both.learn(&other.mark.seen);
+        if self.mark.upto < other.mark.upto {
+            other.copy()
+        } else {
+            self.copy()
+        }
+    }
+
+    /// Appends the entry that comes next to the published history. `None` where that history has other entries already, which
+    /// the one holder of its word doesn't meet.
+    pub(crate) fn appended<A: Allocator>(
+        &self,
+        history: &Length,
+        entry: &Entry<A>,
+    ) -> Option<News<L>>
+        requires history { history.now ≡ length_of L.book }
+        requires few { length self.now < most_entries }
+        requires next { ComesNext self.now (entry_data entry.now) }
+        ensures { IfSome result (λ news. news ≡ self.now ++ entry_data entry.now ∷ []) }
+    {
+        let mut seen = self.mark.seen.again();
+        let mut offer: Offer<NotedEntry, u64, _, NoGain> = seen.plain::<NoGain, Entry<A>, Append>(
+            entry,
+        );
+        let mut pen = seen.no_pen();
+        let upto = self.mark.upto;
+        let next = upto + 1;
+        let found = history.compare_exchange::<Append, NoGain>(
+            upto, next, &mut seen, &mut offer, &mut pen,
+        );
+        if found != upto {
+            return None;
+        }
+        let mark = Mark {
+            upto: next,
+            totals: entry.after,
+            seen,
+        };
+        Some(News {
+            mark,
+            name: PhantomData,
+        })
+    }
+}

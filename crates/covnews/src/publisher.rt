@@ -1,0 +1,127 @@
+//! The one who publishes a history.
+
+use crate::fault::ReaderFault;
+use crate::history::Length;
+use crate::live::Live;
+use crate::name::{Name, Opening};
+use crate::news::News;
+use crate::showing::Showing;
+use covbook::Entry;
+use covline::Memory;
+use std::alloc::{Allocator, Global};
+use std::marker::Model;
+use std::sync::Wait;
+
+/// The one who publishes the history of a book. Contracts see the history that is noted, the one that is published, and for how
+/// many more readers there are places.
+///
+/// A publisher that is dropped, and not closed, frees its own memory but not the table that it shares with its readers (some
+/// 17 KB for 64 readers).
+#[derive(Drop)]
+pub struct Publisher<L: Name, A: Allocator = Global> {
+    history: Length,
+    noted: News<L>,
+    showing: Showing<L, A>,
+    places: u32,
+}
+
+impl<L: Name, A: Allocator> Model for Publisher<L, A> {
+    ghost use Rattle.std.specs.Prelude.{◌≡◌};
+    ghost use Rattle.covnews.specs.History.{length_of};
+    ghost use Rattle.covnews.specs.Publisher.{PublisherData};
+
+    ghost Value = { PublisherData };
+
+    ghost view = { λ publisher. record { noted = publisher.noted; published = publisher.showing; places = publisher.places } };
+
+    ghost invariant = { λ publisher. publisher.history ≡ length_of L.book };
+}
+
+impl<L: Name, A: Allocator + Copy> Publisher<L, A> {
+    ghost use Rattle.std.specs.Prelude.{◌≡◌, ◌<◌, [], IfOk};
+
+    /// Publishes the history without an entry, for at most so many readers. It makes the room of all that is published later, so
+    /// that nothing is refused then.
+    pub fn new(alloc: A, opening: Opening, readers: u32) -> Result<Publisher<L, A>, Memory>
+        requires book { opening.book ≡ L.book }
+        requires readers { 0 < readers }
+        ensures noted { IfOk result (λ publisher. publisher.noted ≡ []) }
+        ensures published { IfOk result (λ publisher. publisher.published ≡ []) }
+        ensures places { IfOk result (λ publisher. publisher.places ≡ readers) }
+    {
+        let (history, seen) = opening.into_parts();
+        let noted = News::first(seen);
+        let showing = Showing::new(alloc, &noted, readers)?;
+        Ok(Publisher {
+            history,
+            noted,
+            showing,
+            places: readers,
+        })
+    }
+}
+
+impl<L: Name, A: Allocator> Publisher<L, A> {
+    ghost use Rattle.std.specs.Prelude.{◌≡◌, ◌-◌, ◌<◌, ◌++◌, ◌∷◌, [], length, IfOk, IfErr, IfSome, IfNone, OnOk, OnErr, Err};
+    ghost use Rattle.covbook.specs.EntryView.{entry_data};
+    ghost use Rattle.covbook.specs.Step.{most_entries};
+    ghost use Rattle.covnews.specs.declared.fault.ReaderFault.TheVariants as faults;
+    ghost use Rattle.covnews.specs.History.{ComesNext};
+
+    /// Notes the entry that comes next in the history; `publish` then publishes it. The news are of the history with it, so hand
+    /// them out after that. `None` doesn't come where one publisher alone has the history, which the types say, but no
+    /// contract; it leaves all as it was. Takes no memory.
+    pub fn note(&mut self, entry: &Entry<A>) -> Option<News<L>>
+        requires few { length self.old.noted < most_entries }
+        requires next { ComesNext self.old.noted (entry_data entry.now) }
+        ensures news { IfSome result (λ news. news ≡ self.old.noted ++ entry_data entry.now ∷ []) }
+        ensures noted { IfSome result (λ news. self.new ≡ record self.old { noted = news }) }
+        ensures none { IfNone result (self.new ≡ self.old) }
+    {
+        let news = self.noted.appended(&self.history, entry)?;
+        self.noted = news.copy();
+        Some(news)
+    }
+
+    /// Publishes what is noted. Nothing is refused. Waits for readers that still read what was published before the last time.
+    pub fn publish<R: Wait>(&mut self, rt: &R)
+        ensures { self.new ≡ record self.old { published = self.old.noted } }
+    {
+        self.showing.show(rt, &self.noted);
+    }
+
+    /// One more reader, which begins with what is published. So many are made as there are places, those that were dropped
+    /// among them. Takes no memory, so `Memory` isn't answered.
+    pub fn reader(&mut self) -> Result<Live<L, A>, ReaderFault>
+        ensures live { IfOk result (λ live. live ≡ self.old.published) }
+        ensures place { OnOk result (self.new ≡ record self.old { places = self.old.places - 1 }) }
+        ensures refused { OnErr result (self.new ≡ self.old) }
+        ensures fault { IfErr result (λ fault. fault ≡ faults.NoPlace) }
+        ensures none { self.old.places ≡ 0 → result ≡ Err faults.NoPlace }
+    {
+        if self.places == 0 {
+            return Err(ReaderFault::NoPlace);
+        }
+        let Ok(reader) = self.showing.reader() else {
+            return Err(ReaderFault::NoPlace);
+        };
+        self.places -= 1;
+        Ok(Live::new(self.showing.news(), reader))
+    }
+
+    /// Ends the publishing, and gives news of what is published. Readers then answer the longest history that they saw or learned.
+    /// Waits for readers to leave.
+    pub fn close<R: Wait>(self, rt: &R) -> News<L>
+        ensures { result ≡ self.published }
+    {
+        let Publisher {
+            history: _,
+            noted: _,
+            showing,
+            places: _,
+        } = self;
+        let news = showing.news();
+        showing.close(rt);
+        news
+    }
+}

@@ -1,0 +1,100 @@
+//! What shows marks to readers.
+ghost use Rattle.std.specs.Prelude.{◌≡◌, ◌++◌, ◌∷◌, [], drop};
+
+use crate::mark::{Mark, MarkReader, MarkWriter, OfBook};
+use crate::name::Name;
+use crate::news::News;
+use core::mem::{ManuallyDrop, replace_with};
+use std::alloc::{AllocError, Allocator};
+use std::marker::Model;
+use std::sync::{Wait, WaitMethods};
+
+/// What shows readers one published history. Contracts see the history that is shown.
+pub(crate) struct Showing<L: Name, A: Allocator> {
+    writer: MarkWriter<L, A>,
+}
+
+impl<L: Name, A: Allocator> Model for Showing<L, A> {
+    ghost use Rattle.std.specs.Prelude.{◌≡◌, List};
+    ghost use Rattle.covbook.specs.Op.{EntryData};
+
+    ghost Value = { List EntryData };
+
+    ghost view = { λ showing. showing.writer.desk.shown.value.seen.log };
+
+    ghost invariant = { λ showing. showing.writer.desk.shown.value.seen.book ≡ L.book };
+}
+
+/// The memory of a writer that isn't closed stays taken for good, some 17 KB for 64 readers: to free it the writer has to wait
+/// for readers to leave, and nothing that is dropped has a runtime to wait with. Its readers go on with what was shown last.
+impl<L: Name, A: Allocator> Drop for Showing<L, A> {
+    fn drop(self) {
+        let Showing { writer } = self;
+        // Sound, since nothing is freed: the table that the readers share stays where it is.
+        let _left = unsafe { ManuallyDrop::new_unchecked(writer) };
+    }
+}
+
+/// Appends a mark to those that are to be shown. There is room for it since the opening, so the first try succeeds. No contract
+/// of `left_right` says so, hence the loop: should a try be refused, it tries again until there is memory.
+fn append<L: Name, A: Allocator, R: Wait>(rt: &R, writer: &mut MarkWriter<L, A>, mark: &Mark)
+    ensures desk { writer.new.desk ≡ writer.old.desk }
+    ensures pending { drop writer.new.behind writer.new.log.items ≡ drop writer.old.behind writer.old.log.items ++ mark.now ∷ [] }
+{
+    for _ in rt.forever() {
+        if writer.append(mark.copy()).is_ok() {
+            return;
+        }
+    }
+    unreachable!()
+}
+
+impl<L: Name, A: Allocator + Copy> Showing<L, A> {
+    ghost use Rattle.std.specs.Prelude.{◌≡◌, ◌<◌, IfOk};
+
+    /// Shows the history that the news are of, to at most so many readers at once.
+    pub(crate) fn new(alloc: A, news: &News<L>, readers: u32) -> Result<Showing<L, A>, AllocError>
+        requires { 0 < readers }
+        ensures { IfOk result (λ showing. showing ≡ news.now) }
+    {
+        let mark = news.mark();
+        let writer = MarkWriter::new(alloc, mark.copy(), mark.copy(), readers as usize)?;
+        let mut showing = Showing { writer };
+        // The first mark that is appended makes room for four, and there are never more than three: those that were shown
+        // the last time, two of them at first, and the next one.
+        showing.writer.append(mark.copy()).map_err(|_| AllocError)?;
+        Ok(showing)
+    }
+}
+
+impl<L: Name, A: Allocator> Showing<L, A> {
+    ghost use Rattle.std.specs.Prelude.{◌≡◌};
+
+    /// One more reader. Takes no memory: it is given a free place, or refused.
+    pub(crate) fn reader(&self) -> Result<MarkReader<L, A>, AllocError> {
+        self.writer.factory().reader()
+    }
+
+    /// News of the history that is shown.
+    pub(crate) fn news(&self) -> News<L>
+        ensures { result ≡ self.now }
+    {
+        News::of(self.writer.published())
+    }
+
+    /// Shows what the news are of, in place of what is shown now. Waits for readers that still read the mark before that.
+    pub(crate) fn show<R: Wait>(&mut self, rt: &R, news: &News<L>)
+        ensures { self.new ≡ news.now }
+    {
+        append(rt, &mut self.writer, news.mark());
+        let _never_fails = replace_with(&mut self.writer, rt, |writer, rt| {
+            writer.publish_as::<OfBook<L>, R>(rt)
+        });
+    }
+
+    /// Gives the writer up. Waits for readers to leave; those that come later are given no view.
+    pub(crate) fn close<R: Wait>(self, rt: &R) {
+        let Showing { writer } = self;
+        writer.take(rt);
+    }
+}

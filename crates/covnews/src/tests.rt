@@ -1,0 +1,195 @@
+//! Readers of what is published, beside a book of the crate below.
+
+ghost use Rattle.std.specs.Prelude.{◌≡◌, ◌<◌, []};
+
+use super::*;
+use covbook::{Book, Op};
+use linked_list_allocator::LocalHeap;
+use std::alloc::{AllocGlobal, Allocator, Global};
+use std::marker::Brand;
+use std::process::Abort;
+use std::sync::Wait;
+use std::test::*;
+use std::thread::{Threads, join};
+
+fn opened<L: Name, A: Allocator + Copy>(
+    rt: &impl Abort,
+    alloc: A,
+    opening: Opening,
+    readers: u32,
+) -> Publisher<L, A>
+    requires book { opening.book ≡ L.book }
+    requires readers { 0 < readers }
+    ensures { result.noted ≡ [] }
+{
+    match Publisher::new(alloc, opening, readers) {
+        Ok(publisher) => publisher,
+        Err(_refused) => panic!(rt; "no publisher"),
+    }
+}
+
+fn reader<L: Name, A: Allocator>(rt: &impl Abort, publisher: &mut Publisher<L, A>) -> Live<L, A>
+    ensures { publisher.new.noted ≡ publisher.old.noted }
+{
+    match publisher.reader() {
+        Ok(live) => live,
+        Err(_fault) => panic!(rt; "no reader"),
+    }
+}
+
+/// One step of the book, noted and published.
+fn step<L: Name, R: Wait + Abort>(
+    rt: &R,
+    alloc: Global,
+    book: &mut Book,
+    publisher: &mut Publisher<L>,
+) -> News<L>
+    requires { publisher.old.noted ≡ book.old.entries }
+    ensures { publisher.new.noted ≡ book.new.entries }
+{
+    let Ok(ready) = book.ready(alloc, 0, &Op::Summary) else {
+        panic!(rt; "no step");
+    };
+    let Some(news) = publisher.note(ready.entry()) else {
+        panic!(rt; "other entries");
+    };
+    book.finish(ready);
+    publisher.publish(rt);
+    news
+}
+
+/// So many entries are published.
+fn check_upto<L: Name, A: Allocator>(rt: &impl Abort, live: &mut Live<L, A>, upto: u64) {
+    assert_eq!(rt; live.totals().upto, upto);
+}
+
+/// No reader is made.
+fn check_no_place<L: Name, A: Allocator>(rt: &impl Abort, publisher: &mut Publisher<L, A>)
+    ensures { publisher.new.noted ≡ publisher.old.noted }
+{
+    match publisher.reader() {
+        Ok(_live) => panic!(rt; "a reader more"),
+        Err(fault) => assert_eq!(rt; fault.number(), 1),
+    }
+}
+
+/// A reader sees what it didn't learn, another one begins with it, and what is learned after the end counts.
+fn follow<L: Name, R: Wait + Abort>(rt: &R, alloc: Global, opening: Opening)
+    requires { opening.book ≡ L.book }
+{
+    let mut publisher = opened::<L, Global>(rt, alloc, opening, 3);
+    let mut book = Book::new(alloc);
+    let mut early = reader(rt, &mut publisher);
+    let mut asleep = reader(rt, &mut publisher);
+    check_upto(rt, &mut early, 0);
+    step(rt, alloc, &mut book, &mut publisher);
+    step(rt, alloc, &mut book, &mut publisher);
+    check_upto(rt, &mut early, 2);
+    drop(early);
+    let mut late = reader(rt, &mut publisher);
+    check_no_place(rt, &mut publisher);
+    let news = publisher.close(rt);
+    check_upto(rt, &mut late, 2);
+    check_upto(rt, &mut asleep, 0);
+    asleep.learn(&news);
+    check_upto(rt, &mut asleep, 2);
+}
+
+#[test]
+fn readers_follow(rt: HostRuntime) -> Result<(), Fail> {
+    follow::<Brand, _>(&rt, rt.alloc(), Opening::new());
+    Ok(())
+}
+
+/// The heap has no room left for so many bytes.
+fn fill<A: Allocator + Copy, R: Abort + AllocGlobal>(rt: &R, alloc: A) -> Vec<Vec<u8, A>> {
+    let mut blocks = Vec::new(rt.alloc());
+    for _ in 0..10_000 {
+        let Ok(block) = vec![in alloc; 0u8; 64] else {
+            return blocks;
+        };
+        if blocks.push(block).is_err() {
+            panic!(rt; "no memory");
+        }
+    }
+    panic!(rt; "the heap has room left")
+}
+
+/// With no room left the publisher goes on. It is dropped, and its reader still sees what was published.
+fn publish_without_room<L: Name, A: Allocator + Copy, R: Wait + Abort + AllocGlobal>(
+    rt: &R,
+    alloc: A,
+    opening: Opening,
+)
+    requires { opening.book ≡ L.book }
+{
+    let mut publisher = opened::<L, A>(rt, alloc, opening, 2);
+    let mut live = reader(rt, &mut publisher);
+    let blocks = fill(rt, alloc);
+    for _ in 0..100 {
+        publisher.publish(rt);
+    }
+    drop(blocks);
+    drop(publisher);
+    check_upto(rt, &mut live, 0);
+}
+
+#[test]
+fn publishing_takes_no_memory(rt: HostRuntime) -> Result<(), Fail> {
+    let heap = LocalHeap::new(rt.alloc(), 100_000)?;
+    publish_without_room::<Brand, _, _>(&rt, &heap, Opening::new());
+    Ok(())
+}
+
+/// A hundred steps.
+fn step_often<L: Name, R: Wait + Abort>(
+    rt: &R,
+    alloc: Global,
+    mut publisher: Publisher<L>,
+) -> News<L>
+    requires { publisher.noted ≡ [] }
+{
+    let mut book = Book::new(alloc);
+    for _ in 0..100 {
+        step(rt, alloc, &mut book, &mut publisher);
+    }
+    publisher.close(rt)
+}
+
+/// Readings never tell of fewer entries than those before.
+fn read_often<L: Name>(rt: &impl Abort, mut live: Live<L>) -> Live<L> {
+    let mut seen = 0;
+    for _ in 0..1000 {
+        let upto = live.totals().upto;
+        assert!(rt; seen <= upto && upto <= 100);
+        seen = upto;
+    }
+    live
+}
+
+/// One thread publishes, another reads.
+fn read_meanwhile<L: Name + Send + Sync, R: Threads + Wait + Abort + Sync>(
+    rt: &R,
+    alloc: Global,
+    opening: Opening,
+)
+    requires { opening.book ≡ L.book }
+{
+    let mut publisher = opened::<L, Global>(rt, alloc, opening, 64);
+    let live = reader(rt, &mut publisher);
+    let (news, mut live) = join(
+        rt,
+        move || -> News<L>
+            requires { publisher.noted ≡ [] }
+        { step_often(rt, alloc, publisher) },
+        move || read_often(rt, live),
+    );
+    live.learn(&news);
+    check_upto(rt, &mut live, 100);
+}
+
+#[test]
+fn readings_rise(rt: HostRuntime) -> Result<(), Fail> {
+    read_meanwhile::<Brand, _>(&rt, rt.alloc(), Opening::new());
+    Ok(())
+}
