@@ -27,7 +27,7 @@ run: toolchain
 rows: build/covcollect
 	@scripts/rows build/covcollect
 
-## make test: the gate: every proof from nothing, the edits that must fail, the tests, the stored session, the calls
+## make test: the gate: proofs and edits that haven't passed on this machine, all tests, the stored session, the calls
 test: toolchain
 	@scripts/gate
 
