@@ -9,11 +9,11 @@ use Rattle.covbook.specs.declared.gather_fault.GatherFault.TheVariants.{Backward
 use Rattle.covbook.specs.declared.reading.Reading.{Reading}
 use Rattle.covbook.specs.Op.{EntryData, ReceiptData}
 use Rattle.covbook.specs.Cause.{IsRightLog, IsSameJob, IsFirstWrongLog, IsFirstWrongReceipt, IsFirstWrongReading, IsStranger, IsDiffering, IsNotAbove, IsBackwards, IsNoReadingOf, IsBadReading, IsMissing, first_receipts}
-use Rattle.covbook.specs.Gather.{LogData, jobs_of, places_in, Differ, IsOfJob, IsReceiptOf, IsLogOf, IsReadingOf, Claim, AllHold, FirstFails, IsGatherFault, claims_of, claims_of_log, job_claims, receipt_claims, reading_claims, log_claims, entry_claims}
+use Rattle.covbook.specs.Gather.{LogData, jobs_of, places_in, Differ, IsOfJob, IsReceiptOf, IsLogOf, IsReadingOf, IsMerge, Claim, AllHold, FirstFails, IsGatherFault, claims_of, claims_of_log, job_claims, receipt_claims, reading_claims, log_claims, entry_claims}
 use Rattle.covbook.proofs.Checked.{no_some, some_is}
-use Rattle.covbook.proofs.Claims.{all_join, all_left, all_right, first_left, first_right}
+use Rattle.covbook.proofs.Claims.{all_join, all_left, all_right, first_left, first_right, none_fails}
 use Rattle.covbook.proofs.Gathered.{job_told, log_told}
-use Rattle.covbook.proofs.Merged.{entries_miss, jobs_from, jobs_to, later, log_holds, log_is, log_of_receipts, logs_are, logs_right, receipts_of_log}
+use Rattle.covbook.proofs.Merged.{entries_are, entries_miss, jobs_from, jobs_to, later, log_holds, log_is, log_of_receipts, logs_are, logs_right, receipts_of_log}
 use Rattle.covbook.proofs.PlaceCounts.{In, In-all, In-from, Contains-from}
 
 -- ---- claims in two parts, and what stands at a place
@@ -431,3 +431,38 @@ missing_is_told entries logs place cause =
     let kept = log_claims entries 0 logs in
     first_right (jobs ++ kept) (entry_claims logs 0 entries) (Missing place) (all_join jobs kept (jobs_to logs cause.differ) (logs_are entries 0 logs cause.right))
     (entries_miss logs 0 entries place (omega arith) (omega (arith, cause.within)) cause.wrong (λ p low under. cause.before p under))
+
+-- ---- where entries are a merge of logs, the only fault is a reading's
+
+abbrev pub IsOfNoReading : GatherFault → Type 0
+IsOfNoReading f = (log index : ℕ) → f ≢ BadReading log index
+
+no_reading_fails : (entries : List EntryData) (log index : ℕ) (readings : List Reading) (f : GatherFault) → IsOfNoReading f → FirstFails (reading_claims entries log index readings) f → ⊥
+no_reading_fails entries log index [] f other fails = fails
+no_reading_fails entries log index (r ∷ readings) f other (inl h) = other log index h.1
+no_reading_fails entries log index (r ∷ readings) f other (inr h) = no_reading_fails entries log (index + 1) readings f other h.1
+
+no_log_fails : (entries : List EntryData) (number : ℕ) (logs : List LogData) (f : GatherFault) → IsOfNoReading f → AllByRecursion (IsLogOf entries) logs → FirstFails (log_claims entries number logs) f → ⊥
+no_log_fails entries number [] f other kept fails = fails
+no_log_fails entries number (log ∷ logs) f other kept fails =
+    let receipts = receipt_claims entries log.job number 0 0 log.receipts in
+    let readings = reading_claims entries number 0 log.readings in
+    elim (first_parts (receipts ++ readings) (log_claims entries (number + 1) logs) f fails) [
+      | inl here ↦ elim (first_parts receipts readings f here) [
+        | inl receipt ↦ none_fails receipts f (receipts_of_log entries number log kept.0) receipt
+        | inr reading ↦ no_reading_fails entries number 0 log.readings f other reading.1
+      ]
+      | inr there ↦ no_log_fails entries (number + 1) logs f other kept.1 there.1
+    ]
+
+pub no_merge : (entries : List EntryData) (logs : List LogData) (f : GatherFault) → IsGatherFault entries logs f → IsOfNoReading f → IsMerge entries logs → ⊥
+no_merge entries logs f fails other merge =
+    let jobs = job_claims 0 [] logs in
+    let kept = log_claims entries 0 logs in
+    elim (first_parts (jobs ++ kept) (entry_claims logs 0 entries) f fails) [
+      | inl front ↦ elim (first_parts jobs kept f front) [
+        | inl job ↦ none_fails jobs f (jobs_to logs merge.differ) job
+        | inr log ↦ no_log_fails entries 0 logs f other merge.kept log.1
+      ]
+      | inr missing ↦ none_fails (entry_claims logs 0 entries) f (entries_are logs 0 entries (λ place low high. merge.whole place (omega (arith, high)))) missing.1
+    ]

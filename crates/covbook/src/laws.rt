@@ -1,10 +1,10 @@
 //! Laws of the definitions that this crate's contracts cite. The functions do nothing: the contract is the law.
 
-ghost use Rattle.std.specs.Prelude.{◌≡◌, ◌↔◌, ℕ, List, [], ◌∷◌, ◌++◌, map, Contains};
+ghost use Rattle.std.specs.Prelude.{◌≡◌, ◌≢◌, ◌↔◌, ℕ, List, [], ◌∷◌, ◌++◌, map, Contains};
 ghost use Rattle.covbook.specs.declared.gather_fault.GatherFault.{GatherFault};
 ghost use Rattle.covbook.specs.declared.gather_fault.GatherFault.TheVariants.{Stranger, Differs, Backwards, Missing, BadReading, SameJob};
 ghost use Rattle.covbook.specs.Cause.{IsBackwards, IsBadReading, IsDiffering, IsMissing, IsSameJob, IsStranger};
-ghost use Rattle.covbook.specs.Gather.{AllHold, IsGathered, IsGatherFault, LogData, gather_claims};
+ghost use Rattle.covbook.specs.Gather.{AllHold, IsGathered, IsGatherFault, IsMerge, LogData, gather_claims};
 ghost use Rattle.covbook.specs.Op.{EntryData, OpData, SubmitOp, ClashAnswer};
 ghost use Rattle.covbook.specs.Order.{submissions_in, AreTheSame, AreAgreeing, OnlySubmitsAndAsks};
 ghost use Rattle.covbook.specs.Step.{answer_of, answers_to, table_after, table_of, totals_at, totals_to};
@@ -46,12 +46,14 @@ pub fn order_does_not_matter()
     order_of_submissions_does_not_matter();
 }
 
-/// The claims on entries and logs, one after another, all hold exactly where the history is gathered from the logs. Where one
-/// doesn't, one fault alone is the first.
+/// The claims on entries and logs, one after another, all hold exactly where the history is gathered from the logs. No two
+/// faults are the first, and where there is a fault the history isn't gathered. Where it is no reading's fault, the entries
+/// aren't a merge of the logs either.
 pub fn claims_make_a_gathering()
     ensures gathered { (entries : List EntryData) (logs : List LogData) → AllHold (gather_claims entries logs) ↔ IsGathered entries logs }
     ensures fault { (entries : List EntryData) (logs : List LogData) (some other : GatherFault) → IsGatherFault entries logs some → IsGatherFault entries logs other → some ≡ other }
     ensures none { (entries : List EntryData) (logs : List LogData) (fault : GatherFault) → IsGatherFault entries logs fault → ¬ IsGathered entries logs }
+    ensures merge { (entries : List EntryData) (logs : List LogData) (fault : GatherFault) → IsGatherFault entries logs fault → ((log index : ℕ) → fault ≢ BadReading log index) → ¬ IsMerge entries logs }
 {}
 
 /// Each fault is told exactly where it has its cause: what is wrong at the log, receipt, reading or place that it names, where

@@ -1,4 +1,4 @@
--- The step that appends an entry keeps the rule of the published history.
+-- The step that appends an entry keeps the rule of the noted history.
 use Rattle.std.proofs.Common.{◌≡◌, ℕ, ◌+◌, ◌<◌, ◌==◌, Bool, true, false, List, [], ◌∷◌, ◌++◌, length, refl, ap, sym, subst, arith, inl, length-append, None}
 use Rattle.std.proofs.lemmas.List.{append-nil}
 use Rattle.std.proofs.lemmas.Bool.Decides.{nat_tests}
@@ -7,7 +7,7 @@ use prog.Atomic.{either}
 use Rattle.logbook.specs.Pages.{Cell, View, cell, keeps, no_nib, step, Moves, Goes}
 use Rattle.covbook.specs.Op.{EntryData}
 use Rattle.covbook.specs.Step.{IsLegal}
-use Rattle.covnews.specs.History.{Appends, ComesNext, IsPublished}
+use Rattle.covnews.specs.History.{Appends, ComesNext, IsNoted}
 use Rattle.covnews.proofs.Prefixes.{whole_prefix}
 use Rattle.covnews.proofs.Runs.{legal_with_next}
 
@@ -28,7 +28,7 @@ words_at length = (length, true) ∷ (0, true) ∷ []
 
 -- the step on the word of the length: from `upto` to one more, with this entry
 abbrev GoesOn : List EntryData → EntryData → ℕ → List Cell → List EntryData → Type 0
-GoesOn seen entry upto = Goes IsPublished shown moved 0 (seen_as seen) (λ n. either (n == upto) (upto + 1) n) (Appends (step 0 upto (upto + 1) entry) (seen_as seen))
+GoesOn seen entry upto = Goes IsNoted shown moved 0 (seen_as seen) (λ n. either (n == upto) (upto + 1) n) (Appends (step 0 upto (upto + 1) entry) (seen_as seen))
 
 -- where the length is the one that was seen, the entry is appended; else nothing is
 goes_on : (history seen : List EntryData) (entry : EntryData) (upto : ℕ) → length seen ≡ upto → ComesNext seen entry → IsLegal history → IsPrefix seen history
@@ -60,7 +60,7 @@ goes_on history seen entry upto long next legal prefix false is =
 
 -- whatever the history has become, the step may be taken
 pub may_append : (seen : List EntryData) (entry : EntryData) (upto : ℕ) → length seen ≡ upto → ComesNext seen entry
-    → Moves IsPublished shown moved 0 (seen_as seen) (λ n. either (n == upto) (upto + 1) n) (Appends (step 0 upto (upto + 1) entry) (seen_as seen))
+    → Moves IsNoted shown moved 0 (seen_as seen) (λ n. either (n == upto) (upto + 1) n) (Appends (step 0 upto (upto + 1) entry) (seen_as seen))
 may_append seen entry upto long next words history kept prefix away =
     let May : List Cell → Type 0 = λ w. (0 < length w) × ((cell w 0).1 ≡ true) × GoesOn seen entry upto w history in
     subst May (sym kept.word) (omega arith, refl, goes_on history seen entry upto long next kept.legal prefix (length history == upto) refl)

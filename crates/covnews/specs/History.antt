@@ -1,4 +1,4 @@
--- Published histories. `IsPrefix shorter longer` says that the longer list begins with the shorter one: some rest follows.
+-- Noted histories. `IsPrefix shorter longer` says that the longer list begins with the shorter one: some rest follows.
 use Rattle.std.specs.Prelude.{◌≡◌, ℕ, ◌==◌, true, List, [], ◌∷◌, ◌++◌, length, MatchBool}
 pub use mathlib.Core.List.{IsPrefix}
 use Rattle.logbook.specs.Pages.{Book, Cell, Named, Step, View}
@@ -9,12 +9,12 @@ use Rattle.covbook.specs.Step.{IsLegal, next_entry}
 abbrev pub ComesNext : List EntryData → EntryData → Type 0
 ComesNext history entry = entry ≡ next_entry history entry.job entry.op
 
--- a published history is legal, and the first of the two words beside it is its length. The second one isn't used
-pub record IsPublished (words : List Cell) (history : List EntryData) : Type 0 where
+-- a noted history is legal, and the first of the two words beside it is its length. The second one isn't used
+pub record IsNoted (words : List Cell) (history : List EntryData) : Type 0 where
   pub word : words ≡ (length history, true) ∷ (0, true) ∷ []
   pub legal : IsLegal history
 
--- the word of a book that holds the length of its published history
+-- the word of a book that holds the length of its noted history
 abbrev pub length_of : Book → Named
 length_of book = record { tracked = true; key = 0; book = book }
 

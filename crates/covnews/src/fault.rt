@@ -10,7 +10,7 @@ pub enum ReaderFault {
     /// As many readers were made as there may be. It may also be answered earlier, where no free place is found.
     #[error("NoPlace")]
     NoPlace = 1,
-    /// A growth was refused.
+    /// A growth was refused. No call answers it today, as a reader takes no memory.
     #[error("out of memory")]
     Memory = 2,
 }

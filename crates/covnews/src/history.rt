@@ -1,4 +1,4 @@
-//! The published history. Its entries exist in proofs alone; in memory it is the word of its length. A token is a prefix of it
+//! The noted history. Its entries exist in proofs alone; in memory it is the word of its length. A token is a prefix of it
 //! that was seen.
 
 use crate::noted::NotedEntry;
@@ -6,21 +6,21 @@ use covbook::Entry;
 use logbook::{Gain, Plain, Play, Rule, Seen, Word};
 use std::alloc::Allocator;
 
-/// The word that holds the length of a published history.
+/// The word that holds the length of a noted history.
 pub(crate) type Length = Word<NotedEntry, u64, Legality>;
 
-/// A prefix of a published history that was seen. It takes no bytes.
+/// A prefix of a noted history that was seen. It takes no bytes.
 pub(crate) type SeenHistory = Seen<NotedEntry, u64, Legality>;
 
-/// The rule of a published history: it is legal, at every length.
+/// The rule of a noted history: it is legal, at every length.
 pub struct Legality;
 
 impl Rule<NotedEntry, u64> for Legality {
     ghost use Rattle.std.specs.Prelude.{[]};
     ghost use base.Fml.{ftrue};
-    ghost use Rattle.covnews.specs.History.{IsPublished};
+    ghost use Rattle.covnews.specs.History.{IsNoted};
 
-    ghost holds = { λ words history. IsPublished words history };
+    ghost holds = { λ words history. IsNoted words history };
 
     ghost first = { [] };
 

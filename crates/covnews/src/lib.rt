@@ -21,7 +21,7 @@
 //!     let mut publisher = Publisher::<L>::new(alloc, opening, 64)?;
 //!     let mut live = publisher.reader()?; // may go to another thread
 //!     let ready = book.ready(alloc, 0, &Op::Summary)?;
-//!     let news = publisher.note(ready.entry()); // None can't come; the caller gives the step up
+//!     let news = publisher.note(ready.entry()); // where it is None, give the step up
 //!     book.finish(ready);
 //!     publisher.publish(rt);
 //!     assert_eq!(live.totals().upto, 1);

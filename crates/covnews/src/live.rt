@@ -7,6 +7,7 @@ use core::mem::replace_with;
 use covbook::Reading;
 use std::alloc::{Allocator, Global};
 use std::marker::Model;
+use std::thread;
 
 /// A reader of what is published, which waits for nobody. Contracts see the longest history that it saw or learned, at first the
 /// one that was published when it was made.
@@ -78,6 +79,9 @@ impl<L: Name, A: Allocator> Live<L, A> {
     fn published(&mut self) -> News<L>
         ensures { self.new ≡ self.old }
     {
+        // Who publishes waits for each reader that is within a read. One that gives its processor away before it begins is
+        // hardly ever put to sleep within it, also where there are more readers than processors.
+        thread::yield_now();
         match replace_with(&mut self.reader, (), |reader, _| look(reader)) {
             Some(news) => news,
             None => self.longest.copy(),

@@ -12,7 +12,7 @@ use left_right::writer::Writer;
 use std::alloc::AllocError;
 use std::marker::PhantomData;
 
-/// How many entries a published history has, and the totals after the last of them. The token says which history: contracts
+/// How many entries a noted history has, and the totals after the last of them. The token says which history: contracts
 /// see its entries as `seen.log`.
 #[derive(Drop)]
 pub struct Mark {

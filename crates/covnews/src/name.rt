@@ -1,4 +1,4 @@
-//! How a shared book is named, and what its published history begins with.
+//! How a shared book is named, and what its noted history begins with.
 
 use crate::history::{Legality, Length, SeenHistory};
 use crate::noted::NotedEntry;
@@ -6,12 +6,12 @@ use logbook::{Seen, Start, Word};
 use std::marker::{Brand, Model};
 use std::sync::ledger::Ledger;
 
-/// The name of a shared book: of the count of its calls (`Ledger`), and of its published history. It has no functions. Whatever
+/// The name of a shared book: of the count of its calls (`Ledger`), and of its noted history. It has no functions. Whatever
 /// has the same name is of the same book.
 pub trait Name: Ledger {
     ghost use Rattle.logbook.specs.Pages.{Book};
 
-    // Which published history it is.
+    // Which noted history it is.
     ghost book: { Book };
 }
 
@@ -19,7 +19,7 @@ impl Name for Brand {
     ghost book = { record { number = 0; log_name = 0; cells_name = 0 } };
 }
 
-/// What a published history begins with: no entry. Contracts see the name of the book that it is opened for.
+/// What a noted history begins with: no entry. Contracts see the name of the book that it is opened for.
 #[derive(Drop)]
 pub struct Opening {
     length: Length,

@@ -1,4 +1,4 @@
-//! News of a published history.
+//! News of a noted history.
 
 use crate::history::{Append, Length, NoGain, SeenHistory};
 use crate::mark::Mark;
@@ -10,7 +10,8 @@ use logbook::Offer;
 use std::alloc::Allocator;
 use std::marker::{Model, PhantomData};
 
-/// What was published once: how many entries, and the totals after the last of them. Contracts see the entries. They are legal.
+/// How many entries a history had when it was noted, and the totals after the last of them. Contracts see the entries. They are
+/// legal. Hand news out once their history is published.
 #[derive(Drop)]
 pub struct News<L: Name> {
     mark: Mark,
@@ -109,7 +110,7 @@ impl<L: Name> News<L> {
         }
     }
 
-    /// Appends the entry that comes next to the published history. `None` where that history has other entries already, which
+    /// Appends the entry that comes next to the noted history. `None` where that history has other entries already, which
     /// the one holder of its word doesn't meet.
     pub(crate) fn appended<A: Allocator>(
         &self,

@@ -15,8 +15,8 @@ use std::sync::Wait;
 /// The one who publishes the history of a book. Contracts see the history that is noted, the one that is published, and for how
 /// many more readers there are places.
 ///
-/// A publisher that is dropped, and not closed, frees its own memory but not the table that it shares with its readers (some
-/// 17 KB for 64 readers).
+/// A publisher that is dropped, and not closed, frees nothing of what it shares with its readers (some 17 KB for 64 readers):
+/// they go on with what was published last.
 #[derive(Drop)]
 pub struct Publisher<L: Name, A: Allocator = Global> {
     history: Length,
@@ -83,15 +83,16 @@ impl<L: Name, A: Allocator> Publisher<L, A> {
         Some(news)
     }
 
-    /// Publishes what is noted. Nothing is refused. Waits for readers that still read what was published before the last time.
+    /// Publishes what is noted. Nothing is refused. Waits for readers that are still inside a read of what was shown
+    /// before the last `publish`.
     pub fn publish<R: Wait>(&mut self, rt: &R)
         ensures { self.new ≡ record self.old { published = self.old.noted } }
     {
         self.showing.show(rt, &self.noted);
     }
 
-    /// One more reader, which begins with what is published. So many are made as there are places, those that were dropped
-    /// among them. Takes no memory, so `Memory` isn't answered.
+    /// One more reader, which begins with what is published. At most so many are made as there were places at first: one that
+    /// is dropped doesn't give its place back. Takes no memory, so `Memory` isn't answered.
     pub fn reader(&mut self) -> Result<Live<L, A>, ReaderFault>
         ensures live { IfOk result (λ live. live ≡ self.old.published) }
         ensures place { OnOk result (self.new ≡ record self.old { places = self.old.places - 1 }) }

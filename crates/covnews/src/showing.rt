@@ -9,7 +9,7 @@ use std::alloc::{AllocError, Allocator};
 use std::marker::Model;
 use std::sync::{Wait, WaitMethods};
 
-/// What shows readers one published history. Contracts see the history that is shown.
+/// What shows readers one noted history. Contracts see the history that is shown.
 pub(crate) struct Showing<L: Name, A: Allocator> {
     writer: MarkWriter<L, A>,
 }

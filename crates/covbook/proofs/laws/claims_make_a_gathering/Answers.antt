@@ -1,4 +1,5 @@
 use Rattle.covbook.specs.Gather.{gather_claims}
+use Rattle.covbook.proofs.Causes.{no_merge}
 use Rattle.covbook.proofs.Claims.{none_fails, one_fails}
 use Rattle.covbook.proofs.Merged.{gathered_from, gathered_holds}
 use Rattle.covbook.proofs.laws.claims_make_a_gathering.Goals as goal
@@ -11,3 +12,6 @@ returns-clause-fault c = λ entries logs some other a b. one_fails (gather_claim
 
 pub returns-clause-none : goal.returns-clause-none
 returns-clause-none c = λ entries logs fault fails gathered. none_fails (gather_claims entries logs) fault (gathered_holds entries logs gathered) fails
+
+pub returns-clause-merge : goal.returns-clause-merge
+returns-clause-merge c = λ entries logs fault fails other merge. no_merge entries logs fault fails other merge
