@@ -5,7 +5,8 @@ use Rattle.std.proofs.lemmas.List.{append-nil, map-append}
 use Rattle.std.specs.List.{AllByRecursion, range_with_len}
 use Rattle.covbook.specs.Gather.{LogData}
 use Rattle.covbook.specs.Op.{OpData, SubmitOp, ReceiptData}
-use Rattle.covjobs.specs.Collect.{places_of_job, submissions_of, asked_by, last_of, ops_in, AreJobLogs}
+use Rattle.covbook.specs.declared.reading.Reading.{Reading}
+use Rattle.covjobs.specs.Collect.{places_of_job, submissions_of, asked_by, last_of, ops_in, AreJobLogs, HasRead, HasReadings}
 use Rattle.covjobs.specs.Work.{WorkerData, Asks, FirstAsks, log_of, logs_in}
 use Rattle.covjobs.proofs.Taken.{Fate}
 use Rattle.covjobs.proofs.Whole.{HasTold, HaveTold}
@@ -69,4 +70,47 @@ logs_asked fate count (suc more) end last workers after some told asks =
         first_asked fate count (suc more) end last asks.first asks.next zero_is asks.job asks.asks each.0,
         others_asked fate count (suc more) 1 more last asks.others (omega arith) rest each.1,
       ),
+    )
+
+-- ---- what the jobs read
+
+others_read : (fate : ℕ → Fate) (count jobs from some : ℕ) (last : OpData) (workers : List WorkerData) → 0 < from → jobs_in workers ≡ range_with_len from some
+    → AllByRecursion (HasTold jobs count fate) workers → AllByRecursion (HasReadings last) (logs_in workers)
+others_read fate count jobs from some last [] above are told = tt
+others_read fate count jobs from zero last (worker ∷ workers) above are told = absurd (none_is_some worker.seat.job (jobs_in workers) are)
+others_read fate count jobs from (suc some) last (worker ∷ workers) above are told =
+    let own : worker.seat.job ≡ from = heads worker.seat.job from (jobs_in workers) (range_with_len (from + 1) some) are in
+    let rest : jobs_in workers ≡ range_with_len (from + 1) some = tails worker.seat.job from (jobs_in workers) (range_with_len (from + 1) some) are in
+    let here : HasReadings last (log_of worker) = record {
+      has_reader = worker.has_reader;
+      submits = worker.receipts;
+      others = [];
+      receipts = sym (append-nil worker.receipts);
+      asked = sym (not_last last worker.seat.job (omega (arith, own, above)));
+      read = told.0.read;
+    } in
+    (here, others_read fate count jobs (from + 1) some last workers (omega arith) rest told.1)
+
+first_read : (fate : ℕ → Fate) (count jobs end : ℕ) (last : OpData) (first next : WorkerData) → first.seat.job ≡ 0 → next.seat.job ≡ first.seat.job
+    → Asks first.receipts next.receipts end last → next.readings ≡ first.readings → HasTold jobs count fate first → HasReadings last (log_of next)
+first_read fate count jobs end last first next zero_is same asks readings told = record {
+  has_reader = first.has_reader;
+  submits = first.receipts;
+  others = asks.receipt ∷ [];
+  receipts = asks.behind;
+  asked = ap (λ (op : OpData). op ∷ []) asks.asked ∙ sym (ap (λ (job : ℕ). last_of last job) (same ∙ zero_is));
+  read = subst (λ (rs : List Reading). HasRead first.has_reader first.receipts rs) (sym readings) told.read;
+}
+
+pub logs_read : (fate : ℕ → Fate) (count jobs end : ℕ) (last : OpData) (workers after : List WorkerData) → 0 < jobs → HaveTold jobs 0 jobs count fate workers
+    → FirstAsks workers after end last → AllByRecursion (HasReadings last) (logs_in after)
+logs_read fate count zero end last workers after some told asks = absurd (omega (arith, some))
+logs_read fate count (suc more) end last workers after some told asks =
+    let are : asks.first.seat.job ∷ jobs_in asks.others ≡ 0 ∷ range_with_len 1 more = sym (ap (λ (ws : List WorkerData). jobs_in ws) asks.old) ∙ told.are in
+    let each : AllByRecursion (HasTold (suc more) count fate) (asks.first ∷ asks.others) = subst (λ (ws : List WorkerData). AllByRecursion (HasTold (suc more) count fate) ws) asks.old told.each in
+    let zero_is : asks.first.seat.job ≡ 0 = heads asks.first.seat.job 0 (jobs_in asks.others) (range_with_len 1 more) are in
+    let rest : jobs_in asks.others ≡ range_with_len 1 more = tails asks.first.seat.job 0 (jobs_in asks.others) (range_with_len 1 more) are in
+    subst (λ (ws : List WorkerData). AllByRecursion (HasReadings last) (logs_in ws)) (sym asks.new) (
+      first_read fate count (suc more) end last asks.first asks.next zero_is asks.job asks.asks asks.readings each.0,
+      others_read fate count (suc more) 1 more last asks.others (omega arith) rest each.1,
     )

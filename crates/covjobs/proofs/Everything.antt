@@ -7,7 +7,7 @@ use Rattle.covbook.specs.Step.{IsLegal}
 use Rattle.covjobs.specs.declared.refused.RefusedInput.{RefusedInput}
 use Rattle.covjobs.specs.Collect.{InputData, IsCollected}
 use Rattle.covjobs.specs.Work.{WorkerData, HaveDone, FirstAsks, logs_in, refused_in}
-use Rattle.covjobs.proofs.AskedLast.{logs_asked}
+use Rattle.covjobs.proofs.AskedLast.{logs_asked, logs_read}
 use Rattle.covjobs.proofs.Gathered.{refused_is}
 use Rattle.covjobs.proofs.LastEntry.{GoesOn, SameTexts, ends_with}
 use Rattle.covjobs.proofs.Whole.{works_from, whole_of}
@@ -35,6 +35,7 @@ all_collected_in inputs jobs end last workers after entries refused some done as
       merge = gathered.merge;
       gathered = gathered;
       asked = asked;
+      read = logs_read whole.fate count jobs end last workers after some whole.tell asks;
       are_refused = refused_is jobs count whole.fate workers refused some whole.tell own sorted;
       ends = ends_with whole.fate count jobs end last workers after entries some asks legal gathered.merge asked long goes texts;
     }

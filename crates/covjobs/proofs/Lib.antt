@@ -8,6 +8,7 @@ pub mod Gathered
 pub mod Histories
 pub mod LastEntry
 pub mod Places
+pub mod ReadBehind
 pub mod Seated
 pub mod Steps
 pub mod Submitted

@@ -9,7 +9,7 @@ use Rattle.std.proofs.lemmas.Nat.{mod_below}
 use Rattle.covline.specs.Row.{SubmissionData}
 use Rattle.covread.specs.declared.fault.ReadFault.TheVariants as faults
 use Rattle.covbook.specs.Op.{SubmitOp}
-use Rattle.covjobs.specs.Collect.{InputData, IsFate, AreFates, submitted, refusal, places_of_job, submissions_of, refusals_of, ops_in}
+use Rattle.covjobs.specs.Collect.{InputData, IsFate, AreFates, HasRead, submitted, refusal, places_of_job, submissions_of, refusals_of, ops_in}
 use Rattle.covjobs.specs.Seat.{fresh_seat}
 use Rattle.covjobs.specs.Work.{WorkerData, WorkData, HasDone, HaveDone, work_of}
 use Rattle.covjobs.proofs.Taken.{Fate}
@@ -27,10 +27,11 @@ fates_at (work ∷ works) [] done k = absurd done
 fates_at (work ∷ works) (worker ∷ workers) done zero = done.0.taken.fate
 fates_at (work ∷ works) (worker ∷ workers) done (suc k) = fates_at works workers done.1 k
 
--- a worker has asked and refused what one telling of all inputs says
+-- a worker has asked and refused what one telling of all inputs says, and has read behind what it asked
 pub record HasTold (jobs count : ℕ) (fate : ℕ → Fate) (worker : WorkerData) : Type 0 where
   pub asked : ops_in worker.receipts ≡ map SubmitOp (submissions_of (places_of_job jobs worker.seat.job) fate count)
   pub are_refused : worker.refused ≡ refusals_of (places_of_job jobs worker.seat.job) fate count
+  pub read : HasRead worker.has_reader worker.receipts worker.readings
 
 told : (inputs : List InputData) (jobs job : ℕ) (worker : WorkerData) (done : HasDone (record { inputs = inputs; jobs = jobs; job = job }) worker) (whole : ℕ → Fate)
     → ((index : ℕ) → index % jobs ≡ job → whole index ≡ done.taken.fate index) → HasTold jobs (length inputs) whole worker
@@ -44,6 +45,7 @@ told inputs jobs job worker done whole same =
       are_refused =
           (subst (λ (j : ℕ). worker.refused ≡ refusals_of (places_of_job jobs j) whole (length inputs)) (sym done.own)
           (done.taken.are_refused ∙ sym (brought_own (places_of_job jobs job) (λ index. refusal index (own index)) (λ index. refusal index (whole index)) (length inputs) (λ index less meant. ap (λ (f : Fate). refusal index f) (agree index less meant)))));
+      read = done.read;
     }
   where
     is_own : (jobs job index : ℕ) → eqb (index % jobs) job ≡ true → index % jobs ≡ job

@@ -1,6 +1,6 @@
 -- What workers collect: of each input what it is read as, of each job the submissions of its inputs, and behind all of them one
 -- last operation (lcov(1), --add-tracefile, for many files at once).
-use Rattle.std.specs.Prelude.{◌≡◌, ◌⊎◌, ◌==◌, ℕ, zero, suc, ◌<◌, ◌≤◌, ◌%◌, if◌then◌else◌, Bool, true, IsTrue, List, [], ◌∷◌, ◌++◌, length, map, slice_get, IsSomeAnd, Result, Ok, Err}
+use Rattle.std.specs.Prelude.{◌≡◌, ◌⊎◌, ◌==◌, ℕ, zero, suc, ◌<◌, ◌≤◌, ◌%◌, if◌then◌else◌, Bool, true, false, IsTrue, List, [], ◌∷◌, ◌++◌, length, map, slice_get, IsSomeAnd, Result, Ok, Err}
 use Rattle.std.specs.List.{AllByRecursion, range_with_len}
 use Rattle.covline.specs.Lawful.{IsGoodTest}
 use Rattle.covline.specs.Row.{SubmissionData}
@@ -8,6 +8,7 @@ use Rattle.covread.specs.declared.fault.ReadFault.{ReadFault}
 use Rattle.covread.specs.declared.fault.ReadFault.TheVariants as faults
 use Rattle.covread.specs.Outcome as trace
 use Rattle.covread.specs.GcovOutcome as gcov
+use Rattle.covbook.specs.declared.reading.Reading.{Reading}
 use Rattle.covbook.specs.Op.{OpData, SubmitOp, EntryData, ReceiptData}
 use Rattle.covbook.specs.Gather.{LogData, IsMerge, IsGathered}
 use Rattle.covbook.specs.Order.{AreAgreeing}
@@ -83,6 +84,26 @@ AreJobLogs fate count jobs last logs =
     (map (λ (log : LogData). log.job) logs ≡ range_with_len 0 jobs)
     × AllByRecursion (λ (log : LogData). ops_in log.receipts ≡ asked_by fate count jobs last log.job) logs
 
+-- one reading for each of these receipts, in their order, of a history that has the receipt's entry
+abbrev pub AreReadBehind : List ReceiptData → List Reading → Type 0
+AreReadBehind [] [] = Unit {0}
+AreReadBehind (receipt ∷ receipts) (reading ∷ readings) = (receipt.place < reading.upto) × AreReadBehind receipts readings
+AreReadBehind receipts readings = ⊥
+
+-- what a job has read behind these receipts: one reading behind each, or none at all where it has no reader
+abbrev pub HasRead : (has_reader : Bool) → List ReceiptData → List Reading → Type 0
+HasRead true receipts readings = AreReadBehind receipts readings
+HasRead false receipts readings = readings ≡ []
+
+-- a log's readings stand behind its submissions; none stands behind the last operation
+pub record HasReadings (last : OpData) (log : LogData) : Type 0 where
+  pub has_reader : Bool
+  pub submits : List ReceiptData
+  pub others : List ReceiptData
+  pub receipts : log.receipts ≡ submits ++ others
+  pub asked : ops_in others ≡ last_of last log.job
+  pub read : HasRead has_reader submits log.readings
+
 -- the last entry is that of the last operation. A text is the one that a run over the submissions alone ends with, in the order
 -- of the inputs and whatever the number of jobs, where the submissions agree
 pub record EndsWith (submissions : List SubmissionData) (last : OpData) (entries : List EntryData) : Type 0 where
@@ -94,7 +115,7 @@ pub record EndsWith (submissions : List SubmissionData) (last : OpData) (entries
   pub text : IsText last → AreAgreeing submissions → entry.answer ≡ answer_of (table_of (map SubmitOp submissions)) last
 
 -- what is collected of inputs by so many jobs: what became of each input decides all but the order in which jobs took turns, and
--- what they read meanwhile, which is right at the history
+-- what they read meanwhile, which is right at the history. A job that has a reader reads once behind each of its submissions
 pub record IsCollected (inputs : List InputData) (jobs : ℕ) (last : OpData) (entries : List EntryData) (logs : List LogData) (refused : List RefusedInput) : Type 0 where
   pub fate : ℕ → Result SubmissionData ReadFault
   pub fates : AreFates inputs fate
@@ -102,6 +123,7 @@ pub record IsCollected (inputs : List InputData) (jobs : ℕ) (last : OpData) (e
   pub merge : IsMerge entries logs
   pub gathered : IsGathered entries logs
   pub asked : AreJobLogs fate (length inputs) jobs last logs
+  pub read : AllByRecursion (HasReadings last) logs
   pub are_refused : refused ≡ refusals_of all_places fate (length inputs)
   pub ends : EndsWith (submissions_of all_places fate (length inputs)) last entries
 

@@ -1,5 +1,5 @@
 -- One step of a worker, and what all workers have done.
-use Rattle.std.specs.Prelude.{◌≡◌, ℕ, ◌+◌, List, [], ◌∷◌, ◌++◌, length, map, Result, Ok, IfOk}
+use Rattle.std.specs.Prelude.{◌≡◌, ℕ, ◌+◌, ◌≤◌, Bool, true, false, List, [], ◌∷◌, ◌++◌, length, map, Result, Ok, IfOk}
 use Rattle.std.specs.List.{flat_map}
 use Rattle.covline.specs.Row.{SubmissionData}
 use Rattle.covread.specs.declared.fault.ReadFault.{ReadFault}
@@ -8,7 +8,7 @@ use Rattle.covbook.specs.declared.reading.Reading.{Reading}
 use Rattle.covbook.specs.Gather.{LogData}
 use Rattle.covbook.specs.Op.{OpData, SubmitOp, ReceiptData}
 use Rattle.covjobs.specs.declared.refused.RefusedInput.{RefusedInput}
-use Rattle.covjobs.specs.Collect.{InputData, IsFate, submitted, refusal, HasTaken}
+use Rattle.covjobs.specs.Collect.{InputData, IsFate, submitted, refusal, HasRead, HasTaken}
 use Rattle.covjobs.specs.Seat.{SeatData}
 
 -- an input is taken: what becomes of it stands behind what was submitted and what was refused before
@@ -25,10 +25,17 @@ pub record Asks (receipts after : List ReceiptData) (seen : ℕ) (op : OpData) :
   pub asked : receipt.op ≡ op
   pub place : receipt.place + 1 ≡ seen
 
--- what a worker has: its seat, what it keeps of its calls, what it read of the totals, and which of its inputs are refused
+-- a reading stands behind those before, of a history of at least so many entries; where there is no reader, nothing does
+abbrev pub ReadsOn : (has_reader : Bool) → (least : ℕ) → (readings after : List Reading) → Type 0
+ReadsOn true least readings after = (reading : Reading) × (after ≡ readings ++ reading ∷ []) × (least ≤ reading.upto)
+ReadsOn false least readings after = after ≡ readings
+
+-- what a worker has: its seat, what it keeps of its calls, whether it has a reader, what it read of the totals, and which of
+-- its inputs are refused
 pub record WorkerData : Type 0 where
   pub seat : SeatData
   pub receipts : List ReceiptData
+  pub has_reader : Bool
   pub readings : List Reading
   pub refused : List RefusedInput
 
@@ -45,6 +52,7 @@ work_of inputs jobs seat = record { inputs = inputs; jobs = jobs; job = seat.job
 pub record HasDone (work : WorkData) (worker : WorkerData) : Type 0 where
   pub own : worker.seat.job ≡ work.job
   pub taken : HasTaken work.inputs work.jobs work.job (length work.inputs) worker.receipts worker.refused
+  pub read : HasRead worker.has_reader worker.receipts worker.readings
 
 -- each worker has done the work at its place, and there is one for each
 abbrev pub HaveDone : List WorkData → List WorkerData → Type 0
@@ -75,7 +83,8 @@ logs_in workers = map log_of workers
 abbrev pub refused_in : List WorkerData → List RefusedInput
 refused_in workers = flat_map (λ (w : WorkerData). w.refused) workers
 
--- the first worker asks an operation and reads nothing, and nothing else changes but its seat; the book has now so many entries up to it
+-- the first worker asks an operation and reads nothing, and the others stay as they were. The history up to that operation's entry
+-- has so many entries
 pub record FirstAsks (workers after : List WorkerData) (end : ℕ) (op : OpData) : Type 0 where
   pub first : WorkerData
   pub next : WorkerData

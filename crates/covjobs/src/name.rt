@@ -70,7 +70,8 @@ impl<A: Allocator + Copy> Start<A> {
     ghost use Rattle.covjobs.specs.declared.name.OpenFault.TheVariants as faults;
     ghost use Rattle.covjobs.specs.Start.{AreJobs};
 
-    /// What a book for so many jobs is made of.
+    /// What a book for so many jobs is made of. `BadJobs` where the jobs aren't 1 to 64. Nothing of it takes memory yet, so `Memory`
+    /// isn't answered.
     pub fn new(alloc: A, jobs: u32) -> Result<Start<A>, OpenFault>
         ensures jobs { IfOk result (λ s. s.jobs ≡ jobs) }
         ensures bad { (result ≡ Err faults.BadJobs) ↔ (AreJobs jobs → ⊥) }

@@ -13,7 +13,7 @@ use std::marker::Model;
 use std::sync::Wait;
 
 /// A job at work: its seat, what it keeps of its calls, what it read of the totals, and which of its inputs are refused. Contracts
-/// see all four. Its reader is there where there was a place for one.
+/// see all four, and whether it has a reader: it has one where there was a place.
 #[derive(Drop)]
 pub(crate) struct Worker<L: Name, A: Allocator = Global> {
     seat: Seat<L>,
@@ -24,25 +24,27 @@ pub(crate) struct Worker<L: Name, A: Allocator = Global> {
 }
 
 impl<L: Name, A: Allocator> Model for Worker<L, A> {
+    ghost use Rattle.std.specs.Prelude.{is_some};
     ghost use Rattle.covjobs.specs.Work.{WorkerData};
 
     ghost Value = { WorkerData };
 
-    ghost view = { λ a. record { seat = a.seat; receipts = a.receipts; readings = a.readings; refused = a.refused } };
+    ghost view = { λ a. record { seat = a.seat; receipts = a.receipts; has_reader = is_some a.live; readings = a.readings; refused = a.refused } };
 }
 
 impl<L: Name, A: Allocator + Copy> Worker<L, A> {
-    ghost use Rattle.std.specs.Prelude.{◌≡◌, ◌++◌, [], ◌∷◌, IfOk};
+    ghost use Rattle.std.specs.Prelude.{◌≡◌, ◌++◌, [], ◌∷◌, IfOk, length};
     ghost use Rattle.covbook.specs.Op.{SubmitOp};
     ghost use Rattle.covbook.specs.View.{op_data};
     ghost use Rattle.covjobs.specs.InputView.{input_data};
-    ghost use Rattle.covjobs.specs.Collect.{ops_in};
-    ghost use Rattle.covjobs.specs.Work.{Takes, Asks};
+    ghost use Rattle.covjobs.specs.Collect.{ops_in, HasRead};
+    ghost use Rattle.covjobs.specs.Work.{Takes, Asks, ReadsOn};
 
     /// The job's worker, which has done nothing yet.
     fn new(alloc: A, seat: Seat<L>, live: Option<Live<L, A>>) -> Worker<L, A>
         ensures seat { result.seat ≡ seat }
         ensures receipts { result.receipts ≡ [] }
+        ensures readings { result.readings ≡ [] }
         ensures refused { result.refused ≡ [] }
     {
         Worker {
@@ -66,6 +68,7 @@ impl<L: Name, A: Allocator + Copy> Worker<L, A> {
     ) -> Result<(), BookFault>
         ensures job { self.new.seat.job ≡ self.old.seat.job }
         ensures taken { IfOk result (λ _. Takes (input_data input.now) index (ops_in self.old.receipts) (ops_in self.new.receipts) self.old.refused self.new.refused) }
+        ensures read { IfOk result (λ _. HasRead self.old.has_reader self.old.receipts self.old.readings → HasRead self.new.has_reader self.new.receipts self.new.readings) }
     {
         match input.read(alloc) {
             Ok(submission) => self.submit(rt, alloc, book, gate, submission),
@@ -84,6 +87,7 @@ impl<L: Name, A: Allocator + Copy> Worker<L, A> {
     ) -> Result<(), BookFault>
         ensures job { self.new.seat.job ≡ self.old.seat.job }
         ensures asked { IfOk result (λ _. ops_in self.new.receipts ≡ ops_in self.old.receipts ++ SubmitOp submission ∷ []) }
+        ensures read { IfOk result (λ _. HasRead self.old.has_reader self.old.receipts self.old.readings → HasRead self.new.has_reader self.new.receipts self.new.readings) }
         ensures refused { self.new.refused ≡ self.old.refused }
     {
         let (job, call) = (self.seat.job(), self.seat.calls());
@@ -105,6 +109,8 @@ impl<L: Name, A: Allocator + Copy> Worker<L, A> {
     ) -> Result<News<L>, BookFault>
         ensures job { self.new.seat.job ≡ self.old.seat.job }
         ensures asked { IfOk result (λ _. Asks self.old.receipts self.new.receipts self.new.seat.seen (op_data op.now)) }
+        ensures news { IfOk result (λ news. length news ≡ self.new.seat.seen) }
+        ensures reader { self.new.has_reader ≡ self.old.has_reader }
         ensures readings { self.new.readings ≡ self.old.readings }
         ensures refused { self.new.refused ≡ self.old.refused }
     {
@@ -115,6 +121,8 @@ impl<L: Name, A: Allocator + Copy> Worker<L, A> {
 
     /// Keeps one reading that is at least as late as the news, where the job has a reader.
     fn read(&mut self, news: &News<L>) -> Result<(), Memory>
+        ensures read { IfOk result (λ _. ReadsOn self.old.has_reader (length news.now) self.old.readings self.new.readings) }
+        ensures reader { self.new.has_reader ≡ self.old.has_reader }
         ensures seat { self.new.seat ≡ self.old.seat }
         ensures receipts { self.new.receipts ≡ self.old.receipts }
         ensures refused { self.new.refused ≡ self.old.refused }
@@ -163,7 +171,7 @@ impl<L: Name, A: Allocator> Worker<L, A> {
 }
 
 ghost use Rattle.std.specs.Prelude.{◌≡◌, ◌<◌, IfOk, length, map};
-ghost use Rattle.covjobs.specs.Collect.{HasTaken, places_of_job};
+ghost use Rattle.covjobs.specs.Collect.{HasRead, HasTaken, places_of_job};
 ghost use Rattle.covjobs.specs.InputView.{input_data};
 
 /// Does the work of a job of so many: takes its inputs in order. Ends at the first fault. Where there is no place for one more
@@ -180,6 +188,7 @@ pub(crate) fn work<R: Wait, G: Gate, L: Name, A: Allocator + Copy>(
     requires { 0 < jobs }
     ensures job { IfOk result (λ w. w.seat.job ≡ seat.job) }
     ensures taken { IfOk result (λ w. HasTaken (map input_data inputs.now) jobs seat.job (length inputs.now) w.receipts w.refused) }
+    ensures read { IfOk result (λ w. HasRead w.has_reader w.receipts w.readings) }
 {
     let job = seat.job();
     let live = reader_of(rt, book)?;
