@@ -95,7 +95,7 @@ abbrev pub HasRead : (has_reader : Bool) → List ReceiptData → List Reading �
 HasRead true receipts readings = AreReadBehind receipts readings
 HasRead false receipts readings = readings ≡ []
 
--- a log's readings stand behind its submissions; none stands behind the last operation
+-- a log has one reading for each of its submissions, or none at all; none is for the last operation
 pub record HasReadings (last : OpData) (log : LogData) : Type 0 where
   pub has_reader : Bool
   pub submits : List ReceiptData
@@ -114,8 +114,8 @@ pub record EndsWith (submissions : List SubmissionData) (last : OpData) (entries
   pub asker : entry.job ≡ 0
   pub text : IsText last → AreAgreeing submissions → entry.answer ≡ answer_of (table_of (map SubmitOp submissions)) last
 
--- what is collected of inputs by so many jobs: what became of each input decides all but the order in which jobs took turns, and
--- what they read meanwhile, which is right at the history. A job that has a reader reads once behind each of its submissions
+-- what is collected of inputs by so many jobs: what became of each input decides what the jobs ask. The order of their turns, and
+-- how many entries their readings count, stay open. Each reading has the totals after its number of entries
 pub record IsCollected (inputs : List InputData) (jobs : ℕ) (last : OpData) (entries : List EntryData) (logs : List LogData) (refused : List RefusedInput) : Type 0 where
   pub fate : ℕ → Result SubmissionData ReadFault
   pub fates : AreFates inputs fate

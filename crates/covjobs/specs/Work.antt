@@ -18,7 +18,7 @@ pub record Takes (input : InputData) (index : ℕ) (asked asks : List OpData) (r
   pub submits : asks ≡ asked ++ map SubmitOp (submitted fate)
   pub tells : refuses ≡ refused ++ refusal index fate
 
--- an operation is asked: its receipt stands behind those before, and is of the place below the one that the job has now seen
+-- an operation is asked: its receipt stands behind those before, and the job has now seen the place after the receipt's
 pub record Asks (receipts after : List ReceiptData) (seen : ℕ) (op : OpData) : Type 0 where
   pub receipt : ReceiptData
   pub behind : after ≡ receipts ++ receipt ∷ []

@@ -42,7 +42,7 @@ ghost use Rattle.covjobs.specs.Start.{AreJobs};
 /// place for its reader it has no readings. When all have ended, job 0 performs the last operation. Waits for the workers.
 ///
 /// Counts add up as by lcov(1), --add-tracefile. Faults: `BadJobs` exactly where the jobs aren't 1 to 64, `Full`, `Memory`;
-/// `Gather` and `NotLast` where history and logs don't fit, which no run meets. A reader for which there is no memory is `Memory`.
+/// `Gather` and `NotLast` where history and logs don't fit, which no run meets. `Memory` also where a worker can't be started.
 pub fn collect<R: Threads + Wait + Sync, G: Gate + Sync>(
     rt: &R,
     alloc: Global,

@@ -13,7 +13,7 @@ use std::marker::Model;
 use std::sync::Wait;
 
 /// A job at work: its seat, what it keeps of its calls, what it read of the totals, and which of its inputs are refused. Contracts
-/// see all four, and whether it has a reader: it has one where there was a place.
+/// see all four, and whether it has a reader.
 #[derive(Drop)]
 pub(crate) struct Worker<L: Name, A: Allocator = Global> {
     seat: Seat<L>,
@@ -33,7 +33,7 @@ impl<L: Name, A: Allocator> Model for Worker<L, A> {
 }
 
 impl<L: Name, A: Allocator + Copy> Worker<L, A> {
-    ghost use Rattle.std.specs.Prelude.{◌≡◌, ◌++◌, [], ◌∷◌, IfOk, length};
+    ghost use Rattle.std.specs.Prelude.{◌≡◌, ◌++◌, [], ◌∷◌, IfOk, is_some, length};
     ghost use Rattle.covbook.specs.Op.{SubmitOp};
     ghost use Rattle.covbook.specs.View.{op_data};
     ghost use Rattle.covjobs.specs.InputView.{input_data};
@@ -44,6 +44,7 @@ impl<L: Name, A: Allocator + Copy> Worker<L, A> {
     fn new(alloc: A, seat: Seat<L>, live: Option<Live<L, A>>) -> Worker<L, A>
         ensures seat { result.seat ≡ seat }
         ensures receipts { result.receipts ≡ [] }
+        ensures reader { result.has_reader ≡ is_some live }
         ensures readings { result.readings ≡ [] }
         ensures refused { result.refused ≡ [] }
     {
@@ -69,6 +70,7 @@ impl<L: Name, A: Allocator + Copy> Worker<L, A> {
         ensures job { self.new.seat.job ≡ self.old.seat.job }
         ensures taken { IfOk result (λ _. Takes (input_data input.now) index (ops_in self.old.receipts) (ops_in self.new.receipts) self.old.refused self.new.refused) }
         ensures read { IfOk result (λ _. HasRead self.old.has_reader self.old.receipts self.old.readings → HasRead self.new.has_reader self.new.receipts self.new.readings) }
+        ensures reader { self.new.has_reader ≡ self.old.has_reader }
     {
         match input.read(alloc) {
             Ok(submission) => self.submit(rt, alloc, book, gate, submission),
@@ -76,7 +78,7 @@ impl<L: Name, A: Allocator + Copy> Worker<L, A> {
         }
     }
 
-    /// Submits, between the two calls of the gate, and keeps the receipt and then a reading.
+    /// Submits, between the two calls of the gate, and keeps the receipt and then a reading, where the job has a reader.
     fn submit<R: Wait, G: Gate>(
         &mut self,
         rt: &R,
@@ -88,6 +90,7 @@ impl<L: Name, A: Allocator + Copy> Worker<L, A> {
         ensures job { self.new.seat.job ≡ self.old.seat.job }
         ensures asked { IfOk result (λ _. ops_in self.new.receipts ≡ ops_in self.old.receipts ++ SubmitOp submission ∷ []) }
         ensures read { IfOk result (λ _. HasRead self.old.has_reader self.old.receipts self.old.readings → HasRead self.new.has_reader self.new.receipts self.new.readings) }
+        ensures reader { self.new.has_reader ≡ self.old.has_reader }
         ensures refused { self.new.refused ≡ self.old.refused }
     {
         let (job, call) = (self.seat.job(), self.seat.calls());
@@ -98,8 +101,8 @@ impl<L: Name, A: Allocator + Copy> Worker<L, A> {
         Ok(())
     }
 
-    /// Performs the operation, and keeps the receipt, which is of the place below the one that the job has seen now. Answers news of
-    /// the history that ends with it.
+    /// Performs the operation, and keeps the receipt; the job has then seen the place after the receipt's. Answers news of a history
+    /// of so many entries.
     pub(crate) fn ask<R: Wait>(
         &mut self,
         rt: &R,

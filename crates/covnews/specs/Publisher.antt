@@ -7,7 +7,7 @@ use Rattle.covbook.specs.Op.{EntryData}
 pub record OpeningData : Type 0 where
   pub book : Book
 
--- the history that is noted, and the one that readers are shown; for so many more readers there are places
+-- the history that is noted, and the one that is published; for so many more readers there are places
 pub record PublisherData : Type 0 where
   pub noted : List EntryData
   pub published : List EntryData

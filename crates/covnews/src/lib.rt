@@ -4,8 +4,8 @@
 //! how many entries there are and the totals after them (`Publisher::publish`). A reader (`Live`) asks for these totals at any
 //! time, with no lock and no wait: `left_right` keeps two copies of what is shown.
 //!
-//! `News` are a copy of what was published once. A reader that learns them never tells of fewer entries again, also where it
-//! hasn't seen them itself, and after the book was closed.
+//! `News` name a noted history; those of `note` are handed out after `publish`. A reader that learns them never tells of fewer
+//! entries again, also where it hasn't seen them itself, and after the book was closed.
 //!
 //! What is published is a legal history (covbook's `IsLegal`) and never changes but by growing at its end, so any two of its
 //! states are prefixes of one history. In memory there is only its length, its last totals and a token without bytes; the

@@ -61,9 +61,8 @@ impl<L: Name, A: Allocator> Live<L, A> {
         self.longest = self.longest.longer(news);
     }
 
-    /// The totals that are published. They are of no fewer entries than this reader saw or learned; where it is given no view, as
-    /// after the publisher was closed, they are those of the longest history that it saw or learned. Takes no memory, and waits
-    /// for nobody.
+    /// The totals of what is published, or of what this reader saw or learned, where that is longer or the reader is given no view,
+    /// as after the publisher was closed. Takes no memory, and waits for nobody.
     pub fn totals(&mut self) -> Reading
         ensures own { IsPrefix self.old self.new }
         ensures legal { IsLegal self.new }

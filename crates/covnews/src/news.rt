@@ -10,8 +10,8 @@ use logbook::Offer;
 use std::alloc::Allocator;
 use std::marker::{Model, PhantomData};
 
-/// How many entries a history had when it was noted, and the totals after the last of them. Contracts see the entries. They are
-/// legal. Hand news out once their history is published.
+/// How many entries the noted history had when the news were made, and the totals after the last of them. Contracts see the
+/// entries. They are legal. Hand news out after their history is published.
 #[derive(Drop)]
 pub struct News<L: Name> {
     mark: Mark,

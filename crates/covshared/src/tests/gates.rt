@@ -2,6 +2,7 @@
 
 use super::collecting::{collected_of, trace, traces};
 use super::turns::SMALL;
+use covbook::JobLog;
 use covjobs::{Gate, Input};
 use std::process::Abort;
 use std::sync::Wait;
@@ -44,15 +45,22 @@ impl Flag {
     }
 }
 
-/// Each of two jobs raises its flag before its first submit, and waits for the other's.
+/// Each of two jobs raises its flag at its first submit, and waits for the other's.
 #[derive(Drop)]
 struct Meeting {
     came: [Flag; 2],
     met: [Flag; 2],
 }
 
-impl Gate for Meeting {
-    fn before<R: Wait>(&self, _rt: &R, job: u32, call: u64) {
+impl Meeting {
+    fn new() -> Meeting {
+        Meeting {
+            came: [Flag::new(), Flag::new()],
+            met: [Flag::new(), Flag::new()],
+        }
+    }
+
+    fn meet(&self, job: u32, call: u64) {
         if call > 0 || job > 1 {
             return;
         }
@@ -63,7 +71,37 @@ impl Gate for Meeting {
         }
     }
 
+    fn have_met(&self) -> bool {
+        self.met[0].is_up() && self.met[1].is_up()
+    }
+}
+
+/// Two jobs meet before their first submits.
+#[derive(Drop)]
+struct MeetBefore {
+    meeting: Meeting,
+}
+
+impl Gate for MeetBefore {
+    fn before<R: Wait>(&self, _rt: &R, job: u32, call: u64) {
+        self.meeting.meet(job, call);
+    }
+
     fn after<R: Wait>(&self, _rt: &R, _job: u32, _call: u64) {}
+}
+
+/// Two jobs meet after their first submits, before either reads the totals.
+#[derive(Drop)]
+struct MeetAfter {
+    meeting: Meeting,
+}
+
+impl Gate for MeetAfter {
+    fn before<R: Wait>(&self, _rt: &R, _job: u32, _call: u64) {}
+
+    fn after<R: Wait>(&self, _rt: &R, job: u32, call: u64) {
+        self.meeting.meet(job, call);
+    }
 }
 
 /// One job waits before its first submit until the other's first submit is over.
@@ -129,14 +167,42 @@ fn two_jobs<R: Threads + Wait + Sync + AllocGlobal + Abort, G: Gate + Sync>(
 
 #[test]
 fn both_at_once(rt: HostRuntime) -> Result<(), Fail> {
-    let gate = Meeting {
-        came: [Flag::new(), Flag::new()],
-        met: [Flag::new(), Flag::new()],
+    let gate = MeetBefore {
+        meeting: Meeting::new(),
     };
     two_jobs(&rt, &gate)?;
-    assert!(rt; gate.met[0].is_up());
-    assert!(rt; gate.met[1].is_up());
+    assert!(rt; gate.meeting.have_met());
     Ok(())
+}
+
+/// The log has one reading, after so many entries.
+fn check_reading(rt: &impl Abort, log: &JobLog, upto: u64) {
+    match log.readings.get().split_first() {
+        Some((reading, [])) => assert_eq!(rt; reading.upto, upto),
+        _ => panic!(rt; "another number of readings"),
+    }
+}
+
+/// Two jobs submit an input each, and read when both are done.
+fn read_when_both_are_done<R: Threads + Wait + Sync + AllocGlobal + Abort>(
+    rt: &R,
+) -> Result<(), Fail> {
+    let inputs: [Input; 2] = [trace(rt.alloc(), SMALL)?, trace(rt.alloc(), SMALL)?];
+    let gate = MeetAfter {
+        meeting: Meeting::new(),
+    };
+    let collected = collected_of(rt, &inputs, 2, &gate);
+    assert!(rt; gate.meeting.have_met());
+    for log in collected.logs.get() {
+        check_reading(rt, log, 2);
+    }
+    Ok(())
+}
+
+/// A job reads what is published after its submit, not what its own call was told, and before the last operation.
+#[test]
+fn a_reading_sees_other_jobs(rt: HostRuntime) -> Result<(), Fail> {
+    read_when_both_are_done(&rt)
 }
 
 /// The job submits behind the other one.
