@@ -170,6 +170,17 @@ only_submitted : (submissions : List SubmissionData) → OnlySubmitsAndAsks (map
 only_submitted [] = tt
 only_submitted (s ∷ submissions) = (tt, only_submitted submissions)
 
+agreeing : (submissions : List SubmissionData) → AreAgreeing submissions → AreAgreeing (submissions_in (map SubmitOp submissions))
+agreeing submissions agree = subst AreAgreeing (sym (submitted submissions)) agree
+
+-- none of them clashes, and the table has the rows of each
+pub none_told_of : NoneClashes → (submissions : List SubmissionData) → AreAgreeing submissions → (clash : ClashData) → Contains (answers_to (map SubmitOp submissions)) (ClashAnswer clash) → ⊥
+none_told_of law submissions agree = none_told law (map SubmitOp submissions) (only_submitted submissions) (agreeing submissions agree)
+
+pub table_with_all : NoneClashes → (submissions : List SubmissionData) → AreAgreeing submissions → table_of (map SubmitOp submissions) ≡ map rows_of submissions
+table_with_all law submissions agree =
+    table_is law (map SubmitOp submissions) (only_submitted submissions) (agreeing submissions agree) ∙ ap (map rows_of) (submitted submissions)
+
 module _ (none : NoneClashes) (content : ContentStays) (stays : AgreementStays) where
   pub lists_stay : (some others : List SubmissionData) → AreTheSame some others → AreAgreeing some → (op : OpData) → IsText op → answer_of (table_of (map SubmitOp some)) op ≡ answer_of (table_of (map SubmitOp others)) op
   lists_stay some others same agree op text =

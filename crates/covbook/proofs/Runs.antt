@@ -8,8 +8,9 @@ use Rattle.covstore.specs.Table.{Table, clash_at}
 use Rattle.covstore.specs.Without.{without_test}
 use Rattle.covbook.proofs.Members.{members_stay}
 use Rattle.covbook.specs.Held.{BookData, IsBook}
-use Rattle.covbook.specs.Op.{OpData, SubmitOp, AnswerData, AcceptedAnswer, EntryData}
+use Rattle.covbook.specs.Op.{OpData, AreLawfulOps, IsLawfulOp, SubmitOp, AnswerData, AcceptedAnswer, EntryData}
 use Rattle.covbook.specs.Ready.{HasRoom, IsNextOf, IsPlanned, HoldChange, DropChange}
+use Rattle.covbook.specs.Texts.{IsText}
 use Rattle.covbook.specs.Step.{answer_to_submit, table_after_submit, answer_of, table_after, totals_at, answers_from, totals_from, table_from, answers_to, totals_to, table_of, ops_in, next_entry, totals_in, IsLegal, no_totals, last_totals, most_entries}
 
 pub answers_from-push : (table : Table) (ops : List OpData) (op : OpData) → answers_from table (ops ++ op ∷ []) ≡ answers_from table ops ++ answer_of (table_from table ops) op ∷ []
@@ -43,6 +44,20 @@ legal-next entries job op legal =
 table-next : (entries : List EntryData) (job : ℕ) (op : OpData) → table_of (ops_in (entries ++ next_entry entries job op ∷ [])) ≡ table_after (table_of (ops_in entries)) op
 table-next entries job op = ap table_of (map_push (λ (x : EntryData). x.op) entries (next_entry entries job op)) ∙ table_from-push [] (ops_in entries) op
 
+lawful_more : (ops : List OpData) (op : OpData) → AreLawfulOps ops → IsLawfulOp op → AreLawfulOps (ops ++ op ∷ [])
+lawful_more [] op all one = (one, tt)
+lawful_more (first ∷ ops) op all one = (all.0, lawful_more ops op all.1 one)
+
+-- with one lawful operation more a history's operations are lawful
+lawful-next : (entries : List EntryData) (job : ℕ) (op : OpData) → AreLawfulOps (ops_in entries) → IsLawfulOp op → AreLawfulOps (ops_in (entries ++ next_entry entries job op ∷ []))
+lawful-next entries job op all one =
+    subst AreLawfulOps (sym (map_push (λ (x : EntryData). x.op) entries (next_entry entries job op))) (lawful_more (ops_in entries) op all one)
+
+-- an operation that asks for a text is lawful
+pub text_lawful : (op : OpData) → IsText op → IsLawfulOp op
+text_lawful (SubmitOp submission) text = absurd text
+text_lawful other text = tt
+
 -- ---- a book with the next entry
 
 -- what a book shows
@@ -50,14 +65,15 @@ abbrev pub shown : StoreData → ℕ → List EntryData → BookData
 shown store room entries = record { entries = entries; room = room; store = store }
 
 -- the store stands for the table that the operation leaves, and so many submissions are accepted then
-next_book : (store : StoreData) (accepted : ℕ) (entries : List EntryData) (job : ℕ) (op : OpData) → IsLegal entries → length entries < most_entries
+next_book : (store : StoreData) (accepted : ℕ) (entries : List EntryData) (job : ℕ) (op : OpData) → IsLegal entries → AreLawfulOps (ops_in entries) → IsLawfulOp op → length entries < most_entries
     → StandsFor store (table_after (table_of (ops_in entries)) op) → accepted ≡ length (table_after (table_of (ops_in entries)) op) → accepted ≤ length entries + 1
     → IsBook store accepted (entries ++ next_entry entries job op ∷ [])
-next_book store accepted entries job op legal room stands number fewer =
+next_book store accepted entries job op legal all lawful room stands number fewer =
     let longer = length_push entries (next_entry entries job op) in
     let table_is = sym (table-next entries job op) in
     record {
       legal = legal-next entries job op legal;
+      lawful = lawful-next entries job op all lawful;
       stands = subst (StandsFor store) table_is stands;
       number = number ∙ ap length table_is;
       few = omega (arith, longer, room);
@@ -65,22 +81,22 @@ next_book store accepted entries job op legal room stands number fewer =
     }
 
 -- an operation that leaves the table as it is
-book_noted : (store : StoreData) (accepted : ℕ) (entries new : List EntryData) (e : EntryData) → IsBook store accepted entries → length entries < most_entries → new ≡ entries ++ e ∷ []
+book_noted : (store : StoreData) (accepted : ℕ) (entries new : List EntryData) (e : EntryData) → IsBook store accepted entries → IsLawfulOp e.op → length entries < most_entries → new ≡ entries ++ e ∷ []
     → e ≡ next_entry entries e.job e.op → table_after (table_of (ops_in entries)) e.op ≡ table_of (ops_in entries) → IsBook store accepted new
-book_noted store accepted entries new e b room is next still =
+book_noted store accepted entries new e b lawful room is next still =
     let fewer : accepted ≤ length entries + 1 = omega (arith, b.fewer) in
-    let made = next_book store accepted entries e.job e.op b.legal room (subst (StandsFor store) (sym still) b.stands) (b.number ∙ ap length (sym still)) fewer in
+    let made = next_book store accepted entries e.job e.op b.legal b.lawful lawful room (subst (StandsFor store) (sym still) b.stands) (b.number ∙ ap length (sym still)) fewer in
     subst (IsBook store accepted) (ap (λ (x : EntryData). entries ++ x ∷ []) (sym next) ∙ sym is) made
 
 -- the same, of what is known of the book that shows the entries
-pub noted_book : (store : StoreData) (accepted room : ℕ) (entries : List EntryData) (book : BookData) (new : List EntryData) (e : EntryData) → IsBook store accepted entries
+pub noted_book : (store : StoreData) (accepted room : ℕ) (entries : List EntryData) (book : BookData) (new : List EntryData) (e : EntryData) → IsBook store accepted entries → IsLawfulOp e.op
     → shown store room entries ≡ book → HasRoom book → IsNextOf book e → table_after (table_of (ops_in book.entries)) e.op ≡ table_of (ops_in book.entries) → new ≡ entries ++ e ∷ [] → IsBook store accepted new
-noted_book store accepted room entries book new e b view has next still is =
+noted_book store accepted room entries book new e b lawful view has next still is =
     let back = sym view in
     let few = (subst HasRoom back has).few in
     let next_here = subst (λ (x : BookData). IsNextOf x e) back next in
     let still_here = subst (λ (x : BookData). table_after (table_of (ops_in x.entries)) e.op ≡ table_of (ops_in x.entries)) back still in
-    book_noted store accepted entries new e b few is next_here still_here
+    book_noted store accepted entries new e b lawful few is next_here still_here
 
 -- ---- a submission
 
@@ -99,6 +115,7 @@ answer_with store table own given stands agrees is =
 pub kept_book : (store kept : StoreData) (accepted : ℕ) (entries : List EntryData) → IsBook store accepted entries → SameContent store kept → IsBook kept accepted entries
 kept_book store kept accepted entries b same = record {
   legal = b.legal;
+  lawful = b.lawful;
   stands = record {
     content = same.sections ∙ b.stands.content;
     members = same.members ∙ b.stands.members;
@@ -112,10 +129,10 @@ kept_book store kept accepted entries b same = record {
 }
 
 -- the book that holds it too
-pub held_book : (store committed : StoreData) (accepted room : ℕ) (entries : List EntryData) (book : BookData) (new : List EntryData) (e : EntryData) (plan : PlanData) → IsBook store accepted entries
+pub held_book : (store committed : StoreData) (accepted room : ℕ) (entries : List EntryData) (book : BookData) (new : List EntryData) (e : EntryData) (plan : PlanData) → IsBook store accepted entries → IsLawfulOp e.op
     → shown store room entries ≡ book → HasRoom book → IsNextOf book e → IsPlanned book.store (table_of (ops_in book.entries)) e.op (HoldChange plan)
     → ((s : SubmissionData) (table : Table) → IsPlanOf store s plan → StandsFor store table → StandsFor committed (table ++ rows_of s ∷ [])) → new ≡ entries ++ e ∷ [] → IsBook committed (accepted + 1) new
-held_book store committed accepted room entries book new e plan b view has next planned commit is =
+held_book store committed accepted room entries book new e plan b lawful view has next planned commit is =
     let back = sym view in
     let few = (subst HasRoom back has).few in
     let next_here = subst (λ (x : BookData). IsNextOf x e) back next in
@@ -126,16 +143,16 @@ held_book store committed accepted room entries book new e plan b view has next 
     let stands : StandsFor committed (table_after table e.op) = subst (StandsFor committed) leaves (commit s table planned_here.1 b.stands) in
     let number : accepted + 1 ≡ length (table_after table e.op) = ap (λ (n : ℕ). n + 1) b.number ∙ sym (length_push table (rows_of s)) ∙ ap length leaves in
     let fewer : accepted + 1 ≤ length entries + 1 = omega (arith, b.fewer) in
-    let made = next_book committed (accepted + 1) entries e.job e.op b.legal few stands number fewer in
+    let made = next_book committed (accepted + 1) entries e.job e.op b.legal b.lawful lawful few stands number fewer in
     subst (IsBook committed (accepted + 1)) (ap (λ (x : EntryData). entries ++ x ∷ []) (sym next_here) ∙ sym is) made
 
 -- ---- a test that is dropped
 
 -- the book without the test
-pub dropped_book : (store without : StoreData) (accepted room : ℕ) (entries : List EntryData) (book : BookData) (new : List EntryData) (e : EntryData) (test : List ℕ) → IsBook store accepted entries
+pub dropped_book : (store without : StoreData) (accepted room : ℕ) (entries : List EntryData) (book : BookData) (new : List EntryData) (e : EntryData) (test : List ℕ) → IsBook store accepted entries → IsLawfulOp e.op
     → shown store room entries ≡ book → HasRoom book → IsNextOf book e → IsPlanned book.store (table_of (ops_in book.entries)) e.op (DropChange test)
     → ((table : Table) → StandsFor store table → StandsFor without (without_test test table)) → new ≡ entries ++ e ∷ [] → IsBook without accepted new
-dropped_book store without accepted room entries book new e test b view has next planned drop is =
+dropped_book store without accepted room entries book new e test b lawful view has next planned drop is =
     let back = sym view in
     let few = (subst HasRoom back has).few in
     let next_here = subst (λ (x : BookData). IsNextOf x e) back next in
@@ -144,7 +161,7 @@ dropped_book store without accepted room entries book new e test b view has next
     let stands : StandsFor without (table_after table e.op) = subst (StandsFor without) leaves (drop table b.stands) in
     let number : accepted ≡ length (table_after table e.op) = b.number ∙ members_stay test table ∙ ap length leaves in
     let fewer : accepted ≤ length entries + 1 = omega (arith, b.fewer) in
-    let made = next_book without accepted entries e.job e.op b.legal few stands number fewer in
+    let made = next_book without accepted entries e.job e.op b.legal b.lawful lawful few stands number fewer in
     subst (IsBook without accepted) (ap (λ (x : EntryData). entries ++ x ∷ []) (sym next_here) ∙ sym is) made
 
 -- ---- the last totals

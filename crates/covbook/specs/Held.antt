@@ -1,7 +1,7 @@
 -- What a book is to its callers, and its history with the store of what it holds.
 use Rattle.std.specs.Prelude.{◌≡◌, ℕ, ◌≤◌, List, length}
 use Rattle.covstore.specs.Stored.{StoreData, StandsFor, SameContent}
-use Rattle.covbook.specs.Op.{EntryData}
+use Rattle.covbook.specs.Op.{EntryData, AreLawfulOps}
 use Rattle.covbook.specs.Step.{IsLegal, table_of, ops_in, most_entries}
 
 -- entries, and for how many of them there is room without a growth
@@ -21,9 +21,11 @@ pub record SameBook (before after : BookData) : Type 0 where
   pub entries : after.entries ≡ before.entries
   pub content : SameContent before.store after.store
 
--- the history is legal, the store stands for the last table of its run, and so many submissions were accepted
+-- the history is legal and its operations are lawful, the store stands for the last table of its run, and so many submissions
+-- were accepted
 pub record IsBook (store : StoreData) (accepted : ℕ) (entries : List EntryData) : Type 0 where
   pub legal : IsLegal entries
+  pub lawful : AreLawfulOps (ops_in entries)
   pub stands : StandsFor store (table_of (ops_in entries))
   pub number : accepted ≡ length (table_of (ops_in entries))
   pub few : length entries ≤ most_entries

@@ -1,5 +1,7 @@
 -- Operations, answers, entries of a history and receipts, apart from where they lie in memory.
 use Rattle.std.specs.Prelude.{ℕ, List}
+use Rattle.std.specs.List.{AllByRecursion}
+use Rattle.covline.specs.Lawful.{IsLawful}
 use Rattle.covline.specs.Row.{SubmissionData}
 use Rattle.covstore.specs.declared.totals.Totals.{Totals}
 use Rattle.covstore.specs.Clash.{ClashData}
@@ -11,6 +13,14 @@ pub data OpData : Type 0 where
   ExtractOp : (patterns : List (List ℕ)) → OpData
   RemoveOp : (patterns : List (List ℕ)) → OpData
   SummaryOp : OpData
+
+-- a submission that is handed in is lawful; nothing is asked of other operations
+abbrev pub IsLawfulOp : OpData → Type 0
+IsLawfulOp (SubmitOp submission) = IsLawful submission
+IsLawfulOp other = Unit {0}
+
+abbrev pub AreLawfulOps : List OpData → Type 0
+AreLawfulOps ops = AllByRecursion IsLawfulOp ops
 
 pub data AnswerData : Type 0 where
   AcceptedAnswer : (number items odd : ℕ) → AnswerData

@@ -7,7 +7,7 @@ use Rattle.covstore.specs.Table.{Table}
 use Rattle.covstore.specs.Without.{without_test}
 use Rattle.covbook.specs.Held.{BookData}
 use Rattle.covbook.specs.Op.{OpData, EntryData}
-use Rattle.covbook.specs.Step.{table_after, table_of, totals_at, ops_in, next_entry, most_entries}
+use Rattle.covbook.specs.Step.{table_after, table_of, totals_at, ops_in, ComesNext, most_entries}
 
 -- what a step does to the store: nothing, or it holds what is planned, or drops a test
 pub data ChangeData : Type 0 where
@@ -27,9 +27,9 @@ pub record HasRoom (book : BookData) : Type 0 where
   pub few : length book.entries < most_entries
   pub room : length book.entries < book.room
 
--- the entry is the next one of its job and its operation
+-- the entry comes next in the book's history
 abbrev pub IsNextOf : BookData → EntryData → Type 0
-IsNextOf book entry = entry ≡ next_entry book.entries entry.job entry.op
+IsNextOf book entry = ComesNext book.entries entry
 
 -- a plan is the store's own for the rows that the operation adds to the table; a test is dropped where the operation takes its
 -- rows out of the table; where nothing is done the table stays

@@ -106,6 +106,10 @@ last_totals (e ∷ next ∷ entries) = last_totals (next ∷ entries)
 abbrev pub next_entry : List EntryData → ℕ → OpData → EntryData
 next_entry history job op = record { job = job; op = op; answer = answer_of (table_of (ops_in history)) op; after = totals_at (table_after (table_of (ops_in history)) op) }
 
+-- the entry comes next in the history: it is the one that its job and its operation append to it
+abbrev pub ComesNext : List EntryData → EntryData → Type 0
+ComesNext history entry = entry ≡ next_entry history entry.job entry.op
+
 -- what the asking job gets of the entry at a place
 abbrev pub receipt_of : ℕ → EntryData → ReceiptData
 receipt_of place entry = record { place = place; op = entry.op; answer = entry.answer }

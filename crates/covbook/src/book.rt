@@ -5,7 +5,7 @@ use crate::history::History;
 use crate::op::{Answer, Op};
 use crate::ready::{Change, Ready};
 use crate::shared::{SubRef, TextRef};
-use covline::{Bytes, Memory, Submission};
+use covline::{Bytes, Memory};
 use covreport::{Choice, summary_text, trace_text};
 use covstore::{Plan, Refuse, Store, Totals};
 use std::alloc::{Allocator, Global};
@@ -67,12 +67,11 @@ impl<A: Allocator> Model for Book<A> {
 
 impl<A: Allocator + Copy> Book<A> {
     ghost use Rattle.std.specs.Prelude.{◌≡◌, ◌↔◌, ◌+◌, ◌<◌, ◌++◌, [], ◌∷◌, length, IfOk, OnOk, OnErr, Err, map};
-    ghost use Rattle.covline.specs.Row.{items_in};
-    ghost use Rattle.covstore.specs.Stored.{SameContent};
+    ghost use Rattle.covstore.specs.Stored.{SameContent, StandsFor};
     ghost use Rattle.covstore.specs.Totals.{AreTotals};
     ghost use Rattle.covstore.specs.Without.{sections_of_test, without_test};
     ghost use Rattle.covbook.specs.ChangeView.{change_data};
-    ghost use Rattle.covbook.specs.Op.{SubmitOp, DropTestOp, AcceptedAnswer, DroppedAnswer, TextAnswer};
+    ghost use Rattle.covbook.specs.Op.{SubmitOp, DropTestOp, AcceptedAnswer, DroppedAnswer, TextAnswer, AreLawfulOps, IsLawfulOp};
     ghost use Rattle.covbook.specs.Step.{IsLegal, answer_of, last_totals, next_entry, receipt_of, table_after, table_of, totals_at, ops_in, most_entries};
     ghost use Rattle.covbook.specs.Texts.{IsText};
     ghost use Rattle.covbook.specs.View.{op_data, answer_data};
@@ -91,10 +90,12 @@ impl<A: Allocator + Copy> Book<A> {
         }
     }
 
-    /// The history, in order. It is legal.
+    /// The history, in order. It is legal, each submission in it is lawful, and the store stands for the last table of its run.
     pub fn entries(&self) -> &[Entry<A>]
         ensures entries { map entry_data result.now ≡ self.now.entries }
         ensures legal { IsLegal self.now.entries }
+        ensures lawful { AreLawfulOps (ops_in self.now.entries) }
+        ensures stands { StandsFor self.now.store (table_of (ops_in self.now.entries)) }
     {
         self.history.get()
     }
@@ -195,9 +196,10 @@ impl<A: Allocator + Copy> Book<A> {
     {
         let op = Op::Submit(submission.copy()?);
         let given = submission.get();
+        let items = given.items();
         match self.store.prepare(alloc, given) {
             Ok(plan) => {
-                let answer = self.accepting(given);
+                let answer = self.accepting(items, given.odd());
                 let after = plan.after();
                 let entry = Entry {
                     job,
@@ -214,14 +216,14 @@ impl<A: Allocator + Copy> Book<A> {
         }
     }
 
-    /// The answer that accepts a submission, with the next number.
-    fn accepting(&self, given: &Submission<A>) -> Answer<A>
-        ensures { answer_data result ≡ AcceptedAnswer (length (table_of (ops_in self.now.entries)) + 1) (items_in given.now.sects) given.now.odd }
+    /// The answer that accepts a submission of so many items and odd lines, with the next number.
+    fn accepting(&self, items: u64, odd: u64) -> Answer<A>
+        ensures { answer_data result ≡ AcceptedAnswer (length (table_of (ops_in self.now.entries)) + 1) items odd }
     {
         Answer::Accepted {
             number: self.accepted + 1,
-            items: given.items(),
-            odd: given.odd(),
+            items,
+            odd,
         }
     }
 
@@ -272,6 +274,7 @@ impl<A: Allocator + Copy> Book<A> {
         requires next { IsNextOf self.now (entry_data entry) }
         requires planned { IsPlanned self.now.store (table_of (ops_in self.now.entries)) (op_data entry.op) (change_data change) }
         requires bounds { AreTotals entry.after }
+        requires lawful { IsLawfulOp (op_data entry.op) }
         ensures { IfOk result (λ r. IsReadyFor self.now entry.job (op_data entry.op) r) }
     {
         let receipt = self.history.receipt(alloc, &entry)?;
@@ -283,6 +286,7 @@ impl<A: Allocator + Copy> Book<A> {
         requires room { HasRoom self.now }
         requires answer { answer_data answer ≡ answer_of (table_of (ops_in self.now.entries)) (op_data op) }
         requires still { table_after (table_of (ops_in self.now.entries)) (op_data op) ≡ table_of (ops_in self.now.entries) }
+        requires lawful { IsLawfulOp (op_data op) }
         ensures { IfOk result (λ r. IsReadyFor self.now job (op_data op) r) }
     {
         let after = self.store.totals();
@@ -300,6 +304,7 @@ impl<A: Allocator + Copy> Book<A> {
         requires room { HasRoom self.old }
         requires next { IsNextOf self.old (entry_data entry) }
         requires planned { IsPlanned self.old.store (table_of (ops_in self.old.entries)) (op_data entry.op) (HoldChange plan) }
+        requires lawful { IsLawfulOp (op_data entry.op) }
         ensures entry { self.new.entries ≡ self.old.entries ++ entry_data entry ∷ [] }
         ensures legal { IsLegal self.new.entries }
     {
@@ -313,6 +318,7 @@ impl<A: Allocator + Copy> Book<A> {
         requires room { HasRoom self.old }
         requires next { IsNextOf self.old (entry_data entry) }
         requires planned { IsPlanned self.old.store (table_of (ops_in self.old.entries)) (op_data entry.op) (DropChange test.now) }
+        requires lawful { IsLawfulOp (op_data entry.op) }
         ensures entry { self.new.entries ≡ self.old.entries ++ entry_data entry ∷ [] }
         ensures legal { IsLegal self.new.entries }
     {
@@ -325,6 +331,7 @@ impl<A: Allocator + Copy> Book<A> {
         requires room { HasRoom self.old }
         requires next { IsNextOf self.old (entry_data entry) }
         requires still { table_after (table_of (ops_in self.old.entries)) (op_data entry.op) ≡ table_of (ops_in self.old.entries) }
+        requires lawful { IsLawfulOp (op_data entry.op) }
         ensures entry { self.new.entries ≡ self.old.entries ++ entry_data entry ∷ [] }
         ensures legal { IsLegal self.new.entries }
     {

@@ -41,14 +41,16 @@ pub fn order_does_not_matter()
     ensures texts { (some others : List OpData) → OnlySubmitsAndAsks some → OnlySubmitsAndAsks others → AreTheSame (submissions_in some) (submissions_in others) → AreAgreeing (submissions_in some) → (op : OpData) → IsText op → answer_of (table_of some) op ≡ answer_of (table_of others) op }
     ensures lists { (some others : List SubmissionData) → AreTheSame some others → AreAgreeing some → (op : OpData) → IsText op → answer_of (table_of (map SubmitOp some)) op ≡ answer_of (table_of (map SubmitOp others)) op }
     ensures agree { (some others : List SubmissionData) → AreTheSame some others → AreAgreeing some → AreAgreeing others }
+    ensures none { (submissions : List SubmissionData) → AreAgreeing submissions → (clash : ClashData) → ¬ Contains (answers_to (map SubmitOp submissions)) (ClashAnswer clash) }
+    ensures rows { (submissions : List SubmissionData) → AreAgreeing submissions → table_of (map SubmitOp submissions) ≡ map rows_of submissions }
 {
     the_first_clash_is_told();
     order_of_submissions_does_not_matter();
 }
 
 /// The claims on entries and logs, one after another, all hold exactly where the history is gathered from the logs. No two
-/// faults are the first, and where there is a fault the history isn't gathered. Where it is no reading's fault, the entries
-/// aren't a merge of the logs either.
+/// faults are the first, and where there is a fault the history isn't gathered. Where it isn't `BadReading`, the entries aren't
+/// a merge of the logs either.
 pub fn claims_make_a_gathering()
     ensures gathered { (entries : List EntryData) (logs : List LogData) → AllHold (gather_claims entries logs) ↔ IsGathered entries logs }
     ensures fault { (entries : List EntryData) (logs : List LogData) (some other : GatherFault) → IsGatherFault entries logs some → IsGatherFault entries logs other → some ≡ other }

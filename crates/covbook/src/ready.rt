@@ -32,13 +32,15 @@ impl<A: Allocator> Model for Ready<A> {
     ghost use Rattle.covbook.specs.EntryView.{entry_data, receipt_data};
     ghost use Rattle.covbook.specs.Ready.{ReadyData};
     ghost use Rattle.covbook.specs.ChangeView.{change_data};
+    ghost use Rattle.covbook.specs.Op.{IsLawfulOp};
     ghost use Rattle.covbook.specs.Step.{receipt_of};
+    ghost use Rattle.covbook.specs.View.{op_data};
 
     ghost Value = { ReadyData };
 
     ghost view = { λ a. record { place = a.receipt.place; entry = entry_data a.entry; change = change_data a.change; after = a.entry.after } };
 
-    ghost invariant = { λ a. (receipt_data a.receipt ≡ receipt_of a.receipt.place (entry_data a.entry)) × AreTotals a.entry.after };
+    ghost invariant = { λ a. (receipt_data a.receipt ≡ receipt_of a.receipt.place (entry_data a.entry)) × AreTotals a.entry.after × IsLawfulOp (op_data a.entry.op) };
 }
 
 impl<A: Allocator> Ready<A> {
@@ -46,12 +48,15 @@ impl<A: Allocator> Ready<A> {
     ghost use Rattle.covstore.specs.Totals.{AreTotals};
     ghost use Rattle.covbook.specs.EntryView.{entry_data, receipt_data};
     ghost use Rattle.covbook.specs.ChangeView.{change_data};
+    ghost use Rattle.covbook.specs.Op.{IsLawfulOp};
     ghost use Rattle.covbook.specs.Step.{receipt_of};
+    ghost use Rattle.covbook.specs.View.{op_data};
 
     /// The step that appends this entry with this receipt, and does this to the store.
     pub(crate) fn new(entry: Entry<A>, receipt: Receipt<A>, change: Change<A>) -> Ready<A>
         requires receipt { receipt_data receipt ≡ receipt_of receipt.place (entry_data entry) }
         requires totals { AreTotals entry.after }
+        requires lawful { IsLawfulOp (op_data entry.op) }
         ensures place { result.place ≡ receipt.place }
         ensures entry { result.entry ≡ entry_data entry }
         ensures change { result.change ≡ change_data change }
@@ -84,6 +89,7 @@ impl<A: Allocator> Ready<A> {
         ensures entry { entry_data result.0 ≡ self.entry }
         ensures receipt { receipt_data result.1 ≡ receipt_of self.place self.entry }
         ensures change { change_data result.2 ≡ self.change }
+        ensures lawful { IsLawfulOp (op_data result.0.op) }
     {
         (self.entry, self.receipt, self.change)
     }

@@ -2,7 +2,8 @@
 //! each, answers them on standard output, and tells a fault that ends it on standard error and by its exit status. A subcommand
 //! reads the files that it names and prints one text.
 //!
-//! `main` only takes the words and makes the streams; the program is covrun's `run`.
+//! `main` only takes the words and makes the streams; the program is covrun's `run`. What `merge`, `extract`, `remove` and `gcov`
+//! print reads back: the laws that say so are covlaws'.
 //!
 //! ```text
 //! $ covcollect <<'END'
@@ -20,6 +21,9 @@
 
 ghost use Rattle.std.specs.Prelude.{◌<◌, ◌^◌};
 
+pub use covlaws::{
+    a_merge_of_merges_is_the_merge_of_all, each_report_of_a_history_reads_back, reports_read_back,
+};
 use covrun::run;
 use covsession::{FromRead, FromWrite, SessionFault, Sink, line_of, put_bytes, status_of};
 use std::io::ErrorKind;

@@ -12,6 +12,7 @@ use std::alloc::Global;
 use std::process::Abort;
 use std::test::*;
 
+mod back;
 mod choosing;
 mod clashes;
 mod commands;

@@ -4,9 +4,8 @@ use Rattle.std.proofs.lemmas.List.{length_push}
 use Rattle.covbook.specs.declared.book.BookFault.{BookFault}
 use Rattle.covbook.specs.declared.book.BookFault.TheVariants as faults
 use Rattle.covbook.specs.Op.{OpData, EntryData, ReceiptData}
-use Rattle.covbook.specs.Step.{IsLegal, answer_of, next_entry, receipt_of, table_of, ops_in, most_entries}
+use Rattle.covbook.specs.Step.{ComesNext, IsLegal, answer_of, next_entry, receipt_of, table_of, ops_in, most_entries}
 use Rattle.covjobs.specs.Call.{IsNewsOf}
-use Rattle.covnews.specs.History.{ComesNext}
 
 -- what grew behind the history as it was made ready grew behind the history as it lay there
 pub entry_behind : (history ready after : List EntryData) (job asker : ℕ) (op asked : OpData) → ready ≡ history → job ≡ asker → op ≡ asked

@@ -1,13 +1,21 @@
 -- The first line of a text, where it tells how often a branch was taken.
-use Rattle.std.proofs.Common.{◌≡◌, ◌≢◌, ℕ, ◌<◌, ◌^◌, List, [], ◌∷◌, ◌++◌, All, Option, Some, None, refl, sym, ap, subst, ◌∙◌, arith, append_assoc}
-use Rattle.std.specs.Prelude.{codes}
+use Rattle.std.proofs.Common.{◌≡◌, ◌≢◌, ℕ, ◌<◌, ◌^◌, inl, inr, Bool, true, false, cond, eqb, List, [], ◌∷◌, ◌++◌, All, Option, Some, None, option_map, refl, sym, ap, subst, ◌∙◌, arith, append_assoc}
+use Rattle.std.specs.Prelude.{codes, IfSome, MatchOption}
+use Rattle.std.specs.Option.{option_and_then}
+use Rattle.std.proofs.lemmas.Bool.{cases_eq, eq-eqb, ne_eqb}
+use Rattle.std.proofs.lemmas.Option.{none-some, option_and_then_some}
 use Rattle.std.proofs.lemmas.List.Elements.{All-nil, All-cons, All-head, All-tail}
-use Rattle.covline.specs.declared.reader.Number.TheVariants.{Value}
+use Rattle.covline.specs.declared.reader.Number.{Number}
+use Rattle.covline.specs.declared.reader.FirstBranch.{FirstBranch}
 use Rattle.covline.specs.Lines.{line_feed, carriage_return, lines_of}
-use Rattle.covline.specs.Spells.{LineData, Branch, IsDigit, IsNumeral, IsTaken, HasSmallNumbers, Spells, BeginsWithLine, comma}
-use Rattle.covline.specs.Reading.{BeginsWithTaken, behind_key, field_at}
+use Rattle.covline.specs.Points.{BranchPoint}
+use Rattle.covline.specs.PointView.{branch_point_data}
+use Rattle.covline.specs.Spells.{LineData, Branch, IsDigit, IsNumeral, IsTaken, HasSmallNumbers, Spells, BeginsWithLine, comma, minus}
+use Rattle.covline.specs.Reading.{behind_key, field_at, number_at}
+use Rattle.covline.specs.Fronts.{BeginsWithBranchLine, IsSmallIfAny, behind_feed, branch_behind_block, branch_behind_key, branch_behind_line, branch_behind_number, branch_end, branch_front, small_front, taken_front}
 use Rattle.covline.proofs.Cut.{HasNoFeed, NoReturn, lines_at, strip-none}
-use Rattle.covline.proofs.CountedLines.{HasNumber, behind_some, field_has, number_has}
+use Rattle.covline.proofs.ReadNumbers.{field_is, number_is}
+use Rattle.covline.proofs.CountedLines.{HasNumber, behind_some, mapped_some, same_some, small_field_has, small_is, small_number_has}
 
 -- bytes above a line feed and a carriage return
 abbrev IsClean : List ℕ → Type 0
@@ -64,49 +72,145 @@ module _ (digits blocks branches word rest : List ℕ) (line block branch : ℕ)
       subst (λ (t : List ℕ). BeginsWithLine t (Branch line block branch taken) rest) (sym whole_parts)
       (clean_line whole rest (Branch line block branch taken) clean (record { form = (digits, blocks, branches, word, refl, numeral, block_is, branch_is, taken_is); small = small }))
 
--- how often it was taken, as a word that the text begins with
-record HasTaken (text rest : List ℕ) (line block branch : ℕ) (taken : Option ℕ) : Type 0 where
+-- ---- how often it was taken
+
+taken_at : (b : ℕ) (bs : List ℕ) (test : Bool) → eqb b minus ≡ test
+    → taken_front (b ∷ bs) ≡ cond test (Some (None, bs)) (option_map (λ (f : ℕ × List ℕ). (Some f.0, f.1)) (small_front (number_at (b ∷ bs))))
+taken_at b bs test e = ap (λ (t : Bool). cond t (Some (None, bs)) (option_map (λ (f : ℕ × List ℕ). (Some f.0, f.1)) (small_front (number_at (b ∷ bs))))) e
+
+clean_taken : (word : List ℕ) (taken : Option ℕ) → IsTaken word taken → IsClean word
+clean_taken word None is = subst IsClean (sym is) (omega arith, tt)
+clean_taken word (Some n) is = clean_digits word is.each
+
+small_taken : (line block branch : ℕ) (taken : Option ℕ) → line < 2 ^ 64 → block < 2 ^ 64 → branch < 2 ^ 64 → IsSmallIfAny taken → HasSmallNumbers (Branch line block branch taken)
+small_taken line block branch None l k b small = (l, k, b)
+small_taken line block branch (Some n) l k b small = (l, k, b, omega (arith, small))
+
+-- a word that says how often, and what follows it
+record HasTaken (text rest : List ℕ) (taken : Option ℕ) : Type 0 where
   word : List ℕ
   is : IsTaken word taken
-  clean : IsClean word
+  small : IsSmallIfAny taken
   parts : text ≡ word ++ rest
-  small : line < 2 ^ 64 → block < 2 ^ 64 → branch < 2 ^ 64 → HasSmallNumbers (Branch line block branch taken)
 
-taken_has : (text rest : List ℕ) (line block branch : ℕ) (taken : Option ℕ) → BeginsWithTaken text taken rest → HasTaken text rest line block branch taken
-taken_has text rest line block branch None begins = record {
-  word = codes "-";
-  is = refl;
-  clean = (omega arith, tt);
-  parts = begins;
-  small = λ l k b. (l, k, b);
-}
-taken_has text rest line block branch (Some n) begins =
-    let number = number_has text rest (Value n) n begins refl in
-    record {
-      word = number.digits;
-      is = number.numeral;
-      clean = clean_digits number.digits number.numeral.each;
-      parts = number.parts;
-      small = λ l k b. (l, k, b, number.small);
-    }
+with_minus : (b : ℕ) (bs : List ℕ) (read : Option ℕ × List ℕ) → b ≡ minus → Some (None, bs) ≡ Some read → HasTaken (b ∷ bs) read.1 read.0
+with_minus b bs read dash e =
+    let same : (None, bs) ≡ read = same_some (None, bs) read e in
+    subst (λ (r : Option ℕ × List ℕ). HasTaken (b ∷ bs) r.1 r.0) same (record { word = codes "-"; is = refl; small = tt; parts = ap (λ (c : ℕ). c ∷ bs) dash })
 
--- the parts as the readers answer them
+with_number : (text : List ℕ) (read : Option ℕ × List ℕ) → option_map (λ (f : ℕ × List ℕ). (Some f.0, f.1)) (small_front (number_at text)) ≡ Some read → HasTaken text read.1 read.0
+with_number text read e =
+    let found = mapped_some (λ (f : ℕ × List ℕ). (Some f.0, f.1)) (small_front (number_at text)) read e in
+    let number = small_number_has text found.0.1 found.0.0 found.1 in
+    subst (λ (r : Option ℕ × List ℕ). HasTaken text r.1 r.0) found.2 (record { word = number.digits; is = number.numeral; small = number.small; parts = number.parts })
+
+taken_has : (text : List ℕ) (read : Option ℕ × List ℕ) → taken_front text ≡ Some read → HasTaken text read.1 read.0
+taken_has [] read e = absurd (none-some read e)
+taken_has (b ∷ bs) read e =
+    elim (cases_eq b minus) [
+      | inl dash ↦ let test : eqb b minus ≡ true = eq-eqb b minus dash in with_minus b bs read dash (sym (taken_at b bs true test) ∙ e)
+      | inr differ ↦ let test : eqb b minus ≡ false = ne_eqb b minus differ in with_number (b ∷ bs) read (sym (taken_at b bs false test) ∙ e)
+    ]
+
+taken_is : (word rest : List ℕ) (taken : Option ℕ) → IsTaken word taken → IsSmallIfAny taken → taken_front (word ++ line_feed ∷ rest) ≡ Some (taken, line_feed ∷ rest)
+taken_is word rest None is small = ap (λ (w : List ℕ). taken_front (w ++ line_feed ∷ rest)) is
+taken_is [] rest (Some n) is small = absurd (omega (arith, is.some))
+taken_is (d ∷ ds) rest (Some n) is small =
+    let digit = All-head IsDigit d ds is.each in
+    let test : eqb d minus ≡ false = ne_eqb d minus (λ e. omega (arith, digit.0, e)) in
+    taken_at d (ds ++ line_feed ∷ rest) false test
+    ∙ ap (λ (f : Option (Number × List ℕ)). option_map (λ (g : ℕ × List ℕ). (Some g.0, g.1)) (small_front f)) (number_is (d ∷ ds) (line_feed ∷ rest) n is refl)
+    ∙ ap (option_map (λ (g : ℕ × List ℕ). (Some g.0, g.1))) (small_is n (line_feed ∷ rest) small)
+
+-- ---- what is read in one pass
+
 field_parts : (fields rest : List ℕ) (n : ℕ) (f : HasNumber fields rest n (λ digits. digits ++ comma ∷ [])) → fields ≡ f.digits ++ comma ∷ rest
 field_parts fields rest n f = f.parts ∙ append_assoc f.digits (comma ∷ []) rest
 
-pub first_branch_is : (text fields behind_line behind_block behind_branch behind_taken rest : List ℕ) (line block branch : ℕ) (taken : Option ℕ) → Some fields ≡ behind_key (codes "BRDA:") text
-    → Some (Value line, behind_line) ≡ field_at fields → Some (Value block, behind_block) ≡ field_at behind_line → Some (Value branch, behind_branch) ≡ field_at behind_block
-    → BeginsWithTaken behind_branch taken behind_taken → Some rest ≡ behind_key (line_feed ∷ []) behind_taken → BeginsWithLine text (Branch line block branch taken) rest
-first_branch_is text fields behind_line behind_block behind_branch behind_taken rest line block branch taken key line_is block_is branch_is taken_is feed =
-    let l = field_has fields behind_line (Value line) line line_is refl in
-    let k = field_has behind_line behind_block (Value block) block block_is refl in
-    let b = field_has behind_block behind_branch (Value branch) branch branch_is refl in
-    let t = taken_has behind_branch behind_taken line block branch taken taken_is in
-    let end : behind_branch ≡ t.word ++ line_feed ∷ rest = t.parts ∙ ap (λ (u : List ℕ). t.word ++ u) (behind_some (line_feed ∷ []) behind_taken rest feed) in
-    let last : behind_block ≡ b.digits ++ comma ∷ (t.word ++ line_feed ∷ rest) = field_parts behind_block behind_branch branch b ∙ ap (λ (u : List ℕ). b.digits ++ comma ∷ u) end in
-    let middle : behind_line ≡ k.digits ++ comma ∷ (b.digits ++ comma ∷ (t.word ++ line_feed ∷ rest)) = field_parts behind_line behind_block block k ∙ ap (λ (u : List ℕ). k.digits ++ comma ∷ u) last in
-    let first : fields ≡ l.digits ++ comma ∷ (k.digits ++ comma ∷ (b.digits ++ comma ∷ (t.word ++ line_feed ∷ rest))) =
-    field_parts fields behind_line line l ∙ ap (λ (u : List ℕ). l.digits ++ comma ∷ u) middle in
-    let parts = behind_some (codes "BRDA:") text fields key ∙ ap (λ (u : List ℕ). codes "BRDA:" ++ u) first in
-    subst (λ (u : List ℕ). BeginsWithLine u (Branch line block branch taken) rest) (sym parts)
-    (branch_line l.digits k.digits b.digits t.word rest line block branch taken l.numeral k.numeral b.numeral t.is t.clean (t.small l.small k.small b.small))
+-- the parts of a branch, where it is read so
+branch_line_of : (text fields : List ℕ) (line block branch : ℕ × List ℕ) (taken : Option ℕ × List ℕ) (rest : List ℕ) → behind_key (codes "BRDA:") text ≡ Some fields
+    → small_front (field_at fields) ≡ Some line → small_front (field_at line.1) ≡ Some block → small_front (field_at block.1) ≡ Some branch → taken_front branch.1 ≡ Some taken
+    → behind_feed taken.1 ≡ Some rest → BeginsWithBranchLine text (record { line = line.0; block = block.0; branch = branch.0 }) taken.0 rest
+branch_line_of text fields line block branch taken rest key first second third fourth feed =
+    let l = small_field_has fields line.1 line.0 first in
+    let k = small_field_has line.1 block.1 block.0 second in
+    let b = small_field_has block.1 branch.1 branch.0 third in
+    let t = taken_has branch.1 taken fourth in
+    let end : branch.1 ≡ t.word ++ line_feed ∷ rest = t.parts ∙ ap (λ (u : List ℕ). t.word ++ u) (behind_some (line_feed ∷ []) taken.1 rest (sym feed)) in
+    let last : block.1 ≡ b.digits ++ comma ∷ (t.word ++ line_feed ∷ rest) = field_parts block.1 branch.1 branch.0 b ∙ ap (λ (u : List ℕ). b.digits ++ comma ∷ u) end in
+    let middle : line.1 ≡ k.digits ++ comma ∷ (b.digits ++ comma ∷ (t.word ++ line_feed ∷ rest)) = field_parts line.1 block.1 block.0 k ∙ ap (λ (u : List ℕ). k.digits ++ comma ∷ u) last in
+    let front : fields ≡ l.digits ++ comma ∷ (k.digits ++ comma ∷ (b.digits ++ comma ∷ (t.word ++ line_feed ∷ rest))) =
+    field_parts fields line.1 line.0 l ∙ ap (λ (u : List ℕ). l.digits ++ comma ∷ u) middle in
+    record {
+      digits = l.digits;
+      blocks = k.digits;
+      branches = b.digits;
+      word = t.word;
+      parts = behind_some (codes "BRDA:") text fields (sym key) ∙ ap (λ (u : List ℕ). codes "BRDA:" ++ u) front;
+      line_is = l.numeral;
+      block_is = k.numeral;
+      branch_is = b.numeral;
+      taken_is = t.is;
+      line_small = l.small;
+      block_small = k.small;
+      branch_small = b.small;
+      taken_small = t.small;
+    }
+
+abbrev Read : Type 0
+Read = (BranchPoint × Option ℕ) × List ℕ
+
+branch_line_from : (text : List ℕ) (read : Read) → branch_front text ≡ Some read → BeginsWithBranchLine text read.0.0 read.0.1 read.1
+branch_line_from text read e =
+    option_and_then_some branch_behind_key (behind_key (codes "BRDA:") text) read e (λ fields key e1.
+    option_and_then_some branch_behind_line (small_front (field_at fields)) read e1 (λ line first e2.
+    option_and_then_some (branch_behind_block line.0) (small_front (field_at line.1)) read e2 (λ block second e3.
+    option_and_then_some (branch_behind_number line.0 block.0) (small_front (field_at block.1)) read e3 (λ branch third e4.
+    let point : BranchPoint = record { line = line.0; block = block.0; branch = branch.0 } in
+    option_and_then_some (branch_end point) (taken_front branch.1) read e4 (λ taken fourth e5.
+    let end = mapped_some (λ (rest : List ℕ). ((point, taken.0), rest)) (behind_feed taken.1) read e5 in
+    subst (λ (r : Read). BeginsWithBranchLine text r.0.0 r.0.1 r.1) end.2 (branch_line_of text fields line block branch taken end.0 key first second third fourth end.1))))))
+
+-- and each such line is read so
+branch_line_read : (text : List ℕ) (point : BranchPoint) (taken : Option ℕ) (rest : List ℕ) → BeginsWithBranchLine text point taken rest → branch_front text ≡ Some ((point, taken), rest)
+branch_line_read text point taken rest begins =
+    let end : List ℕ = begins.word ++ line_feed ∷ rest in
+    let last : List ℕ = begins.branches ++ comma ∷ end in
+    let middle : List ℕ = begins.blocks ++ comma ∷ last in
+    ap branch_front begins.parts
+    ∙ ap (option_and_then branch_behind_line) (small_field begins.digits middle point.line begins.line_is begins.line_small)
+    ∙ ap (option_and_then (branch_behind_block point.line)) (small_field begins.blocks last point.block begins.block_is begins.block_small)
+    ∙ ap (option_and_then (branch_behind_number point.line point.block)) (small_field begins.branches end point.branch begins.branch_is begins.branch_small)
+    ∙ ap (option_and_then (branch_end point)) (taken_is begins.word rest taken begins.taken_is begins.taken_small)
+  where
+    small_field : (digits behind : List ℕ) (n : ℕ) → IsNumeral digits n → n < 2 ^ 64 → small_front (field_at (digits ++ comma ∷ behind)) ≡ Some (n, behind)
+    small_field digits behind n numeral small = ap small_front (field_is digits behind n numeral) ∙ small_is n behind small
+
+-- such a first line says what it tells
+branch_line_says : (text : List ℕ) (point : BranchPoint) (taken : Option ℕ) (rest : List ℕ) → BeginsWithBranchLine text point taken rest
+    → BeginsWithLine text (Branch point.line point.block point.branch taken) rest
+branch_line_says text point taken rest begins =
+    subst (λ (u : List ℕ). BeginsWithLine u (Branch point.line point.block point.branch taken) rest) (sym begins.parts)
+    (branch_line begins.digits begins.blocks begins.branches begins.word rest point.line point.block point.branch taken begins.line_is begins.block_is begins.branch_is begins.taken_is
+    (clean_taken begins.word taken begins.taken_is) (small_taken point.line point.block point.branch taken begins.line_small begins.block_small begins.branch_small begins.taken_small))
+
+-- ---- what the reader of such lines answers
+
+abbrev pub branch_seen : FirstBranch → Read
+branch_seen f = ((branch_point_data f.point, f.taken), f.rest.now)
+
+pub branch_form : (result : Option FirstBranch) (text : List ℕ) → option_map branch_seen result ≡ branch_front text → IfSome result (λ f. BeginsWithBranchLine text (branch_point_data f.point) f.taken f.rest.now)
+branch_form None text read = tt
+branch_form (Some f) text read = branch_line_from text (branch_seen f) (sym read)
+
+pub branch_says : (result : Option FirstBranch) (text : List ℕ) → option_map branch_seen result ≡ branch_front text
+    → IfSome result (λ f. BeginsWithLine text (Branch f.point.line f.point.block f.point.branch f.taken) f.rest.now)
+branch_says None text read = tt
+branch_says (Some f) text read = branch_line_says text (branch_point_data f.point) f.taken f.rest.now (branch_line_from text (branch_seen f) (sym read))
+
+pub branch_only : (result : Option FirstBranch) (text : List ℕ) → option_map branch_seen result ≡ branch_front text → (point : BranchPoint) (taken : Option ℕ) (rest : List ℕ)
+    → BeginsWithBranchLine text point taken rest → MatchOption result ⊥ (λ f. (branch_point_data f.point ≡ point) × (f.taken ≡ taken) × (f.rest.now ≡ rest))
+branch_only None text read point taken rest begins = none-some ((point, taken), rest) (read ∙ branch_line_read text point taken rest begins)
+branch_only (Some f) text read point taken rest begins =
+    let same : branch_seen f ≡ ((point, taken), rest) = same_some (branch_seen f) ((point, taken), rest) (read ∙ branch_line_read text point taken rest begins) in
+    (ap (λ (r : Read). r.0.0) same, ap (λ (r : Read). r.0.1) same, ap (λ (r : Read). r.1) same)

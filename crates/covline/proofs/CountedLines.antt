@@ -1,24 +1,30 @@
 -- The first line of a text, where it counts a line of a source file without a checksum.
-use Rattle.std.proofs.Common.{◌≡◌, ◌≢◌, ℕ, ◌<◌, ◌^◌, inl, inr, List, [], ◌∷◌, ◌++◌, length, All, Some, None, sym, ap, subst, ◌∙◌, arith, append_assoc}
-use Rattle.std.specs.Prelude.{codes}
+use Rattle.std.proofs.Common.{◌≡◌, ◌≢◌, ℕ, ◌<◌, ◌^◌, inl, inr, List, [], ◌∷◌, ◌++◌, length, All, Option, Some, None, option_map, refl, sym, ap, subst, ◌∙◌, arith, append_assoc}
+use Rattle.std.specs.Prelude.{codes, IfSome, MatchOption}
+use Rattle.std.specs.Option.{option_and_then}
 use Rattle.std.proofs.lemmas.Bool.{cases_lt}
 use Rattle.std.proofs.lemmas.List.{append-nil, same_from_push}
-use Rattle.std.proofs.lemmas.Option.{none-some}
+use Rattle.std.proofs.lemmas.Option.{none-some, option_and_then_some}
 use Rattle.std.proofs.lemmas.List.Elements.{All-nil, All-cons, All-head, All-tail, All-append}
 use Rattle.covline.specs.declared.reader.Number.{Number}
-use Rattle.covline.specs.declared.reader.Number.TheVariants.{Value, TooLarge}
+use Rattle.covline.specs.declared.reader.Number.TheVariants.{Value, Wide, TooLarge}
+use Rattle.covline.specs.declared.reader.FirstCount.{FirstCount}
 use Rattle.covline.specs.Lines.{line_feed, carriage_return, lines_of}
 use Rattle.covline.specs.Spells.{Line, IsDigit, IsNumeral, BeginsWithLine, comma, digits_value}
 use Rattle.covline.specs.Reading.{capped, behind_key, number_at, field_at}
+use Rattle.covline.specs.Fronts.{BeginsWithCountLine, behind_feed, count_behind_key, count_behind_line, count_end, count_front, small_front, small_of}
 use Rattle.covline.proofs.Cut.{HasNoFeed, NoReturn, lines_at, strip-none}
 use Rattle.covline.proofs.ReadKeys.{begins_or_not, behind_key-none, behind_key-same}
-use Rattle.covline.proofs.ReadNumbers.{capped_small, capped_large, numeral_or_none, field_or_none, field_read, number_is}
+use Rattle.covline.proofs.ReadNumbers.{capped_small, capped_wide, capped_large, numeral_or_none, field_or_none, field_read, field_is, number_is}
 
 value_of : (n v : ℕ) → capped n ≡ Value v → (n ≡ v) × (n < 2 ^ 64)
 value_of n v e =
     elim (cases_lt n (2 ^ 64)) [
       | inl lt ↦ (let same : Value n ≡ Value v = sym (capped_small n lt) ∙ e in let is : n ≡ v = cc in is, lt)
-      | inr le ↦ (let other : TooLarge ≡ Value v = sym (capped_large n le) ∙ e in absurd cc)
+      | inr le ↦ elim (cases_lt n (2 ^ 128)) [
+        | inl lt ↦ (let other : Wide n ≡ Value v = sym (capped_wide n le lt) ∙ e in absurd cc)
+        | inr far ↦ (let other : TooLarge ≡ Value v = sym (capped_large n far) ∙ e in absurd cc)
+      ]
     ]
 
 -- digits have no line feed
@@ -52,7 +58,7 @@ counted_line digits counts rest line count numeral counted small few =
     record {
       line = whole;
       cut = ap lines_of parts ∙ lines_at whole rest clean ∙ ap (λ (l : List ℕ). l ∷ lines_of rest) (strip-none whole (no_return_behind front counts count counted));
-      spells = record { form = (digits, counts, one, numeral, inl counted); small = (small, few) };
+      spells = record { form = (digits, counts, one, numeral, inl counted); small = (small, omega (arith, few)) };
     }
   where
     no_comma : comma ≡ line_feed → ⊥
@@ -63,7 +69,7 @@ counted_line digits counts rest line count numeral counted small few =
 
 -- ---- from what the readers of the parts answer
 
-same_some : {A : Type 0} (x y : A) → Some x ≡ Some y → x ≡ y
+pub same_some : {A : Type 0} (x y : A) → Some x ≡ Some y → x ≡ y
 same_some x y e = cc
 
 pub behind_some : (key line rest : List ℕ) → Some rest ≡ behind_key key line → line ≡ key ++ rest
@@ -112,14 +118,93 @@ number_has fields rest a n e is =
       | inr none ↦ absurd (none-some (a, rest) (sym (e ∙ none)))
     ]
 
-pub first_count_is : (text fields behind_line behind_count rest : List ℕ) (a b : Number) (line count : ℕ) → Some fields ≡ behind_key (codes "DA:") text → Some (a, behind_line) ≡ field_at fields
-    → Some (b, behind_count) ≡ number_at behind_line → Some rest ≡ behind_key (line_feed ∷ []) behind_count → a ≡ Value line → b ≡ Value count
-    → BeginsWithLine text (Line line count None) rest
-first_count_is text fields behind_line behind_count rest a b line count key field number feed line_is count_is =
-    let f = field_has fields behind_line a line field line_is in
-    let n = number_has behind_line behind_count b count number count_is in
-    let parts : text ≡ codes "DA:" ++ (f.digits ++ comma ∷ (n.digits ++ line_feed ∷ rest)) =
-    behind_some (codes "DA:") text fields key
-    ∙ ap (λ (u : List ℕ). codes "DA:" ++ u) (f.parts ∙ append_assoc f.digits (comma ∷ []) behind_line)
-    ∙ ap (λ (u : List ℕ). codes "DA:" ++ (f.digits ++ comma ∷ u)) (n.parts ∙ ap (λ (u : List ℕ). n.digits ++ u) (behind_some (line_feed ∷ []) behind_count rest feed)) in
-    subst (λ (t : List ℕ). BeginsWithLine t (Line line count None) rest) (sym parts) (counted_line f.digits n.digits rest line count f.numeral n.numeral f.small n.small)
+-- ---- what is read in one pass
+
+pub mapped_some : {A B : Type 0} (f : A → B) (o : Option A) (y : B) → option_map f o ≡ Some y → (x : A) × (o ≡ Some x) × (f x ≡ y)
+mapped_some f None y e = absurd (none-some y e)
+mapped_some f (Some x) y e = (x, refl, same_some (f x) y e)
+
+front_is : (a : Number) (behind rest : List ℕ) (n : ℕ) → option_map {U = ℕ × List ℕ} (λ (m : ℕ). (m, behind)) (small_of a) ≡ Some (n, rest) → (a ≡ Value n) × (behind ≡ rest)
+front_is (Value v) behind rest n e = let same : (v, behind) ≡ (n, rest) = same_some (v, behind) (n, rest) e in (ap (λ (p : ℕ × List ℕ). Value p.0) same, ap (λ (p : ℕ × List ℕ). p.1) same)
+front_is (Wide v) behind rest n e = absurd (none-some (n, rest) e)
+front_is TooLarge behind rest n e = absurd (none-some (n, rest) e)
+
+pub small_field_has : (fields rest : List ℕ) (n : ℕ) → small_front (field_at fields) ≡ Some (n, rest) → HasNumber fields rest n (λ digits. digits ++ comma ∷ [])
+small_field_has fields rest n e =
+    option_and_then_some (λ (f : Number × List ℕ). option_map (λ (m : ℕ). (m, f.1)) (small_of f.0)) (field_at fields) (n, rest) e (λ x field small.
+    let is = front_is x.0 x.1 rest n small in
+    field_has fields rest x.0 n (sym (field ∙ ap (λ (r : List ℕ). Some (x.0, r)) is.1)) is.0)
+
+pub small_number_has : (fields rest : List ℕ) (n : ℕ) → small_front (number_at fields) ≡ Some (n, rest) → HasNumber fields rest n (λ digits. digits)
+small_number_has fields rest n e =
+    option_and_then_some (λ (f : Number × List ℕ). option_map (λ (m : ℕ). (m, f.1)) (small_of f.0)) (number_at fields) (n, rest) e (λ x number small.
+    let is = front_is x.0 x.1 rest n small in
+    number_has fields rest x.0 n (sym (number ∙ ap (λ (r : List ℕ). Some (x.0, r)) is.1)) is.0)
+
+pub small_is : (n : ℕ) (rest : List ℕ) → n < 2 ^ 64 → small_front (Some (capped n, rest)) ≡ Some (n, rest)
+small_is n rest small = ap (λ (a : Number). option_map (λ (m : ℕ). (m, rest)) (small_of a)) (capped_small n small)
+
+-- the parts of a counted line, where it is read so
+count_line_of : (text fields : List ℕ) (line count : ℕ × List ℕ) (rest : List ℕ) → behind_key (codes "DA:") text ≡ Some fields → small_front (field_at fields) ≡ Some line
+    → small_front (number_at line.1) ≡ Some count → behind_feed count.1 ≡ Some rest → BeginsWithCountLine text line.0 count.0 rest
+count_line_of text fields line count rest key field number feed =
+    let f = small_field_has fields line.1 line.0 field in
+    let n = small_number_has line.1 count.1 count.0 number in
+    record {
+      digits = f.digits;
+      counts = n.digits;
+      parts =
+          behind_some (codes "DA:") text fields (sym key)
+          ∙ ap (λ (u : List ℕ). codes "DA:" ++ u) (f.parts ∙ append_assoc f.digits (comma ∷ []) line.1)
+          ∙ ap (λ (u : List ℕ). codes "DA:" ++ (f.digits ++ comma ∷ u)) (n.parts ∙ ap (λ (u : List ℕ). n.digits ++ u) (behind_some (line_feed ∷ []) count.1 rest (sym feed)));
+      line_is = f.numeral;
+      count_is = n.numeral;
+      line_small = f.small;
+      count_small = n.small;
+    }
+
+pub count_line_from : (text : List ℕ) (read : (ℕ × ℕ) × List ℕ) → count_front text ≡ Some read → BeginsWithCountLine text read.0.0 read.0.1 read.1
+count_line_from text read e =
+    option_and_then_some count_behind_key (behind_key (codes "DA:") text) read e (λ fields key e1.
+    option_and_then_some count_behind_line (small_front (field_at fields)) read e1 (λ line field e2.
+    option_and_then_some (count_end line.0) (small_front (number_at line.1)) read e2 (λ count number e3.
+    let end = mapped_some (λ (rest : List ℕ). ((line.0, count.0), rest)) (behind_feed count.1) read e3 in
+    subst (λ (r : (ℕ × ℕ) × List ℕ). BeginsWithCountLine text r.0.0 r.0.1 r.1) end.2 (count_line_of text fields line count end.0 key field number end.1))))
+
+-- and each such line is read so
+pub count_line_read : (text : List ℕ) (line count : ℕ) (rest : List ℕ) → BeginsWithCountLine text line count rest → count_front text ≡ Some ((line, count), rest)
+count_line_read text line count rest begins =
+    let field : small_front (field_at (begins.digits ++ comma ∷ (begins.counts ++ line_feed ∷ rest))) ≡ Some (line, begins.counts ++ line_feed ∷ rest) =
+    ap small_front (field_is begins.digits (begins.counts ++ line_feed ∷ rest) line begins.line_is) ∙ small_is line (begins.counts ++ line_feed ∷ rest) begins.line_small in
+    let number : small_front (number_at (begins.counts ++ line_feed ∷ rest)) ≡ Some (count, line_feed ∷ rest) =
+    ap small_front (number_is begins.counts (line_feed ∷ rest) count begins.count_is refl) ∙ small_is count (line_feed ∷ rest) begins.count_small in
+    ap count_front begins.parts ∙ ap (option_and_then count_behind_line) field ∙ ap (option_and_then (count_end line)) number
+
+-- such a first line says what it counts
+pub count_line_says : (text : List ℕ) (line count : ℕ) (rest : List ℕ) → BeginsWithCountLine text line count rest → BeginsWithLine text (Line line count None) rest
+count_line_says text line count rest begins =
+    subst (λ (t : List ℕ). BeginsWithLine t (Line line count None) rest) (sym begins.parts)
+    (counted_line begins.digits begins.counts rest line count begins.line_is begins.count_is begins.line_small begins.count_small)
+
+-- ---- what the reader of such lines answers
+
+abbrev pub count_seen : FirstCount → (ℕ × ℕ) × List ℕ
+count_seen f = ((f.line, f.count), f.rest.now)
+
+pub count_form : (result : Option FirstCount) (text : List ℕ) → option_map count_seen result ≡ count_front text → IfSome result (λ f. BeginsWithCountLine text f.line f.count f.rest.now)
+count_form None text read = tt
+count_form (Some f) text read = count_line_from text (count_seen f) (sym read)
+
+pub count_says : (result : Option FirstCount) (text : List ℕ) → option_map count_seen result ≡ count_front text → IfSome result (λ f. BeginsWithLine text (Line f.line f.count None) f.rest.now)
+count_says None text read = tt
+count_says (Some f) text read = count_line_says text f.line f.count f.rest.now (count_line_from text (count_seen f) (sym read))
+
+pub count_only : (result : Option FirstCount) (text : List ℕ) → option_map count_seen result ≡ count_front text → (line count : ℕ) (rest : List ℕ) → BeginsWithCountLine text line count rest
+    → MatchOption result ⊥ (λ f. (f.line ≡ line) × (f.count ≡ count) × (f.rest.now ≡ rest))
+count_only None text read line count rest begins = none-some ((line, count), rest) (read ∙ count_line_read text line count rest begins)
+count_only (Some f) text read line count rest begins =
+    let same : count_seen f ≡ ((line, count), rest) = same_some (count_seen f) ((line, count), rest) (read ∙ count_line_read text line count rest begins) in (
+      ap (λ (r : (ℕ × ℕ) × List ℕ). r.0.0) same,
+      ap (λ (r : (ℕ × ℕ) × List ℕ). r.0.1) same,
+      ap (λ (r : (ℕ × ℕ) × List ℕ). r.1) same,
+    )

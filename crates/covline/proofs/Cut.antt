@@ -3,11 +3,11 @@ use Rattle.std.proofs.Common.{◌≡◌, ◌≢◌, ℕ, suc, ◌+◌, ◌<◌, 
 use Rattle.std.specs.Prelude.{All}
 use Rattle.std.specs.List.{concat, sum_by, flat_map}
 use Rattle.std.proofs.lemmas.Bool.{ne_eqb, eq-eqb, eqb-true, eqb-false}
-use Rattle.std.proofs.lemmas.List.{drop_more, take-append-drop, get_or-take, same_from_push, length-take, length-map, length-append, map-append}
+use Rattle.std.proofs.lemmas.List.{append-nil, drop_more, take-append-drop, get_or-take, same_from_push, length-take, length-map, length-append, map-append}
 use Rattle.std.proofs.lemmas.List.Elements.{All-nil, All-cons, All-head, All-tail, All-from_get_or}
 use Rattle.std.proofs.lemmas.List.Sums.{sum_by-cons}
 use Rattle.memchr.specs.Find.{NoneBefore, Nowhere, Passes, is_byte}
-use Rattle.covline.specs.Lines.{line_feed, carriage_return, onto_first, pieces_of, before_feed, before_stripped, strip, line_of, lines_of}
+use Rattle.covline.specs.Lines.{line_feed, carriage_return, onto_first, pieces_of, before_feed, before_stripped, strip, line_of, lines_of, IsFirstCut}
 use Rattle.covline.specs.Lawful.{IsGoodTest}
 
 -- no byte is a line feed
@@ -211,23 +211,41 @@ HasNoFeed-take text i none =
     let below : k < i = omega (arith, length-take i text) in
     none k (omega arith) below (eq-eqb (get_or text k 0) line_feed (sym (get_or-take i text k 0 below) ∙ e)))
 
-pub lines_cut : (text : List ℕ) (i : ℕ) → NoneBefore (Passes (is_byte line_feed) text) 0 (length text) i → Passes (is_byte line_feed) text i → lines_of text ≡ strip (take i text) ∷ lines_of (drop (i + 1) text)
-lines_cut text i first here =
+-- where a line feed stands at this place, the text before it is the first line, and the text behind it follows
+parts_at : (text : List ℕ) (i : ℕ) → NoneBefore (Passes (is_byte line_feed) text) 0 (length text) i → Passes (is_byte line_feed) text i → text ≡ take i text ++ line_feed ∷ drop (i + 1) text
+parts_at text i first here =
     let behind : drop i text ≡ line_feed ∷ drop (i + 1) text = drop_more text i 0 first.high ∙ ap (λ (b : ℕ). b ∷ drop (i + 1) text) (eqb-true (get_or text i 0) line_feed here) in
-    let parts : text ≡ take i text ++ line_feed ∷ drop (i + 1) text = sym (take-append-drop i text) ∙ ap (λ (t : List ℕ). take i text ++ t) behind in
-    ap lines_of parts ∙ lines_at (take i text) (drop (i + 1) text) (HasNoFeed-take text i first.before)
+    sym (take-append-drop i text) ∙ ap (λ (t : List ℕ). take i text ++ t) behind
 
-pub lines_whole : (text : List ℕ) → 0 < length text → Nowhere (Passes (is_byte line_feed) text) 0 (length text) → lines_of text ≡ strip text ∷ []
-lines_whole [] some none = absurd (omega arith)
-lines_whole (b ∷ bs) some none = lines_last b bs (HasNoFeed-from (b ∷ bs) none)
+cut_at : (text front rest : List ℕ) → HasNoFeed front → text ≡ front ++ line_feed ∷ rest → IsFirstCut text (strip front) rest
+cut_at text front rest none parts = record {
+  piece = front ++ line_feed ∷ [];
+  first = ap pieces_of parts ∙ pieces_at front rest none;
+  line_is = ap strip (sym (before_feed-at front [] none));
+  behind = parts ∙ sym (append_assoc front (line_feed ∷ []) rest);
+}
+
+cut_whole : (b : ℕ) (bs : List ℕ) → HasNoFeed (b ∷ bs) → IsFirstCut (b ∷ bs) (strip (b ∷ bs)) []
+cut_whole b bs none = record {
+  piece = b ∷ bs;
+  first = pieces_last b bs none;
+  line_is = ap strip (sym (before_feed-none (b ∷ bs) none));
+  behind = sym (append-nil (b ∷ bs));
+}
 
 -- the first line, where the search found a line feed behind it and where it found none
-pub first_line_at : (text line rest : List ℕ) (i : ℕ) → NoneBefore (Passes (is_byte line_feed) text) 0 (length text) i × Passes (is_byte line_feed) text i → line ≡ strip (take i text) → rest ≡ drop (i + 1) text → lines_of text ≡ line ∷ lines_of rest
-first_line_at text line rest i found line-is rest-is = rw (line-is, rest-is) (lines_cut text i found.0 found.1)
+pub first_cut_at : (text line rest : List ℕ) (i : ℕ) → NoneBefore (Passes (is_byte line_feed) text) 0 (length text) i × Passes (is_byte line_feed) text i → line ≡ strip (take i text) → rest ≡ drop (i + 1) text → IsFirstCut text line rest
+first_cut_at text line rest i found line-is rest-is =
+    rw (line-is, rest-is) (cut_at text (take i text) (drop (i + 1) text) (HasNoFeed-take text i found.0.before) (parts_at text i found.0 found.1))
 
-pub first_line_whole : (text line rest : List ℕ) → 0 < length text → Nowhere (Passes (is_byte line_feed) text) 0 (length text) → line ≡ strip text → length rest ≡ 0 → lines_of text ≡ line ∷ lines_of rest
-first_line_whole text line [] some none line-is empty = rw line-is (lines_whole text some none)
-first_line_whole text line (b ∷ bs) some none line-is empty = absurd (omega arith)
+pub first_cut_whole : (text line rest : List ℕ) → 0 < length text → Nowhere (Passes (is_byte line_feed) text) 0 (length text) → line ≡ strip text → length rest ≡ 0 → IsFirstCut text line rest
+first_cut_whole [] line rest some none line-is empty = absurd (omega (arith, some))
+first_cut_whole (b ∷ bs) line [] some none line-is empty = rw line-is (cut_whole b bs (HasNoFeed-from (b ∷ bs) none))
+first_cut_whole text line (b ∷ bs) some none line-is empty = absurd (omega (arith, empty))
+
+-- the lines of the text are then that line and those of the rest
+pub lines_behind : (text line rest : List ℕ) → IsFirstCut text line rest → lines_of text ≡ line ∷ lines_of rest
+lines_behind text line rest cut = ap (map line_of) cut.first ∙ ap (λ (l : List ℕ). l ∷ lines_of rest) (sym cut.line_is)
 
 -- ---- texts one behind the other
 

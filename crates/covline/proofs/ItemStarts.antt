@@ -2,13 +2,13 @@
 use Rattle.std.proofs.Common.{◌≡◌, ℕ, zero, suc, ◌<◌, List, [], ◌∷◌, ◌++◌, length, get_or, set, map, refl, sym, ap, ◌∙◌, arith}
 use Rattle.std.proofs.Math.Seq.{get_or-append_seam}
 use Rattle.std.proofs.lemmas.List.{map-set, set_at, get_or-map}
-use Rattle.covline.specs.Lawful.{Fits64, AllFit64}
+use Rattle.covline.specs.Lawful.{FitsItem, AllFit}
 use Rattle.covline.specs.Row.{ItemData, with_start, item_data}
 use Rattle.covline.specs.declared.bytes.Bytes.{Bytes}
 use Rattle.covline.specs.declared.item.Item.{Item}
 use Rattle.covline.specs.declared.item.Item.TheVariants as items
 
-pub all_fit_set : (xs : List ItemData) (at : ℕ) (x : ItemData) → AllFit64 xs → Fits64 x → AllFit64 (set xs at x)
+pub all_fit_set : (xs : List ItemData) (at : ℕ) (x : ItemData) → AllFit xs → FitsItem x → AllFit (set xs at x)
 all_fit_set [] at x all fits = all
 all_fit_set (y ∷ ys) zero x all fits = (fits, all.1)
 all_fit_set (y ∷ ys) (suc at) x all fits = (all.0, all_fit_set ys at x all.1 fits)
@@ -26,7 +26,7 @@ module _ {A : Type 0} where
   started items at new before after other e place =
       map-set item_data items at new ∙ ap (λ (xs : List ItemData). set xs at (item_data new)) e ∙ set_at before other after (item_data new) at (sym place)
 
-  pub fits_at : (items : List (Item A)) (at : ℕ) (d : Item A) → AllFit64 (map item_data items) → at < length items → Fits64 (item_data (get_or items at d))
+  pub fits_at : (items : List (Item A)) (at : ℕ) (d : Item A) → AllFit (map item_data items) → at < length items → FitsItem (item_data (get_or items at d))
   fits_at [] at d all low = absurd (omega (arith, low))
   fits_at (i ∷ is) zero d all low = all.0
   fits_at (i ∷ is) (suc at) d all low = fits_at is at d all.1 (omega (arith, low))

@@ -1,7 +1,7 @@
 -- A printed record reads back: its text is one line, and that line spells the record.
 use Rattle.std.proofs.Common.{◌≡◌, ℕ, ◌+◌, ◌-◌, ◌*◌, ◌/◌, ◌%◌, ◌^◌, ◌<◌, ◌≤◌, List, [], ◌∷◌, ◌++◌, Some, None, refl, sym, ap, ◌∙◌, lit<, arith, inl}
 use Rattle.std.specs.Prelude.{All, codes, decimal}
-use Rattle.std.proofs.lemmas.Fmt.{decimal_by_steps}
+use Rattle.std.proofs.lemmas.Fmt.{decimal_by_steps_wide}
 use Rattle.std.proofs.lemmas.List.{append-nil, length_push}
 use Rattle.std.proofs.lemmas.List.Elements.{All-nil, All-cons, All-append, All-push, All-weaker, All-from_recursion}
 use Rattle.std.proofs.lemmas.List.Sums.{fold_push}
@@ -30,14 +30,23 @@ numeral_more n ds big front = record {
   value = omega (arith, fold_push (λ m b. m * 10 + (b - 48)) 0 ds (48 + n % 10), front.value);
 }
 
--- a number below 2^64 in decimal is a numeral that says it
-pub IsNumeral-decimal : (n : ℕ) → n < 2 ^ 64 → IsNumeral (decimal n) n
-IsNumeral-decimal n small = decimal_by_steps (λ m ds. IsNumeral ds m) numeral_one numeral_more n small
+within : (n : ℕ) → n < 2 ^ 128 → n < 10 ^ 64
+within n small = omega (arith, small)
+
+-- a number of 128 bits in decimal is a numeral that says it, and so is one of 64
+pub IsNumeral-decimal : (n : ℕ) → n < 2 ^ 128 → IsNumeral (decimal n) n
+IsNumeral-decimal n small = decimal_by_steps_wide (λ m ds. IsNumeral ds m) numeral_one numeral_more n (within n small)
+
+wide : (n : ℕ) → n < 2 ^ 64 → n < 2 ^ 128
+wide n small = omega (arith, small)
+
+IsNumeral-small : (n : ℕ) → n < 2 ^ 64 → IsNumeral (decimal n) n
+IsNumeral-small n small = IsNumeral-decimal n (wide n small)
 
 digit_plain : (b : ℕ) → IsDigit b → IsPlain b
 digit_plain b digit = omega arith
 
-plain_decimal : (n : ℕ) → n < 2 ^ 64 → All IsPlain (decimal n)
+plain_decimal : (n : ℕ) → n < 2 ^ 128 → All IsPlain (decimal n)
 plain_decimal n small = All-weaker IsDigit IsPlain digit_plain (decimal n) (IsNumeral-decimal n small).each
 
 -- ---- keys
@@ -73,31 +82,31 @@ plain_end = All-from_recursion IsPlain (codes "end_of_record") (lit< tt, (lit< t
 
 -- ---- fields
 
-good_number : (front : List ℕ) (n : ℕ) → All IsPlain front → n < 2 ^ 64 → IsGoodTest (front ++ decimal n)
+good_number : (front : List ℕ) (n : ℕ) → All IsPlain front → n < 2 ^ 128 → IsGoodTest (front ++ decimal n)
 good_number front n plain small = IsGoodTest-plain (front ++ decimal n) (All-append IsPlain front (decimal n) plain (plain_decimal n small))
 
 good_behind_comma : (rest : List ℕ) → IsGoodTest rest → IsGoodTest (comma ∷ rest)
 good_behind_comma rest good = IsGoodTest-append (comma ∷ []) rest (IsGoodTest-plain (comma ∷ []) (All-cons IsPlain comma [] (lit< tt) (All-nil IsPlain))) good
 
 -- a number, a comma, and what stands behind it
-good_field : (front : List ℕ) (n : ℕ) (rest : List ℕ) → All IsPlain front → n < 2 ^ 64 → IsGoodTest rest → IsGoodTest ((front ++ decimal n) ++ comma ∷ rest)
+good_field : (front : List ℕ) (n : ℕ) (rest : List ℕ) → All IsPlain front → n < 2 ^ 128 → IsGoodTest rest → IsGoodTest ((front ++ decimal n) ++ comma ∷ rest)
 good_field front n rest plain small good =
     IsGoodTest-append (front ++ decimal n) (comma ∷ rest) (good_number front n plain small) (good_behind_comma rest good)
 
 -- no front: the number comes first
-good_first : (n : ℕ) (rest : List ℕ) → n < 2 ^ 64 → IsGoodTest rest → IsGoodTest (decimal n ++ comma ∷ rest)
+good_first : (n : ℕ) (rest : List ℕ) → n < 2 ^ 128 → IsGoodTest rest → IsGoodTest (decimal n ++ comma ∷ rest)
 good_first n rest small good = good_field [] n rest (All-nil IsPlain) small good
 
 -- where a branch's block was never executed, and where it was
 good_branch : (number block branch : ℕ) (text : List ℕ) → number < 2 ^ 64 → block < 2 ^ 64 → branch < 2 ^ 64 → IsGoodTest text → IsGoodTest (codes "BRDA:" ++ decimal number ++ comma ∷ (decimal block ++ comma ∷ (decimal branch ++ comma ∷ text)))
 good_branch number block branch text first second third good =
-    good_field (codes "BRDA:") number (decimal block ++ comma ∷ (decimal branch ++ comma ∷ text)) plain_branch first
-    (good_first block (decimal branch ++ comma ∷ text) second (good_first branch text third good))
+    good_field (codes "BRDA:") number (decimal block ++ comma ∷ (decimal branch ++ comma ∷ text)) plain_branch (wide number first)
+    (good_first block (decimal branch ++ comma ∷ text) (wide block second) (good_first branch text (wide branch third) good))
 
 good_minus : IsGoodTest (codes "-")
 good_minus = IsGoodTest-plain (codes "-") (All-from_recursion IsPlain (codes "-") (lit< tt, tt))
 
-good_decimal : (n : ℕ) → n < 2 ^ 64 → IsGoodTest (decimal n)
+good_decimal : (n : ℕ) → n < 2 ^ 128 → IsGoodTest (decimal n)
 good_decimal n small = IsGoodTest-plain (decimal n) (plain_decimal n small)
 
 -- ---- lines
@@ -108,19 +117,19 @@ one_line text good = lines_at text [] good.one_line ∙ ap (λ (t : List ℕ). t
 good_text : (says : LineData) → IsReadable says → IsGoodTest (line_text says)
 good_text (Test name) reads = IsGoodTest-append (codes "TN:") name (IsGoodTest-plain (codes "TN:") plain_test) reads.texts
 good_text (Path path) reads = IsGoodTest-append (codes "SF:") path (IsGoodTest-plain (codes "SF:") plain_path) reads.texts.fits
-good_text (FuncStart number name) reads = good_field (codes "FN:") number name plain_start reads.small reads.texts.fits
+good_text (FuncStart number name) reads = good_field (codes "FN:") number name plain_start (wide number reads.small) reads.texts.fits
 good_text (FuncCount count name) reads = good_field (codes "FNDA:") count name plain_count reads.small reads.texts.fits
 good_text (Branch number block branch None) reads =
     good_branch number block branch (codes "-") reads.small.0 reads.small.1 reads.small.2 good_minus
 good_text (Branch number block branch (Some taken)) reads =
     good_branch number block branch (decimal taken) reads.small.0 reads.small.1 reads.small.2 (good_decimal taken reads.small.3)
 good_text (Line number count None) reads =
-    good_field (codes "DA:") number (decimal count ++ []) plain_line reads.small.0
+    good_field (codes "DA:") number (decimal count ++ []) plain_line (wide number reads.small.0)
     (IsGoodTest-append (decimal count) [] (good_decimal count reads.small.1) (IsGoodTest-plain [] (All-nil IsPlain)))
 good_text (Line number count (Some checksum)) reads =
-    good_field (codes "DA:") number (decimal count ++ comma ∷ checksum) plain_line reads.small.0
+    good_field (codes "DA:") number (decimal count ++ comma ∷ checksum) plain_line (wide number reads.small.0)
     (good_first count checksum reads.small.1 (IsGoodTest-checksum checksum reads.texts))
-good_text (Total kind value) reads = good_number (key_of kind) value (plain_total kind) reads.small
+good_text (Total kind value) reads = good_number (key_of kind) value (plain_total kind) (wide value reads.small)
 good_text End reads = IsGoodTest-plain (codes "end_of_record") plain_end
 good_text Skip reads = absurd reads.texts
 
@@ -141,7 +150,7 @@ spells_printed : (says : LineData) → IsReadable says → Spells (line_text say
 spells_printed (Test name) reads = record { form = refl; small = tt }
 spells_printed (Path path) reads = record { form = (refl, reads.texts.some); small = tt }
 spells_printed (FuncStart number name) reads = record {
-  form = (decimal number, refl, IsNumeral-decimal number reads.small, reads.texts.some);
+  form = (decimal number, refl, IsNumeral-small number reads.small, reads.texts.some);
   small = reads.small;
 }
 spells_printed (FuncCount count name) reads = record {
@@ -149,23 +158,23 @@ spells_printed (FuncCount count name) reads = record {
   small = reads.small;
 }
 spells_printed (Branch number block branch None) reads = record {
-  form = (decimal number, decimal block, decimal branch, codes "-", refl, IsNumeral-decimal number reads.small.0, IsNumeral-decimal block reads.small.1, IsNumeral-decimal branch reads.small.2, refl);
+  form = (decimal number, decimal block, decimal branch, codes "-", refl, IsNumeral-small number reads.small.0, IsNumeral-small block reads.small.1, IsNumeral-small branch reads.small.2, refl);
   small = reads.small;
 }
 spells_printed (Branch number block branch (Some taken)) reads = record {
-  form = (decimal number, decimal block, decimal branch, decimal taken, refl, IsNumeral-decimal number reads.small.0, IsNumeral-decimal block reads.small.1, IsNumeral-decimal branch reads.small.2, IsNumeral-decimal taken reads.small.3);
+  form = (decimal number, decimal block, decimal branch, decimal taken, refl, IsNumeral-small number reads.small.0, IsNumeral-small block reads.small.1, IsNumeral-small branch reads.small.2, IsNumeral-decimal taken reads.small.3);
   small = reads.small;
 }
 spells_printed (Line number count None) reads = record {
-  form = (decimal number, decimal count, ap (λ (t : List ℕ). codes "DA:" ++ decimal number ++ comma ∷ t) (append-nil (decimal count)), IsNumeral-decimal number reads.small.0, inl (IsNumeral-decimal count reads.small.1));
+  form = (decimal number, decimal count, ap (λ (t : List ℕ). codes "DA:" ++ decimal number ++ comma ∷ t) (append-nil (decimal count)), IsNumeral-small number reads.small.0, inl (IsNumeral-decimal count reads.small.1));
   small = reads.small;
 }
 spells_printed (Line number count (Some checksum)) reads = record {
-  form = (decimal number, decimal count, refl, IsNumeral-decimal number reads.small.0, inl (IsNumeral-decimal count reads.small.1), reads.texts);
+  form = (decimal number, decimal count, refl, IsNumeral-small number reads.small.0, inl (IsNumeral-decimal count reads.small.1), reads.texts);
   small = reads.small;
 }
 spells_printed (Total kind value) reads = record {
-  form = (decimal value, refl, IsNumeral-decimal value reads.small);
+  form = (decimal value, refl, IsNumeral-small value reads.small);
   small = reads.small;
 }
 spells_printed End reads = record { form = ([], sym (append-nil (codes "end_of_record"))); small = tt }

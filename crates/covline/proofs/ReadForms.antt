@@ -7,8 +7,8 @@ use Rattle.std.proofs.lemmas.List.{append-nil}
 use Rattle.covline.specs.declared.trace_line.LineFault.{LineFault}
 use Rattle.covline.specs.declared.trace_line.LineFault.TheVariants.{BadLine, NumberTooLarge}
 use Rattle.covline.specs.Spells.{LineData, Test, Path, FuncStart, FuncCount, Branch, Line, Total, End, Skip, comma, IsNumeral, IsCount, IsTaken, HasForm, HasSmallNumbers}
-use Rattle.covline.specs.Reading.{Fields, capped, with_fit, with_name, start_of, start_fields, calls_of, calls_fields, with_taken, branch_of, branch_fields, count_of, line_fields, total_of}
-use Rattle.covline.proofs.ReadNumbers.{Stops, capped_small, capped_large, field_is, BeginsWithField, field_or_none, field_read, count_is, BeginsWithCount, count_or_none, count_read, comma_or_none, taken_is, taken_or_none}
+use Rattle.covline.specs.Reading.{Fields, capped, with_fit, with_count, with_name, start_of, start_fields, calls_of, calls_fields, with_taken, branch_of, branch_fields, count_of, line_fields, total_of}
+use Rattle.covline.proofs.ReadNumbers.{Stops, fit_small, fit_large, count_small, count_large, field_is, BeginsWithField, field_or_none, field_read, count_is, BeginsWithCount, count_or_none, count_read, comma_or_none, taken_is, taken_or_none}
 use Rattle.covline.proofs.Checksums.{IsBehindCount, checksum_read, checksum_or_none}
 
 -- what a record of this form is read as, by the size of its numbers
@@ -26,14 +26,14 @@ sized Skip = Ok Skip
 pub sized_small : (says : LineData) → HasSmallNumbers says → sized says ≡ Ok says
 sized_small (Test name) small = refl
 sized_small (Path path) small = refl
-sized_small (FuncStart number name) small = rw (capped_small number small) refl
-sized_small (FuncCount count name) small = rw (capped_small count small) refl
+sized_small (FuncStart number name) small = rw (fit_small number small) refl
+sized_small (FuncCount count name) small = rw (count_small count small) refl
 sized_small (Branch number block branch None) small =
-    rw (capped_small number small.0, capped_small block small.1, capped_small branch small.2) refl
+    rw (fit_small number small.0, fit_small block small.1, fit_small branch small.2) refl
 sized_small (Branch number block branch (Some taken)) small =
-    rw (capped_small number small.0, capped_small block small.1, capped_small branch small.2, capped_small taken small.3) refl
-sized_small (Line number count checksum) small = rw (capped_small number small.0, capped_small count small.1) refl
-sized_small (Total kind value) small = rw (capped_small value small) refl
+    rw (fit_small number small.0, fit_small block small.1, fit_small branch small.2, count_small taken small.3) refl
+sized_small (Line number count checksum) small = rw (fit_small number small.0, count_small count small.1) refl
+sized_small (Total kind value) small = rw (fit_small value small) refl
 sized_small End small = refl
 sized_small Skip small = refl
 
@@ -46,7 +46,14 @@ last_sized : (n : ℕ) (says : ℕ → Result LineData LineFault) → IsSized (n
 last_sized n says =
     elim (cases_lt n (2 ^ 64)) [
       | inl lt ↦ inl lt
-      | inr le ↦ inr (λ lt. omega (arith, lt), rw (capped_large n le) refl)
+      | inr le ↦ inr (λ lt. omega (arith, lt), rw (fit_large n le) refl)
+    ]
+
+last_counted : (n : ℕ) (says : ℕ → Result LineData LineFault) → IsSized (n < 2 ^ 128) (with_count (capped n) says)
+last_counted n says =
+    elim (cases_lt n (2 ^ 128)) [
+      | inl lt ↦ inl lt
+      | inr le ↦ inr (λ lt. omega (arith, lt), rw (count_large n le) refl)
     ]
 
 more_sized : (n : ℕ) (says : ℕ → Result LineData LineFault) (small : Type 0) → IsSized small (says n) → IsSized ((n < 2 ^ 64) × small) (with_fit (capped n) says)
@@ -54,9 +61,9 @@ more_sized n says small others =
     elim (cases_lt n (2 ^ 64)) [
       | inl lt ↦ elim others [
         | inl all ↦ inl (lt, all)
-        | inr large ↦ inr (λ all. large.0 all.1, rw (capped_small n lt) large.1)
+        | inr large ↦ inr (λ all. large.0 all.1, rw (fit_small n lt) large.1)
       ]
-      | inr le ↦ inr (λ all. omega (arith, all.0), rw (capped_large n le) refl)
+      | inr le ↦ inr (λ all. omega (arith, all.0), rw (fit_large n le) refl)
     ]
 
 -- what a branch is read as behind its small numbers
@@ -82,18 +89,18 @@ branch_sized number block branch None =
     (more_sized block (behind_block branch None number) (branch < 2 ^ 64) (last_sized branch (behind_branch None number block))))
 branch_sized number block branch (Some taken) =
     resized (sized (Branch number block branch (Some taken))) (λ small. (small.0, small.1.0, small.1.1.0, small.1.1.1)) (λ small. (small.0, (small.1, (small.2, small.3))))
-    (more_sized number (behind_number block branch (Some taken)) ((block < 2 ^ 64) × ((branch < 2 ^ 64) × (taken < 2 ^ 64)))
-    (more_sized block (behind_block branch (Some taken) number) ((branch < 2 ^ 64) × (taken < 2 ^ 64))
-    (more_sized branch (behind_branch (Some taken) number block) (taken < 2 ^ 64) (last_sized taken (λ t. Ok (Branch number block branch (Some t)))))))
+    (more_sized number (behind_number block branch (Some taken)) ((block < 2 ^ 64) × ((branch < 2 ^ 64) × (taken < 2 ^ 128)))
+    (more_sized block (behind_block branch (Some taken) number) ((branch < 2 ^ 64) × (taken < 2 ^ 128))
+    (more_sized branch (behind_branch (Some taken) number block) (taken < 2 ^ 128) (last_counted taken (λ t. Ok (Branch number block branch (Some t)))))))
 
 -- the numbers are small, or the record is read as too large
 pub small_or_large : (says : LineData) → IsSized (HasSmallNumbers says) (sized says)
 small_or_large (Test name) = inl tt
 small_or_large (Path path) = inl tt
 small_or_large (FuncStart number name) = last_sized number (λ n. Ok (FuncStart n name))
-small_or_large (FuncCount count name) = last_sized count (λ n. Ok (FuncCount n name))
+small_or_large (FuncCount count name) = last_counted count (λ n. Ok (FuncCount n name))
 small_or_large (Branch number block branch taken) = branch_sized number block branch taken
-small_or_large (Line number count checksum) = more_sized number (λ l. with_fit (capped count) (λ n. Ok (Line l n checksum))) (count < 2 ^ 64) (last_sized count (λ n. Ok (Line number n checksum)))
+small_or_large (Line number count checksum) = more_sized number (λ l. with_count (capped count) (λ n. Ok (Line l n checksum))) (count < 2 ^ 128) (last_counted count (λ n. Ok (Line number n checksum)))
 small_or_large (Total kind value) = last_sized value (λ n. Ok (Total kind n))
 small_or_large End = inl tt
 small_or_large Skip = inl tt

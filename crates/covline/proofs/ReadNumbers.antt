@@ -1,13 +1,14 @@
 -- Reading a number and a count, alone or before a comma: what a numeral is read as, and that each text begins with a
 -- numeral or isn't read.
-use Rattle.std.proofs.Common.{◌≡◌, ◌≢◌, ℕ, ◌+◌, ◌-◌, ◌*◌, ◌^◌, ◌<◌, ◌≤◌, ◌⊎◌, inl, inr, Bool, true, false, cond, eqb, ltb, leb, List, [], ◌∷◌, ◌++◌, All, Option, Some, None, refl, sym, ap, subst, ◌∙◌, arith, fold, option_map}
+use Rattle.std.proofs.Common.{◌≡◌, ◌≢◌, ℕ, ◌+◌, ◌-◌, ◌*◌, ◌^◌, ◌<◌, ◌≤◌, ◌⊎◌, inl, inr, Bool, true, false, cond, eqb, ltb, leb, List, [], ◌∷◌, ◌++◌, All, Option, Some, None, Ok, Err, refl, sym, ap, subst, ◌∙◌, arith, fold, option_map}
 use Rattle.std.proofs.lemmas.Bool.{lt-ltb, le-ltb, le-leb, and_from, and_parts, leb-true, cases_lt, cases_eq, cases_Bool, eq-eqb, ne_eqb}
 use Rattle.std.proofs.lemmas.List.{append-nil}
 use Rattle.std.proofs.lemmas.List.Elements.{All-cons, All-nil, All-head, All-tail}
 use Rattle.covline.specs.declared.reader.Number.{Number}
-use Rattle.covline.specs.declared.reader.Number.TheVariants.{Value, TooLarge}
+use Rattle.covline.specs.declared.reader.Number.TheVariants.{Value, Wide, TooLarge}
 use Rattle.covline.specs.Spells.{IsDigit, IsNumeral, IsCount, IsTaken, digits_value, comma, minus}
-use Rattle.covline.specs.Reading.{is_digit, capped, with_digit, digits_from, number_at, number_of, as_zero, count_at, before_comma, field_of, field_at, taken_of, whole}
+use Rattle.covline.specs.declared.trace_line.LineFault.TheVariants.{NumberTooLarge}
+use Rattle.covline.specs.Reading.{is_digit, capped, fit, fit_count, with_digit, digits_from, number_at, number_of, as_zero, count_at, before_comma, field_of, field_at, taken_of, whole}
 
 pub digit_is : (b : ℕ) → IsDigit b → is_digit b ≡ true
 digit_is b d = and_from (leb 48 b) (leb b 57) (le-leb 48 b d.0) (le-leb b 57 d.1)
@@ -25,15 +26,50 @@ Stops (b ∷ bs) = is_digit b ≡ false
 pub capped_small : (n : ℕ) → n < 2 ^ 64 → capped n ≡ Value n
 capped_small n lt = let test : ltb n (2 ^ 64) ≡ true = lt-ltb n (2 ^ 64) lt in rw test refl
 
-pub capped_large : (n : ℕ) → 2 ^ 64 ≤ n → capped n ≡ TooLarge
-capped_large n le = let test : ltb n (2 ^ 64) ≡ false = le-ltb n (2 ^ 64) le in rw test refl
+pub capped_wide : (n : ℕ) → 2 ^ 64 ≤ n → n < 2 ^ 128 → capped n ≡ Wide n
+capped_wide n le lt =
+    let above : ltb n (2 ^ 64) ≡ false = le-ltb n (2 ^ 64) le in
+    let below : ltb n (2 ^ 128) ≡ true = lt-ltb n (2 ^ 128) lt in
+    rw (above, below) refl
+
+pub capped_large : (n : ℕ) → 2 ^ 128 ≤ n → capped n ≡ TooLarge
+capped_large n le =
+    let above : ltb n (2 ^ 64) ≡ false = le-ltb n (2 ^ 64) (omega (arith, le)) in
+    let far : ltb n (2 ^ 128) ≡ false = le-ltb n (2 ^ 128) le in
+    rw (above, far) refl
 
 with_digit-capped : (n b : ℕ) → with_digit (capped n) b ≡ capped (n * 10 + (b - 48))
 with_digit-capped n b =
     elim (cases_lt n (2 ^ 64)) [
       | inl lt ↦ rw (capped_small n lt) refl
-      | inr le ↦ rw (capped_large n le) (sym (capped_large (n * 10 + (b - 48)) (omega arith)))
+      | inr le ↦ elim (cases_lt n (2 ^ 128)) [
+        | inl lt ↦ rw (capped_wide n le lt) refl
+        | inr far ↦ rw (capped_large n far) (sym (capped_large (n * 10 + (b - 48)) (omega (arith, far))))
+      ]
     ]
+
+-- ---- whether it fits
+
+-- a number as one of 64 bits, and as a count
+pub fit_small : (n : ℕ) → n < 2 ^ 64 → fit (capped n) ≡ Ok n
+fit_small n lt = ap fit (capped_small n lt)
+
+pub fit_large : (n : ℕ) → 2 ^ 64 ≤ n → fit (capped n) ≡ Err NumberTooLarge
+fit_large n le =
+    elim (cases_lt n (2 ^ 128)) [
+      | inl lt ↦ ap fit (capped_wide n le lt)
+      | inr far ↦ ap fit (capped_large n far)
+    ]
+
+pub count_small : (n : ℕ) → n < 2 ^ 128 → fit_count (capped n) ≡ Ok n
+count_small n lt =
+    elim (cases_lt n (2 ^ 64)) [
+      | inl less ↦ ap fit_count (capped_small n less)
+      | inr le ↦ ap fit_count (capped_wide n le lt)
+    ]
+
+pub count_large : (n : ℕ) → 2 ^ 128 ≤ n → fit_count (capped n) ≡ Err NumberTooLarge
+count_large n le = ap fit_count (capped_large n le)
 
 fold-capped : (digits : List ℕ) (n : ℕ) → fold with_digit (capped n) digits ≡ capped (fold (λ m b. m * 10 + (b - 48)) n digits)
 fold-capped [] n = refl

@@ -9,7 +9,7 @@ use Rattle.covline.specs.declared.item.Item.{Item}
 use Rattle.covline.specs.declared.sect.Sect.{Sect}
 use Rattle.covline.specs.Row.{ItemData, SectData, SubmissionData, item_data, items_in}
 use Rattle.covline.specs.SectView.{sect_data}
-use Rattle.covline.specs.Lawful.{most_items, AllFit64, IsGoodTest, IsGoodName, IsLawful, IsLawfulItem, IsLawfulSect, IsFirstUnlawful}
+use Rattle.covline.specs.Lawful.{most_items, AllFit, IsGoodTest, IsGoodName, IsLawful, IsLawfulItem, IsLawfulSect, IsFirstUnlawful}
 use Rattle.covline.proofs.GoodTexts.{All-part}
 
 -- the section that the code reads at this place
@@ -82,7 +82,7 @@ abbrev pub submission : List SectData → ℕ → SubmissionData
 submission sects odd = record { sects = sects; odd = odd }
 
 -- what the tests of the sections show of the submission
-pub lawful_from : (all sects : List SectData) (items odd : ℕ) → all ≡ sects → (items ≡ items_in all) × (items ≤ most_items) → AllByRecursion (λ s. AllFit64 s.items) all → All IsLawfulSect all → odd < 2 ^ 64 → IsLawful (submission sects odd) × (items ≡ items_in sects)
+pub lawful_from : (all sects : List SectData) (items odd : ℕ) → all ≡ sects → (items ≡ items_in all) × (items ≤ most_items) → AllByRecursion (λ s. AllFit s.items) all → All IsLawfulSect all → odd < 2 ^ 64 → IsLawful (submission sects odd) × (items ≡ items_in sects)
 lawful_from all sects items odd e counted fit texts small =
     let few : items_in all ≤ most_items = omega arith in
     let whole : IsLawful (submission all odd) = record { few = few; texts = texts; fit = fit; odd_fits = small } in

@@ -46,21 +46,21 @@ pub record IsLawfulSect (s : SectData) : Type 0 where
   pub file : IsGoodName s.file
   pub items : AllByRecursion IsLawfulItem s.items
 
--- the numbers of an item are those of 64 bits
-abbrev pub Fits64 : ItemData → Type 0
-Fits64 (LineItem line count checksum) = (line < 2 ^ 64) × (count < 2 ^ 64)
-Fits64 (FuncItem name line count) = (line < 2 ^ 64) × (count < 2 ^ 64)
-Fits64 (BranchItem line block branch None) = (line < 2 ^ 64) × (block < 2 ^ 64) × (branch < 2 ^ 64)
-Fits64 (BranchItem line block branch (Some taken)) = (line < 2 ^ 64) × (block < 2 ^ 64) × (branch < 2 ^ 64) × (taken < 2 ^ 64)
+-- the numbers of an item fit: its counts into 128 bits, all others into 64
+abbrev pub FitsItem : ItemData → Type 0
+FitsItem (LineItem line count checksum) = (line < 2 ^ 64) × (count < 2 ^ 128)
+FitsItem (FuncItem name line count) = (line < 2 ^ 64) × (count < 2 ^ 128)
+FitsItem (BranchItem line block branch None) = (line < 2 ^ 64) × (block < 2 ^ 64) × (branch < 2 ^ 64)
+FitsItem (BranchItem line block branch (Some taken)) = (line < 2 ^ 64) × (block < 2 ^ 64) × (branch < 2 ^ 64) × (taken < 2 ^ 128)
 
-abbrev pub AllFit64 : List ItemData → Type 0
-AllFit64 items = AllByRecursion Fits64 items
+abbrev pub AllFit : List ItemData → Type 0
+AllFit items = AllByRecursion FitsItem items
 
 -- what holds of each submission
 pub record IsLawful (s : SubmissionData) : Type 0 where
   pub few : items_in s.sects ≤ most_items
   pub texts : All IsLawfulSect s.sects
-  pub fit : AllByRecursion (λ sect. AllFit64 sect.items) s.sects
+  pub fit : AllByRecursion (λ sect. AllFit sect.items) s.sects
   pub odd_fits : s.odd < 2 ^ 64
 
 -- the first section with an unlawful text has this number

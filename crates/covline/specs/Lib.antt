@@ -8,3 +8,4 @@ pub mod Spells
 pub mod Printed
 pub mod LineLaws
 pub mod Reading
+pub mod Fronts

@@ -3,6 +3,8 @@ use Rattle.std.specs.Prelude.{◌≡◌, ℕ, ◌≤◌, List, [], ◌∷◌, �
 use Rattle.std.specs.List.{concat, flat_map, sum_by}
 use Rattle.covline.specs.Lines.{line_feed, carriage_return, pieces_of, strip, lines_of}
 use Rattle.covline.specs.Lawful.{IsGoodTest}
+use Rattle.covline.specs.Spells.{LineData, Spells}
+use Rattle.covline.specs.Printed.{IsReadable, line_text, printed}
 
 -- joined again, the pieces of a text are the text
 abbrev pub JoinedAgain : Type 0
@@ -35,3 +37,7 @@ OneBehindOther = (front rest : List ℕ) → lines_of (front ++ line_feed ∷ re
 -- a text that is made of such lines, with a line feed behind each, has these lines
 abbrev pub MadeOfLines : Type 0
 MadeOfLines = (lines : List (List ℕ)) → All IsGoodTest lines → lines_of (flat_map (λ line. line ++ line_feed ∷ []) lines) ≡ lines
+
+-- a printed record is one line, and that line says the record
+abbrev pub PrintedSpells : Type 0
+PrintedSpells = (says : LineData) → IsReadable says → (lines_of (printed says) ≡ line_text says ∷ []) × Spells (line_text says) says

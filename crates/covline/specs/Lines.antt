@@ -1,6 +1,6 @@
 -- The lines of a text. A text is cut at each line feed, the last of which may be missing; carriage returns at the
 -- end of a line don't belong to it.
-use Rattle.std.specs.Prelude.{ℕ, List, [], ◌∷◌, ◌==◌, map, if◌then◌else◌}
+use Rattle.std.specs.Prelude.{◌≡◌, ℕ, List, [], ◌∷◌, ◌++◌, ◌==◌, map, if◌then◌else◌}
 
 abbrev pub line_feed : ℕ
 line_feed = 10
@@ -40,3 +40,10 @@ line_of piece = strip (before_feed piece)
 -- the lines of a text, blank ones too
 abbrev pub lines_of : List ℕ → List (List ℕ)
 lines_of text = map line_of (pieces_of text)
+
+-- the text's first piece is this line, and the text behind that piece is this
+pub record IsFirstCut (text line rest : List ℕ) : Type 0 where
+  pub piece : List ℕ
+  pub first : pieces_of text ≡ piece ∷ pieces_of rest
+  pub line_is : line ≡ line_of piece
+  pub behind : text ≡ piece ++ rest

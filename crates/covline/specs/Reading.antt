@@ -2,7 +2,7 @@
 -- the definitions of a spelled line and of its fault ask for.
 use Rattle.std.specs.Prelude.{ℕ, ◌+◌, ◌-◌, ◌*◌, ◌^◌, ◌≡◌, Bool, true, false, not, ◌&&◌, ◌==◌, nat_lt, nat_le, if◌then◌else◌, List, [], ◌∷◌, Option, Some, None, Result, Ok, Err, codes, option_map}
 use Rattle.covline.specs.declared.reader.Number.{Number}
-use Rattle.covline.specs.declared.reader.Number.TheVariants.{Value, TooLarge}
+use Rattle.covline.specs.declared.reader.Number.TheVariants.{Value, Wide, TooLarge}
 use Rattle.covline.specs.declared.trace_line.TraceLine.{TraceLine}
 use Rattle.covline.specs.declared.trace_line.TotalKind.{TotalKind}
 use Rattle.covline.specs.declared.trace_line.TotalKind.TheVariants.{FuncFound, FuncHit, BranchFound, BranchHit, LineFound, LineHit}
@@ -19,14 +19,15 @@ Gives (Err fault) read = read ≡ Err fault
 abbrev pub is_digit : ℕ → Bool
 is_digit b = nat_le 48 b && nat_le b 57
 
--- a number of 64 bits, or a larger one
+-- a number of 64 bits, a larger one of 128 bits, or one that is larger still
 abbrev pub capped : ℕ → Number
-capped n = if nat_lt n (2 ^ 64) then Value n else TooLarge
+capped n = if nat_lt n (2 ^ 64) then Value n else (if nat_lt n (2 ^ 128) then Wide n else TooLarge)
 
 -- one digit more behind a number
 abbrev pub with_digit : Number → ℕ → Number
 with_digit TooLarge b = TooLarge
 with_digit (Value n) b = capped (n * 10 + (b - 48))
+with_digit (Wide n) b = capped (n * 10 + (b - 48))
 
 -- the digits at the front, read behind a number, and what follows them
 abbrev pub digits_from : Number → List ℕ → Number × List ℕ
@@ -78,11 +79,6 @@ taken_of [] = None
 taken_of (b ∷ []) = if b == minus then Some None else option_map Some (number_of (b ∷ []))
 taken_of (b ∷ c ∷ cs) = option_map Some (number_of (b ∷ c ∷ cs))
 
--- at the front of the text it is told how often a branch was taken, and this follows
-abbrev pub BeginsWithTaken : List ℕ → Option ℕ → List ℕ → Type 0
-BeginsWithTaken text None rest = text ≡ minus ∷ rest
-BeginsWithTaken text (Some n) rest = Some (Value n, rest) ≡ number_at text
-
 -- whether a checksum may have the byte: all but comma, space, tab, carriage return and line feed
 abbrev pub is_checksum_byte : ℕ → Bool
 is_checksum_byte b = not (b == 44) && (not (b == 32) && (not (b == 9) && (not (b == 13) && not (b == 10))))
@@ -116,7 +112,14 @@ with_part (Some part) says = says part
 -- the number, where it is one of 64 bits
 abbrev pub fit : Number → Result ℕ LineFault
 fit TooLarge = Err NumberTooLarge
+fit (Wide n) = Err NumberTooLarge
 fit (Value n) = Ok n
+
+-- the count, where it is one of 128 bits
+abbrev pub fit_count : Number → Result ℕ LineFault
+fit_count TooLarge = Err NumberTooLarge
+fit_count (Wide n) = Ok n
+fit_count (Value n) = Ok n
 
 abbrev pub if_ok : Result ℕ LineFault → (ℕ → Result LineData LineFault) → Result LineData LineFault
 if_ok (Err fault) says = Err fault
@@ -124,6 +127,9 @@ if_ok (Ok n) says = says n
 
 abbrev pub with_fit : Number → (ℕ → Result LineData LineFault) → Result LineData LineFault
 with_fit number says = if_ok (fit number) says
+
+abbrev pub with_count : Number → (ℕ → Result LineData LineFault) → Result LineData LineFault
+with_count count says = if_ok (fit_count count) says
 
 -- a name isn't empty
 abbrev pub with_name : List ℕ → Result LineData LineFault → Result LineData LineFault
@@ -139,7 +145,7 @@ start_fields fields = with_part (field_at fields) (λ line. with_name line.1 (st
 
 -- a function's count and its name
 abbrev pub calls_of : Number → List ℕ → Result LineData LineFault
-calls_of count name = with_fit count (λ n. Ok (FuncCount n name))
+calls_of count name = with_count count (λ n. Ok (FuncCount n name))
 
 abbrev pub calls_fields : Fields
 calls_fields fields = with_part (field_of (count_at fields)) (λ count. with_name count.1 (calls_of count.0 count.1))
@@ -147,7 +153,7 @@ calls_fields fields = with_part (field_of (count_at fields)) (λ count. with_nam
 -- a branch's three numbers, and how often it was taken
 abbrev pub with_taken : ℕ → ℕ → ℕ → Option Number → Result LineData LineFault
 with_taken line block branch None = Ok (Branch line block branch None)
-with_taken line block branch (Some taken) = with_fit taken (λ n. Ok (Branch line block branch (Some n)))
+with_taken line block branch (Some taken) = with_count taken (λ n. Ok (Branch line block branch (Some n)))
 
 abbrev pub branch_of : Number → Number → Number → Option Number → Result LineData LineFault
 branch_of line block branch taken = with_fit line (λ l. with_fit block (λ k. with_fit branch (λ b. with_taken l k b taken)))
@@ -159,7 +165,7 @@ branch_fields fields =
 
 -- a line's number, its count and its checksum
 abbrev pub count_of : Number → Number → Option (List ℕ) → Result LineData LineFault
-count_of line count checksum = with_fit line (λ l. with_fit count (λ n. Ok (Line l n checksum)))
+count_of line count checksum = with_fit line (λ l. with_count count (λ n. Ok (Line l n checksum)))
 
 abbrev pub line_fields : Fields
 line_fields fields =

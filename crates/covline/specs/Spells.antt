@@ -106,13 +106,13 @@ HasForm line (Total kind value) = (digits : List ℕ) × (line ≡ key_of kind +
 HasForm line End = Begins line (codes "end_of_record")
 HasForm line Skip = ¬ HasKey line × ¬ Begins line (codes "end_of_record")
 
--- the numbers of a record are below 2^64
+-- the numbers of a record are small: its counts are below 2^128, all others below 2^64
 abbrev pub HasSmallNumbers : LineData → Type 0
 HasSmallNumbers (FuncStart number name) = number < 2 ^ 64
-HasSmallNumbers (FuncCount count name) = count < 2 ^ 64
+HasSmallNumbers (FuncCount count name) = count < 2 ^ 128
 HasSmallNumbers (Branch number block branch None) = (number < 2 ^ 64) × (block < 2 ^ 64) × (branch < 2 ^ 64)
-HasSmallNumbers (Branch number block branch (Some taken)) = (number < 2 ^ 64) × (block < 2 ^ 64) × (branch < 2 ^ 64) × (taken < 2 ^ 64)
-HasSmallNumbers (Line number count checksum) = (number < 2 ^ 64) × (count < 2 ^ 64)
+HasSmallNumbers (Branch number block branch (Some taken)) = (number < 2 ^ 64) × (block < 2 ^ 64) × (branch < 2 ^ 64) × (taken < 2 ^ 128)
+HasSmallNumbers (Line number count checksum) = (number < 2 ^ 64) × (count < 2 ^ 128)
 HasSmallNumbers (Total kind value) = value < 2 ^ 64
 HasSmallNumbers (Test name) = Unit {0}
 HasSmallNumbers (Path path) = Unit {0}

@@ -15,7 +15,7 @@ pub enum Item<A: Allocator = Global> {
     /// (`DA:`). A checksum is one or more bytes without comma, space, tab, carriage return and line feed.
     Line {
         line: u64,
-        count: u64,
+        count: u128,
         checksum: Option<Bytes<A>>,
     },
     /// The execution count of a function and the line that it starts at (`FN:`, `FNDA:`). A name isn't empty and
@@ -23,14 +23,14 @@ pub enum Item<A: Allocator = Global> {
     Func {
         name: Bytes<A>,
         line: u64,
-        count: u64,
+        count: u128,
     },
     /// How often a branch of a line was taken; none where its block was never executed (`BRDA:`).
     Branch {
         line: u64,
         block: u64,
         branch: u64,
-        taken: Option<u64>,
+        taken: Option<u128>,
     },
 }
 
@@ -115,7 +115,7 @@ impl<A: Allocator> Item<A> {
     }
 
     /// Whether this is the item of this line, with this count and checksum.
-    fn is_line(&self, line: u64, count: u64, checksum: &Option<Bytes<A>>) -> bool
+    fn is_line(&self, line: u64, count: u128, checksum: &Option<Bytes<A>>) -> bool
         ensures { IsTrue result ↔ (LineItem line count checksum.now ≡ item_data self.now) }
     {
         match self {
@@ -131,7 +131,7 @@ impl<A: Allocator> Item<A> {
     }
 
     /// Whether this is the item of this function, with this start line and count.
-    fn is_function(&self, name: &Bytes<A>, line: u64, count: u64) -> bool
+    fn is_function(&self, name: &Bytes<A>, line: u64, count: u128) -> bool
         ensures { IsTrue result ↔ (FuncItem name.now line count ≡ item_data self.now) }
     {
         match self {
@@ -145,7 +145,7 @@ impl<A: Allocator> Item<A> {
     }
 
     /// Whether this is the item of this branch, taken as often.
-    fn is_branch(&self, line: u64, block: u64, branch: u64, taken: Option<u64>) -> bool
+    fn is_branch(&self, line: u64, block: u64, branch: u64, taken: Option<u128>) -> bool
         ensures { IsTrue result ↔ (BranchItem line block branch taken ≡ item_data self.now) }
     {
         match self {
@@ -232,13 +232,13 @@ pub struct Items<A: Allocator = Global> {
 impl<A: Allocator> Model for Items<A> {
     ghost use Rattle.std.specs.Prelude.{List, map};
     ghost use Rattle.covline.specs.Row.{ItemData, item_data};
-    ghost use Rattle.covline.specs.Lawful.{AllFit64};
+    ghost use Rattle.covline.specs.Lawful.{AllFit};
 
     ghost Value = { List ItemData };
 
     ghost view = { λ a. map item_data a.items.items };
 
-    ghost invariant = { λ a. AllFit64 (map item_data a.items.items) };
+    ghost invariant = { λ a. AllFit (map item_data a.items.items) };
 }
 
 impl<A: Allocator + Copy> Items<A> {
@@ -269,7 +269,7 @@ impl<A: Allocator + Copy> Items<A> {
 impl<A: Allocator> Items<A> {
     ghost use Rattle.std.specs.Prelude.{◌≡◌, ◌↔◌, ◌<◌, ◌++◌, List, [], ◌∷◌, IsTrue, OnOk, OnErr, length, map};
     ghost use Rattle.covline.specs.Row.{ItemData, item_data, with_start};
-    ghost use Rattle.covline.specs.Lawful.{AllFit64};
+    ghost use Rattle.covline.specs.Lawful.{AllFit};
 
     /// The empty list.
     pub fn new(alloc: A) -> Items<A>
@@ -340,7 +340,7 @@ impl<A: Allocator> Items<A> {
     /// The items in order.
     pub fn get(&self) -> &[Item<A>]
         ensures items { map item_data result.now ≡ self.now }
-        ensures fit { AllFit64 self.now }
+        ensures fit { AllFit self.now }
     {
         self.items.as_slice()
     }

@@ -3,7 +3,7 @@
 ghost use Rattle.std.specs.Prelude.{◌≡◌, ◌⊎◌, ℕ, List};
 ghost use Rattle.covline.specs.declared.trace_line.LineFault.{LineFault};
 ghost use Rattle.covline.specs.Spells.{LineData, Spells, HasFault};
-ghost use Rattle.covline.specs.LineLaws.{JoinedAgain, GoodLines, GoodRest, FewLines, FewBytes, OnlyReturnsOff, OneBehindOther, MadeOfLines};
+ghost use Rattle.covline.specs.LineLaws.{JoinedAgain, GoodLines, GoodRest, FewLines, FewBytes, OnlyReturnsOff, OneBehindOther, MadeOfLines, PrintedSpells};
 
 /// The lines of a text are the text: cut into pieces and joined again it is the same, and a line is its piece
 /// without the line feed and the carriage returns at the end. Neither a line nor what stands behind a key in it
@@ -27,4 +27,9 @@ pub fn each_line_has_one_meaning()
     ensures no_fault_beside { (line : List ℕ) (says : LineData) (fault : LineFault) → Spells line says → ¬ HasFault line fault }
     ensures one_fault { (line : List ℕ) (x y : LineFault) → HasFault line x → HasFault line y → x ≡ y }
     ensures some { (line : List ℕ) → ((says : LineData) × Spells line says) ⊎ ((fault : LineFault) × HasFault line fault) }
+{}
+
+/// A printed record reads back: where its texts are lawful and its numbers small, its text is one line that says it.
+pub fn printed_records_spell()
+    ensures { PrintedSpells }
 {}

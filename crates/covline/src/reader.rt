@@ -1,11 +1,14 @@
 //! Reading one line of a tracefile: its key by its first bytes, then the key's fields from left to right, each key by a
 //! function of its own. Nothing is copied.
 
-ghost use Rattle.std.specs.Prelude.{◌≡◌, ◌≤◌, ◌++◌, ◌∷◌, [], None, Some, Ok, codes, option_map, Err, MatchResult, IfOk, IfErr, IfSome};
+ghost use Rattle.std.specs.Prelude.{◌≡◌, ◌≤◌, ◌+◌, ◌*◌, ◌-◌, ◌++◌, ◌∷◌, ℕ, List, Option, [], None, Some, Ok, codes, option_map, Err, MatchOption, MatchResult, IfOk, IfErr, IfSome};
 ghost use Rattle.covline.specs.declared.trace_line.LineFault.{LineFault};
+ghost use Rattle.covline.specs.Points.{BranchPoint as BranchData};
+ghost use Rattle.covline.specs.PointView.{branch_point_data};
 ghost use Rattle.covline.specs.Spells.{LineData, Line, Branch, line_data, Spells, HasFault, BeginsWithLine};
+ghost use Rattle.covline.specs.Fronts.{BeginsWithBranchLine, BeginsWithCountLine, branch_front, count_front, small_front, small_of, taken_front};
 ghost use Rattle.covline.specs.Lines.{line_feed};
-ghost use Rattle.covline.specs.Reading.{Gives, BeginsWithTaken, behind_key, with_digit, digits_from, number_at, number_of, count_at, before_comma, field_at, taken_of, only_checksum, checksum_of, fit, start_fields, calls_fields, branch_of, branch_fields, line_fields, total_fields, path_fields, read_of};
+ghost use Rattle.covline.specs.Reading.{Gives, behind_key, capped, with_digit, digits_from, number_at, number_of, count_at, before_comma, field_at, taken_of, only_checksum, checksum_of, fit, fit_count, start_fields, calls_fields, branch_of, branch_fields, line_fields, total_fields, path_fields, read_of};
 
 use crate::names::good_checksum;
 use crate::point::BranchPoint;
@@ -14,20 +17,53 @@ use crate::trace_line::{LineFault, TotalKind, TraceLine};
 /// What digits say.
 #[derive(Clone, Copy)]
 enum Number {
-    /// A number of 64 bits.
+    /// A number of 64 bits, as most are.
     Value(u64),
-    /// 2^64 or more.
+    /// A larger one of 128 bits.
+    Wide(u128),
+    /// 2^128 or more.
     TooLarge,
 }
 
 impl Number {
+    /// A number of 128 bits.
+    fn of(value: u128) -> Number
+        ensures { result ≡ capped value }
+    {
+        match u64::try_from(value) {
+            Ok(value) => Number::Value(value),
+            Err(_) => Number::Wide(value),
+        }
+    }
+
     /// The number, where it is one of 64 bits.
     fn fit(self) -> Result<u64, LineFault>
         ensures { result ≡ fit self }
     {
         match self {
             Number::Value(value) => Ok(value),
+            Number::Wide(_) | Number::TooLarge => Err(LineFault::NumberTooLarge),
+        }
+    }
+
+    /// The number as a count, which may have 128 bits.
+    fn fit_count(self) -> Result<u128, LineFault>
+        ensures { result ≡ fit_count self }
+    {
+        match self {
+            Number::Value(value) => Ok(u128::from(value)),
+            Number::Wide(value) => Ok(value),
             Number::TooLarge => Err(LineFault::NumberTooLarge),
+        }
+    }
+
+    /// The number, where it is one of 64 bits, for those who leave others alone.
+    fn small(self) -> Option<u64>
+        ensures { result ≡ small_of self }
+    {
+        match self {
+            Number::Value(value) => Some(value),
+            Number::Wide(_) | Number::TooLarge => None,
         }
     }
 }
@@ -37,12 +73,21 @@ fn push_digit(number: Number, digit: u8) -> Number
     requires { 48 ≤ digit }
     ensures { result ≡ with_digit number digit }
 {
-    let Number::Value(value) = number else {
-        return Number::TooLarge;
-    };
+    match number {
+        Number::Value(value) => push_wide(u128::from(value), digit),
+        Number::Wide(value) => push_wide(value, digit),
+        Number::TooLarge => Number::TooLarge,
+    }
+}
+
+/// A number of 128 bits with one more digit behind it.
+fn push_wide(value: u128, digit: u8) -> Number
+    requires { 48 ≤ digit }
+    ensures { result ≡ capped (value * 10 + (digit - 48)) }
+{
     let tens = value.checked_mul(10);
-    match tens.and_then(|tens| tens.checked_add(u64::from(digit - b'0'))) {
-        Some(value) => Number::Value(value),
+    match tens.and_then(|tens| tens.checked_add(u128::from(digit - b'0'))) {
+        Some(value) => Number::of(value),
         None => Number::TooLarge,
     }
 }
@@ -189,7 +234,7 @@ fn calls_record(fields: &[u8]) -> Result<TraceLine<'_>, LineFault>
     let Some((count, name @ [_, ..])) = split_comma(count, rest) else {
         return Err(LineFault::BadLine);
     };
-    let count = u128::from(count.fit()?);
+    let count = count.fit_count()?;
     Ok(TraceLine::FuncCount { count, name })
 }
 
@@ -212,7 +257,7 @@ fn branch_record(fields: &[u8]) -> Result<TraceLine<'_>, LineFault>
     }
 }
 
-/// A branch, where its numbers are of 64 bits.
+/// A branch, where its numbers fit.
 fn fit_branch<'a>(
     line: Number,
     block: Number,
@@ -225,7 +270,7 @@ fn fit_branch<'a>(
     let block = block.fit()?;
     let branch = branch.fit()?;
     let taken = match taken {
-        Some(taken) => Some(u128::from(taken.fit()?)),
+        Some(taken) => Some(taken.fit_count()?),
         None => None,
     };
     Ok(TraceLine::Branch {
@@ -250,7 +295,7 @@ fn line_record(fields: &[u8]) -> Result<TraceLine<'_>, LineFault>
         return Err(LineFault::BadLine);
     };
     let line = line.fit()?;
-    let count = u128::from(count.fit()?);
+    let count = count.fit_count()?;
     Ok(TraceLine::Line {
         line,
         count,
@@ -419,8 +464,8 @@ fn read_any(line: &[u8]) -> Result<TraceLine<'_>, LineFault>
 }
 
 /// What one line of a tracefile says (geninfo(1), FILES). The line has lost its line feed and the carriage returns
-/// at its end. A line with a known key has the key's form, its numbers are below 2^64 and its path isn't empty;
-/// otherwise that is its fault, and the form comes before the size. Texts are slices of the line.
+/// at its end. A line with a known key has the key's form, its counts are below 2^128 and its other numbers below 2^64,
+/// and its path isn't empty; otherwise that is its fault, and the form comes before the size. Texts are slices of the line.
 pub fn read_line(line: &[u8]) -> Result<TraceLine<'_>, LineFault>
     ensures ok { IfOk result (λ t. Spells line.now (line_data t)) }
     ensures err { IfErr result (λ f. HasFault line.now f) }
@@ -461,18 +506,25 @@ fn behind_feed(text: &[u8]) -> Option<&[u8]>
     }
 }
 
-/// The first line, where it is `DA:<line>,<count>` of digits alone and a line feed ends it: most lines of a tracefile
-/// are so, and these are read in one pass. Any other first line is left to be cut and read.
+/// The first line, where it is `DA:<line>,<count>` of digits alone with numbers below 2^64, and a line feed ends it: most
+/// lines of a tracefile are so, and these are read in one pass. Any other first line is left to be cut and read.
 #[inline]
 pub fn first_count(text: &[u8]) -> Option<FirstCount<'_>>
-    ensures { IfSome result (λ f. BeginsWithLine text.now (Line f.line f.count None) f.rest.now) }
+    ensures says { IfSome result (λ f. BeginsWithLine text.now (Line f.line f.count None) f.rest.now) }
+    ensures form { IfSome result (λ f. BeginsWithCountLine text.now f.line f.count f.rest.now) }
+    ensures only { (line count : ℕ) (rest : List ℕ) → BeginsWithCountLine text.now line count rest → MatchOption result ⊥ (λ f. (f.line ≡ line) × (f.count ≡ count) × (f.rest.now ≡ rest)) }
 {
-    let (line, rest) = read_field(behind_line_key(text)?)?;
-    let (count, rest) = read_number(rest)?;
+    front_count(text)
+}
+
+/// The same, as it is read.
+#[inline]
+fn front_count(text: &[u8]) -> Option<FirstCount<'_>>
+    ensures { option_map (λ f. ((f.line, f.count), f.rest.now)) result ≡ count_front text.now }
+{
+    let (line, rest) = small_field(behind_line_key(text)?)?;
+    let (count, rest) = small_number(rest)?;
     let rest = behind_feed(rest)?;
-    let (Number::Value(line), Number::Value(count)) = (line, count) else {
-        return None;
-    };
     Some(FirstCount { line, count, rest })
 }
 
@@ -489,27 +541,23 @@ pub struct FirstBranch<'a> {
 
 /// The number of 64 bits at the front of the text, and what follows the comma behind it.
 fn small_field(text: &[u8]) -> Option<(u64, &[u8])>
-    ensures { IfSome result (λ front. Some (Number.Value front.0, front.1.now) ≡ field_at text.now) }
+    ensures { option_map (λ front. (front.0, front.1.now)) result ≡ small_front (field_at text.now) }
 {
-    match read_field(text)? {
-        (Number::Value(value), rest) => Some((value, rest)),
-        (Number::TooLarge, _) => None,
-    }
+    let (number, rest) = read_field(text)?;
+    Some((number.small()?, rest))
 }
 
 /// The number of 64 bits at the front of the text, and what follows it.
 fn small_number(text: &[u8]) -> Option<(u64, &[u8])>
-    ensures { IfSome result (λ front. Some (Number.Value front.0, front.1.now) ≡ number_at text.now) }
+    ensures { option_map (λ front. (front.0, front.1.now)) result ≡ small_front (number_at text.now) }
 {
-    match read_number(text)? {
-        (Number::Value(value), rest) => Some((value, rest)),
-        (Number::TooLarge, _) => None,
-    }
+    let (number, rest) = read_number(text)?;
+    Some((number.small()?, rest))
 }
 
 /// How often a branch was taken, in 64 bits, at the front of the text, and what follows it: no number for `-`.
 fn front_taken(text: &[u8]) -> Option<(Option<u64>, &[u8])>
-    ensures { IfSome result (λ front. BeginsWithTaken text.now front.0 front.1.now) }
+    ensures { option_map (λ front. (front.0, front.1.now)) result ≡ taken_front text.now }
 {
     if let [b'-', rest @ ..] = text {
         return Some((None, rest));
@@ -518,11 +566,21 @@ fn front_taken(text: &[u8]) -> Option<(Option<u64>, &[u8])>
     Some((Some(taken), rest))
 }
 
-/// The first line, where it is `BRDA:` with numbers of 64 bits and nothing else, and a line feed ends it: read in one pass,
+/// The first line, where it is `BRDA:` with numbers below 2^64 and nothing else, and a line feed ends it: read in one pass,
 /// as by `first_count`. Any other first line is left to be cut and read.
 #[inline]
 pub fn first_branch(text: &[u8]) -> Option<FirstBranch<'_>>
-    ensures { IfSome result (λ f. BeginsWithLine text.now (Branch f.point.line f.point.block f.point.branch f.taken) f.rest.now) }
+    ensures says { IfSome result (λ f. BeginsWithLine text.now (Branch f.point.line f.point.block f.point.branch f.taken) f.rest.now) }
+    ensures form { IfSome result (λ f. BeginsWithBranchLine text.now (branch_point_data f.point) f.taken f.rest.now) }
+    ensures only { (point : BranchData) (taken : Option ℕ) (rest : List ℕ) → BeginsWithBranchLine text.now point taken rest → MatchOption result ⊥ (λ f. (branch_point_data f.point ≡ point) × (f.taken ≡ taken) × (f.rest.now ≡ rest)) }
+{
+    front_branch(text)
+}
+
+/// The same, as it is read.
+#[inline]
+fn front_branch(text: &[u8]) -> Option<FirstBranch<'_>>
+    ensures { option_map (λ f. ((branch_point_data f.point, f.taken), f.rest.now)) result ≡ branch_front text.now }
 {
     let (line, rest) = small_field(behind(text, b"BRDA:")?)?;
     let (block, rest) = small_field(rest)?;

@@ -1,7 +1,7 @@
 //! The lines of a text.
 
 ghost use Rattle.std.specs.Prelude.{◌≡◌, ◌∷◌, ◌<◌, ◌≤◌, length};
-ghost use Rattle.covline.specs.Lines.{lines_of, strip};
+ghost use Rattle.covline.specs.Lines.{lines_of, strip, IsFirstCut};
 
 use crate::iter::Lines;
 use memchr::memchr;
@@ -15,10 +15,11 @@ pub fn lines(text: &[u8]) -> Lines<'_>
     Lines::of(text)
 }
 
-/// The first line, and what stands behind it.
+/// The first line, and the text behind its line feed.
 pub fn first_line(text: &[u8]) -> (&[u8], &[u8])
     requires { 0 < length text.now }
-    ensures { lines_of text.now ≡ result.0.now ∷ lines_of result.1.now }
+    ensures lines { lines_of text.now ≡ result.0.now ∷ lines_of result.1.now }
+    ensures cut { IsFirstCut text.now result.0.now result.1.now }
 {
     match memchr(b'\n', text) {
         Some(end) => (without_returns(&text[..end]), &text[end + 1..]),

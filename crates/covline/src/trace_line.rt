@@ -71,7 +71,7 @@ pub enum LineFault {
     /// The line has a known key, and another form than the key's.
     #[error("BadLine")]
     BadLine = 1,
-    /// The form is right, and a number is 2^64 or more.
+    /// The form is right, and a number is too large: a count of 2^128 or more, or another number of 2^64 or more.
     #[error("NumberTooLarge")]
     NumberTooLarge = 2,
     /// `SF:` and nothing behind it.

@@ -6,8 +6,8 @@ use mathlib.Core.List.{IsPrefix}
 use prog.Atomic.{either}
 use Rattle.logbook.specs.Pages.{Cell, View, cell, keeps, no_nib, step, Moves, Goes}
 use Rattle.covbook.specs.Op.{EntryData}
-use Rattle.covbook.specs.Step.{IsLegal}
-use Rattle.covnews.specs.History.{Appends, ComesNext, IsNoted}
+use Rattle.covbook.specs.Step.{ComesNext, IsLegal}
+use Rattle.covnews.specs.History.{Appends, IsNoted}
 use Rattle.covnews.proofs.Prefixes.{whole_prefix}
 use Rattle.covnews.proofs.Runs.{legal_with_next}
 

@@ -3,8 +3,7 @@ use Rattle.std.proofs.Common.{◌≡◌, List, [], ◌∷◌, ◌++◌, ap, refl
 use mathlib.Core.List.{IsPrefix}
 use Rattle.covbook.specs.Op.{EntryData}
 use Rattle.covstore.specs.Table.{Table}
-use Rattle.covbook.specs.Step.{IsLegal, answer_of, answers_from, answers_in, last_totals, ops_in, table_after, table_from, totals_at, totals_from, totals_in}
-use Rattle.covnews.specs.History.{ComesNext}
+use Rattle.covbook.specs.Step.{ComesNext, IsLegal, answer_of, answers_from, answers_in, last_totals, ops_in, table_after, table_from, totals_at, totals_from, totals_in}
 
 -- the entry's answer is that of the run at its end
 answers_go_on : (table : Table) (history : List EntryData) (entry : EntryData) → answers_in history ≡ answers_from table (ops_in history) → entry.answer ≡ answer_of (table_from table (ops_in history)) entry.op → answers_in (history ++ entry ∷ []) ≡ answers_from table (ops_in (history ++ entry ∷ []))

@@ -3,11 +3,7 @@ use Rattle.std.specs.Prelude.{◌≡◌, ℕ, ◌==◌, true, List, [], ◌∷�
 pub use mathlib.Core.List.{IsPrefix}
 use Rattle.logbook.specs.Pages.{Book, Cell, Named, Step, View}
 use Rattle.covbook.specs.Op.{EntryData}
-use Rattle.covbook.specs.Step.{IsLegal, next_entry}
-
--- the entry comes next in the history: it is the one that its job and its operation append to it
-abbrev pub ComesNext : List EntryData → EntryData → Type 0
-ComesNext history entry = entry ≡ next_entry history entry.job entry.op
+use Rattle.covbook.specs.Step.{IsLegal}
 
 -- a noted history is legal, and the first of the two words beside it is its length. The second one isn't used
 pub record IsNoted (words : List Cell) (history : List EntryData) : Type 0 where

@@ -33,8 +33,8 @@ impl<L: Name> Model for News<L> {
 impl<L: Name> News<L> {
     ghost use Rattle.std.specs.Prelude.{◌≡◌, ◌<◌, ◌⊎◌, ◌++◌, ◌∷◌, [], length, IfSome};
     ghost use Rattle.covbook.specs.EntryView.{entry_data};
-    ghost use Rattle.covbook.specs.Step.{IsLegal, last_totals, most_entries};
-    ghost use Rattle.covnews.specs.History.{IsPrefix, ComesNext, length_of};
+    ghost use Rattle.covbook.specs.Step.{ComesNext, IsLegal, last_totals, most_entries};
+    ghost use Rattle.covnews.specs.History.{IsPrefix, length_of};
 
     /// How many entries the history has, and the totals after the last of them. Takes no memory.
     pub fn reading(&self) -> Reading

@@ -64,9 +64,8 @@ impl<L: Name, A: Allocator + Copy> Publisher<L, A> {
 impl<L: Name, A: Allocator> Publisher<L, A> {
     ghost use Rattle.std.specs.Prelude.{◌≡◌, ◌-◌, ◌<◌, ◌++◌, ◌∷◌, [], length, IfOk, IfErr, IfSome, IfNone, OnOk, OnErr, Err};
     ghost use Rattle.covbook.specs.EntryView.{entry_data};
-    ghost use Rattle.covbook.specs.Step.{most_entries};
+    ghost use Rattle.covbook.specs.Step.{ComesNext, most_entries};
     ghost use Rattle.covnews.specs.declared.fault.ReaderFault.TheVariants as faults;
-    ghost use Rattle.covnews.specs.History.{ComesNext};
 
     /// Notes the entry that comes next in the history; `publish` then publishes it. The news are of the history with it, so hand
     /// them out after that. `None` doesn't come where one publisher alone has the history, which the types say, but no

@@ -10,7 +10,7 @@ use Rattle.std.proofs.lemmas.List.Sums.{sum_by-cons, sum_by-append}
 use Rattle.std.proofs.Math.Seq.{take-append_seam}
 use Rattle.covline.specs.Lines.{line_feed, lines_of}
 use Rattle.covline.specs.Row.{ItemData, BranchItem, SectData, items_in}
-use Rattle.covline.specs.Lawful.{IsGoodTest, IsGoodName, IsLawfulItem, IsLawfulSect, Fits64, AllFit64, IsLawful}
+use Rattle.covline.specs.Lawful.{IsGoodTest, IsGoodName, IsLawfulItem, IsLawfulSect, FitsItem, AllFit, IsLawful}
 use Rattle.covline.specs.Spells.{digits_value}
 use Rattle.covline.specs.Reading.{behind_key}
 use Rattle.covline.proofs.LineLaws.{good_rest, good_lines, few_lines}
@@ -115,7 +115,7 @@ read_good line good = shape_good line (shape_of line) (found_fits line) good
 -- ---- what is held
 
 record IsGoodSect (sect : SectData) : Type 0 where
-  fit : AllFit64 sect.items
+  fit : AllFit sect.items
   lawful : IsLawfulSect sect
 
 record IsGoodFunc (f : List ℕ × ℕ) : Type 0 where
@@ -123,7 +123,7 @@ record IsGoodFunc (f : List ℕ × ℕ) : Type 0 where
   small : IsSmall f.1
 
 record IsGoodItem (item : ItemData) : Type 0 where
-  fits : Fits64 item
+  fits : FitsItem item
   lawful : IsLawfulItem item
 
 abbrev IsSmallPlace : Option Place → Type 0
@@ -156,7 +156,7 @@ closed_good : (test : List ℕ) (section : Option SectionData) → IsGoodTest te
 closed_good test None good h = tt
 closed_good test (Some s) good h = (
   record {
-    fit = all_weaker IsGoodItem Fits64 (λ item g. g.fits) s.items h.1;
+    fit = all_weaker IsGoodItem FitsItem (λ item g. g.fits) s.items h.1;
     lawful = record { test = good; file = h.0; items = all_weaker IsGoodItem IsLawfulItem (λ item g. g.lawful) s.items h.1 };
   },
   tt,
@@ -164,15 +164,15 @@ closed_good test (Some s) good h = (
 
 funcs_good : (line : ℕ) (funcs : List (List ℕ × ℕ)) → IsSmall line → AllByRecursion IsGoodFunc funcs → AllByRecursion IsGoodItem (map (func_item line) funcs)
 funcs_good line [] small h = tt
-funcs_good line (f ∷ fs) small h = (record { fits = (small, h.0.small); lawful = h.0.name }, funcs_good line fs small h.1)
+funcs_good line (f ∷ fs) small h = (record { fits = (small, omega (arith, h.0.small)); lawful = h.0.name }, funcs_good line fs small h.1)
 
 line_good : (line : ℕ) (count : Option ℕ) → IsSmall line → IsSmallIf count → AllByRecursion IsGoodItem (line_item line count)
 line_good line None small h = tt
-line_good line (Some n) small h = (record { fits = (small, h); lawful = tt }, tt)
+line_good line (Some n) small h = (record { fits = (small, omega (arith, h)); lawful = tt }, tt)
 
-branch_fits : (line block branch : ℕ) (taken : Option ℕ) → IsSmall line → IsSmall block → IsSmall branch → IsSmallIf taken → Fits64 (BranchItem line block branch taken)
+branch_fits : (line block branch : ℕ) (taken : Option ℕ) → IsSmall line → IsSmall block → IsSmall branch → IsSmallIf taken → FitsItem (BranchItem line block branch taken)
 branch_fits line block branch None l k b t = (l, k, b)
-branch_fits line block branch (Some n) l k b t = (l, k, b, t)
+branch_fits line block branch (Some n) l k b t = (l, k, b, omega (arith, t))
 
 -- ---- how many items there are
 
@@ -325,6 +325,6 @@ lawful_run test text held short good e =
     record {
       few = omega (arith, h.few, few_lines text, short);
       texts = All-from_recursion IsLawfulSect sects (all_weaker IsGoodSect IsLawfulSect (λ sect g. g.lawful) sects all);
-      fit = all_weaker IsGoodSect (λ sect. AllFit64 sect.items) (λ sect g. g.fit) sects all;
+      fit = all_weaker IsGoodSect (λ sect. AllFit sect.items) (λ sect g. g.fit) sects all;
       odd_fits = omega arith;
     }

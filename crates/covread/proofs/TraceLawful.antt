@@ -1,4 +1,4 @@
--- What was read makes a submission, and its numbers fit 64 bits.
+-- What was read makes a submission, and its numbers fit.
 use Rattle.std.proofs.Common.{◌≡◌, ◌≢◌, ℕ, ◌+◌, ◌<◌, ◌≤◌, ◌^◌, Bool, true, false, List, [], ◌∷◌, ◌++◌, length, Option, Some, None, sym, subst, arith}
 use Rattle.std.specs.Prelude.{codes, All, IfSome, fold, min, if◌then◌else◌}
 use Rattle.std.specs.List.{flat_map, sum_by, AllByRecursion}
@@ -9,7 +9,7 @@ use Rattle.std.proofs.lemmas.List.Sums.{sum_by-cons, count_by-le-length}
 use Rattle.covline.specs.Lines.{line_feed, carriage_return}
 use Rattle.covline.specs.Points.{least}
 use Rattle.covline.specs.Row.{ItemData, LineItem, BranchItem, SectData, items_in}
-use Rattle.covline.specs.Lawful.{IsGoodTest, IsGoodName, IsLawfulItem, IsLawfulSect, Fits64, AllFit64, IsLawful}
+use Rattle.covline.specs.Lawful.{IsGoodTest, IsGoodName, IsLawfulItem, IsLawfulSect, FitsItem, AllFit, IsLawful}
 use Rattle.covline.specs.Spells.{LineData, Test, Path, FuncStart, FuncCount, Branch, Line, End, comma, HasForm, HasSmallNumbers}
 use Rattle.covline.specs.LineLaws.{GoodRest}
 use Rattle.covread.specs.Reads.{AllSpell, Part, Outside, Section, records_of, start_said, start_in, counted, items_said, items_of, is_odd, odd_in, test_after, sects_from}
@@ -81,14 +81,14 @@ start_small : (name : List ℕ) (inside : List LineData) → AllByRecursion IsGo
 start_small name inside good = least_small (flat_map (start_said name) inside) (all_flat IsGood IsSmall (start_said name) (start_said_small name) inside good)
 
 record IsGoodItem (item : ItemData) : Type 0 where
-  fits : Fits64 item
+  fits : FitsItem item
   lawful : IsLawfulItem item
 
 counted_good : (name : List ℕ) (count : ℕ) (start : Option ℕ) → IfSome start IsSmall → IsGood (FuncCount count name) → AllByRecursion IsGoodItem (counted name count start)
 counted_good name count None small good = tt
 counted_good name count (Some line) small good = (record { fits = (small, good.small); lawful = good.texts }, tt)
 
-branch_fits : (line block branch : ℕ) (taken : Option ℕ) → HasSmallNumbers (Branch line block branch taken) → Fits64 (BranchItem line block branch taken)
+branch_fits : (line block branch : ℕ) (taken : Option ℕ) → HasSmallNumbers (Branch line block branch taken) → FitsItem (BranchItem line block branch taken)
 branch_fits line block branch None small = small
 branch_fits line block branch (Some taken) small = small
 
@@ -116,7 +116,7 @@ test_good test (Test name) good h = h.texts
 test_good test says good h = good
 
 record IsGoodSect (sect : SectData) : Type 0 where
-  fit : AllFit64 sect.items
+  fit : AllFit sect.items
   lawful : IsLawfulSect sect
 
 good_sects : (test : List ℕ) (parts : List Part) → IsGoodTest test → AllByRecursion IsGood (flat_map records_of parts) → AllByRecursion IsGoodSect (sects_from test parts)
@@ -126,7 +126,7 @@ good_sects test (Section path inside ∷ parts) good h =
     let rest = flat_map records_of parts in
     let items = good_items inside (all_front IsGood inside (End ∷ []) (all_front IsGood (inside ++ End ∷ []) rest h.1)) in (
       record {
-        fit = all_weaker IsGoodItem Fits64 (λ item good. good.fits) (items_of inside) items;
+        fit = all_weaker IsGoodItem FitsItem (λ item good. good.fits) (items_of inside) items;
         lawful = record { test = good; file = h.0.texts; items = all_weaker IsGoodItem IsLawfulItem (λ item good. good.lawful) (items_of inside) items };
       },
       good_sects test parts good (all_back IsGood (inside ++ End ∷ []) rest h.1),
@@ -197,6 +197,6 @@ lawful_parts good_rest lines parts s good short =
     record {
       few = omega (arith, few_in_sects [] parts, len, short);
       texts = All-from_recursion IsLawfulSect (sects_from [] parts) (all_weaker IsGoodSect IsLawfulSect (λ sect good. good.lawful) (sects_from [] parts) sects);
-      fit = all_weaker IsGoodSect (λ sect. AllFit64 sect.items) (λ sect good. good.fit) (sects_from [] parts) sects;
+      fit = all_weaker IsGoodSect (λ sect. AllFit sect.items) (λ sect good. good.fit) (sects_from [] parts) sects;
       odd_fits = omega (arith, few_odd parts, len, short);
     }

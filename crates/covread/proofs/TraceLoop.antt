@@ -1,5 +1,5 @@
 -- Reading line after line, as the loop does.
-use Rattle.std.proofs.Common.{◌≡◌, ℕ, ◌+◌, ◌<◌, ◌≤◌, ◌^◌, Bool, true, false, eqb, List, [], ◌∷◌, ◌++◌, length, Option, Some, None, Ok, Err, refl, sym, ap, subst, ◌∙◌, append_assoc, arith, inl, inr}
+use Rattle.std.proofs.Common.{◌≡◌, ℕ, ◌+◌, ◌<◌, ◌≤◌, ◌^◌, Bool, true, false, eqb, List, [], ◌∷◌, ◌++◌, length, Option, Some, None, Result, Ok, Err, refl, sym, ap, subst, ◌∙◌, append_assoc, arith, inl, inr}
 use Rattle.std.specs.Prelude.{option_map, is_some}
 use Rattle.std.proofs.lemmas.Bool.{eqb-true}
 use Rattle.std.proofs.lemmas.List.{append-nil, length-append}
@@ -10,9 +10,10 @@ use Rattle.covline.specs.Spells.{LineData, Path, Spells}
 use Rattle.covread.specs.declared.fault.ReadFault.{ReadFault}
 use Rattle.covread.specs.declared.fault.ReadFault.TheVariants as faults
 use Rattle.covread.specs.declared.trace.reader.OpenSection.{OpenSection}
+use Rattle.covread.specs.declared.trace.reader.Reader.{Reader}
 use Rattle.covread.specs.Reads.{Part}
 use Rattle.covread.specs.Outcome.{most_bytes, IsFirstFault, Answers, HasBegun, GrowsLate}
-use Rattle.covread.specs.TraceSteps.{SectionData, HeldData, submission_held, IsLawfulAt, empty, kept_in, section_data, IsOpen, step, StopsAt, GrowsAt, ends, ends_at, EndsLawfully}
+use Rattle.covread.specs.TraceSteps.{SectionData, HeldData, submission_held, IsLawfulAt, empty, kept_in, section_data, IsOpen, step, StopsAt, TakesLine, GrowsAt, ends, ends_at, EndsLawfully}
 use Rattle.covread.proofs.TraceGrammar.{TextLaw, Place, Between, Within}
 use Rattle.covread.proofs.TraceStands.{Stands, stands_path, stands_goes_on, path_line, stands_reads, stop_by_fault, stop_open}
 use Rattle.covread.proofs.TraceRun.{Holds, held_of, section_of, holds_at_first, holds_more, holds_outside, holds_inside}
@@ -152,3 +153,7 @@ open_length (Some s) inside h = refl
 pub closed_lawful : {X : Type 0} (view : X → SectionData) (section : Option X) (held : HeldData) → is_some section ≡ false → IsLawfulAt (option_map view section) held → IsLawful (submission_held held)
 closed_lawful view None held e h = h
 closed_lawful view (Some s) held e h = absurd cc
+
+-- a line that isn't taken stops the reading
+pub stopped : {A T : Type 0} (r : Result T ReadFault) (fault : ReadFault) (before : HeldData) (after : Reader A) (line : List ℕ) (at : ℕ) → r ≡ Err fault → TakesLine r before after line at → StopsAt fault before line at
+stopped {A} {T} r fault before after line at is took = subst (λ (x : Result T ReadFault). TakesLine x before after line at) is took

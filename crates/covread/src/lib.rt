@@ -17,6 +17,7 @@
 mod fault;
 mod gcov;
 mod trace;
+mod wide;
 
 pub use fault::{MOST_BYTES, ReadFault};
 pub use gcov::{an_early_fault_is_told, each_gcov_text_has_one_outcome, read_gcov};

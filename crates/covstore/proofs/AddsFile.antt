@@ -34,8 +34,6 @@ module _ (items : List ItemData) (test : List ℕ) (tests : List (List ℕ × Te
     name = test;
     tests = tests;
     stands = its_place room.rows room.files room.name room.stands;
-    small_rows = room.small_rows;
-    small_items = room.small_items;
     few = room.few;
     few_tests = few;
   }

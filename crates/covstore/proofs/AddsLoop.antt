@@ -8,12 +8,12 @@ use Rattle.covstore.specs.declared.stop.Stop.TheVariants.{Clash, Memory}
 use Rattle.covstore.specs.declared.test.Test.{Test}
 use Rattle.covstore.specs.Adds.{Adds, Clashes, HasRoomFor}
 use Rattle.covstore.specs.MarksView.{KeepsHeld, marks_coming}
-use Rattle.covstore.specs.Steps.{CanTake, HasRoom, IsClashOf, IsTextOf, KeepsCounts, KeepsTextsOf}
+use Rattle.covstore.specs.Steps.{HasRoom, IsClashOf, IsTextOf, KeepsCounts, KeepsTextsOf}
 use Rattle.covstore.specs.Sums.{with_item}
 use Rattle.covstore.specs.TestView.{test_coming, test_held}
 use Rattle.covstore.proofs.AddsItem.{item_adds}
 use Rattle.covstore.proofs.AddsMore.{adds_more, adds_none, clash_front, clash_later, item_clashes}
-use Rattle.covstore.proofs.AddsRoom.{can_take, has_room, room_later}
+use Rattle.covstore.proofs.AddsRoom.{has_room, room_later}
 use Rattle.covstore.proofs.StepsMore.{held_both}
 
 -- these items are taken, and there is room for those that are left
@@ -33,9 +33,6 @@ none_taken left test marks room = record {
 
 module _ {A : Type 0} (taken : List ItemData) (item : ItemData) (left : List ItemData) (test : Test A) (marks : Marks A) (test_now : Test A) (marks_now : Marks A)
     (so_far : HasTaken taken (item ∷ left) test marks test_now marks_now) where
-  pub next_fits : CanTake item (test_coming test_now)
-  next_fits = can_take item left (test_coming test_now) (marks_coming marks_now) so_far.room
-
   pub next_has_room : HasRoom (test_coming test_now) (marks_coming marks_now)
   next_has_room = has_room (item ∷ left) (test_coming test_now) (marks_coming marks_now) so_far.room
 

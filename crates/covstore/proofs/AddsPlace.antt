@@ -130,9 +130,6 @@ module _ {rows : List Row} {files : List (List ℕ × FileData)} {file name : Li
   test_at other found e =
       sym (points_there (file_with tests marks) other found e) ∙ ap (λ (kept : Option FileData). points_in kept other) (sym is.its_file) ∙ is.state.points (record { file = file; test = other })
 
-  pub its_sums : test ≡ test_of (items_at (record { file = file; test = name }) rows)
-  its_sums = test_at name test is.its_test
-
   -- ---- the test among the others
 
   its_place : IsPlaceOf name test tests (λ other. put (slice_cmp nat_cmp) name other tests)

@@ -48,8 +48,6 @@ module _ (added : List Row) (before now : StoreData) (keeps : KeepsState before.
     rows = room.rows;
     state = keeps.states room.rows room.state;
     agree = room.agree;
-    small = room.small;
-    small_added = room.small_added;
     few = room.few;
     totals = same ∙ room.totals ∙ sym keeps.totals;
   }
@@ -85,7 +83,7 @@ module _ (name test : List ℕ) (items : List ItemData) (store : StoreData) (roo
   its_test = subst (λ (f : FileData). value_of (slice_cmp nat_cmp) test f.tests ≡ Some place.points) (same_Some place.file file (sym place.its_file ∙ there)) place.its_test
 
   pub file_room : HasRoomIn items test file
-  file_room = room_in items name test file store.coming there room.rows place.points its_test room.state room.agree room.small room.small_added room.few
+  file_room = room_in items name test file store.coming there room.rows place.points its_test room.state room.agree room.few
 
   pub refused : (refusal : RefuseData) → RefusedIn items name test file refusal → ClashesWith (rows_of_items name test items) store refusal
   refused MemoryRefuse is = tt

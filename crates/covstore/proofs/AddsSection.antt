@@ -1,41 +1,34 @@
 -- The items of a section, seen in the store that has their file and their test.
-use Rattle.std.proofs.Common.{◌≡◌, ℕ, ◌≤◌, ◌^◌, ◌+◌, Some, List, [], ◌∷◌, ◌++◌, length, ap, ◌∙◌, subst, arith}
+use Rattle.std.proofs.Common.{◌≡◌, ℕ, ◌≤◌, ◌^◌, ◌+◌, Some, List, ◌++◌, length, ap, ◌∙◌, subst, arith}
 use Rattle.std.specs.Cmp.Lexicographic.{slice_cmp}
-use Rattle.std.specs.List.{AllByRecursion}
 use Rattle.std.specs.Ordering.{nat_cmp}
 use Rattle.std.proofs.lemmas.List.{length-append, length-map}
 use Rattle.covline.specs.Row.{ItemData, Row, rows_of_sect}
 use Rattle.covstore.specs.declared.stop.Stop.TheVariants.{Clash}
 use Rattle.covstore.specs.declared.totals.Totals.{Totals}
-use Rattle.covstore.specs.Adds.{SmallRow, clash_told, section_of_items}
+use Rattle.covstore.specs.Adds.{clash_told, section_of_items}
 use Rattle.covstore.specs.Clash.{Agree, checksums_in}
 use Rattle.covstore.specs.Exchanged.{FitTogether, exchanged}
 use Rattle.covstore.specs.FileAdds.{AddsItems, ClashesIn, HasFile, HasRoomIn}
 use Rattle.covstore.specs.Stored.{AddsTo, ClashesWith, StoreData, ClashRefuse}
 use Rattle.covstore.specs.Puts.{put, value_of}
 use Rattle.covstore.specs.State.{FileData, IsStateOf, file_totals, totals_in}
-use Rattle.covstore.specs.Sums.{SmallItem, TestData}
+use Rattle.covstore.specs.Sums.{TestData}
 use Rattle.covstore.proofs.ExchangedFiles.{exchanged_fits, files_exchanged}
 
 module _ (items : List ItemData) (name test : List ℕ) (file : FileData) (files : List (List ℕ × FileData)) (there : value_of (slice_cmp nat_cmp) name files ≡ Some file) where
   its_file : (rows : List Row) → IsStateOf rows files → Agree (checksums_in rows) → HasFile rows files name file
   its_file rows state agree = record { state = state; agree = agree; there = there }
 
-  small_section : (more : List ItemData) → AllByRecursion SmallRow (rows_of_sect (section_of_items name test more)) → AllByRecursion SmallItem more
-  small_section [] small = tt
-  small_section (item ∷ more) small = (small.0, small_section more small.1)
-
-  pub room_in : (rows : List Row) (points : TestData) → value_of (slice_cmp nat_cmp) test file.tests ≡ Some points → IsStateOf rows files → Agree (checksums_in rows) → AllByRecursion SmallRow rows
-      → AllByRecursion SmallRow (rows_of_sect (section_of_items name test items)) → length rows + length (rows_of_sect (section_of_items name test items)) ≤ 2 ^ 46 → HasRoomIn items test file
-  room_in rows points found state agree small added few = record {
+  pub room_in : (rows : List Row) (points : TestData) → value_of (slice_cmp nat_cmp) test file.tests ≡ Some points → IsStateOf rows files → Agree (checksums_in rows)
+      → length rows + length (rows_of_sect (section_of_items name test items)) ≤ 2 ^ 47 → HasRoomIn items test file
+  room_in rows points found state agree few = record {
     points = points;
     its_test = found;
     rows = rows;
     files = files;
     name = name;
     stands = its_file rows state agree;
-    small_rows = small;
-    small_items = small_section items added;
     few = omega (arith, few, length-map {B = Row} items (λ item. record { test = test; file = name; item = item }));
   }
 
@@ -47,7 +40,7 @@ module _ (items : List ItemData) (name test : List ℕ) (file : FileData) (files
     pub section_adds : AddsTo (rows_of_sect (section_of_items name test items)) files (put (slice_cmp nat_cmp) name after files)
     section_adds rows state agree = let added = adds rows files name (its_file rows state agree) in (added.0, added.1.state, added.1.agree)
 
-    pub section_fits : (rows : List Row) → IsStateOf rows files → Agree (checksums_in rows) → length rows + length (rows_of_sect (section_of_items name test items)) ≤ 2 ^ 46 → FitTogether (file_totals after) (totals_in files)
+    pub section_fits : (rows : List Row) → IsStateOf rows files → Agree (checksums_in rows) → length rows + length (rows_of_sect (section_of_items name test items)) ≤ 2 ^ 47 → FitTogether (file_totals after) (totals_in files)
     section_fits rows state agree few =
         let added = adds rows files name (its_file rows state agree) in
         let more = rows ++ rows_of_sect (section_of_items name test items) in

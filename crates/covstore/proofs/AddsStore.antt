@@ -1,15 +1,13 @@
 -- Rows that come into a store one section after the other.
 use Rattle.std.proofs.Common.{◌≡◌, None, List, [], ◌∷◌, ◌++◌, refl, sym, ap, ◌∙◌, subst, append_assoc, arith}
-use Rattle.std.specs.List.{AllByRecursion, flat_map}
+use Rattle.std.specs.List.{flat_map}
 use Rattle.std.proofs.lemmas.List.{append-nil, length-append}
 use Rattle.std.proofs.lemmas.List.Concat.{flat_map-append}
 use Rattle.covline.specs.Row.{Row, SectData, rows_of_sect}
-use Rattle.covstore.specs.Adds.{SmallRow}
 use Rattle.covstore.specs.Clash.{Agree, Checksum, checksum_of_row, checksums_in, clash_of, first_clash}
 use Rattle.covstore.specs.Stored.{AddsRows, ClashesWith, HasRoomForRows, SameHeld, StoreData, RefuseData, ClashRefuse, MemoryRefuse}
 use Rattle.covstore.specs.State.{IsStateOf}
 use Rattle.covstore.proofs.AddsLists.{clash_before, clash_behind}
-use Rattle.covstore.proofs.Bounds.{All-joined}
 
 -- ---- rows and then others
 
@@ -64,21 +62,11 @@ held_by_both before now later first second = record {
 
 -- ---- room for rows
 
-All-left : (xs ys : List Row) → AllByRecursion SmallRow (xs ++ ys) → AllByRecursion SmallRow xs
-All-left [] ys all = tt
-All-left (x ∷ xs) ys all = (all.0, All-left xs ys all.1)
-
-All-right : (xs ys : List Row) → AllByRecursion SmallRow (xs ++ ys) → AllByRecursion SmallRow ys
-All-right [] ys all = all
-All-right (x ∷ xs) ys all = All-right xs ys all.1
-
 pub room_first : (xs ys : List Row) (store : StoreData) → HasRoomForRows (xs ++ ys) store → HasRoomForRows xs store
 room_first xs ys store room = record {
   rows = room.rows;
   state = room.state;
   agree = room.agree;
-  small = room.small;
-  small_added = All-left xs ys room.small_added;
   few = omega (arith, length-append xs ys, room.few);
   totals = room.totals;
 }
@@ -90,8 +78,6 @@ room_then xs ys before now room added =
       rows = room.rows ++ xs;
       state = one.1;
       agree = one.2;
-      small = All-joined SmallRow room.rows xs room.small (All-left xs ys room.small_added);
-      small_added = All-right xs ys room.small_added;
       few = omega (arith, length-append xs ys, length-append room.rows xs, room.few);
       totals = added.totals room.totals;
     }

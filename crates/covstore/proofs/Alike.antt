@@ -9,7 +9,7 @@ use Rattle.std.proofs.lemmas.List.Sorted.{IsPermutation-sym, Contains-permutatio
 use Rattle.std.proofs.lemmas.List.Sums.{sum_by-cons, sum_by-append}
 use Rattle.std.proofs.Math.Nat.{min-le_left, min-le_right, min-eq_left, min-eq_right}
 use Rattle.covline.specs.Points.{least}
-use Rattle.covstore.specs.Value.{first_of, sum_if_any}
+use Rattle.covstore.specs.Value.{bounded, first_of, sum_if_any}
 use Rattle.covstore.proofs.ContentsLists.{In-flat, In-unflat, In-filter, In-unfilter}
 use Rattle.covstore.proofs.Members.{In, In-from, Contains-from, In-map, In-unmap}
 
@@ -27,7 +27,7 @@ alike_permuted xs ys permuted = record {
 
 -- ---- what is made of alike lists
 
-sum_by-map : {X Y : Type 0} (f : Y → ℕ) (g : X → Y) (xs : List X) → sum_by f (map g xs) ≡ sum_by (λ x. f (g x)) xs
+pub sum_by-map : {X Y : Type 0} (f : Y → ℕ) (g : X → Y) (xs : List X) → sum_by f (map g xs) ≡ sum_by (λ x. f (g x)) xs
 sum_by-map f g [] = refl
 sum_by-map {X} {Y} f g (x ∷ xs) = sum_by-cons f (g x) (map g xs) ∙ ap (λ (n : ℕ). f (g x) + n) (sum_by-map f g xs) ∙ sym (sum_by-cons (λ (z : X). f (g z)) x xs)
 
@@ -88,7 +88,7 @@ pub sum_alike : (xs ys : List ℕ) → AreAlike xs ys → sum_if_any xs ≡ sum_
 sum_alike [] [] alike = refl
 sum_alike [] (y ∷ ys) alike = absurd (alike.back y (inl refl))
 sum_alike (x ∷ xs) [] alike = absurd (alike.there x (inl refl))
-sum_alike (x ∷ xs) (y ∷ ys) alike = ap (λ (n : ℕ). Some n) (alike.sums (λ (n : ℕ). n))
+sum_alike (x ∷ xs) (y ∷ ys) alike = ap (λ (n : ℕ). Some (bounded n)) (alike.sums (λ (n : ℕ). n))
 
 either_least : (m n : ℕ) → (min m n ≡ m) ⊎ (min m n ≡ n)
 either_least m n =

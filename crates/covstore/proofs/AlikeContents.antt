@@ -12,7 +12,7 @@ use Rattle.covstore.specs.Ascending.{ascending}
 use Rattle.covstore.specs.Clash.{Checksum, Agree, checksum_of_row, checksums_in}
 use Rattle.covstore.specs.Content.{section_with, section_of, content_of, function_at, branch_at, line_at}
 use Rattle.covstore.specs.Table.{Table, all_rows}
-use Rattle.covstore.specs.Value.{Key, key_cmp, key_of_row, has_key, items_at, branch_cmp, checksum_said, line_added, start_said, function_added, taken_said}
+use Rattle.covstore.specs.Value.{bounded, Key, key_cmp, key_of_row, has_key, items_at, branch_cmp, checksum_said, line_added, start_said, function_added, taken_said}
 use Rattle.covstore.proofs.Alike.{AreAlike, alike_permuted, alike_mapped, alike_said, alike_picked, first_alike, sum_alike, least_alike}
 use Rattle.covstore.proofs.Ascend.{IsExactOrder}
 use Rattle.covstore.proofs.ContentsChecksums.{one_said}
@@ -33,14 +33,14 @@ same_mapped cmp order some others f g alike same =
 module _ (xs ys : List ItemData) (alike : AreAlike xs ys) where
   line_alike : (line : ℕ) → ((a b : List ℕ) → In a (flat_map (checksum_said line) xs) → In b (flat_map (checksum_said line) xs) → a ≡ b) → line_at xs line ≡ line_at ys line
   line_alike line one =
-      same_line line xs ys (alike.sums (line_added line))
+      same_line line xs ys (ap bounded (alike.sums (line_added line)))
       (first_alike (flat_map (checksum_said line) xs) (flat_map (checksum_said line) ys) (alike_said (checksum_said line) xs ys alike) one)
 
   function_alike : (name : List ℕ) → function_at xs name ≡ function_at ys name
   function_alike name =
       same_function name xs ys
       (least_alike (flat_map (start_said name) xs) (flat_map (start_said name) ys) (alike_said (start_said name) xs ys alike))
-      (alike.sums (function_added name))
+      (ap bounded (alike.sums (function_added name)))
 
   branch_alike : (point : BranchPoint) → branch_at xs point ≡ branch_at ys point
   branch_alike point =

@@ -13,7 +13,7 @@ use Rattle.std.proofs.lemmas.Slice.Eq.{bytes_eq-Decides}
 use Rattle.covline.specs.Points.{BranchPoint, line_point, func_point, branch_point, line_points, func_points, branch_points, least}
 use Rattle.covline.specs.Row.{ItemData, LineItem, FuncItem, BranchItem}
 use Rattle.covstore.specs.Content.{FunctionValueData, BranchValueData, LineValueData, function_at, branch_at, line_at}
-use Rattle.covstore.specs.Value.{branch_cmp, line_added, line_value, checksum_said, first_of, line_checksum, start_said, function_start, function_added, function_count, is_branch, taken_said, sum_if_any, branch_value}
+use Rattle.covstore.specs.Value.{bounded, branch_cmp, line_added, line_value, checksum_said, first_of, line_checksum, start_said, function_start, function_added, function_count, is_branch, taken_said, sum_if_any, branch_value}
 use Rattle.covstore.proofs.ContentsKinds.{IsKind}
 use Rattle.covstore.proofs.ContentsLists.{In-flat, In-unflat, In-or_not}
 use Rattle.covstore.proofs.Members.{In, In-joined}
@@ -88,8 +88,13 @@ unfolding line_with
 same_line line xs ys count checksum =
     ap (λ (n : ℕ). line_with line n (line_checksum line xs)) count ∙ ap (λ (c : Option (List ℕ)). line_with line (line_value line ys) c) checksum
 
-sum_more : (added : ItemData → ℕ) (xs ys zs : List ItemData) → sum_by added xs ≡ sum_by added ys → sum_by added (xs ++ zs) ≡ sum_by added (ys ++ zs)
-sum_more added xs ys zs e = omega (arith, sum_by-append added xs zs, sum_by-append added ys zs)
+-- a bounded sum with more added is decided by the bounded sum before
+pub bounded_more : (a b n : ℕ) → bounded a ≡ bounded b → bounded (a + n) ≡ bounded (b + n)
+bounded_more a b n e = omega (arith, e)
+
+sum_more : (added : ItemData → ℕ) (xs ys zs : List ItemData) → bounded (sum_by added xs) ≡ bounded (sum_by added ys) → bounded (sum_by added (xs ++ zs)) ≡ bounded (sum_by added (ys ++ zs))
+sum_more added xs ys zs e =
+    ap bounded (sum_by-append added xs zs) ∙ bounded_more (sum_by added xs) (sum_by added ys) (sum_by added zs) e ∙ sym (ap bounded (sum_by-append added ys zs))
 
 said_more : {X Y : Type 0} (value : List X → Y) (said : ItemData → List X) (xs ys zs : List ItemData)
     → value (flat_map said xs ++ flat_map said zs) ≡ value (flat_map said ys ++ flat_map said zs) → value (flat_map said (xs ++ zs)) ≡ value (flat_map said (ys ++ zs))
@@ -107,7 +112,7 @@ lines_kind = record {
   joins = λ xs ys. flat_map-append line_point xs ys;
   own = λ xs line. refl;
   absent = λ xs line none.
-      same_line line xs [] (nothing_added line_point (line_added line) line (line_unadded line) xs none)
+      same_line line xs [] (ap bounded (nothing_added line_point (line_added line) line (line_unadded line) xs none))
       (ap first_of (nothing_said line_point (checksum_said line) line (checksum_unsaid line) xs none));
   extends = λ xs ys zs line e there back.
       same_line line (xs ++ zs) (ys ++ zs) (sum_more (line_added line) xs ys zs (ap (λ (v : LineValueData). v.count) e))
@@ -182,7 +187,7 @@ functions_kind = record {
   own = λ xs name. refl;
   absent = λ xs name none.
       same_function name xs [] (ap least (nothing_said func_point (start_said name) name (start_unsaid name) xs none))
-      (nothing_added func_point (function_added name) name (count_unadded name) xs none);
+      (ap bounded (nothing_added func_point (function_added name) name (count_unadded name) xs none));
   extends = λ xs ys zs name e there back.
       same_function name (xs ++ zs) (ys ++ zs)
       (said_more least (start_said name) xs ys zs
@@ -202,12 +207,13 @@ taken_unsaid point (FuncItem name line count) none = refl
 
 sum_if_more : (xs ys zs : List ℕ) → sum_if_any xs ≡ sum_if_any ys → sum_if_any (xs ++ zs) ≡ sum_if_any (ys ++ zs)
 sum_if_more [] [] zs e = refl
-sum_if_more [] (y ∷ ys) zs e = absurd (none-some (sum_by (λ (m : ℕ). m) (y ∷ ys)) e)
-sum_if_more (x ∷ xs) [] zs e = absurd (none-some (sum_by (λ (m : ℕ). m) (x ∷ xs)) (sym e))
+sum_if_more [] (y ∷ ys) zs e = absurd (none-some (bounded (sum_by (λ (m : ℕ). m) (y ∷ ys))) e)
+sum_if_more (x ∷ xs) [] zs e = absurd (none-some (bounded (sum_by (λ (m : ℕ). m) (x ∷ xs))) (sym e))
 sum_if_more (x ∷ xs) (y ∷ ys) zs e =
     let add = λ (m : ℕ). m in
+    let same = same_Some (bounded (sum_by add (x ∷ xs))) (bounded (sum_by add (y ∷ ys))) e in
     ap (λ (n : ℕ). Some n)
-    (sum_by-append add (x ∷ xs) zs ∙ ap (λ (n : ℕ). n + sum_by add zs) (same_Some (sum_by add (x ∷ xs)) (sum_by add (y ∷ ys)) e) ∙ sym (sum_by-append add (y ∷ ys) zs))
+    (ap bounded (sum_by-append add (x ∷ xs) zs) ∙ bounded_more (sum_by add (x ∷ xs)) (sum_by add (y ∷ ys)) (sum_by add zs) same ∙ sym (ap bounded (sum_by-append add (y ∷ ys) zs)))
 
 taken_with : BranchPoint → Option ℕ → BranchValueData
 taken_with point taken = record { point = point; taken = taken }

@@ -37,7 +37,7 @@ own_key key row e =
     ap (λ (file : List ℕ). key_with file row.test) ((bytes_eq-Decides row.file key.file).0 same.0)
     ∙ ap (λ (test : List ℕ). key_with key.file test) ((bytes_eq-Decides row.test key.test).0 same.1)
 
-no_row : (key : Key) (rows : List Row) → (In key (map key_of_row rows) → ⊥) → filter (has_key key) rows ≡ []
+pub no_row : (key : Key) (rows : List Row) → (In key (map key_of_row rows) → ⊥) → filter (has_key key) rows ≡ []
 no_row key [] none = refl
 no_row key (row ∷ rows) none = by (has_key key row) refl (no_row key rows (λ i. none (inr i)))
   where

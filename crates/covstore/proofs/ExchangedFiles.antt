@@ -100,7 +100,7 @@ totals_few rows files state =
 -- ---- the totals fit with those of the file as it is after rows came in
 
 pub exchanged_fits : (rows more : List Row) (files files_after : List (List ℕ × FileData)) (name : List ℕ) (after : FileData) → IsStateOf rows files → IsStateOf more files_after
-    → value_of (slice_cmp nat_cmp) name files_after ≡ Some after → length rows ≤ 2 ^ 46 → length more ≤ 2 ^ 46 → FitTogether (file_totals after) (totals_in files)
+    → value_of (slice_cmp nat_cmp) name files_after ≡ Some after → length rows ≤ 2 ^ 47 → length more ≤ 2 ^ 47 → FitTogether (file_totals after) (totals_in files)
 exchanged_fits rows more files files_after name after state later there few few_more =
     let whole = totals_few rows files state in
     let all = totals_few more files_after later in

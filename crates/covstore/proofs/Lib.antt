@@ -29,7 +29,6 @@ pub mod SumsFunctions
 pub mod SumsBranches
 pub mod SumsMore
 pub mod SumsMembers
-pub mod SumsBounds
 pub mod StateSame
 pub mod StateSeen
 pub mod StateOrder

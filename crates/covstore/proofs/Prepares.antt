@@ -17,7 +17,7 @@ use Rattle.covstore.proofs.StateSame.{same_clash, same_state}
 use Rattle.covstore.proofs.AddsPlace.{state_agrees}
 use Rattle.covstore.proofs.StateSections.{sections_are}
 use Rattle.covstore.proofs.StateTotals.{totals_are}
-use Rattle.covstore.proofs.Stores.{few_rows, rows_accepted, small_rows}
+use Rattle.covstore.proofs.Stores.{few_rows, rows_accepted}
 use Rattle.covstore.proofs.TotalsDifferent.{are_totals}
 
 -- ---- how many rows there are
@@ -30,7 +30,7 @@ module _ (before : StoreData) (held : Totals) (kept : IsKept before held) (few :
   abbrev own : Table
   own = kept.is.own
 
-  few_in_all : length (all_rows own) + length (rows_of s) ≤ 2 ^ 46
+  few_in_all : length (all_rows own) + length (rows_of s) ≤ 2 ^ 47
   few_in_all = omega (arith, rows_in_table kept.is.own kept.is.small, kept.is.counted, few, few_rows s lawful)
 
   module _ (settled : StoreData) (same_sections : settled.sections ≡ before.sections) (same_members : settled.members ≡ before.members) (same_kept : settled.held ≡ before.held)
@@ -43,8 +43,6 @@ module _ (before : StoreData) (held : Totals) (kept : IsKept before held) (few :
       rows = all_rows own;
       state = its_state;
       agree = state_agrees (all_rows own) settled.coming its_state;
-      small = kept.is.small_rows;
-      small_added = small_rows s lawful;
       few = few_in_all;
       totals = after ∙ ap totals_in (sym coming);
     }

@@ -16,7 +16,7 @@ use Rattle.covstore.specs.Counts.{counts_with, is_above_at, tests_more}
 use Rattle.covstore.specs.Puts.{put, value_of}
 use Rattle.covstore.specs.State.{branch_above, function_above, has_checksum, line_above}
 use Rattle.covstore.specs.Sums.{branch_with, function_with, line_with, sum_taken}
-use Rattle.covstore.specs.Value.{is_taken}
+use Rattle.covstore.specs.Value.{bounded, is_taken}
 
 -- ---- the change of a point's numbers
 
@@ -42,8 +42,8 @@ module _ {K V : Type 0} (cmp : K → K → Ordering) (is_above : V → Bool) (ke
 
 -- ---- a value with one item more doesn't fall back to 0
 
-more_above : (held count : ℕ) → nat_lt 0 held ≡ true → nat_lt 0 (held + count) ≡ true
-more_above held count e = lt-ltb 0 (held + count) (omega (arith, ltb-true 0 held e))
+more_above : (held count : ℕ) → nat_lt 0 held ≡ true → nat_lt 0 (bounded (held + count)) ≡ true
+more_above held count e = lt-ltb 0 (bounded (held + count)) (omega (arith, ltb-true 0 held e))
 
 pub line_stays : (count : ℕ) (has_checksum : Bool) (before : Option LineSum) → is_above_at line_above before ≡ true → line_above (line_with count has_checksum before) ≡ true
 line_stays count has_checksum None e = absurd (false≢true e)
@@ -54,7 +54,8 @@ function_stays line count None e = absurd (false≢true e)
 function_stays line count (Some held) e = more_above held.count count e
 
 taken_stays : (held taken : Option ℕ) → is_taken held ≡ true → is_taken (sum_taken held taken) ≡ true
-taken_stays None taken e = absurd (false≢true e)
+taken_stays None None e = absurd (false≢true e)
+taken_stays None (Some taken) e = absurd (false≢true e)
 taken_stays (Some held) None e = e
 taken_stays (Some held) (Some taken) e = more_above held taken e
 

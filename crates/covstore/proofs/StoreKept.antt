@@ -22,7 +22,6 @@ store_kept members held before after keeps is = record {
   counted = is.counted;
   few = is.few;
   small = is.small;
-  small_rows = is.small_rows;
   totals = is.totals ∙ sym keeps.totals;
 }
 

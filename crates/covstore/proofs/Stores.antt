@@ -1,13 +1,12 @@
 -- A store over maps: what it stands for, also with a submission more.
 use Rattle.std.proofs.Common.{◌≡◌, ℕ, ◌+◌, ◌≤◌, List, [], ◌∷◌, ◌++◌, length, refl, sym, ap, ◌∙◌, subst, arith}
 use Rattle.std.specs.Prelude.{None}
-use Rattle.std.specs.List.{AllByRecursion, flat_map}
+use Rattle.std.specs.List.{AllByRecursion}
 use Rattle.std.proofs.lemmas.List.{append-nil, length_push}
 use Rattle.std.proofs.lemmas.List.Concat.{flat_map-append}
-use Rattle.covline.specs.Row.{ItemData, Row, SectData, SubmissionData, rows_of, rows_of_sect}
-use Rattle.covline.specs.Lawful.{AllFit64, IsLawful, most_items}
+use Rattle.covline.specs.Row.{Row, SubmissionData, rows_of}
+use Rattle.covline.specs.Lawful.{IsLawful, most_items}
 use Rattle.covstore.specs.declared.totals.Totals.{Totals}
-use Rattle.covstore.specs.Adds.{SmallRow}
 use Rattle.covstore.specs.Clash.{Agree, checksums_in, clash_of}
 use Rattle.covstore.specs.Content.{content_of}
 use Rattle.covstore.specs.Stored.{IsPlanOf, PlanData, StandsFor, StoreData}
@@ -34,17 +33,6 @@ pub All-joined : {X : Type 0} (P : X → Type 0) (xs ys : List X) → AllByRecur
 All-joined P [] ys all more = more
 All-joined P (x ∷ xs) ys all more = (all.0, All-joined P xs ys all.1 more)
 
-pub small_sect : (test file : List ℕ) (items : List ItemData) → AllFit64 items → AllByRecursion SmallRow (rows_of_sect (record { test = test; file = file; items = items }))
-small_sect test file [] fit = tt
-small_sect test file (item ∷ items) fit = (fit.0, small_sect test file items fit.1)
-
-small_sects : (sects : List SectData) → AllByRecursion (λ sect. AllFit64 sect.items) sects → AllByRecursion SmallRow (flat_map rows_of_sect sects)
-small_sects [] fit = tt
-small_sects (sect ∷ sects) fit = All-joined SmallRow (rows_of_sect sect) (flat_map rows_of_sect sects) (small_sect sect.test sect.file sect.items fit.0) (small_sects sects fit.1)
-
-pub small_rows : (s : SubmissionData) → IsLawful s → AllByRecursion SmallRow (rows_of s)
-small_rows s lawful = small_sects s.sects lawful.fit
-
 -- ---- what is kept
 
 pub no_store : IsStore 0 (record { lf = 0; lh = 0; ff = 0; fh = 0; bf = 0; bh = 0 }) []
@@ -55,7 +43,6 @@ no_store = record {
   counted = refl;
   few = omega arith;
   small = tt;
-  small_rows = tt;
   totals = refl;
 }
 
@@ -91,7 +78,6 @@ module _ (members : ℕ) (totals : Totals) (held coming : List (List ℕ × File
     counted = omega (arith, is.counted, length_push is.own (rows_of s));
     few = omega (arith, is.counted, p.few, length_push is.own (rows_of s));
     small = All-joined (λ (rows : List Row). length rows ≤ most_items) is.own (rows_of s ∷ []) is.small (few_rows s p.lawful, tt);
-    small_rows = subst (AllByRecursion SmallRow) (sym rows_more) (All-joined SmallRow (all_rows is.own) (rows_of s) is.small_rows (small_rows s p.lawful));
     totals = p.planned ∙ p.totals;
   }
 

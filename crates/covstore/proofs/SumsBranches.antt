@@ -9,7 +9,8 @@ use Rattle.covline.specs.Row.{ItemData, BranchItem}
 use Rattle.covstore.specs.declared.sums.Taken.{Taken}
 use Rattle.covstore.specs.Puts.{put, value_of}
 use Rattle.covstore.specs.Sums.{branch_sum, branch_with, sum_taken}
-use Rattle.covstore.specs.Value.{branch_cmp, is_branch, sum_if_any, taken_said}
+use Rattle.covstore.specs.Value.{bounded, branch_cmp, is_branch, sum_if_any, taken_said}
+use Rattle.covstore.proofs.Bounds.{bounded_sum}
 use Rattle.covstore.proofs.ContentsPoints.{nothing_said, taken_unsaid}
 use Rattle.covstore.proofs.Members.{In}
 use Rattle.covstore.proofs.Orders.{branches_order}
@@ -54,10 +55,11 @@ sum_one n =
 
 sum_told : (numbers : List ℕ) (taken : Option ℕ) → sum_if_any (numbers ++ told taken) ≡ sum_taken (sum_if_any numbers) taken
 sum_told [] None = refl
-sum_told [] (Some taken) = ap (λ (n : ℕ). Some n) (sum_one taken)
-sum_told (n ∷ numbers) None = ap (λ (ns : List ℕ). Some (sum_by (λ (m : ℕ). m) (n ∷ ns))) (append-nil numbers)
+sum_told [] (Some taken) = ap (λ (n : ℕ). Some (bounded n)) (sum_one taken)
+sum_told (n ∷ numbers) None = ap (λ (ns : List ℕ). Some (bounded (sum_by (λ (m : ℕ). m) (n ∷ ns)))) (append-nil numbers)
 sum_told (n ∷ numbers) (Some taken) =
-    ap (λ (n : ℕ). Some n) (sum_by-append (λ m. m) (n ∷ numbers) (taken ∷ []) ∙ ap (λ (k : ℕ). sum_by (λ (m : ℕ). m) (n ∷ numbers) + k) (sum_one taken))
+    ap (λ (k : ℕ). Some (bounded k)) (sum_by-append (λ m. m) (n ∷ numbers) (taken ∷ []) ∙ ap (λ (k : ℕ). sum_by (λ (m : ℕ). m) (n ∷ numbers) + k) (sum_one taken))
+    ∙ ap (λ (k : ℕ). Some k) (bounded_sum (sum_by (λ m. m) (n ∷ numbers)) taken)
 
 module _ (items : List ItemData) (line block branch : ℕ) (taken : Option ℕ) where
   branch_more : branch_held (items ++ BranchItem line block branch taken ∷ []) (point_of line block branch) ≡ branch_with taken (Some (branch_held items (point_of line block branch)))

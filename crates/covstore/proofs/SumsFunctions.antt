@@ -1,5 +1,5 @@
 -- The sums of functions with one item more.
-use Rattle.std.proofs.Common.{◌≡◌, ℕ, ◌+◌, true, min, Some, None, unwrap_or, List, [], ◌∷◌, ◌++◌, refl, ap, ◌∙◌, arith}
+use Rattle.std.proofs.Common.{◌≡◌, ℕ, ◌+◌, true, min, Some, None, unwrap_or, List, [], ◌∷◌, ◌++◌, refl, ap, ◌∙◌}
 use Rattle.std.specs.Cmp.Lexicographic.{slice_cmp}
 use Rattle.std.specs.List.{flat_map}
 use Rattle.std.specs.Option.{is_some}
@@ -13,12 +13,12 @@ use Rattle.covline.specs.Row.{ItemData, FuncItem}
 use Rattle.covstore.specs.declared.sums.FunctionSum.{FunctionSum}
 use Rattle.covstore.specs.Puts.{put, value_of}
 use Rattle.covstore.specs.Sums.{function_sum, function_with}
-use Rattle.covstore.specs.Value.{function_added, function_count, function_start, start_said}
+use Rattle.covstore.specs.Value.{bounded, function_added, function_count, function_start, start_said}
 use Rattle.covstore.proofs.ContentsPoints.{count_unadded, has_start, nothing_added, nothing_said, start_unsaid}
 use Rattle.covstore.proofs.Members.{In}
 use Rattle.covstore.proofs.Orders.{names_order}
 use Rattle.covstore.proofs.SumsKinds.{sums, sums_put, sums_same}
-use Rattle.covstore.proofs.SumsLast.{last_added, last_said, none_added, none_said}
+use Rattle.covstore.proofs.SumsLast.{last_said, none_added, none_said, sum_first, sum_last}
 
 -- what items add up to at a function
 abbrev pub function_held : List ItemData → List ℕ → FunctionSum
@@ -37,7 +37,7 @@ unfolding function_of
 function_others items item name none =
     same_sum (function_start name (items ++ item ∷ [])) (function_start name items) (function_count name (items ++ item ∷ [])) (function_count name items)
     (ap (λ (said : List ℕ). unwrap_or (least said) 0) (none_said (start_said name) items item (start_unsaid name item none)))
-    (none_added (function_added name) items item (count_unadded name item none))
+    (ap bounded (none_added (function_added name) items item (count_unadded name item none)))
 
 -- ---- an item of the function
 
@@ -61,21 +61,16 @@ module _ (name : List ℕ) (items : List ItemData) (line count : ℕ) where
   unfolding function_of
   function_more i =
       same_sum (function_start name (items ++ FuncItem name line count ∷ [])) (min (function_start name items) line)
-      (function_count name (items ++ FuncItem name line count ∷ [])) (function_count name items + count)
+      (function_count name (items ++ FuncItem name line count ∷ [])) (bounded (function_count name items + count))
       (starts_more ∙ least_last (flat_map (start_said name) items) line (has_start name items i))
-      (omega (arith, last_added (function_added name) items (FuncItem name line count), own_count name line count))
+      (sum_last (function_added name) items (FuncItem name line count) count (own_count name line count))
 
   function_first : (In name (func_points items) → ⊥) → function_held (items ++ FuncItem name line count ∷ []) name ≡ function_with line count None
   unfolding function_of
   function_first none =
-      same_sum (function_start name (items ++ FuncItem name line count ∷ [])) line (function_count name (items ++ FuncItem name line count ∷ [])) count
+      same_sum (function_start name (items ++ FuncItem name line count ∷ [])) line (function_count name (items ++ FuncItem name line count ∷ [])) (bounded count)
       (starts_more ∙ ap (λ (said : List ℕ). unwrap_or (least (said ++ line ∷ [])) 0) (nothing_said func_point (start_said name) name (start_unsaid name) items none))
-      (omega (
-        arith,
-        last_added (function_added name) items (FuncItem name line count),
-        own_count name line count,
-        nothing_added func_point (function_added name) name (count_unadded name) items none,
-      ))
+      (sum_first (function_added name) items (FuncItem name line count) count (own_count name line count) (nothing_added func_point (function_added name) name (count_unadded name) items none))
 
   pub functions_put : sums (slice_cmp nat_cmp) func_point function_held (items ++ FuncItem name line count ∷ [])
       ≡ put (slice_cmp nat_cmp) name (function_with line count (value_of (slice_cmp nat_cmp) name (sums (slice_cmp nat_cmp) func_point function_held items)))

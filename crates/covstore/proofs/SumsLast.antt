@@ -5,11 +5,21 @@ use Rattle.std.proofs.lemmas.List.{append-nil}
 use Rattle.std.proofs.lemmas.List.Concat.{flat_map-append}
 use Rattle.std.proofs.lemmas.List.Sums.{sum_by-cons, sum_by-append}
 use Rattle.covline.specs.Row.{ItemData}
+use Rattle.covstore.specs.Value.{bounded}
+use Rattle.covstore.proofs.Bounds.{bounded_sum}
 
-pub last_added : (added : ItemData → ℕ) (items : List ItemData) (item : ItemData) → sum_by added (items ++ item ∷ []) ≡ sum_by added items + added item
+last_added : (added : ItemData → ℕ) (items : List ItemData) (item : ItemData) → sum_by added (items ++ item ∷ []) ≡ sum_by added items + added item
 last_added added items item =
     let nothing : sum_by added [] ≡ 0 = refl in
     omega (arith, sum_by-append added items (item ∷ []), sum_by-cons added item [], nothing)
+
+-- the sum that stops, by the one before and the number of the last item
+pub sum_last : (added : ItemData → ℕ) (items : List ItemData) (item : ItemData) (count : ℕ) → added item ≡ count → bounded (sum_by added (items ++ item ∷ [])) ≡ bounded (bounded (sum_by added items) + count)
+sum_last added items item count own =
+    ap bounded (last_added added items item ∙ ap (λ (n : ℕ). sum_by added items + n) own) ∙ bounded_sum (sum_by added items) count
+
+pub sum_first : (added : ItemData → ℕ) (items : List ItemData) (item : ItemData) (count : ℕ) → added item ≡ count → sum_by added items ≡ 0 → bounded (sum_by added (items ++ item ∷ [])) ≡ bounded count
+sum_first added items item count own none = let one : sum_by added (items ++ item ∷ []) ≡ count = omega (arith, last_added added items item, own, none) in ap bounded one
 
 pub none_added : (added : ItemData → ℕ) (items : List ItemData) (item : ItemData) → added item ≡ 0 → sum_by added (items ++ item ∷ []) ≡ sum_by added items
 none_added added items item none = omega (arith, last_added added items item, none)

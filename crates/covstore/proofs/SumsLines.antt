@@ -1,5 +1,5 @@
 -- The sums of lines with one item more.
-use Rattle.std.proofs.Common.{◌≡◌, ℕ, ◌+◌, Bool, ◌||◌, eqb, Option, Some, None, List, [], ◌∷◌, ◌++◌, refl, ap, ◌∙◌, arith}
+use Rattle.std.proofs.Common.{◌≡◌, ℕ, ◌+◌, Bool, ◌||◌, eqb, Option, Some, None, List, [], ◌∷◌, ◌++◌, refl, ap, ◌∙◌}
 use Rattle.std.specs.List.{flat_map}
 use Rattle.std.specs.Option.{is_some}
 use Rattle.std.specs.Ordering.{nat_cmp}
@@ -9,12 +9,12 @@ use Rattle.covline.specs.Row.{ItemData, LineItem}
 use Rattle.covstore.specs.declared.sums.LineSum.{LineSum}
 use Rattle.covstore.specs.Puts.{put, value_of}
 use Rattle.covstore.specs.Sums.{line_sum, line_with}
-use Rattle.covstore.specs.Value.{checksum_said, first_of, line_added, line_checksum, line_value}
+use Rattle.covstore.specs.Value.{bounded, checksum_said, first_of, line_added, line_checksum, line_value}
 use Rattle.covstore.proofs.ContentsPoints.{checksum_unsaid, line_unadded, nothing_added, nothing_said}
 use Rattle.covstore.proofs.Members.{In}
 use Rattle.covstore.proofs.Orders.{lines_order}
 use Rattle.covstore.proofs.SumsKinds.{sums, sums_put, sums_same}
-use Rattle.covstore.proofs.SumsLast.{last_added, last_said, none_added, none_said}
+use Rattle.covstore.proofs.SumsLast.{last_said, none_added, none_said, sum_first, sum_last}
 
 -- what items add up to at a line
 abbrev pub line_held : List ItemData → ℕ → LineSum
@@ -32,7 +32,7 @@ line_others : (items : List ItemData) (item : ItemData) (line : ℕ) → (In lin
 unfolding line_of
 line_others items item line none =
     same_sum (line_value line (items ++ item ∷ [])) (line_value line items) (is_some (line_checksum line (items ++ item ∷ []))) (is_some (line_checksum line items))
-    (none_added (line_added line) items item (line_unadded line item none))
+    (ap bounded (none_added (line_added line) items item (line_unadded line item none)))
     (ap (λ (said : List (List ℕ)). is_some (first_of said)) (none_said (checksum_said line) items item (checksum_unsaid line item none)))
 
 -- ---- an item of the line
@@ -59,18 +59,17 @@ module _ (items : List ItemData) (line count : ℕ) (checksum : Option (List ℕ
   line_more : line_held (items ++ LineItem line count checksum ∷ []) line ≡ line_with count (is_some checksum) (Some (line_held items line))
   unfolding line_of
   line_more =
-      same_sum (line_value line (items ++ LineItem line count checksum ∷ [])) (line_value line items + count)
+      same_sum (line_value line (items ++ LineItem line count checksum ∷ [])) (bounded (line_value line items + count))
       (is_some (line_checksum line (items ++ LineItem line count checksum ∷ []))) (is_some (line_checksum line items) || is_some checksum)
-      (omega (arith, last_added (line_added line) items (LineItem line count checksum), own_count line count checksum))
+      (sum_last (line_added line) items (LineItem line count checksum) count (own_count line count checksum))
       (checksum_more items line count checksum)
 
   line_first : (In line (line_points items) → ⊥) → line_held (items ++ LineItem line count checksum ∷ []) line ≡ line_with count (is_some checksum) None
   unfolding line_of
   line_first none =
-      line_more
-      ∙ same_sum (line_value line items + count) count (is_some (line_checksum line items) || is_some checksum) (is_some checksum)
-      (omega (arith, nothing_added line_point (line_added line) line (line_unadded line) items none))
-      (ap (λ (said : List (List ℕ)). is_some (first_of said) || is_some checksum) (nothing_said line_point (checksum_said line) line (checksum_unsaid line) items none))
+      same_sum (line_value line (items ++ LineItem line count checksum ∷ [])) (bounded count) (is_some (line_checksum line (items ++ LineItem line count checksum ∷ []))) (is_some checksum)
+      (sum_first (line_added line) items (LineItem line count checksum) count (own_count line count checksum) (nothing_added line_point (line_added line) line (line_unadded line) items none))
+      (checksum_more items line count checksum ∙ ap (λ (said : List (List ℕ)). is_some (first_of said) || is_some checksum) (nothing_said line_point (checksum_said line) line (checksum_unsaid line) items none))
 
   pub lines_put : sums nat_cmp line_point line_held (items ++ LineItem line count checksum ∷ [])
       ≡ put nat_cmp line (line_with count (is_some checksum) (value_of nat_cmp line (sums nat_cmp line_point line_held items))) (sums nat_cmp line_point line_held items)

@@ -14,6 +14,7 @@ use Rattle.covstore.specs.Content.{SectionData, LineValueData, FunctionValueData
 use Rattle.covstore.specs.Totals.{sections_of, lines_found, is_line_hit, functions_found, is_function_hit, branches_found, is_branch_hit, over_files, totals_of}
 use Rattle.covstore.specs.TotalsSteps.{files_of, items_of_file, is_hit_in, found_in, hit_in, hits_line, hits_function, hits_branch, totals_over}
 use Rattle.covstore.specs.Value.{items_at, lines_in, line_added, line_value, names_in, function_added, function_count, branch_cmp, branches_in, branch_value, is_branch, is_taken, sum_if_any, taken_said}
+use Rattle.covstore.proofs.Bounds.{bounded_above}
 use Rattle.covstore.proofs.Members.{In}
 use Rattle.covstore.proofs.Orders.{lines_order, names_order, branches_order}
 use Rattle.covstore.proofs.TotalsRows.{files_are, points_found, hit_in_file, hit_in_section, sum_above, any_agree, any_flat}
@@ -35,7 +36,7 @@ line_hit_is line (FuncItem name start count) = refl
 line_hit_is line (BranchItem at block branch taken) = refl
 
 pub line_above : (line : ℕ) (items : List ItemData) → nat_lt 0 (line_value line items) ≡ list_any (hits_line line) items
-line_above line items = sum_above (line_added line) items ∙ any_agree (λ item. nat_lt 0 (line_added line item)) (hits_line line) (line_hit_is line) items
+line_above line items = bounded_above (sum_by (line_added line) items) ∙ sum_above (line_added line) items ∙ any_agree (λ item. nat_lt 0 (line_added line item)) (hits_line line) (line_hit_is line) items
 
 line_speaks : (line : ℕ) (item : ItemData) → hits_line line item ≡ true → In line (line_point item)
 line_speaks line (LineItem at count checksum) h = inl (eqb-true at line (and_parts (at == line) (nat_lt 0 count) h).0)
@@ -69,7 +70,7 @@ function_hit_is name (LineItem line count checksum) = refl
 function_hit_is name (BranchItem line block branch taken) = refl
 
 pub function_above : (name : List ℕ) (items : List ItemData) → nat_lt 0 (function_count name items) ≡ list_any (hits_function name) items
-function_above name items = sum_above (function_added name) items ∙ any_agree (λ item. nat_lt 0 (function_added name item)) (hits_function name) (function_hit_is name) items
+function_above name items = bounded_above (sum_by (function_added name) items) ∙ sum_above (function_added name) items ∙ any_agree (λ item. nat_lt 0 (function_added name item)) (hits_function name) (function_hit_is name) items
 
 function_speaks : (name : List ℕ) (item : ItemData) → hits_function name item ≡ true → In name (func_point item)
 function_speaks name (FuncItem other line count) h = inl ((bytes_eq-Decides other name).0 (and_parts (bytes_eq other name) (nat_lt 0 count) h).0)
@@ -117,7 +118,7 @@ branch_hit_is point (FuncItem name line count) = refl
 
 taken_above : (numbers : List ℕ) → is_taken (sum_if_any numbers) ≡ list_any (nat_lt 0) numbers
 taken_above [] = refl
-taken_above (n ∷ numbers) = sum_above (λ m. m) (n ∷ numbers)
+taken_above (n ∷ numbers) = bounded_above (sum_by (λ m. m) (n ∷ numbers)) ∙ sum_above (λ m. m) (n ∷ numbers)
 
 pub branch_above : (point : BranchPoint) (items : List ItemData) → is_taken (branch_value point items) ≡ list_any (hits_branch point) items
 branch_above point items =

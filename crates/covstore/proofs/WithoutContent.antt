@@ -112,7 +112,7 @@ module _ (q : Key → Bool) where
           ∙ sym (picked (λ s. q s.key) (section_of rows key) (map (section_of rows) keys) is)
       by false is rest = ap (map (section_of (own_rows rows))) (passed_over q key keys is) ∙ rest ∙ sym (passed_over (λ s. q s.key) (section_of rows key) (map (section_of rows) keys) is)
 
-  content_picked : (rows : List Row) → content_of (own_rows rows) ≡ filter (λ s. q s.key) (content_of rows)
+  pub content_picked : (rows : List Row) → content_of (own_rows rows) ≡ filter (λ s. q s.key) (content_of rows)
   content_picked rows = ap (map (section_of (own_rows rows))) (keys_picked rows) ∙ sections_picked rows (keys_of rows)
 
   count_picked : (rows : List Row) → length (keys_of (own_rows rows)) ≡ count_by (λ s. q s.key) (content_of rows)

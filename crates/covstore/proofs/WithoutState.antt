@@ -13,7 +13,6 @@ use Rattle.std.proofs.lemmas.Slice.Eq.{bytes_eq-Decides}
 use Rattle.covline.specs.Lawful.{most_items}
 use Rattle.covline.specs.Row.{Row}
 use Rattle.covstore.specs.declared.totals.Totals.{Totals}
-use Rattle.covstore.specs.Adds.{SmallRow}
 use Rattle.covstore.specs.Clash.{Agree, Checksum, checksum_of_row, checksums_in}
 use Rattle.covstore.specs.Dropped.{AreWithoutTest, IsWithoutTest}
 use Rattle.covstore.specs.MapsView.{IsStore}
@@ -27,7 +26,7 @@ use Rattle.covstore.proofs.AddsPlace.{state_agrees}
 use Rattle.covstore.proofs.ContentsLists.{In-flat, In-unfilter, In-unflat}
 use Rattle.covstore.proofs.DropsTests.{none_of_others, value_of_others}
 use Rattle.covstore.proofs.Members.{Contains-from, In-from}
-use Rattle.covstore.proofs.WithoutContent.{All-picked, items_of_others, items_of_test, rows_left, rows_without}
+use Rattle.covstore.proofs.WithoutContent.{items_of_others, items_of_test, rows_left, rows_without}
 
 module _ (test : List ℕ) where
   -- ---- what is found of a name
@@ -148,7 +147,6 @@ module _ (test : List ℕ) where
         counted = is.counted ∙ sym (length-map is.own (filter (λ row. not (is_of_test test row))));
         few = omega (arith, is.few, length-map is.own (filter (λ row. not (is_of_test test row))));
         small = fewer is.own is.small;
-        small_rows = subst (AllByRecursion SmallRow) (sym left) (All-picked SmallRow (λ row. not (is_of_test test row)) (all_rows is.own) is.small_rows);
         totals = same;
       }
 

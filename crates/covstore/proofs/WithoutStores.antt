@@ -48,7 +48,7 @@ module _ (test : List ℕ) (members : ℕ) (held : Totals) (files : List (List �
 
     pub totals_fit : FitTotals (totals_in after)
     totals_fit =
-        let few : length (all_rows left.own) ≤ 2 ^ 46 = omega (arith, rows_in_table left.own left.small, left.few) in
+        let few : length (all_rows left.own) ≤ 2 ^ 47 = omega (arith, rows_in_table left.own left.small, left.few) in
         let most = totals_few (all_rows left.own) after left.state in
         record {
           lf = omega (arith, few, most.lf);

@@ -1,7 +1,6 @@
 -- What the items of a section do: to the state of which their test and their file are, and when they clash.
 use Rattle.std.specs.Prelude.{◌≡◌, ℕ, ◌+◌, ◌<◌, ◌≤◌, ◌^◌, Some, None, List, ◌++◌, length}
 use Rattle.std.specs.Cmp.Lexicographic.{slice_cmp}
-use Rattle.std.specs.List.{AllByRecursion}
 use Rattle.std.specs.Ordering.{nat_cmp}
 use Rattle.covline.specs.Row.{ItemData, Row, SectData, rows_of_sect}
 use Rattle.covstore.specs.declared.stop.Stop.{Stop}
@@ -10,7 +9,7 @@ use Rattle.covstore.specs.Clash.{ClashData, Agree, checksums_in, clash_of}
 use Rattle.covstore.specs.Marks.{MarksData, file_with}
 use Rattle.covstore.specs.Puts.{put, value_of}
 use Rattle.covstore.specs.State.{FileData, IsStateOf}
-use Rattle.covstore.specs.Sums.{SmallItem, TestData}
+use Rattle.covstore.specs.Sums.{TestData}
 
 -- the files are the state of rows whose checksums agree; the file of this name has these tests and marks, and the test of this
 -- name these points
@@ -48,11 +47,7 @@ abbrev pub Clashes : {A : Type 0} → List ItemData → TestData → MarksData �
 Clashes items test marks Memory = Unit {0}
 Clashes items test marks (Clash line held given) = ClashesAt items test marks line held given
 
--- the numbers of a row are below 2^64
-abbrev pub SmallRow : Row → Type 0
-SmallRow row = SmallItem row.item
-
--- the test and the marks stand for rows of small numbers, not too many with these items more, and so do the tests
+-- the test and the marks stand for rows, not too many with these items more, and there are not too many tests
 pub record HasRoomFor (items : List ItemData) (test : TestData) (marks : MarksData) : Type 0 where
   pub rows : List Row
   pub files : List (List ℕ × FileData)
@@ -60,7 +55,5 @@ pub record HasRoomFor (items : List ItemData) (test : TestData) (marks : MarksDa
   pub name : List ℕ
   pub tests : List (List ℕ × TestData)
   pub stands : IsIn rows files file name tests test marks
-  pub small_rows : AllByRecursion SmallRow rows
-  pub small_items : AllByRecursion SmallItem items
-  pub few : length rows + length items ≤ 2 ^ 46
+  pub few : length rows + length items ≤ 2 ^ 47
   pub few_tests : length tests < 2 ^ 63

@@ -1,16 +1,15 @@
 -- What the items of a section do to the state of which their file is.
 use Rattle.std.specs.Prelude.{◌≡◌, ℕ, ◌+◌, ◌≤◌, ◌^◌, Some, None, List, ◌++◌, length}
 use Rattle.std.specs.Cmp.Lexicographic.{slice_cmp}
-use Rattle.std.specs.List.{AllByRecursion}
 use Rattle.std.specs.Ordering.{nat_cmp}
 use Rattle.covline.specs.Row.{ItemData, Row, rows_of_sect}
 use Rattle.covstore.specs.declared.stop.Stop.{Stop}
 use Rattle.covstore.specs.declared.stop.Stop.TheVariants.{Clash, Memory}
-use Rattle.covstore.specs.Adds.{SmallRow, clash_told, section_of_items}
+use Rattle.covstore.specs.Adds.{clash_told, section_of_items}
 use Rattle.covstore.specs.Clash.{Agree, checksums_in, clash_of}
 use Rattle.covstore.specs.Puts.{put, value_of}
 use Rattle.covstore.specs.State.{FileData, IsStateOf}
-use Rattle.covstore.specs.Sums.{SmallItem, TestData}
+use Rattle.covstore.specs.Sums.{TestData}
 
 -- the files are the state of rows whose checksums agree, and one of them is this one
 pub record HasFile (rows : List Row) (files : List (List ℕ × FileData)) (name : List ℕ) (file : FileData) : Type 0 where
@@ -32,7 +31,7 @@ ClashesIn items test file (Clash line held given) =
     (rows : List Row) (files : List (List ℕ × FileData)) (name : List ℕ) → HasFile rows files name file
     → clash_of rows (rows_of_sect (section_of_items name test items)) ≡ Some (clash_told name line held given)
 
--- the test is there, and the file stands for rows of small numbers, not too many with these items more
+-- the test is there, and the file stands for rows, not too many with these items more
 pub record HasRoomIn (items : List ItemData) (test : List ℕ) (file : FileData) : Type 0 where
   pub points : TestData
   pub its_test : value_of (slice_cmp nat_cmp) test file.tests ≡ Some points
@@ -40,6 +39,4 @@ pub record HasRoomIn (items : List ItemData) (test : List ℕ) (file : FileData)
   pub files : List (List ℕ × FileData)
   pub name : List ℕ
   pub stands : HasFile rows files name file
-  pub small_rows : AllByRecursion SmallRow rows
-  pub small_items : AllByRecursion SmallItem items
-  pub few : length rows + length items ≤ 2 ^ 46
+  pub few : length rows + length items ≤ 2 ^ 47

@@ -6,7 +6,6 @@ use Rattle.covline.specs.Lawful.{most_items}
 use Rattle.covstore.specs.declared.file.File.{File}
 use Rattle.covstore.specs.declared.store.Touched.{Touched}
 use Rattle.covstore.specs.declared.totals.Totals.{Totals}
-use Rattle.covstore.specs.Adds.{SmallRow}
 use Rattle.covstore.specs.Clash.{Agree, checksums_in}
 use Rattle.covstore.specs.FileView.{file_coming, file_held}
 use Rattle.covstore.specs.MarksView.{marks_coming, marks_held}
@@ -30,7 +29,6 @@ pub record IsStore (members : ℕ) (held : Totals) (files : List (List ℕ × Fi
   pub counted : members ≡ length own
   pub few : length own ≤ most_members
   pub small : AllByRecursion (λ rows. length rows ≤ most_items) own
-  pub small_rows : AllByRecursion SmallRow (all_rows own)
   pub totals : held ≡ totals_in files
 
 -- ---- what is to come

@@ -1,6 +1,5 @@
 -- What an item more needs, and what it does to what is kept of its file.
-use Rattle.std.specs.Prelude.{◌≡◌, ℕ, ◌+◌, ◌<◌, ◌^◌, true, Some, None, IfSome, List, [], ◌∷◌, ◌++◌, length}
-use Rattle.std.specs.Cmp.Lexicographic.{slice_cmp}
+use Rattle.std.specs.Prelude.{◌≡◌, ℕ, ◌<◌, ◌^◌, true, Some, None, List, [], ◌∷◌, ◌++◌, length}
 use Rattle.std.specs.Option.{is_some}
 use Rattle.std.specs.Ordering.{nat_cmp}
 use Rattle.covline.specs.Row.{ItemData, LineItem, FuncItem, BranchItem}
@@ -10,14 +9,7 @@ use Rattle.covstore.specs.Checksums.{KeepsTexts}
 use Rattle.covstore.specs.Marks.{MarksData, file_with}
 use Rattle.covstore.specs.Puts.{value_of}
 use Rattle.covstore.specs.State.{AreKept}
-use Rattle.covstore.specs.Sums.{TestData, branch_fits}
-use Rattle.covstore.specs.Value.{branch_cmp}
-
--- the sums fit
-abbrev pub CanTake : ItemData → TestData → Type 0
-CanTake (LineItem line count checksum) test = IfSome (value_of nat_cmp line test.lines) (λ sum. sum.count + count < 2 ^ 128)
-CanTake (FuncItem name line count) test = IfSome (value_of (slice_cmp nat_cmp) name test.functions) (λ sum. sum.count + count < 2 ^ 128)
-CanTake (BranchItem line block branch taken) test = branch_fits taken (value_of branch_cmp (record { line = line; block = block; branch = branch }) test.branches)
+use Rattle.covstore.specs.Sums.{TestData}
 
 -- the kept numbers count tests, of which this is one, and there are not too many
 pub record HasRoom (test : TestData) (marks : MarksData) : Type 0 where

@@ -4,7 +4,6 @@ use Rattle.std.specs.List.{AllByRecursion}
 use Rattle.covline.specs.Row.{Row, SubmissionData, rows_of}
 use Rattle.covline.specs.Lawful.{IsLawful, most_items}
 use Rattle.covstore.specs.declared.totals.Totals.{Totals}
-use Rattle.covstore.specs.Adds.{SmallRow}
 use Rattle.covstore.specs.Clash.{ClashData, Agree, checksums_in, clash_of}
 use Rattle.covstore.specs.Content.{SectionData, content_at}
 use Rattle.covstore.specs.State.{FileData, IsStateOf, totals_in}
@@ -89,12 +88,10 @@ abbrev pub ClashesWith : List Row → StoreData → RefuseData → Type 0
 ClashesWith added store MemoryRefuse = Unit {0}
 ClashesWith added store (ClashRefuse clash) = (rows : List Row) → IsStateOf rows store.coming → Agree (checksums_in rows) → clash_of rows added ≡ Some clash
 
--- what is to come is the state of rows of small numbers, not too many with those that are added
+-- what is to come is the state of rows, not too many with those that are added
 pub record HasRoomForRows (added : List Row) (store : StoreData) : Type 0 where
   pub rows : List Row
   pub state : IsStateOf rows store.coming
   pub agree : Agree (checksums_in rows)
-  pub small : AllByRecursion SmallRow rows
-  pub small_added : AllByRecursion SmallRow added
-  pub few : length rows + length added ≤ 2 ^ 46
+  pub few : length rows + length added ≤ 2 ^ 47
   pub totals : store.after ≡ totals_in store.coming

@@ -1,16 +1,15 @@
 -- What the items of a file and a test add up to, by kinds: each point with its value, ascending; and what one item more does.
-use Rattle.std.specs.Prelude.{ℕ, ◌+◌, ◌^◌, ◌<◌, min, Bool, ◌||◌, Option, Some, None, List, map}
+use Rattle.std.specs.Prelude.{ℕ, ◌+◌, min, Bool, ◌||◌, Option, Some, None, List, map}
 use Rattle.std.specs.Cmp.Lexicographic.{slice_cmp}
 use Rattle.std.specs.Option.{is_some}
 use Rattle.std.specs.Ordering.{nat_cmp}
-use Rattle.covline.specs.Lawful.{Fits64}
 use Rattle.covline.specs.Points.{BranchPoint}
 use Rattle.covline.specs.Row.{ItemData, LineItem, FuncItem, BranchItem}
 use Rattle.covstore.specs.declared.sums.LineSum.{LineSum}
 use Rattle.covstore.specs.declared.sums.FunctionSum.{FunctionSum}
 use Rattle.covstore.specs.declared.sums.Taken.{Taken}
 use Rattle.covstore.specs.Puts.{put, value_of}
-use Rattle.covstore.specs.Value.{lines_in, line_value, line_checksum, names_in, function_start, function_count, branch_cmp, branches_in, branch_value}
+use Rattle.covstore.specs.Value.{bounded, lines_in, line_value, line_checksum, names_in, function_start, function_count, branch_cmp, branches_in, branch_value}
 
 -- the lines, functions and branches of a test, each with what its items add up to
 pub record TestData : Type 0 where
@@ -35,28 +34,25 @@ test_of items = record {
   branches = map (branch_sum items) (branches_in items);
 }
 
--- every number of the item is one of 64 bits
-abbrev pub SmallItem : ItemData → Type 0
-SmallItem item = Fits64 item
-
 -- ---- one item more
 
 abbrev pub line_with : ℕ → Bool → Option LineSum → LineSum
-line_with count has_checksum None = record { count = count; has_checksum = has_checksum }
-line_with count has_checksum (Some held) = record { count = held.count + count; has_checksum = held.has_checksum || has_checksum }
+line_with count has_checksum None = record { count = bounded count; has_checksum = has_checksum }
+line_with count has_checksum (Some held) = record { count = bounded (held.count + count); has_checksum = held.has_checksum || has_checksum }
 
 abbrev pub function_with : ℕ → ℕ → Option FunctionSum → FunctionSum
-function_with line count None = record { line = line; count = count }
-function_with line count (Some held) = record { line = min held.line line; count = held.count + count }
+function_with line count None = record { line = line; count = bounded count }
+function_with line count (Some held) = record { line = min held.line line; count = bounded (held.count + count) }
 
 -- two numbers that may be missing: their sum, and none where both are missing
 abbrev pub sum_taken : Option ℕ → Option ℕ → Option ℕ
-sum_taken None taken = taken
+sum_taken None None = None
+sum_taken None (Some taken) = Some (bounded taken)
 sum_taken (Some held) None = Some held
-sum_taken (Some held) (Some taken) = Some (held + taken)
+sum_taken (Some held) (Some taken) = Some (bounded (held + taken))
 
 abbrev pub branch_with : Option ℕ → Option Taken → Taken
-branch_with taken None = record { times = taken }
+branch_with taken None = record { times = sum_taken None taken }
 branch_with taken (Some held) = record { times = sum_taken held.times taken }
 
 abbrev pub with_item : ItemData → TestData → TestData
@@ -75,12 +71,3 @@ with_item (BranchItem line block branch taken) test = let point : BranchPoint = 
   functions = test.functions;
   branches = put branch_cmp point (branch_with taken (value_of branch_cmp point test.branches)) test.branches;
 }
-
--- two numbers that may be missing have a sum that fits
-abbrev pub sum_fits : Option ℕ → Option ℕ → Type 0
-sum_fits (Some held) (Some taken) = held + taken < 2 ^ 128
-sum_fits held taken = Unit {0}
-
-abbrev pub branch_fits : Option ℕ → Option Taken → Type 0
-branch_fits taken None = Unit {0}
-branch_fits taken (Some held) = sum_fits held.times taken

@@ -1,5 +1,5 @@
 -- The value of rows: execution counts are added up for matching test and file (lcov(1), --add-tracefile).
-use Rattle.std.specs.Prelude.{ℕ, Bool, false, List, [], ◌∷◌, Option, Some, None, unwrap_or, nat_lt, ◌==◌, ◌&&◌, map, filter, if◌then◌else◌}
+use Rattle.std.specs.Prelude.{ℕ, ◌-◌, ◌^◌, min, Bool, false, List, [], ◌∷◌, Option, Some, None, unwrap_or, nat_lt, ◌==◌, ◌&&◌, map, filter, if◌then◌else◌}
 use Rattle.std.specs.declared.cmp.Ordering.{Ordering}
 use Rattle.std.specs.Ordering.{ordering_then, nat_cmp}
 use Rattle.std.specs.Cmp.Lexicographic.{slice_cmp}
@@ -33,6 +33,10 @@ has_key key row = bytes_eq row.file key.file && bytes_eq row.test key.test
 abbrev pub items_at : Key → List Row → List ItemData
 items_at key rows = map (λ row. row.item) (filter (has_key key) rows)
 
+-- a sum stops at the largest number of 128 bits
+abbrev pub bounded : ℕ → ℕ
+bounded n = min n (2 ^ 128 - 1)
+
 -- ---- lines
 
 -- the lines that items speak of, in order
@@ -46,7 +50,7 @@ line_added line item = 0
 
 -- the value of a line: the sum of its counts
 abbrev pub line_value : ℕ → List ItemData → ℕ
-line_value line items = sum_by (line_added line) items
+line_value line items = bounded (sum_by (line_added line) items)
 
 -- the checksum that an item has for this line
 abbrev pub checksum_said : ℕ → ItemData → List (List ℕ)
@@ -81,7 +85,7 @@ function_added name (FuncItem other line count) = if bytes_eq other name then co
 function_added name item = 0
 
 abbrev pub function_count : List ℕ → List ItemData → ℕ
-function_count name items = sum_by (function_added name) items
+function_count name items = bounded (sum_by (function_added name) items)
 
 -- ---- branches
 
@@ -104,7 +108,7 @@ taken_said point item = []
 -- none where there are no numbers, else their sum
 abbrev pub sum_if_any : List ℕ → Option ℕ
 sum_if_any [] = None
-sum_if_any (n ∷ ns) = Some (sum_by (λ m. m) (n ∷ ns))
+sum_if_any (n ∷ ns) = Some (bounded (sum_by (λ m. m) (n ∷ ns)))
 
 -- the value of a branch: none where no item has a number for it, else the sum of the numbers
 abbrev pub branch_value : BranchPoint → List ItemData → Option ℕ

@@ -5,7 +5,7 @@ ghost use Rattle.covline.specs.Row.{LineItem, FuncItem, BranchItem, item_data};
 ghost use Rattle.covstore.specs.MarksView.{marks_coming, marks_held};
 ghost use Rattle.covstore.specs.TestView.{test_coming, test_held};
 ghost use Rattle.covstore.specs.Sums.{with_item};
-ghost use Rattle.covstore.specs.Steps.{CanTake, HasRoom, IsClashOf, IsTextOf, KeepsCounts, KeepsTextsOf};
+ghost use Rattle.covstore.specs.Steps.{HasRoom, IsClashOf, IsTextOf, KeepsCounts, KeepsTextsOf};
 ghost use Rattle.covstore.specs.MarksView.{KeepsHeld};
 ghost use Rattle.covstore.specs.declared.stop.Stop.TheVariants as stops;
 
@@ -24,7 +24,6 @@ pub(crate) fn add_item<A: Allocator + Copy>(
     alloc: A,
     item: &Item<A>,
 ) -> Result<(), Stop<A>>
-    requires fits { CanTake (item_data item.now) (test_coming test.old) }
     requires room { HasRoom (test_coming test.old) (marks_coming marks.old) }
     ensures test_held { test_held test.new ≡ test_held test.old }
     ensures marks_held { KeepsHeld marks.old marks.new }
@@ -71,10 +70,9 @@ fn add_line<A: Allocator + Copy>(
     marks: &mut Marks<A>,
     alloc: A,
     line: u64,
-    count: u64,
+    count: u128,
     checksum: Option<&[u8]>,
 ) -> Result<(), Stop<A>>
-    requires fits { CanTake (LineItem line count (option_map (λ c. c.now) checksum)) (test_coming test.old) }
     requires room { HasRoom (test_coming test.old) (marks_coming marks.old) }
     ensures test_held { test_held test.new ≡ test_held test.old }
     ensures marks_held { KeepsHeld marks.old marks.new }
@@ -111,9 +109,8 @@ fn add_function<A: Allocator + Copy>(
     alloc: A,
     name: &[u8],
     line: u64,
-    count: u64,
+    count: u128,
 ) -> Result<(), Stop<A>>
-    requires fits { CanTake (FuncItem name.now line count) (test_coming test.old) }
     requires room { HasRoom (test_coming test.old) (marks_coming marks.old) }
     ensures test_held { test_held test.new ≡ test_held test.old }
     ensures marks_held { KeepsHeld marks.old marks.new }
@@ -128,8 +125,8 @@ fn add_function<A: Allocator + Copy>(
         FunctionMore { line, count },
         test.functions.cursor(),
     )?;
-    let was_above = FunctionSum::is_hit(added.before);
-    let change = Change::of(added.before.is_some(), was_above, added.after.count > 0);
+    let was_above = FunctionSum::is_hit(&added.before);
+    let change = Change::of(added.before.is_some(), was_above, added.after.is_above());
     marks.functions.add(alloc, name, change, added.place)?;
     Ok(())
 }
@@ -140,9 +137,8 @@ fn add_branch<A: Allocator + Copy>(
     marks: &mut Marks<A>,
     alloc: A,
     point: BranchPoint,
-    taken: Option<u64>,
+    taken: Option<u128>,
 ) -> Result<(), Stop<A>>
-    requires fits { CanTake (BranchItem point.line point.block point.branch taken) (test_coming test.old) }
     requires room { HasRoom (test_coming test.old) (marks_coming marks.old) }
     ensures test_held { test_held test.new ≡ test_held test.old }
     ensures marks_held { KeepsHeld marks.old marks.new }

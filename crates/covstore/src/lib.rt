@@ -1,5 +1,6 @@
 //! The store of merged execution counts: what all submissions that it holds add up to. Counts are added up for matching
-//! test and file (lcov(1), --add-tracefile), and two versions of one source are never mixed.
+//! test and file (lcov(1), --add-tracefile), where a sum stops at 2^128 - 1, and two versions of one source are never
+//! mixed.
 //!
 //! A submission is held in two steps. `prepare` tells whether it clashes, makes all growths and gives a plan; `commit`
 //! holds it, and needs no memory. Between the two the caller can make its own growths, and drop the plan where one is

@@ -1,9 +1,10 @@
-//! What the items of a file and a test add up to at a point, and in how many tests a file has a point.
+//! What the items of a file and a test add up to at a point, and in how many tests a file has a point. A sum stops at
+//! 2^128 - 1.
 
-ghost use Rattle.std.specs.Prelude.{◌≡◌, ◌+◌, ◌^◌, ◌<◌, IfSome};
+ghost use Rattle.std.specs.Prelude.{◌≡◌, ◌^◌, ◌<◌, IfSome};
 ghost use Rattle.covstore.specs.Counts.{is_above_at, tests_more};
 ghost use Rattle.covstore.specs.State.{branch_above, function_above, has_checksum, line_above};
-ghost use Rattle.covstore.specs.Sums.{branch_fits, branch_with, function_with, line_with};
+ghost use Rattle.covstore.specs.Sums.{branch_with, function_with, line_with};
 
 use crate::points::{More, Value};
 use crate::times::Times;
@@ -17,10 +18,10 @@ pub(crate) struct LineSum {
 }
 
 /// A function: its least start line and the sum of its execution counts (geninfo(1): `FN:`, `FNDA:`).
-#[derive(Clone, Copy)]
+#[derive(Drop)]
 pub(crate) struct FunctionSum {
     pub line: u64,
-    pub count: u128,
+    pub count: Wide,
 }
 
 /// A branch: how often it was taken, none where its block was never executed (geninfo(1): `BRDA:`).
@@ -32,17 +33,16 @@ pub(crate) struct Taken {
 /// A line's item: its count, and whether it has a checksum.
 #[derive(Clone, Copy)]
 pub(crate) struct LineMore {
-    pub count: u64,
+    pub count: u128,
     pub has_checksum: bool,
 }
 
 impl More<LineSum> for LineMore {
-    ghost fits = { λ more held. IfSome held (λ sum. sum.count + more.count < 2 ^ 128) };
+    ghost fits = { λ more held. Unit {0} };
 
     ghost sum = { λ more held. line_with more.count more.has_checksum held };
 
     fn with(self, held: &Option<LineSum>) -> LineSum
-        requires { IfSome held.now (λ sum. sum.count + self.count < 2 ^ 128) }
         ensures { result ≡ line_with self.count self.has_checksum held.now }
     {
         LineSum::with(held, self.count, self.has_checksum)
@@ -53,35 +53,33 @@ impl More<LineSum> for LineMore {
 #[derive(Clone, Copy)]
 pub(crate) struct FunctionMore {
     pub line: u64,
-    pub count: u64,
+    pub count: u128,
 }
 
 impl More<FunctionSum> for FunctionMore {
-    ghost fits = { λ more held. IfSome held (λ sum. sum.count + more.count < 2 ^ 128) };
+    ghost fits = { λ more held. Unit {0} };
 
     ghost sum = { λ more held. function_with more.line more.count held };
 
     fn with(self, held: &Option<FunctionSum>) -> FunctionSum
-        requires { IfSome held.now (λ sum. sum.count + self.count < 2 ^ 128) }
         ensures { result ≡ function_with self.line self.count held.now }
     {
-        FunctionSum::with(*held, self.line, self.count)
+        FunctionSum::with(held, self.line, self.count)
     }
 }
 
 /// A branch's item: how often it was taken, none where its block was never executed.
 #[derive(Clone, Copy)]
 pub(crate) struct TakenMore {
-    pub times: Option<u64>,
+    pub times: Option<u128>,
 }
 
 impl More<Taken> for TakenMore {
-    ghost fits = { λ more held. branch_fits more.times held };
+    ghost fits = { λ more held. Unit {0} };
 
     ghost sum = { λ more held. branch_with more.times held };
 
     fn with(self, held: &Option<Taken>) -> Taken
-        requires { branch_fits self.times held.now }
         ensures { result ≡ branch_with self.times held.now }
     {
         Taken::with(held, self.times)
@@ -164,7 +162,10 @@ impl Value for FunctionSum {
     fn copy(&self) -> FunctionSum
         ensures { result ≡ self.now }
     {
-        *self
+        FunctionSum {
+            line: self.line,
+            count: self.count.copy(),
+        }
     }
 }
 
@@ -215,8 +216,7 @@ impl LineSum {
     }
 
     /// The sum with one count more.
-    pub(crate) fn with(held: &Option<LineSum>, count: u64, has_checksum: bool) -> LineSum
-        requires { IfSome held.now (λ sum. sum.count + count < 2 ^ 128) }
+    pub(crate) fn with(held: &Option<LineSum>, count: u128, has_checksum: bool) -> LineSum
         ensures { result ≡ line_with count has_checksum held.now }
     {
         match held {
@@ -234,25 +234,34 @@ impl LineSum {
 
 impl FunctionSum {
     /// Whether the function is there, with a count above 0.
-    pub(crate) fn is_hit(held: Option<FunctionSum>) -> bool
-        ensures { result ≡ is_above_at function_above held }
+    pub(crate) fn is_hit(held: &Option<FunctionSum>) -> bool
+        ensures { result ≡ is_above_at function_above held.now }
     {
-        held.is_some_and(|sum| sum.count > 0)
+        match held {
+            Some(sum) => sum.is_above(),
+            None => false,
+        }
+    }
+
+    /// Whether the count is above 0.
+    pub(crate) fn is_above(&self) -> bool
+        ensures { result ≡ function_above self.now }
+    {
+        self.count.is_above()
     }
 
     /// The sum with one count more.
-    pub(crate) fn with(held: Option<FunctionSum>, line: u64, count: u64) -> FunctionSum
-        requires { IfSome held (λ sum. sum.count + count < 2 ^ 128) }
-        ensures { result ≡ function_with line count held }
+    pub(crate) fn with(held: &Option<FunctionSum>, line: u64, count: u128) -> FunctionSum
+        ensures { result ≡ function_with line count held.now }
     {
         match held {
             Some(sum) => FunctionSum {
                 line: sum.line.min(line),
-                count: sum.count + u128::from(count),
+                count: sum.count.plus(count),
             },
             None => FunctionSum {
                 line,
-                count: u128::from(count),
+                count: Wide::of(count),
             },
         }
     }
@@ -272,8 +281,7 @@ impl Taken {
     }
 
     /// The sum with one number more, which may be missing.
-    pub(crate) fn with(held: &Option<Taken>, times: Option<u64>) -> Taken
-        requires { branch_fits times held.now }
+    pub(crate) fn with(held: &Option<Taken>, times: Option<u128>) -> Taken
         ensures { result ≡ branch_with times held.now }
     {
         match held {

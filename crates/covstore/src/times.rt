@@ -2,7 +2,7 @@
 //! an option's value once more.
 
 ghost use Rattle.std.specs.Prelude.{◌≡◌, None};
-ghost use Rattle.covstore.specs.Sums.{sum_fits, sum_taken};
+ghost use Rattle.covstore.specs.Sums.{sum_taken};
 ghost use Rattle.covstore.specs.Value.{is_taken};
 
 use crate::wide::Wide;
@@ -24,8 +24,8 @@ impl Model for Times {
 }
 
 impl Times {
-    /// This number of 64 bits, or none.
-    pub(crate) fn of(times: Option<u64>) -> Times
+    /// This number, or none.
+    pub(crate) fn of(times: Option<u128>) -> Times
         ensures { result ≡ times }
     {
         match times {
@@ -50,9 +50,8 @@ impl Times {
         }
     }
 
-    /// The sum with a number of 64 bits, which may be missing too.
-    pub(crate) fn plus(&self, times: Option<u64>) -> Times
-        requires { sum_fits self.now times }
+    /// The sum with a number that may be missing too. It stops at the largest number of 128 bits.
+    pub(crate) fn plus(&self, times: Option<u128>) -> Times
         ensures { result ≡ sum_taken self.now times }
     {
         if !self.is_known {

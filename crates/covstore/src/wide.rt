@@ -1,6 +1,7 @@
 //! A number of 128 bits in two words. As fields of a struct these are laid out without gaps, which a `u128` leaves.
 
-ghost use Rattle.std.specs.Prelude.{◌≡◌, ◌+◌, ◌^◌, ◌<◌, nat_lt};
+ghost use Rattle.std.specs.Prelude.{◌≡◌, ◌+◌, nat_lt};
+ghost use Rattle.covstore.specs.Value.{bounded};
 
 use std::marker::Model;
 
@@ -20,13 +21,13 @@ impl Model for Wide {
 }
 
 impl Wide {
-    /// A number of 64 bits.
-    pub(crate) fn of(number: u64) -> Wide
+    /// This number.
+    pub(crate) fn of(number: u128) -> Wide
         ensures { result ≡ number }
     {
         Wide {
-            high: 0,
-            low: number,
+            high: (number / 18446744073709551616) as u64,
+            low: (number % 18446744073709551616) as u64,
         }
     }
 
@@ -40,22 +41,11 @@ impl Wide {
         }
     }
 
-    /// The sum of this number and one of 64 bits.
-    pub(crate) fn plus(&self, number: u64) -> Wide
-        requires { self.now + number < 2 ^ 128 }
-        ensures { result ≡ self.now + number }
+    /// The sum with one more, which stops at the largest number of 128 bits.
+    pub(crate) fn plus(&self, number: u128) -> Wide
+        ensures { result ≡ bounded (self.now + number) }
     {
-        let room = u64::MAX - self.low;
-        if number <= room {
-            return Wide {
-                high: self.high,
-                low: self.low + number,
-            };
-        }
-        Wide {
-            high: self.high + 1,
-            low: number - room - 1,
-        }
+        Wide::of(self.get().saturating_add(number))
     }
 
     /// Whether the number is above 0.

@@ -14,6 +14,46 @@ report
 trace
 TN:t
 SF:/a.c
+DA:1,340282366920938463463374607431768211455
+end_of_record
+.
+trace
+TN:t
+SF:/a.c
+DA:1,1
+end_of_record
+.
+report
+drop t
+trace
+TN:t
+SF:/a.c
+DA:1,1
+end_of_record
+.
+report
+> accepted 1 items 1 odd 0
+> accepted 2 items 1 odd 0
+> TN:t
+> SF:/a.c
+> DA:1,340282366920938463463374607431768211455
+> LF:1
+> LH:1
+> end_of_record
+> .
+> dropped 1
+> accepted 3 items 1 odd 0
+> TN:t
+> SF:/a.c
+> DA:1,1
+> LF:1
+> LH:1
+> end_of_record
+> .
+= a sum stops at the largest number of 128 bits
+trace
+TN:t
+SF:/a.c
 DA:1,2
 DA:2,0
 LF:2

@@ -193,7 +193,7 @@ SF:
 > .
 = an empty path
 SF:/a.c
-DA:1,18446744073709551616
+DA:1,340282366920938463463374607431768211456
 > refused NumberTooLarge at 2
 > .
 = a number that is too large

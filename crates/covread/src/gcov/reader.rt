@@ -10,6 +10,7 @@ ghost use Rattle.covread.specs.GcovSteps.{func_data, held_data, section_data, em
 
 use crate::fault::ReadFault;
 use crate::gcov::line::GcovLine;
+use crate::wide::wide;
 use covline::{Bytes, Item, Items, Sect, Sects, Submission};
 use std::alloc::Allocator;
 
@@ -19,7 +20,7 @@ pub struct Function<'a> {
     /// Its name.
     pub name: &'a [u8],
     /// Its execution count.
-    pub count: u64,
+    pub count: u128,
 }
 
 /// Where a branch belongs to.
@@ -77,7 +78,10 @@ impl<'a, A: Allocator + Copy> Reader<'a, A> {
         match line {
             GcovLine::Path(path) => self.begin(alloc, at, path),
             GcovLine::Source { line, count } => self.source(alloc, at, line, count),
-            GcovLine::Function { name, count } => self.wait(Function { name, count }),
+            GcovLine::Function { name, count } => self.wait(Function {
+                name,
+                count: u128::from(count),
+            }),
             GcovLine::Branch { branch, taken } => self.branch(at, branch, taken),
             GcovLine::Block { block } => {
                 self.enter(block);
@@ -162,7 +166,7 @@ impl<'a, A: Allocator + Copy> Reader<'a, A> {
                     line,
                     block,
                     branch,
-                    taken,
+                    taken: wide(taken),
                 })?;
                 return Ok(());
             }
@@ -229,7 +233,7 @@ fn push_line<A: Allocator>(
     if let Some(count) = count {
         items.push(Item::Line {
             line,
-            count,
+            count: u128::from(count),
             checksum: None,
         })?;
     }

@@ -1,7 +1,7 @@
 //! What the reader of a tracefile holds between two lines.
 
 ghost use Rattle.std.specs.Prelude.{◌≡◌, List, [], None};
-ghost use Rattle.covline.specs.Spells.{LineData, line_data, HasSmallNumbers, Test, Path, Branch, Line, End};
+ghost use Rattle.covline.specs.Spells.{LineData, line_data, Test, Path, Branch, Line, End};
 ghost use Rattle.covread.specs.Said.{said_data};
 ghost use Rattle.covread.specs.TraceSteps.{held_data, empty, IsOpen, HasRoom, Steps, ends, EndsLawfully};
 
@@ -10,6 +10,7 @@ use crate::trace::misplaced::Misplaced;
 use crate::trace::said::Said;
 use crate::trace::section::Gathered;
 use crate::trace::settle::{Settled, settle};
+use crate::wide::wide;
 use covline::{BranchPoint, Bytes, Sect, Sects, Submission, TraceLine};
 use std::alloc::Allocator;
 
@@ -51,21 +52,16 @@ impl<'a, A: Allocator + Copy> Reader<'a, A> {
 
     /// Takes what one line says.
     pub fn take(&mut self, alloc: A, line: TraceLine<'a>) -> Result<(), Misplaced>
-        requires small { HasSmallNumbers (line_data line) }
-        requires room { (inside : List LineData) × HasRoom self.old inside }
+        requires { (inside : List LineData) × HasRoom self.old inside }
         ensures { (inside : List LineData) → IsOpen self.old.section inside → Steps result (held_data self.old inside) self.new (line_data line.entry) }
     {
         match line {
             TraceLine::Test(name) => self.name_test(name),
             TraceLine::Path(path) => self.begin(alloc, path),
             TraceLine::FuncStart { line, name } => self.keep(alloc, Said::FuncStart { line, name }),
-            TraceLine::FuncCount { count, name } => self.keep(
-                alloc,
-                Said::FuncCount {
-                    count: count as u64,
-                    name,
-                },
-            ),
+            TraceLine::FuncCount { count, name } => {
+                self.keep(alloc, Said::FuncCount { count, name })
+            }
             TraceLine::Branch {
                 line,
                 block,
@@ -77,7 +73,7 @@ impl<'a, A: Allocator + Copy> Reader<'a, A> {
                     line,
                     block,
                     branch,
-                    taken: taken.map(|taken| taken as u64),
+                    taken,
                 },
             ),
             TraceLine::Line {
@@ -88,7 +84,7 @@ impl<'a, A: Allocator + Copy> Reader<'a, A> {
                 alloc,
                 Said::Line {
                     line,
-                    count: count as u64,
+                    count,
                     checksum,
                 },
             ),
@@ -142,7 +138,7 @@ impl<'a, A: Allocator + Copy> Reader<'a, A> {
         ensures { (inside : List LineData) → IsOpen self.old.section inside → Steps result (held_data self.old inside) self.new (Line line count None) }
     {
         if let Some(section) = &mut self.section {
-            section.gathered.take_plain(line, count)?;
+            section.gathered.take_plain(line, u128::from(count))?;
             return Ok(());
         }
         Err(Misplaced::Outside)
@@ -155,7 +151,7 @@ impl<'a, A: Allocator + Copy> Reader<'a, A> {
         ensures { (inside : List LineData) → IsOpen self.old.section inside → Steps result (held_data self.old inside) self.new (Branch point.line point.block point.branch taken) }
     {
         if let Some(section) = &mut self.section {
-            section.gathered.take_branch(point, taken)?;
+            section.gathered.take_branch(point, wide(taken))?;
             return Ok(());
         }
         Err(Misplaced::Outside)

@@ -2,7 +2,7 @@
 
 use covline::TotalKind;
 
-/// What a line of a section says: as the line's record, with numbers of 64 bits and its texts still in the tracefile.
+/// What a line of a section says: as the line's record, with its texts still in the tracefile.
 #[derive(Clone, Copy)]
 pub enum Said<'a> {
     /// `FN:`, the line that a function starts at.
@@ -12,7 +12,7 @@ pub enum Said<'a> {
     },
     /// `FNDA:`, the execution count of a function.
     FuncCount {
-        count: u64,
+        count: u128,
         name: &'a [u8],
     },
     /// `BRDA:`, how often a branch was taken.
@@ -20,12 +20,12 @@ pub enum Said<'a> {
         line: u64,
         block: u64,
         branch: u64,
-        taken: Option<u64>,
+        taken: Option<u128>,
     },
     /// `DA:`, the execution count of a line.
     Line {
         line: u64,
-        count: u64,
+        count: u128,
         checksum: Option<&'a [u8]>,
     },
     /// A total of the section. It counts all lines of it, also those behind it.

@@ -103,7 +103,7 @@ impl<'a, A: Allocator + Copy> Gathered<'a, A> {
     }
 
     /// A count of a function.
-    fn take_count(&mut self, alloc: A, count: u64, name: &'a [u8]) -> Result<(), Memory>
+    fn take_count(&mut self, alloc: A, count: u128, name: &'a [u8]) -> Result<(), Memory>
         ensures { OnOk result ((inside : List LineData) → IsGathered self.old inside → IsGathered self.new (inside ++ FuncCount count name.now ∷ [])) }
     {
         self.waiting.push(Waiting {
@@ -117,7 +117,7 @@ impl<'a, A: Allocator + Copy> Gathered<'a, A> {
 
     /// How often a branch was taken. It takes no memory but for the list.
     #[inline]
-    pub fn take_branch(&mut self, branch: BranchPoint, taken: Option<u64>) -> Result<(), Memory>
+    pub fn take_branch(&mut self, branch: BranchPoint, taken: Option<u128>) -> Result<(), Memory>
         requires { (inside : List LineData) × IsGathered self.old inside × length inside + 1 < 2 ^ 64 }
         ensures { OnOk result ((inside : List LineData) → IsGathered self.old inside → IsGathered self.new (inside ++ Branch branch.line branch.block branch.branch taken ∷ [])) }
     {
@@ -134,7 +134,7 @@ impl<'a, A: Allocator + Copy> Gathered<'a, A> {
 
     /// The execution count of a line without a checksum. It takes no memory but for the list.
     #[inline]
-    pub fn take_plain(&mut self, line: u64, count: u64) -> Result<(), Memory>
+    pub fn take_plain(&mut self, line: u64, count: u128) -> Result<(), Memory>
         requires { (inside : List LineData) × IsGathered self.old inside × length inside + 1 < 2 ^ 64 }
         ensures { OnOk result ((inside : List LineData) → IsGathered self.old inside → IsGathered self.new (inside ++ Line line count None ∷ [])) }
     {
@@ -153,7 +153,7 @@ impl<'a, A: Allocator + Copy> Gathered<'a, A> {
         &mut self,
         alloc: A,
         line: u64,
-        count: u64,
+        count: u128,
         checksum: Option<&[u8]>,
     ) -> Result<(), Memory>
         requires { (inside : List LineData) × IsGathered self.old inside × length inside + 1 < 2 ^ 64 }
@@ -175,7 +175,7 @@ impl<'a, A: Allocator + Copy> Gathered<'a, A> {
 }
 
 /// The item of a function. It owns its name.
-fn func_item<A: Allocator>(alloc: A, name: &[u8], line: u64, count: u64) -> Result<Item<A>, Memory>
+fn func_item<A: Allocator>(alloc: A, name: &[u8], line: u64, count: u128) -> Result<Item<A>, Memory>
     ensures { IfOk result (λ item. item_data item ≡ FuncItem name.now line count) }
 {
     Ok(Item::Func {
@@ -189,7 +189,7 @@ fn func_item<A: Allocator>(alloc: A, name: &[u8], line: u64, count: u64) -> Resu
 fn line_item<A: Allocator>(
     alloc: A,
     line: u64,
-    count: u64,
+    count: u128,
     checksum: Option<&[u8]>,
 ) -> Result<Item<A>, Memory>
     ensures { IfOk result (λ item. item_data item ≡ LineItem line count (option_map (λ c. c.now) checksum.entry)) }

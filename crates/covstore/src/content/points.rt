@@ -51,7 +51,7 @@ impl<'a, A: Allocator> Iterator for Functions<'a, A> {
         Some(FunctionValue {
             line: sum.line,
             name: name.get(),
-            count: sum.count,
+            count: sum.count.get(),
         })
     }
 }

@@ -42,7 +42,7 @@ pub(super) fn drop_functions<A: Allocator + Copy>(
     kept.forget();
     functions.are_whole();
     for (name, sum) in functions.filled() {
-        kept.remove(name.get(), FunctionSum::is_hit(Some(*sum)));
+        kept.remove(name.get(), sum.is_above());
     }
 }
 
@@ -108,7 +108,7 @@ pub(super) fn functions_without<A: Allocator>(
     let mut walk = kept.walk();
     functions.are_whole();
     for (name, sum) in functions.filled() {
-        walk = kept.pass(walk, name.get(), FunctionSum::is_hit(Some(*sum)));
+        walk = kept.pass(walk, name.get(), sum.is_above());
     }
     walk.tally
 }

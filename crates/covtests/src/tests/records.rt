@@ -81,6 +81,12 @@ fn counts_before_a_cut(rt: HostRuntime) {
     check_first(&rt, b"DA:7,12\nDA:8,1\n", Some((7, 12, 7)));
     check_first(&rt, b"DA:7,12,sum\n", None);
     check_first(&rt, b"DA:7,12", None);
+    check_first(&rt, b"DA:7,18446744073709551616\n", None);
+    check_first(
+        &rt,
+        b"DA:0,18446744073709551615\n",
+        Some((0, 18446744073709551615, 0)),
+    );
     check_cut(&rt, b"TN:a\r\nrest", (4, 4));
     check_cut(&rt, b"rest", (4, 0));
 }
@@ -132,6 +138,9 @@ BRDA:1,e0,0,1
  DA:1,1
 DA:1,-99999999999999999999
 DA:1,18446744073709551616
+DA:18446744073709551616,1
+DA:1,340282366920938463463374607431768211455
+DA:1,340282366920938463463374607431768211456
 DA:1,1,abc
 end_of_record x
 TN:
@@ -160,6 +169,9 @@ BRDA:1,2,3,4
 faulty
 skipped
 DA:1,0
+DA:1,18446744073709551616
+faulty
+DA:1,340282366920938463463374607431768211455
 faulty
 DA:1,1,abc
 end_of_record

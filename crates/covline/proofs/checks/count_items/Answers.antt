@@ -3,7 +3,7 @@ use Rattle.std.proofs.lemmas.Bool.{false≢true}
 use Rattle.std.proofs.lemmas.List.{length-map, take_all}
 use Rattle.covline.specs.Row.{item_data, items_in}
 use Rattle.covline.specs.SectView.{sect_data}
-use Rattle.covline.specs.Lawful.{AllFit64}
+use Rattle.covline.specs.Lawful.{AllFit}
 use Rattle.covline.proofs.SectLaws.{IsAt, items_more, items_within, All-one_more, All-taken}
 use Rattle.covline.proofs.checks.count_items.Goals as goal
 
@@ -20,14 +20,14 @@ loop-sect-preserved g c =
     record {
       counted = omega (arith, items_more c.args.sects.now c.loop-sect.sect-index c.sect-item.result here);
       few = omega arith;
-      fit = All-one_more (λ s. AllFit64 s.items) c.args.sects.now c.loop-sect.sect-index c.sect-item.result here c.loop-sect.invariant.fit c.get.ensures.fit;
+      fit = All-one_more (λ s. AllFit s.items) c.args.sects.now c.loop-sect.sect-index c.sect-item.result here c.loop-sect.invariant.fit c.get.ensures.fit;
     }
 
 pub returns-clause-fit : goal.returns-clause-fit
 returns-clause-fit g c some =
     let all = map sect_data c.args.sects.now in
     let long : length all ≤ c.loop-sect.sect-index = omega (arith, length-map c.args.sects.now sect_data) in
-    All-taken (λ s. AllFit64 s.items) all c.loop-sect.sect-index long c.loop-sect.invariant.fit
+    All-taken (λ s. AllFit s.items) all c.loop-sect.sect-index long c.loop-sect.invariant.fit
 
 pub returns-then-more-items-clause-fit : goal.returns-then-more-items-clause-fit
 returns-then-more-items-clause-fit g c some = absurd (false≢true some)

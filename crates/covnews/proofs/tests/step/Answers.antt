@@ -1,6 +1,6 @@
 use Rattle.std.proofs.Common.{◌≡◌, ◌∙◌, List, subst, sym}
 use Rattle.covbook.specs.Op.{EntryData}
-use Rattle.covnews.specs.History.{ComesNext}
+use Rattle.covbook.specs.Step.{ComesNext}
 use Rattle.covnews.proofs.tests.step.Goals as goal
 
 -- the entry comes next in the book, and the publisher has noted the book's entries

@@ -9,16 +9,13 @@ use Rattle.covstore.specs.Changes.{change_of}
 use Rattle.covstore.specs.Counts.{is_above_at}
 use Rattle.covstore.specs.Puts.{put}
 use Rattle.covstore.specs.State.{branch_above}
-use Rattle.covstore.specs.Sums.{TestData, branch_fits, branch_with}
+use Rattle.covstore.specs.Sums.{TestData, branch_with}
 use Rattle.covstore.specs.TestView.{branches_data, test_held}
 use Rattle.covstore.specs.Value.{branch_cmp}
 use Rattle.covstore.proofs.StepsItems.{held_as_before}
 use Rattle.covstore.proofs.StepsKept.{keeps_branch, room_for}
 use Rattle.covstore.proofs.StepsCounts.{branch_stays, changed_as, seen-changed, seen-put, value_of-seen}
 use Rattle.covstore.proofs.items.add_branch.Goals as goal
-
-pub add-requires : goal.add-requires
-add-requires g c = subst (branch_fits c.args.taken) (value_of-seen branch_cmp branch_point_data c.args.point c.args.test.now.branches.coming) c.requires.fits
 
 pub add-requires-2-clause-room : goal.add-requires-2-clause-room
 add-requires-2-clause-room g c =

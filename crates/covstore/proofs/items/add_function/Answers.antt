@@ -1,6 +1,7 @@
 use Rattle.std.proofs.Common.{refl, ap, ◌∙◌}
 use Rattle.std.specs.Cmp.Lexicographic.{slice_cmp}
 use Rattle.std.specs.Ordering.{nat_cmp}
+use Rattle.covstore.specs.Changes.{change_of}
 use Rattle.covstore.specs.Counts.{is_above_at}
 use Rattle.covstore.specs.State.{function_above}
 use Rattle.covstore.specs.Sums.{TestData}
@@ -15,14 +16,11 @@ returns-clause-counts g c =
     let before = c.in_ok-added in
     let kept = c.in_ok-add.ensures.ok
     ∙ changed_as (slice_cmp nat_cmp) function_above name c.args.marks.now.functions.coming c.of-change.result c.is_some.result c.is_hit-was_above.result before.added.before _ value
-    c.of-change.ensures c.is_some.ensures c.is_hit-was_above.ensures before.ensures.before in
+    (c.of-change.ensures ∙ ap (change_of c.is_some.result c.is_hit-was_above.result) c.is_above.ensures) c.is_some.ensures c.is_hit-was_above.ensures before.ensures.before in
     let puts = c.in_ok-added.ensures.ok in
     keeps_function _ _ _ _ name value
     (λ above. ap function_above c.in_ok-added.ensures.after ∙ function_stays c.args.line c.args.count before.added.before (ap (is_above_at function_above) before.ensures.before ∙ above))
     refl puts refl refl kept refl refl
-
-pub add-requires : goal.add-requires
-add-requires g c = c.requires.fits
 
 pub add-requires-2-clause-few : goal.add-requires-2-clause-few
 add-requires-2-clause-few g c = c.requires.room.functions

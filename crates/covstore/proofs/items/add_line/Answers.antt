@@ -49,9 +49,6 @@ returns-clause-counts g c =
           (ap (λ (m : Marks g.row.A.Denot). m.checksums.coming) w.marks-is)
     ]
 
-pub add-requires : goal.add-requires
-add-requires g c = c.requires.fits
-
 pub returns-in_err-added-clause-test_held : goal.returns-in_err-added-clause-test_held
 returns-in_err-added-clause-test_held g c = ap (with_lines (test_held c.args.test.now)) c.in_err-added.ensures.now
 

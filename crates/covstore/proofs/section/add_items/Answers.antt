@@ -5,32 +5,24 @@ use Rattle.covline.specs.Row.{ItemData, item_data}
 use Rattle.covstore.specs.Adds.{Adds, Clashes}
 use Rattle.covstore.specs.MarksView.{marks_coming}
 use Rattle.covstore.specs.TestView.{test_coming}
-use Rattle.covstore.proofs.AddsLoop.{HasTaken, all_at, left_at, next_clashes, next_fits, next_has_room, none_taken, one_taken, taken_at}
+use Rattle.covstore.proofs.AddsLoop.{HasTaken, all_at, left_at, next_clashes, next_has_room, none_taken, one_taken, taken_at}
 use Rattle.covstore.proofs.StepsMore.{held_both}
 use Rattle.covstore.proofs.section.add_items.Goals as goal
 
 pub loop-item-init : goal.loop-item-init
 loop-item-init g c = none_taken (map item_data c.args.items.now) c.args.test.now c.args.marks.now c.requires.room
 
-pub add_item-requires-clause-fits : goal.add_item-requires-clause-fits
-add_item-requires-clause-fits g c =
+pub add_item-requires : goal.add_item-requires
+add_item-requires g c =
     let l = c.loop-item in
     let items = c.args.items.now in
     let item = c.item-item.result in
     let taken = map item_data (take l.item-index items) in
     let left = left_at item_data items l.item-index item c.loop-item-test.true c.item-item.is in
-    next_fits taken (item_data item) (map item_data (drop (l.item-index + 1) items)) c.args.test.now c.args.marks.now l.test l.marks
-    (subst (λ (more : List ItemData). HasTaken taken more c.args.test.now c.args.marks.now l.test l.marks) left l.invariant)
-
-pub add_item-requires-clause-room : goal.add_item-requires-clause-room
-add_item-requires-clause-room g c =
-    let l = c.loop-item in
-    let items = c.args.items.now in
-    let item = c.item-item.result in
-    let taken = map item_data (take l.item-index items) in
-    let left = left_at item_data items l.item-index item c.loop-item-test.true c.item-item.is in
-    next_has_room taken (item_data item) (map item_data (drop (l.item-index + 1) items)) c.args.test.now c.args.marks.now l.test l.marks
-    (subst (λ (more : List ItemData). HasTaken taken more c.args.test.now c.args.marks.now l.test l.marks) left l.invariant)
+    record {
+      room = next_has_room taken (item_data item) (map item_data (drop (l.item-index + 1) items)) c.args.test.now c.args.marks.now l.test l.marks
+          (subst (λ (more : List ItemData). HasTaken taken more c.args.test.now c.args.marks.now l.test l.marks) left l.invariant);
+    }
 
 pub returns-in_err-add_item-clause-marks_held : goal.returns-in_err-add_item-clause-marks_held
 returns-in_err-add_item-clause-marks_held g c =

@@ -10,7 +10,7 @@ invariant_of-self g c =
     let book = c.self.inside in
     let dropped : (table : Table) → StandsFor book.store table → StandsFor c.drop_test.new.self (without_test c.args.test.now table) =
     λ table stands. subst (λ (test : List ℕ). StandsFor c.drop_test.new.self (without_test test table)) c.get.ensures (c.drop_test.ensures.stands table stands) in
-    dropped_book book.store c.drop_test.new.self book.accepted book.history.room book.history.entries c.args.self.now c.append.new.self.entries _ c.args.test.now c.self.invariant c.self.view_is c.requires.room c.requires.next c.requires.planned
+    dropped_book book.store c.drop_test.new.self book.accepted book.history.room book.history.entries c.args.self.now c.append.new.self.entries _ c.args.test.now c.self.invariant c.requires.lawful c.self.view_is c.requires.room c.requires.next c.requires.planned
     dropped c.append.ensures
 
 pub returns-clause-legal : goal.returns-clause-legal

@@ -1,5 +1,7 @@
-use Rattle.std.proofs.Common.{sym, ap, ◌∙◌}
-use Rattle.covbook.specs.Op.{SubmitOp}
+use Rattle.std.proofs.Common.{ℕ, ◌+◌, length, sym, ap, subst, ◌∙◌}
+use Rattle.covline.specs.Lawful.{IsLawful}
+use Rattle.covline.specs.Row.{items_in}
+use Rattle.covbook.specs.Op.{AcceptedAnswer, SubmitOp}
 use Rattle.covbook.specs.Step.{table_of, totals_at, ops_in}
 use Rattle.covbook.specs.View.{answer_data}
 use Rattle.covbook.proofs.Halves.{next_with}
@@ -23,5 +25,16 @@ changing-requires-clause-next g c =
     let table = table_of (ops_in book.history.entries) in
     let same = c.get-given.ensures ∙ sym c.in_ok-copy.ensures in
     let after = c.in-Ok.ensures.after table c.self.invariant.stands ∙ ap totals_at (sym (table_with book.store table own given c.self.invariant.stands c.in-Ok.ensures.agrees same)) in
-    let answer = c.accepting-answer.ensures ∙ answer_with book.store table own given c.self.invariant.stands c.in-Ok.ensures.agrees same in
+    let number = length table + 1 in
+    let answer =
+    c.accepting-answer.ensures
+    ∙ ap (λ (n : ℕ). AcceptedAnswer number n c.odd.result) c.items-items.ensures.count
+    ∙ ap (λ (n : ℕ). AcceptedAnswer number (items_in given.sects) n) c.odd.ensures
+    ∙ answer_with book.store table own given c.self.invariant.stands c.in-Ok.ensures.agrees same in
     next_with book.history.entries c.args.job (SubmitOp own) (answer_data c.accepting-answer.result) c.after-after.result answer (c.after-after.ensures.value ∙ after)
+
+pub changing-requires-clause-lawful : goal.changing-requires-clause-lawful
+changing-requires-clause-lawful g c = subst IsLawful (c.get-given.ensures ∙ sym c.in_ok-copy.ensures) c.items-items.ensures.lawful
+
+pub noting-requires-clause-lawful : goal.noting-requires-clause-lawful
+noting-requires-clause-lawful g c = subst IsLawful (c.get-given.ensures ∙ sym c.in_ok-copy.ensures) c.items-items.ensures.lawful

@@ -1,7 +1,7 @@
 use Rattle.std.proofs.Common.{◌≡◌, ◌<◌, ◌++◌, ◌∷◌, List, length, map, sym, ap, subst, ◌∙◌, arith}
 use Rattle.std.proofs.lemmas.List.{map-set, length-map}
 use Rattle.covline.specs.Row.{ItemData, item_data, with_start}
-use Rattle.covline.specs.Lawful.{Fits64, AllFit64}
+use Rattle.covline.specs.Lawful.{FitsItem, AllFit}
 use Rattle.covline.specs.declared.item.Item.{Item}
 use Rattle.covline.specs.declared.item.Item.TheVariants as items
 use Rattle.covline.proofs.ItemStarts.{all_fit_set, stood, started, others_stay, fits_at}
@@ -31,14 +31,14 @@ invariant_of-self g c =
     let all = c.self.inside.items.items in
     let len : length (map (item_data {A = g.row.A.Denot}) all) ≡ length all = length-map all (item_data {A = g.row.A.Denot}) in
     let low : c.args.at < length all = omega (arith, c.requires, len, ap length c.self.view_is) in
-    let fits : Fits64 (item_data {A = g.row.A.Denot} c.index_mut.result.now) = subst (λ (i : Item g.row.A.Denot). Fits64 (item_data {A = g.row.A.Denot} i)) (sym c.index_mut.ensures.value) (fits_at all c.args.at c.index_mut.result.now c.self.invariant low) in
+    let fits : FitsItem (item_data {A = g.row.A.Denot} c.index_mut.result.now) = subst (λ (i : Item g.row.A.Denot). FitsItem (item_data {A = g.row.A.Denot} i)) (sym c.index_mut.ensures.value) (fits_at all c.args.at c.index_mut.result.now c.self.invariant low) in
     elim c.match-index_mut.branch [
       | in-Func w ↦
           let new : Item g.row.A.Denot = items.Func w.in-Func.name c.args.line w.in-Func.count in
-          let was : Fits64 (item_data {A = g.row.A.Denot} (items.Func w.in-Func.name w.in-Func.start w.in-Func.count)) = subst (λ (i : Item g.row.A.Denot). Fits64 (item_data {A = g.row.A.Denot} i)) w.in-Func.is fits in
-          rw w.self-inside-is (subst (λ (xs : List ItemData). AllFit64 xs) (sym (map-set (item_data {A = g.row.A.Denot}) all c.args.at new)) (all_fit_set (map (item_data {A = g.row.A.Denot}) all) c.args.at (item_data {A = g.row.A.Denot} new) c.self.invariant (c.ranges.line.fits, was.1)))
+          let was : FitsItem (item_data {A = g.row.A.Denot} (items.Func w.in-Func.name w.in-Func.start w.in-Func.count)) = subst (λ (i : Item g.row.A.Denot). FitsItem (item_data {A = g.row.A.Denot} i)) w.in-Func.is fits in
+          rw w.self-inside-is (subst (λ (xs : List ItemData). AllFit xs) (sym (map-set (item_data {A = g.row.A.Denot}) all c.args.at new)) (all_fit_set (map (item_data {A = g.row.A.Denot}) all) c.args.at (item_data {A = g.row.A.Denot} new) c.self.invariant (c.ranges.line.fits, was.1)))
       | in_default w ↦
           let new : Item g.row.A.Denot = c.index_mut.result.now in
-          let fits' : Fits64 (item_data {A = g.row.A.Denot} new) = fits in
-          rw w.self-inside-is (subst (λ (xs : List ItemData). AllFit64 xs) (sym (map-set (item_data {A = g.row.A.Denot}) all c.args.at new)) (all_fit_set (map (item_data {A = g.row.A.Denot}) all) c.args.at (item_data {A = g.row.A.Denot} new) c.self.invariant fits'))
+          let fits' : FitsItem (item_data {A = g.row.A.Denot} new) = fits in
+          rw w.self-inside-is (subst (λ (xs : List ItemData). AllFit xs) (sym (map-set (item_data {A = g.row.A.Denot}) all c.args.at new)) (all_fit_set (map (item_data {A = g.row.A.Denot}) all) c.args.at (item_data {A = g.row.A.Denot} new) c.self.invariant fits'))
     ]

@@ -1,8 +1,7 @@
-use Rattle.std.proofs.Common.{◌≡◌, ◌+◌, ◌++◌, ◌∷◌, [], List, length, sym, ◌∙◌, ap, subst, arith, rules, length-append}
+use Rattle.std.proofs.Common.{◌≡◌, ◌++◌, ◌∷◌, [], List, length, sym, ◌∙◌, ap, subst, arith, rules, length-append}
 use Rattle.covbook.specs.EntryView.{entry_data}
 use Rattle.covbook.specs.Op.{EntryData}
-use Rattle.covbook.specs.Step.{IsLegal, last_totals}
-use Rattle.covnews.specs.History.{ComesNext}
+use Rattle.covbook.specs.Step.{ComesNext, IsLegal, last_totals}
 use Rattle.covnews.proofs.Appending.{may_append}
 use Rattle.covnews.proofs.Runs.{last_totals-next, legal_with_next}
 use Rattle.covnews.proofs.news.News.appended.Goals as goal

@@ -1,4 +1,3 @@
-use Rattle.std.proofs.Common.{◌≡◌}
 use Rattle.covbook.specs.Step.{IsLegal}
 use Rattle.covnews.proofs.Runs.{legal_before}
 use Rattle.covnews.proofs.news.News.of.Goals as goal

@@ -1,6 +1,6 @@
 use Rattle.std.proofs.Common.{subst, sym}
 use Rattle.covbook.specs.EntryView.{entry_data}
-use Rattle.covnews.specs.History.{ComesNext}
+use Rattle.covbook.specs.Step.{ComesNext}
 use Rattle.covnews.specs.Publisher.{PublisherData}
 use Rattle.covnews.proofs.publisher.Publisher.note.Goals as goal
 

@@ -6,12 +6,12 @@ use Rattle.covstore.proofs.marks.drops.drop_functions.Goals as goal
 pub remove-requires : goal.remove-requires
 remove-requires g c =
     losing_can names_order function_above c.args.functions.now.held c.args.kept.now.held
-    c.in-Some.name.now c.in-Some.sum.now c.get.result.now c.get.ensures c.is_hit.result c.is_hit.ensures c.loop-name.name-iterator c.next.new.self c.in-Some.ensures.steps c.loop-name.kept.held c.loop-name.invariant.0 c.requires
+    c.in-Some.name.now c.in-Some.sum.now c.get.result.now c.get.ensures c.is_above.result c.is_above.ensures c.loop-name.name-iterator c.next.new.self c.in-Some.ensures.steps c.loop-name.kept.held c.loop-name.invariant.0 c.requires
 
 pub loop-name-preserved : goal.loop-name-preserved
 loop-name-preserved g c = (
   losing_more names_order function_above c.args.functions.now.held c.args.kept.now.held
-      c.in-Some.name.now c.in-Some.sum.now c.get.result.now c.get.ensures c.is_hit.result c.is_hit.ensures c.loop-name.name-iterator c.next.new.self c.in-Some.ensures.steps c.loop-name.kept.held c.loop-name.invariant.0
+      c.in-Some.name.now c.in-Some.sum.now c.get.result.now c.get.ensures c.is_above.result c.is_above.ensures c.loop-name.name-iterator c.next.new.self c.in-Some.ensures.steps c.loop-name.kept.held c.loop-name.invariant.0
       c.remove.new.self.held c.remove.ensures.held,
   c.remove.ensures.coming,
 )

@@ -6,17 +6,17 @@ use Rattle.covstore.proofs.marks.drops.functions_without.Goals as goal
 pub pass-walk-requires-clause-lose : goal.pass-walk-requires-clause-lose
 pass-walk-requires-clause-lose g c =
     tallying_can names_order function_above c.args.functions.now.held c.args.kept.now.held
-    c.in-Some.name.now c.in-Some.sum.now c.get.result.now c.get.ensures c.is_hit.result c.is_hit.ensures c.loop-name.name-iterator c.next.new.self c.in-Some.ensures.steps c.loop-name.walk.tally c.loop-name.invariant c.requires
+    c.in-Some.name.now c.in-Some.sum.now c.get.result.now c.get.ensures c.is_above.result c.is_above.ensures c.loop-name.name-iterator c.next.new.self c.in-Some.ensures.steps c.loop-name.walk.tally c.loop-name.invariant c.requires
 
 pub pass-walk-requires-clause-at : goal.pass-walk-requires-clause-at
 pass-walk-requires-clause-at g c =
     tallying_at names_order function_above c.args.functions.now.held c.args.kept.now.held
-    c.in-Some.name.now c.in-Some.sum.now c.get.result.now c.get.ensures c.is_hit.result c.is_hit.ensures c.loop-name.name-iterator c.next.new.self c.in-Some.ensures.steps c.loop-name.walk.tally c.loop-name.invariant c.requires
+    c.in-Some.name.now c.in-Some.sum.now c.get.result.now c.get.ensures c.is_above.result c.is_above.ensures c.loop-name.name-iterator c.next.new.self c.in-Some.ensures.steps c.loop-name.walk.tally c.loop-name.invariant c.requires
 
 pub loop-name-preserved : goal.loop-name-preserved
 loop-name-preserved g c =
     tallying_more names_order function_above c.args.functions.now.held c.args.kept.now.held
-    c.in-Some.name.now c.in-Some.sum.now c.get.result.now c.get.ensures c.is_hit.result c.is_hit.ensures c.loop-name.name-iterator c.next.new.self c.in-Some.ensures.steps c.loop-name.walk.tally c.loop-name.invariant
+    c.in-Some.name.now c.in-Some.sum.now c.get.result.now c.get.ensures c.is_above.result c.is_above.ensures c.loop-name.name-iterator c.next.new.self c.in-Some.ensures.steps c.loop-name.walk.tally c.loop-name.invariant
     c.pass-walk.result.tally c.pass-walk.ensures
 
 pub returns : goal.returns

@@ -14,7 +14,7 @@ pub returns-in-Source-clause-test : goal.returns-in-Source-clause-test
 returns-in-Source-clause-test g c = c.source.ensures.test
 
 pub returns-in-Function-clause-steps : goal.returns-in-Function-clause-steps
-returns-in-Function-clause-steps g c = rw c.in-Function.is c.wait.ensures.steps
+returns-in-Function-clause-steps g c = rw (c.in-Function.is, sym c.from.ensures) c.wait.ensures.steps
 
 pub returns-in-Function-clause-test : goal.returns-in-Function-clause-test
 returns-in-Function-clause-test g c = c.wait.ensures.test

@@ -3,22 +3,22 @@ use Rattle.covread.proofs.TraceBetween.{skipped}
 use Rattle.covread.proofs.trace.reader.Reader.take.Goals as goal
 
 pub keep-requires : goal.keep-requires
-keep-requires g c = c.requires.room
+keep-requires g c = c.requires
 
 pub keep-requires-in-FuncCount : goal.keep-requires-in-FuncCount
-keep-requires-in-FuncCount g c = c.requires.room
+keep-requires-in-FuncCount g c = c.requires
 
 pub keep-requires-in-Branch : goal.keep-requires-in-Branch
-keep-requires-in-Branch g c = c.requires.room
+keep-requires-in-Branch g c = c.requires
 
 pub keep-requires-in-Line : goal.keep-requires-in-Line
-keep-requires-in-Line g c = c.requires.room
+keep-requires-in-Line g c = c.requires
 
 pub keep-requires-in-Total : goal.keep-requires-in-Total
-keep-requires-in-Total g c = c.requires.room
+keep-requires-in-Total g c = c.requires
 
 pub end-requires : goal.end-requires
-end-requires g c = c.requires.room
+end-requires g c = c.requires
 
 pub returns-in-Test : goal.returns-in-Test
 returns-in-Test g c = λ inside is. rw c.in-Test.is (c.name_test.ensures inside is)

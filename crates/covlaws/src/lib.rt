@@ -1,0 +1,104 @@
+//! Laws of reading, adding up and printing together. The functions do nothing: the contract is the law.
+//!
+//! A tracefile of at most 67,108,864 bytes that a run prints reads back: read and submitted to an empty book it is printed
+//! again, byte for byte.
+//!
+//! So merges can be merged: what the reports of several machines are read as gives together the same texts as all that was
+//! handed in on any of them. This holds if
+//!
+//! - the checksums of all that was handed in agree,
+//! - nothing was dropped on the machines before their reports,
+//! - each report has at most 67,108,864 bytes.
+//!
+//! The laws speak of definitions. The contracts of `covread::read_trace` and `covbook::Book` carry them into the product:
+//! what `read_trace` answers is what the text is read as, and a book's answers are those of a run over lawful operations.
+#![tactic(auto)]
+
+ghost use Rattle.std.specs.Prelude.{◌≡◌, ◌≤◌, ◌++◌, ◌∷◌, ℕ, List, length, map, filter};
+ghost use Rattle.std.specs.List.{AllByRecursion, flat_map};
+ghost use Rattle.covline.specs.Row.{Row, SubmissionData, rows_of};
+ghost use Rattle.covline.specs.Lines.{lines_of};
+ghost use Rattle.covline.specs.Lawful.{IsLawful};
+ghost use Rattle.covread.specs.Outcome.{most_bytes};
+ghost use Rattle.covread.specs.Reads.{Reads};
+ghost use Rattle.covstore.specs.Clash.{Agree, checksums_in};
+ghost use Rattle.covstore.specs.Content.{SectionData, content_of};
+ghost use Rattle.covstore.specs.Table.{all_rows};
+ghost use Rattle.covreport.specs.Choice.{ChoiceData, is_chosen};
+ghost use Rattle.covreport.specs.Report.{section_text};
+ghost use Rattle.covbook.specs.Op.{AreLawfulOps, EntryData, OpData, SubmitOp, TextAnswer};
+ghost use Rattle.covbook.specs.Order.{AreAgreeing};
+ghost use Rattle.covbook.specs.Step.{IsLegal, answer_of, ops_in, table_of};
+ghost use Rattle.covbook.specs.Texts.{IsText};
+ghost use Rattle.covlaws.specs.Printable.{IsLawfulRow, IsPrintable, submission_shown};
+ghost use Rattle.covlaws.specs.ReadsBack.{AreMergesOf, IsReport, ReadsBack};
+
+use covbook::laws::{no_versions_are_mixed, order_does_not_matter};
+use covline::laws::printed_records_spell;
+use covline::lines_are_the_text;
+use covread::each_text_has_one_outcome;
+use covstore::laws::{order_of_rows_does_not_matter, the_first_clash_is_told};
+
+/// Each text that a run over lawful operations answers to a report, an extract or a remove reads back, if it has at most
+/// 67,108,864 bytes: it is read as a lawful submission with no odd line, an empty book accepts that, and reports the same text.
+pub fn reports_read_back()
+    ensures { (ops : List OpData) → AreLawfulOps ops → (op : OpData) → IsReport op → (text : List ℕ) → answer_of (table_of ops) op ≡ TextAnswer text → length text ≤ most_bytes → ReadsBack text }
+{
+    printed_records_spell();
+    lines_are_the_text();
+    the_first_clash_is_told();
+    no_versions_are_mixed();
+}
+
+/// The same of a legal history with lawful operations: the text of each entry that answers a report, an extract or a remove
+/// reads back, if it has at most 67,108,864 bytes.
+pub fn each_report_of_a_history_reads_back()
+    ensures { (entries : List EntryData) → IsLegal entries → AreLawfulOps (ops_in entries) → (before after : List EntryData) (entry : EntryData) → entries ≡ before ++ entry ∷ after
+        → IsReport entry.op → (text : List ℕ) → entry.answer ≡ TextAnswer text → length text ≤ most_bytes → ReadsBack text }
+{
+    reports_read_back();
+}
+
+/// A merge of merges is the merge of all. Lawful submissions are divided into parts, one for each machine. The merge of a part
+/// is what its report is read as. Other submissions may stand beside the merges, handed in as they are. This holds if
+///
+/// - the checksums of all submissions agree,
+/// - nothing was dropped before a report: it is that of a run over the part's submissions alone,
+/// - each report has at most 67,108,864 bytes.
+///
+/// Then the merges are lawful, so they can be merged again. The checksums of the merges and the others agree, and they give
+/// together the same texts as all submissions.
+pub fn a_merge_of_merges_is_the_merge_of_all()
+    ensures lawful { (parts : List (List SubmissionData)) (merges : List SubmissionData) → AllByRecursion IsLawful (flat_map (λ part. part) parts) → AreAgreeing (flat_map (λ part. part) parts) → AreMergesOf parts merges → AllByRecursion IsLawful merges }
+    ensures agree { (parts : List (List SubmissionData)) (merges others : List SubmissionData) → AllByRecursion IsLawful (flat_map (λ part. part) parts) → AreAgreeing (flat_map (λ part. part) parts ++ others) → AreMergesOf parts merges → AreAgreeing (merges ++ others) }
+    ensures texts { (parts : List (List SubmissionData)) (merges others : List SubmissionData) → AllByRecursion IsLawful (flat_map (λ part. part) parts) → AreAgreeing (flat_map (λ part. part) parts ++ others) → AreMergesOf parts merges
+        → (op : OpData) → IsText op → answer_of (table_of (map SubmitOp (merges ++ others))) op ≡ answer_of (table_of (map SubmitOp (flat_map (λ part. part) parts ++ others))) op }
+{
+    printed_records_spell();
+    lines_are_the_text();
+    each_text_has_one_outcome();
+    order_does_not_matter();
+    order_of_rows_does_not_matter();
+}
+
+/// The text of printable sections is read as what they show, which is lawful.
+pub fn printed_sections_read_back()
+    ensures reads { (sections : List SectionData) → IsPrintable sections → length (flat_map section_text sections) ≤ most_bytes → Reads (lines_of (flat_map section_text sections)) (submission_shown sections) }
+    ensures lawful { (sections : List SectionData) → IsPrintable sections → length (flat_map section_text sections) ≤ most_bytes → IsLawful (submission_shown sections) }
+{
+    printed_records_spell();
+    lines_are_the_text();
+}
+
+/// What lawful rows add up to is printable, where their checksums agree. What is chosen of it is what the rows of the chosen
+/// files add up to, and all rows of a run over lawful operations are lawful.
+pub fn lawful_rows_are_printable()
+    ensures printable { (rows : List Row) → AllByRecursion IsLawfulRow rows → Agree (checksums_in rows) → IsPrintable (content_of rows) }
+    ensures chosen { (choice : ChoiceData) (rows : List Row) → filter (λ s. is_chosen choice s.key.file) (content_of rows) ≡ content_of (filter (λ row. is_chosen choice row.file) rows) }
+    ensures run { (ops : List OpData) → AreLawfulOps ops → AllByRecursion IsLawfulRow (all_rows (table_of ops)) }
+{}
+
+/// What rows add up to may stand for them: what it is read as adds up, with whatever else, to the same.
+pub fn a_report_stands_for_its_rows()
+    ensures { (rows others : List Row) → content_of (rows_of (submission_shown (content_of rows)) ++ others) ≡ content_of (rows ++ others) }
+{}

@@ -1,0 +1,93 @@
+-- First lines that are read without being cut: they count a line or tell of a branch in digits alone, with numbers below
+-- 2^64, and a line feed ends them.
+use Rattle.std.specs.Prelude.{◌≡◌, ℕ, ◌<◌, ◌^◌, ◌==◌, if◌then◌else◌, List, [], ◌∷◌, ◌++◌, Option, Some, None, codes, option_map}
+use Rattle.std.specs.Option.{option_and_then}
+use Rattle.covline.specs.declared.reader.Number.{Number}
+use Rattle.covline.specs.declared.reader.Number.TheVariants.{Value, Wide, TooLarge}
+use Rattle.covline.specs.Lines.{line_feed}
+use Rattle.covline.specs.Points.{BranchPoint}
+use Rattle.covline.specs.Spells.{comma, minus, IsNumeral, IsTaken}
+use Rattle.covline.specs.Reading.{behind_key, field_at, number_at}
+
+-- the text begins with `DA:`, the digits of these numbers and a line feed, and this follows
+pub record BeginsWithCountLine (text : List ℕ) (line count : ℕ) (rest : List ℕ) : Type 0 where
+  pub digits : List ℕ
+  pub counts : List ℕ
+  pub parts : text ≡ codes "DA:" ++ (digits ++ comma ∷ (counts ++ line_feed ∷ rest))
+  pub line_is : IsNumeral digits line
+  pub count_is : IsNumeral counts count
+  pub line_small : line < 2 ^ 64
+  pub count_small : count < 2 ^ 64
+
+-- a number that may be missing is below 2^64
+abbrev pub IsSmallIfAny : Option ℕ → Type 0
+IsSmallIfAny None = Unit {0}
+IsSmallIfAny (Some n) = n < 2 ^ 64
+
+-- the text begins with `BRDA:`, the digits of these numbers (or `-` for the last one) and a line feed, and this follows
+pub record BeginsWithBranchLine (text : List ℕ) (point : BranchPoint) (taken : Option ℕ) (rest : List ℕ) : Type 0 where
+  pub digits : List ℕ
+  pub blocks : List ℕ
+  pub branches : List ℕ
+  pub word : List ℕ
+  pub parts : text ≡ codes "BRDA:" ++ (digits ++ comma ∷ (blocks ++ comma ∷ (branches ++ comma ∷ (word ++ line_feed ∷ rest))))
+  pub line_is : IsNumeral digits point.line
+  pub block_is : IsNumeral blocks point.block
+  pub branch_is : IsNumeral branches point.branch
+  pub taken_is : IsTaken word taken
+  pub line_small : point.line < 2 ^ 64
+  pub block_small : point.block < 2 ^ 64
+  pub branch_small : point.branch < 2 ^ 64
+  pub taken_small : IsSmallIfAny taken
+
+-- ---- how they are read: from left to right
+
+-- the number, where it is one of 64 bits
+abbrev pub small_of : Number → Option ℕ
+small_of (Value n) = Some n
+small_of (Wide n) = None
+small_of TooLarge = None
+
+abbrev pub small_front : Option (Number × List ℕ) → Option (ℕ × List ℕ)
+small_front front = option_and_then (λ (f : Number × List ℕ). option_map (λ (n : ℕ). (n, f.1)) (small_of f.0)) front
+
+-- how often a branch was taken, and what follows it
+abbrev pub taken_front : List ℕ → Option (Option ℕ × List ℕ)
+taken_front [] = None
+taken_front (b ∷ bs) = if b == minus then Some (None, bs) else option_map (λ (f : ℕ × List ℕ). (Some f.0, f.1)) (small_front (number_at (b ∷ bs)))
+
+-- what follows a line feed
+abbrev pub behind_feed : List ℕ → Option (List ℕ)
+behind_feed text = behind_key (line_feed ∷ []) text
+
+-- a counted line behind its key, its line and its count
+abbrev pub count_end : ℕ → ℕ × List ℕ → Option ((ℕ × ℕ) × List ℕ)
+count_end line count = option_map (λ (rest : List ℕ). ((line, count.0), rest)) (behind_feed count.1)
+
+abbrev pub count_behind_line : ℕ × List ℕ → Option ((ℕ × ℕ) × List ℕ)
+count_behind_line line = option_and_then (count_end line.0) (small_front (number_at line.1))
+
+abbrev pub count_behind_key : List ℕ → Option ((ℕ × ℕ) × List ℕ)
+count_behind_key fields = option_and_then count_behind_line (small_front (field_at fields))
+
+abbrev pub count_front : List ℕ → Option ((ℕ × ℕ) × List ℕ)
+count_front text = option_and_then count_behind_key (behind_key (codes "DA:") text)
+
+-- a branch behind its key, its line, its block, its number and how often it was taken
+abbrev pub branch_end : BranchPoint → Option ℕ × List ℕ → Option ((BranchPoint × Option ℕ) × List ℕ)
+branch_end point taken = option_map (λ (rest : List ℕ). ((point, taken.0), rest)) (behind_feed taken.1)
+
+abbrev pub branch_behind_number : ℕ → ℕ → ℕ × List ℕ → Option ((BranchPoint × Option ℕ) × List ℕ)
+branch_behind_number line block branch = option_and_then (branch_end (record { line = line; block = block; branch = branch.0 })) (taken_front branch.1)
+
+abbrev pub branch_behind_block : ℕ → ℕ × List ℕ → Option ((BranchPoint × Option ℕ) × List ℕ)
+branch_behind_block line block = option_and_then (branch_behind_number line block.0) (small_front (field_at block.1))
+
+abbrev pub branch_behind_line : ℕ × List ℕ → Option ((BranchPoint × Option ℕ) × List ℕ)
+branch_behind_line line = option_and_then (branch_behind_block line.0) (small_front (field_at line.1))
+
+abbrev pub branch_behind_key : List ℕ → Option ((BranchPoint × Option ℕ) × List ℕ)
+branch_behind_key fields = option_and_then branch_behind_line (small_front (field_at fields))
+
+abbrev pub branch_front : List ℕ → Option ((BranchPoint × Option ℕ) × List ℕ)
+branch_front text = option_and_then branch_behind_key (behind_key (codes "BRDA:") text)

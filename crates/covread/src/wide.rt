@@ -1,0 +1,14 @@
+//! Numbers of 64 bits as counts of 128 bits.
+
+ghost use Rattle.std.specs.Prelude.{◌≡◌};
+
+/// How often a branch was taken, where it is known, as a count.
+#[inline]
+pub(crate) fn wide(taken: Option<u64>) -> Option<u128>
+    ensures { result ≡ taken }
+{
+    match taken {
+        Some(taken) => Some(u128::from(taken)),
+        None => None,
+    }
+}
