@@ -18,7 +18,7 @@
 # Machine names consist of letters, digits, '.', '_' and '-' and begin with a letter or digit. Tracefile names end in .info, can have
 # any other bytes, and are ignored if they begin with a dot: so a machine can write to .NAME and rename it when it is complete.
 #
-# That the result is that of a single merge is proved for shares of at most 67,108,864 bytes (64 MiB), where each share is one merge.
+# That the result is that of a single merge rests on a proved law, for shares of at most 67,108,864 bytes (64 MiB), each one merge.
 # The last merge refuses a larger share (TooLong) and names it. Then use smaller folders, or a single merge. A total has up to some
 # 2,000 machines: all shares are on one command line.
 

@@ -1,8 +1,6 @@
 -- The rows of a table that lawful operations leave are lawful.
 use Rattle.std.proofs.Common.{◌≡◌, ℕ, Bool, true, false, not, Option, Some, None, List, [], ◌∷◌, ◌++◌, map, filter, refl, sym, ap, ◌∙◌, subst}
 use Rattle.std.specs.List.{AllByRecursion, flat_map}
-use Rattle.std.proofs.lemmas.List.{append-nil}
-use Rattle.std.proofs.lemmas.List.Concat.{flat_map-append}
 use Rattle.std.proofs.lemmas.List.Elements.{filter-append, recursion_from_All}
 use Rattle.covstore.specs.Clash.{ClashData}
 use Rattle.covline.specs.Lawful.{AllFit, IsGoodName, IsGoodTest, IsLawful, IsLawfulItem, IsLawfulSect}
@@ -13,7 +11,7 @@ use Rattle.covbook.specs.Step.{has_test, table_after, table_after_drop, table_af
 use Rattle.covstore.specs.Table.{Table, all_rows, clash_at}
 use Rattle.covstore.specs.Without.{is_of_test, without_test}
 use Rattle.covstore.proofs.WithoutContent.{All-picked}
-use Rattle.covstore.proofs.Stores.{All-joined}
+use Rattle.covstore.proofs.Stores.{All-joined, rows_accepted}
 
 -- ---- the rows of a lawful submission
 
@@ -40,9 +38,6 @@ lawful_rows s lawful = rows_of_sects s.sects (recursion_from_All IsLawfulSect s.
 abbrev IsLawfulTable : Table → Type 0
 IsLawfulTable table = AllByRecursion IsLawfulRow (all_rows table)
 
-rows_more : (table : Table) (rows : List Row) → all_rows (table ++ rows ∷ []) ≡ all_rows table ++ rows
-rows_more table rows = flat_map-append (λ (own : List Row). own) table (rows ∷ []) ∙ ap (λ (more : List Row). all_rows table ++ more) (append-nil rows)
-
 rows_left : (test : List ℕ) (table : Table) → all_rows (without_test test table) ≡ filter (λ row. not (is_of_test test row)) (all_rows table)
 rows_left test [] = refl
 rows_left test (rows ∷ table) =
@@ -52,7 +47,7 @@ rows_left test (rows ∷ table) =
 after_submit : (table : Table) (s : SubmissionData) (clash : Option ClashData) → IsLawfulTable table → IsLawful s → IsLawfulTable (table_after_submit table s clash)
 after_submit table s (Some clash) held lawful = held
 after_submit table s None held lawful =
-    subst (AllByRecursion IsLawfulRow) (sym (rows_more table (rows_of s))) (All-joined IsLawfulRow (all_rows table) (rows_of s) held (lawful_rows s lawful))
+    subst (AllByRecursion IsLawfulRow) (sym (rows_accepted table (rows_of s))) (All-joined IsLawfulRow (all_rows table) (rows_of s) held (lawful_rows s lawful))
 
 after_drop : (table : Table) (test : List ℕ) (there : Bool) → IsLawfulTable table → IsLawfulTable (table_after_drop table test there)
 after_drop table test true held =

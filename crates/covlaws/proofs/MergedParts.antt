@@ -25,14 +25,15 @@ use Rattle.covreport.specs.Summary.{summary_of}
 use Rattle.covstore.specs.Table.{Table}
 use Rattle.covbook.specs.Texts.{IsText}
 use Rattle.covstore.specs.Totals.{totals_of}
-use Rattle.covlaws.proofs.Apart.{all_back, all_front}
+use Rattle.covstore.proofs.Leads.{all_back, all_front}
 use Rattle.covlaws.proofs.LawfulRun.{lawful_rows}
 use Rattle.covlaws.proofs.PrintableContent.{checksums_shown, printable_content}
 use Rattle.covlaws.proofs.ReadBack.{shown_is_lawful}
 use Rattle.covlaws.proofs.ReportsBack.{same_text, text_of_all, text_read}
 use Rattle.covstore.proofs.Stores.{All-joined}
 use Rattle.covstore.proofs.Members.{Contains-from, In, In-from, In-joined, In-parts}
-use Rattle.covlaws.proofs.StandsForRows.{content_more, stands_for_rows}
+use Rattle.covstore.proofs.Contents.{content-append}
+use Rattle.covlaws.proofs.StandsForRows.{stands_for_rows}
 
 -- ---- rows whose checksums are among those of others
 
@@ -136,7 +137,7 @@ module _ (order : SameInAnyOrder) where
   content_behind front rows others agree among same =
       swapped front rows (agree_among (front ++ rows) (front ++ others)
       (among_both front rows (front ++ others) (among_front front others) (λ c i. among_back front others c (among c i))) agree)
-      ∙ content_more rows others front same
+      ∙ content-append rows others front same
       ∙ swapped others front (agree_among (others ++ front) (front ++ others)
       (among_both others front (front ++ others) (among_back front others) (among_front front others)) agree)
 
@@ -153,7 +154,7 @@ module _ (order : SameInAnyOrder) where
   content_beside : (parts : List (List SubmissionData)) (others : List SubmissionData) → AreAgreeing (all_in parts) → content_of (rows_in (map shown_of parts ++ others)) ≡ content_of (rows_in (all_in parts ++ others))
   content_beside parts others agree =
       ap content_of (rows_in_joined (map shown_of parts) others)
-      ∙ content_more (rows_shown parts) (rows_in (all_in parts)) (rows_in others) (content_of_parts parts agree)
+      ∙ content-append (rows_shown parts) (rows_in (all_in parts)) (rows_in others) (content_of_parts parts agree)
       ∙ ap content_of (sym (rows_in_joined (all_in parts) others))
 
 -- ---- a text depends on what the table adds up to alone

@@ -1,17 +1,16 @@
 -- What lawful rows add up to is printable.
-use Rattle.std.proofs.Common.{◌≡◌, ℕ, Bool, true, false, ◌&&◌, cond, eqb, Option, Some, None, List, [], ◌∷◌, map, filter, refl, sym, ap, ◌∙◌, subst, inl, inr}
+use Rattle.std.proofs.Common.{◌≡◌, ℕ, Bool, true, false, cond, eqb, Option, Some, None, List, [], ◌∷◌, map, filter, refl, sym, ap, ◌∙◌, subst, inl, inr}
 use Rattle.std.specs.Prelude.{Contains}
 use Rattle.std.specs.List.{AllByRecursion, flat_map}
 use Rattle.std.specs.List.Sorted.{IsStrictlySortedBy}
-use Rattle.std.specs.Str.{bytes_eq}
 use Rattle.std.proofs.lemmas.Bool.{eqb-true}
-use Rattle.std.proofs.lemmas.Slice.Eq.{bytes_eq-Decides}
 use Rattle.covstore.specs.Clash.{Agree, Checksum, checksum_of, checksum_of_row, checksums_in}
 use Rattle.covstore.specs.Content.{content_of, section_of}
 use Rattle.covline.specs.Lawful.{FitsItem, IsLawfulItem}
 use Rattle.covlaws.specs.Printable.{IsLawfulRow, IsPrintable, IsPrintableSection, items_shown, sect_shown, submission_shown}
 use Rattle.covline.specs.Row.{ItemData, LineItem, FuncItem, BranchItem, Row, rows_of, rows_of_sect}
 use Rattle.covstore.specs.Value.{Key, checksum_said, has_key, items_at, key_cmp, key_of_row, keys_of, line_checksum, line_value}
+use Rattle.covstore.proofs.ContentsChecksums.{own_row}
 use Rattle.covstore.proofs.WithoutContent.{All-picked}
 use Rattle.covstore.proofs.ContentsSections.{own_key}
 use Rattle.covlaws.proofs.PrintablePoints.{all_shown, first_in, fit_shown, lawful_shown, map_back, points_in_order, some_shown}
@@ -81,10 +80,6 @@ module _ (rows : List Row) where
       Contains-from (checksums_in rows) c (All-in (λ row. IsAmong row.file row.item) given from.0 (rows_among (keys_of rows)) from.1 c from.2)
 
 -- ---- each section is printable
-
-own_row : (row : Row) → has_key (key_of_row row) row ≡ true
-own_row row =
-    ap (λ (b : Bool). b && bytes_eq row.test row.test) ((bytes_eq-Decides row.file row.file).1 refl) ∙ (bytes_eq-Decides row.test row.test).1 refl
 
 module _ (rows : List Row) (lawful : AllByRecursion IsLawfulRow rows) where
   -- what holds of lawful rows holds of the items of a file and a test

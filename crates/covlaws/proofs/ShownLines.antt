@@ -17,7 +17,8 @@ use Rattle.covstore.specs.Value.{is_taken}
 use Rattle.covstore.specs.Content.{FunctionValueData, SectionData}
 use Rattle.covreport.specs.Report.{by_start, start_record, call_record, functions_hit, branch_record, branches_hit, line_record, lines_hit, section_records, section_text}
 use Rattle.covlaws.specs.Printable.{start_item, call_item, branch_item, line_item, items_shown, IsPrintableSection}
-use Rattle.covlaws.proofs.Apart.{all_zip, all_more, all_joined, all_front, all_back, all_mapped, all_unmapped}
+use Rattle.covstore.proofs.Leads.{all_append, all_front, all_back}
+use Rattle.covlaws.proofs.Apart.{all_zip, all_more, all_mapped, all_unmapped}
 use Rattle.covlaws.proofs.ShownParts.{function_totals, branch_totals, line_totals}
 use Rattle.covlaws.proofs.ShownTotals.{all_if_any, all_inside}
 use Rattle.covlaws.proofs.ShownSizes.{all_records, HasFewPoints}
@@ -142,4 +143,4 @@ pub readable_sections : (sections : List SectionData) → AllByRecursion IsPrint
     → AllByRecursion IsReadable (flat_map section_records sections)
 readable_sections [] printable few = tt
 readable_sections (s ∷ sections) printable few =
-    all_joined IsReadable (section_records s) (flat_map section_records sections) (readable_section s printable.0 few.0) (readable_sections sections printable.1 few.1)
+    all_append IsReadable (section_records s) (flat_map section_records sections) (readable_section s printable.0 few.0) (readable_sections sections printable.1 few.1)

@@ -2,14 +2,13 @@
 -- are those of its printed section.
 use Rattle.std.proofs.Common.{◌≡◌, Bool, true, ◌&&◌, List, [], ◌∷◌, ◌++◌, map, filter, refl, sym, ap, ◌∙◌, subst}
 use Rattle.std.specs.List.{flat_map}
-use Rattle.std.specs.Str.{bytes_eq}
 use Rattle.std.proofs.lemmas.Bool.{cond-true}
 use Rattle.std.proofs.lemmas.List.Folds.{flat_map-map}
-use Rattle.std.proofs.lemmas.Slice.Eq.{bytes_eq-Decides}
 use Rattle.covstore.specs.Content.{SectionData, section_with, section_of, content_of}
 use Rattle.covlaws.specs.Printable.{items_shown, sect_shown, submission_shown}
 use Rattle.covline.specs.Row.{ItemData, Row, rows_of_sect, rows_of}
 use Rattle.covstore.specs.Value.{Key, key_cmp, key_of_row, keys_of, has_key, items_at}
+use Rattle.covstore.proofs.ContentsChecksums.{own_row}
 use Rattle.covstore.proofs.Ascend.{ascending_sorted, In-ascending}
 use Rattle.covstore.proofs.ContentsLists.{In-flat, In-unflat, In-filter}
 use Rattle.covstore.proofs.ContentsSections.{items_at-append, no_row}
@@ -29,14 +28,11 @@ rows_with key items = map (row_with key) items
 both_true : (x y : Bool) → x ≡ true → y ≡ true → (x && y) ≡ true
 both_true x y a b = ap (λ (x : Bool). x && y) a ∙ b
 
-has_own_key : (row : Row) → has_key (key_of_row row) row ≡ true
-has_own_key row = both_true (bytes_eq row.file row.file) (bytes_eq row.test row.test) ((bytes_eq-Decides row.file row.file).1 refl) ((bytes_eq-Decides row.test row.test).1 refl)
-
 items_own : (key : Key) (items : List ItemData) → items_at key (rows_with key items) ≡ items
 items_own key [] = refl
 items_own key (item ∷ items) =
     ap (map (λ (row : Row). row.item))
-    (cond-true (has_key key (row_with key item)) (row_with key item ∷ filter (has_key key) (rows_with key items)) (filter (has_key key) (rows_with key items)) (has_own_key (row_with key item)))
+    (cond-true (has_key key (row_with key item)) (row_with key item ∷ filter (has_key key) (rows_with key items)) (filter (has_key key) (rows_with key items)) (own_row (row_with key item)))
     ∙ ap (λ (others : List ItemData). item ∷ others) (items_own key items)
 
 -- they have no key but the section's
@@ -86,7 +82,7 @@ module _ (rows : List Row) where
   item_of_key : (key : Key) → In key (keys_of rows) → (item : ItemData) × In item (items_at key rows)
   item_of_key key i =
       let row = In-unmap key_of_row rows key (In-ascending keys_order.exact key (map key_of_row rows) i) in
-      let own : has_key key row.0 ≡ true = subst (λ (k : Key). has_key k row.0 ≡ true) row.2 (has_own_key row.0) in
+      let own : has_key key row.0 ≡ true = subst (λ (k : Key). has_key k row.0 ≡ true) row.2 (own_row row.0) in
       (row.0.item, In-map (λ (row : Row). row.item) (filter (has_key key) rows) row.0 (In-filter (has_key key) rows row.0 row.1 own))
 
   key_shown : (key : Key) → In key (keys_of rows) → In key (map key_of_row shown_rows)

@@ -15,6 +15,7 @@ use Rattle.covlaws.specs.Printable.{start_item, call_item, branch_item, line_ite
 use Rattle.covreport.specs.Report.{by_start}
 use Rattle.covline.specs.Row.{ItemData, LineItem, FuncItem, BranchItem}
 use Rattle.covstore.specs.Value.{Key, bounded, branch_cmp, lines_in, names_in, branches_in, line_added, line_value, checksum_said, line_checksum, first_of, start_said, function_start, function_added, function_count, is_branch, taken_said, sum_if_any, branch_value}
+use Rattle.covstore.proofs.TotalsKinds.{itself}
 use Rattle.covstore.proofs.Alike.{alike_said, least_alike, sum_by-map}
 use Rattle.covstore.proofs.Ascend.{ascending_sorted, In-to_ascending}
 use Rattle.covstore.proofs.ContentsLists.{In-flat, In-unflat}
@@ -46,11 +47,6 @@ own_checksum line n (Some checksum) = ap first_of (cond-true (eqb line line) (ch
 all_true : (x y z : Bool) → x ≡ true → y ≡ true → z ≡ true → (x && y && z) ≡ true
 all_true x y z a b c = ap (λ (x : Bool). x && y && z) a ∙ ap (λ (y : Bool). y && z) b ∙ c
 
-own_branch : (point : BranchPoint) → is_branch point point.line point.block point.branch ≡ true
-own_branch point =
-    all_true (eqb point.line point.line) (eqb point.block point.block) (eqb point.branch point.branch)
-    (eq-eqb point.line point.line refl) (eq-eqb point.block point.block refl) (eq-eqb point.branch point.branch refl)
-
 bounded_one : (n : ℕ) → bounded (sum_by (λ m. m) (bounded n ∷ [])) ≡ bounded n
 bounded_one n =
     let nothing : sum_by (λ m. m) [] ≡ 0 = refl in
@@ -64,7 +60,7 @@ own_taken : (point : BranchPoint) (numbers : List ℕ) → sum_if_any (taken_sai
 own_taken point [] = refl
 own_taken point (n ∷ numbers) =
     let sum = sum_by (λ (m : ℕ). m) (n ∷ numbers) in
-    ap sum_if_any (cond-true (is_branch point point.line point.block point.branch) (bounded sum ∷ []) [] (own_branch point))
+    ap sum_if_any (cond-true (is_branch point point.line point.block point.branch) (bounded sum ∷ []) [] (itself point))
     ∙ ap (λ (k : ℕ). Some k) (bounded_one sum)
 
 -- ---- functions
