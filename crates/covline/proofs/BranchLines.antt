@@ -7,13 +7,13 @@ use Rattle.std.proofs.lemmas.Option.{none-some, option_and_then_some}
 use Rattle.std.proofs.lemmas.List.Elements.{All-nil, All-cons, All-head, All-tail}
 use Rattle.covline.specs.declared.reader.Number.{Number}
 use Rattle.covline.specs.declared.reader.FirstBranch.{FirstBranch}
-use Rattle.covline.specs.Lines.{line_feed, carriage_return, lines_of}
+use Rattle.covline.specs.Lines.{line_feed, carriage_return, lines_of, IsFirstCut}
 use Rattle.covline.specs.Points.{BranchPoint}
 use Rattle.covline.specs.PointView.{branch_point_data}
 use Rattle.covline.specs.Spells.{LineData, Branch, IsDigit, IsNumeral, IsTaken, HasSmallNumbers, Spells, BeginsWithLine, comma, minus}
 use Rattle.covline.specs.Reading.{behind_key, field_at, number_at}
 use Rattle.covline.specs.Fronts.{BeginsWithBranchLine, IsSmallIfAny, behind_feed, branch_behind_block, branch_behind_key, branch_behind_line, branch_behind_number, branch_end, branch_front, small_front, taken_front}
-use Rattle.covline.proofs.Cut.{HasNoFeed, NoReturn, lines_at, strip-none}
+use Rattle.covline.proofs.Cut.{HasNoFeed, NoReturn, cut_at, lines_at, strip-none}
 use Rattle.covline.proofs.ReadNumbers.{field_is, number_is}
 use Rattle.covline.proofs.CountedLines.{HasNumber, behind_some, mapped_some, same_some, small_field_has, small_is, small_number_has}
 
@@ -45,6 +45,7 @@ clean_line : (line rest : List ℕ) (says : LineData) → IsClean line → Spell
 clean_line line rest says clean spells = record {
   line = line;
   cut = lines_at line rest (no_feed line clean) ∙ ap (λ (l : List ℕ). l ∷ lines_of rest) (strip-none line (no_return line clean));
+  front = subst (λ (l : List ℕ). IsFirstCut (line ++ line_feed ∷ rest) l rest) (strip-none line (no_return line clean)) (cut_at (line ++ line_feed ∷ rest) line rest (no_feed line clean) refl);
   spells = spells;
 }
 

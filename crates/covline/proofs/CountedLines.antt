@@ -9,21 +9,21 @@ use Rattle.std.proofs.lemmas.List.Elements.{All-nil, All-cons, All-head, All-tai
 use Rattle.covline.specs.declared.reader.Number.{Number}
 use Rattle.covline.specs.declared.reader.Number.TheVariants.{Value, Wide, TooLarge}
 use Rattle.covline.specs.declared.reader.FirstCount.{FirstCount}
-use Rattle.covline.specs.Lines.{line_feed, carriage_return, lines_of}
+use Rattle.covline.specs.Lines.{line_feed, carriage_return, lines_of, IsFirstCut}
 use Rattle.covline.specs.Spells.{Line, IsDigit, IsNumeral, BeginsWithLine, comma, digits_value}
-use Rattle.covline.specs.Reading.{capped, behind_key, number_at, field_at}
+use Rattle.covline.specs.Reading.{sized_number, behind_key, number_at, field_at}
 use Rattle.covline.specs.Fronts.{BeginsWithCountLine, behind_feed, count_behind_key, count_behind_line, count_end, count_front, small_front, small_of}
-use Rattle.covline.proofs.Cut.{HasNoFeed, NoReturn, lines_at, strip-none}
+use Rattle.covline.proofs.Cut.{HasNoFeed, NoReturn, cut_at, lines_at, strip-none}
 use Rattle.covline.proofs.ReadKeys.{begins_or_not, behind_key-none, behind_key-same}
-use Rattle.covline.proofs.ReadNumbers.{capped_small, capped_wide, capped_large, numeral_or_none, field_or_none, field_read, field_is, number_is}
+use Rattle.covline.proofs.ReadNumbers.{sized_number_small, sized_number_wide, sized_number_large, numeral_or_none, field_or_none, field_read, field_is, number_is}
 
-value_of : (n v : ℕ) → capped n ≡ Value v → (n ≡ v) × (n < 2 ^ 64)
+value_of : (n v : ℕ) → sized_number n ≡ Value v → (n ≡ v) × (n < 2 ^ 64)
 value_of n v e =
     elim (cases_lt n (2 ^ 64)) [
-      | inl lt ↦ (let same : Value n ≡ Value v = sym (capped_small n lt) ∙ e in let is : n ≡ v = cc in is, lt)
+      | inl lt ↦ (let same : Value n ≡ Value v = sym (sized_number_small n lt) ∙ e in let is : n ≡ v = cc in is, lt)
       | inr le ↦ elim (cases_lt n (2 ^ 128)) [
-        | inl lt ↦ (let other : Wide n ≡ Value v = sym (capped_wide n le lt) ∙ e in absurd cc)
-        | inr far ↦ (let other : TooLarge ≡ Value v = sym (capped_large n far) ∙ e in absurd cc)
+        | inl lt ↦ (let other : Wide n ≡ Value v = sym (sized_number_wide n le lt) ∙ e in absurd cc)
+        | inr far ↦ (let other : TooLarge ≡ Value v = sym (sized_number_large n far) ∙ e in absurd cc)
       ]
     ]
 
@@ -58,6 +58,8 @@ counted_line digits counts rest line count numeral counted small few =
     record {
       line = whole;
       cut = ap lines_of parts ∙ lines_at whole rest clean ∙ ap (λ (l : List ℕ). l ∷ lines_of rest) (strip-none whole (no_return_behind front counts count counted));
+      front = subst (λ (l : List ℕ). IsFirstCut (codes "DA:" ++ (digits ++ comma ∷ (counts ++ line_feed ∷ rest))) l rest) (strip-none whole (no_return_behind front counts count counted))
+          (cut_at (codes "DA:" ++ (digits ++ comma ∷ (counts ++ line_feed ∷ rest))) whole rest clean parts);
       spells = record { form = (digits, counts, one, numeral, inl counted); small = (small, omega (arith, few)) };
     }
   where
@@ -90,7 +92,7 @@ pub field_has : (fields rest : List ℕ) (a : Number) (n : ℕ) → Some (a, res
 field_has fields rest a n e is =
     elim (field_or_none fields) [
       | inl f ↦
-          let pair : (a, rest) ≡ (capped f.number, f.rest) = same_some (a, rest) (capped f.number, f.rest) (e ∙ field_read fields f) in
+          let pair : (a, rest) ≡ (sized_number f.number, f.rest) = same_some (a, rest) (sized_number f.number, f.rest) (e ∙ field_read fields f) in
           let value = value_of f.number n (sym (ap (λ (p : Number × List ℕ). p.0) pair) ∙ is) in
           record {
             digits = f.digits;
@@ -106,8 +108,8 @@ number_has fields rest a n e is =
     elim (numeral_or_none fields) [
       | inl f ↦
           let number = digits_value f.digits in
-          let read : number_at fields ≡ Some (capped number, f.rest) = ap number_at f.parts ∙ number_is f.digits f.rest number f.numeral f.stops in
-          let pair : (a, rest) ≡ (capped number, f.rest) = same_some (a, rest) (capped number, f.rest) (e ∙ read) in
+          let read : number_at fields ≡ Some (sized_number number, f.rest) = ap number_at f.parts ∙ number_is f.digits f.rest number f.numeral f.stops in
+          let pair : (a, rest) ≡ (sized_number number, f.rest) = same_some (a, rest) (sized_number number, f.rest) (e ∙ read) in
           let value = value_of number n (sym (ap (λ (p : Number × List ℕ). p.0) pair) ∙ is) in
           record {
             digits = f.digits;
@@ -141,8 +143,8 @@ small_number_has fields rest n e =
     let is = front_is x.0 x.1 rest n small in
     number_has fields rest x.0 n (sym (number ∙ ap (λ (r : List ℕ). Some (x.0, r)) is.1)) is.0)
 
-pub small_is : (n : ℕ) (rest : List ℕ) → n < 2 ^ 64 → small_front (Some (capped n, rest)) ≡ Some (n, rest)
-small_is n rest small = ap (λ (a : Number). option_map (λ (m : ℕ). (m, rest)) (small_of a)) (capped_small n small)
+pub small_is : (n : ℕ) (rest : List ℕ) → n < 2 ^ 64 → small_front (Some (sized_number n, rest)) ≡ Some (n, rest)
+small_is n rest small = ap (λ (a : Number). option_map (λ (m : ℕ). (m, rest)) (small_of a)) (sized_number_small n small)
 
 -- the parts of a counted line, where it is read so
 count_line_of : (text fields : List ℕ) (line count : ℕ × List ℕ) (rest : List ℕ) → behind_key (codes "DA:") text ≡ Some fields → small_front (field_at fields) ≡ Some line

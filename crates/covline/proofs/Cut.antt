@@ -217,7 +217,7 @@ parts_at text i first here =
     let behind : drop i text ≡ line_feed ∷ drop (i + 1) text = drop_more text i 0 first.high ∙ ap (λ (b : ℕ). b ∷ drop (i + 1) text) (eqb-true (get_or text i 0) line_feed here) in
     sym (take-append-drop i text) ∙ ap (λ (t : List ℕ). take i text ++ t) behind
 
-cut_at : (text front rest : List ℕ) → HasNoFeed front → text ≡ front ++ line_feed ∷ rest → IsFirstCut text (strip front) rest
+pub cut_at : (text front rest : List ℕ) → HasNoFeed front → text ≡ front ++ line_feed ∷ rest → IsFirstCut text (strip front) rest
 cut_at text front rest none parts = record {
   piece = front ++ line_feed ∷ [];
   first = ap pieces_of parts ∙ pieces_at front rest none;

@@ -7,7 +7,7 @@ use Rattle.std.proofs.lemmas.List.{append-nil}
 use Rattle.covline.specs.declared.trace_line.LineFault.{LineFault}
 use Rattle.covline.specs.declared.trace_line.LineFault.TheVariants.{BadLine, NumberTooLarge}
 use Rattle.covline.specs.Spells.{LineData, Test, Path, FuncStart, FuncCount, Branch, Line, Total, End, Skip, comma, IsNumeral, IsCount, IsTaken, HasForm, HasSmallNumbers}
-use Rattle.covline.specs.Reading.{Fields, capped, with_fit, with_count, with_name, start_of, start_fields, calls_of, calls_fields, with_taken, branch_of, branch_fields, count_of, line_fields, total_of}
+use Rattle.covline.specs.Reading.{Fields, sized_number, with_fit, with_count, with_name, start_of, start_fields, calls_of, calls_fields, with_taken, branch_of, branch_fields, count_of, line_fields, total_of}
 use Rattle.covline.proofs.ReadNumbers.{Stops, fit_small, fit_large, count_small, count_large, field_is, BeginsWithField, field_or_none, field_read, count_is, BeginsWithCount, count_or_none, count_read, comma_or_none, taken_is, taken_or_none}
 use Rattle.covline.proofs.Checksums.{IsBehindCount, checksum_read, checksum_or_none}
 
@@ -15,11 +15,11 @@ use Rattle.covline.proofs.Checksums.{IsBehindCount, checksum_read, checksum_or_n
 abbrev pub sized : LineData → Result LineData LineFault
 sized (Test name) = Ok (Test name)
 sized (Path path) = Ok (Path path)
-sized (FuncStart number name) = start_of (capped number) name
-sized (FuncCount count name) = calls_of (capped count) name
-sized (Branch number block branch taken) = branch_of (capped number) (capped block) (capped branch) (option_map capped taken)
-sized (Line number count checksum) = count_of (capped number) (capped count) checksum
-sized (Total kind value) = total_of kind (capped value)
+sized (FuncStart number name) = start_of (sized_number number) name
+sized (FuncCount count name) = calls_of (sized_number count) name
+sized (Branch number block branch taken) = branch_of (sized_number number) (sized_number block) (sized_number branch) (option_map sized_number taken)
+sized (Line number count checksum) = count_of (sized_number number) (sized_number count) checksum
+sized (Total kind value) = total_of kind (sized_number value)
 sized End = Ok End
 sized Skip = Ok Skip
 
@@ -42,21 +42,21 @@ abbrev IsSized : Type 0 → Result LineData LineFault → Type 0
 IsSized small read = small ⊎ ((¬ small) × (read ≡ Err NumberTooLarge))
 
 -- the last number of a record, and one before others
-last_sized : (n : ℕ) (says : ℕ → Result LineData LineFault) → IsSized (n < 2 ^ 64) (with_fit (capped n) says)
+last_sized : (n : ℕ) (says : ℕ → Result LineData LineFault) → IsSized (n < 2 ^ 64) (with_fit (sized_number n) says)
 last_sized n says =
     elim (cases_lt n (2 ^ 64)) [
       | inl lt ↦ inl lt
       | inr le ↦ inr (λ lt. omega (arith, lt), rw (fit_large n le) refl)
     ]
 
-last_counted : (n : ℕ) (says : ℕ → Result LineData LineFault) → IsSized (n < 2 ^ 128) (with_count (capped n) says)
+last_counted : (n : ℕ) (says : ℕ → Result LineData LineFault) → IsSized (n < 2 ^ 128) (with_count (sized_number n) says)
 last_counted n says =
     elim (cases_lt n (2 ^ 128)) [
       | inl lt ↦ inl lt
       | inr le ↦ inr (λ lt. omega (arith, lt), rw (count_large n le) refl)
     ]
 
-more_sized : (n : ℕ) (says : ℕ → Result LineData LineFault) (small : Type 0) → IsSized small (says n) → IsSized ((n < 2 ^ 64) × small) (with_fit (capped n) says)
+more_sized : (n : ℕ) (says : ℕ → Result LineData LineFault) (small : Type 0) → IsSized small (says n) → IsSized ((n < 2 ^ 64) × small) (with_fit (sized_number n) says)
 more_sized n says small others =
     elim (cases_lt n (2 ^ 64)) [
       | inl lt ↦ elim others [
@@ -68,13 +68,13 @@ more_sized n says small others =
 
 -- what a branch is read as behind its small numbers
 abbrev behind_branch : Option ℕ → ℕ → ℕ → ℕ → Result LineData LineFault
-behind_branch taken number block b = with_taken number block b (option_map capped taken)
+behind_branch taken number block b = with_taken number block b (option_map sized_number taken)
 
 abbrev behind_block : ℕ → Option ℕ → ℕ → ℕ → Result LineData LineFault
-behind_block branch taken number k = with_fit (capped branch) (behind_branch taken number k)
+behind_block branch taken number k = with_fit (sized_number branch) (behind_branch taken number k)
 
 abbrev behind_number : ℕ → ℕ → Option ℕ → ℕ → Result LineData LineFault
-behind_number block branch taken l = with_fit (capped block) (behind_block branch taken l)
+behind_number block branch taken l = with_fit (sized_number block) (behind_block branch taken l)
 
 -- the same for a fact that says the same
 resized : {P Q : Type 0} (read : Result LineData LineFault) → (P → Q) → (Q → P) → IsSized P read → IsSized Q read
@@ -100,7 +100,7 @@ small_or_large (Path path) = inl tt
 small_or_large (FuncStart number name) = last_sized number (λ n. Ok (FuncStart n name))
 small_or_large (FuncCount count name) = last_counted count (λ n. Ok (FuncCount n name))
 small_or_large (Branch number block branch taken) = branch_sized number block branch taken
-small_or_large (Line number count checksum) = more_sized number (λ l. with_count (capped count) (λ n. Ok (Line l n checksum))) (count < 2 ^ 128) (last_counted count (λ n. Ok (Line number n checksum)))
+small_or_large (Line number count checksum) = more_sized number (λ l. with_count (sized_number count) (λ n. Ok (Line l n checksum))) (count < 2 ^ 128) (last_counted count (λ n. Ok (Line number n checksum)))
 small_or_large (Total kind value) = last_sized value (λ n. Ok (Total kind n))
 small_or_large End = inl tt
 small_or_large Skip = inl tt
@@ -153,7 +153,7 @@ name_or_none (b ∷ bs) says = inl (omega arith)
 pub start_formed : (fields : List ℕ) → IsFormed (codes "FN:") start_fields fields
 start_formed fields =
     elim (field_or_none fields) [
-      | inl line ↦ elim (name_or_none line.rest (start_of (capped line.number) line.rest)) [
+      | inl line ↦ elim (name_or_none line.rest (start_of (sized_number line.number) line.rest)) [
         | inl some ↦ inl (FuncStart line.number line.rest, (line.digits, ap (λ (t : List ℕ). codes "FN:" ++ t) line.parts, line.numeral, some))
         | inr none ↦ inr (rw (field_read fields line) none)
       ]
@@ -163,7 +163,7 @@ start_formed fields =
 calls_from : (fields : List ℕ) (front : BeginsWithCount fields) (name : List ℕ) → front.rest ≡ comma ∷ name → IsFormed (codes "FNDA:") calls_fields fields
 calls_from fields front name behind =
     let parts : fields ≡ front.counted ++ comma ∷ name = front.parts ∙ ap (λ (t : List ℕ). front.counted ++ t) behind in
-    elim (name_or_none name (calls_of (capped front.count) name)) [
+    elim (name_or_none name (calls_of (sized_number front.count) name)) [
       | inl some ↦ inl (FuncCount front.count name, (front.counted, ap (λ (t : List ℕ). codes "FNDA:" ++ t) parts, front.counts, some))
       | inr none ↦ inr (rw (count_read fields front, behind) none)
     ]
@@ -171,7 +171,7 @@ calls_from fields front name behind =
 pub calls_formed : (fields : List ℕ) → IsFormed (codes "FNDA:") calls_fields fields
 calls_formed fields =
     elim (count_or_none fields) [
-      | inl front ↦ elim (comma_or_none (capped front.count) front.rest) [
+      | inl front ↦ elim (comma_or_none (sized_number front.count) front.rest) [
         | inl found ↦ calls_from fields front found.0 found.1
         | inr none ↦ inr (rw (count_read fields front, none) refl)
       ]

@@ -8,7 +8,7 @@ use Rattle.covline.specs.declared.reader.Number.{Number}
 use Rattle.covline.specs.declared.reader.Number.TheVariants.{Value, Wide, TooLarge}
 use Rattle.covline.specs.Spells.{IsDigit, IsNumeral, IsCount, IsTaken, digits_value, comma, minus}
 use Rattle.covline.specs.declared.trace_line.LineFault.TheVariants.{NumberTooLarge}
-use Rattle.covline.specs.Reading.{is_digit, capped, fit, fit_count, with_digit, digits_from, number_at, number_of, as_zero, count_at, before_comma, field_of, field_at, taken_of, whole}
+use Rattle.covline.specs.Reading.{is_digit, sized_number, fit, fit_count, with_digit, digits_from, number_at, number_of, as_zero, count_at, before_comma, field_of, field_at, taken_of, whole}
 
 pub digit_is : (b : ℕ) → IsDigit b → is_digit b ≡ true
 digit_is b d = and_from (leb 48 b) (leb b 57) (le-leb 48 b d.0) (le-leb b 57 d.1)
@@ -23,57 +23,57 @@ Stops (b ∷ bs) = is_digit b ≡ false
 
 -- ---- the value
 
-pub capped_small : (n : ℕ) → n < 2 ^ 64 → capped n ≡ Value n
-capped_small n lt = let test : ltb n (2 ^ 64) ≡ true = lt-ltb n (2 ^ 64) lt in rw test refl
+pub sized_number_small : (n : ℕ) → n < 2 ^ 64 → sized_number n ≡ Value n
+sized_number_small n lt = let test : ltb n (2 ^ 64) ≡ true = lt-ltb n (2 ^ 64) lt in rw test refl
 
-pub capped_wide : (n : ℕ) → 2 ^ 64 ≤ n → n < 2 ^ 128 → capped n ≡ Wide n
-capped_wide n le lt =
+pub sized_number_wide : (n : ℕ) → 2 ^ 64 ≤ n → n < 2 ^ 128 → sized_number n ≡ Wide n
+sized_number_wide n le lt =
     let above : ltb n (2 ^ 64) ≡ false = le-ltb n (2 ^ 64) le in
     let below : ltb n (2 ^ 128) ≡ true = lt-ltb n (2 ^ 128) lt in
     rw (above, below) refl
 
-pub capped_large : (n : ℕ) → 2 ^ 128 ≤ n → capped n ≡ TooLarge
-capped_large n le =
+pub sized_number_large : (n : ℕ) → 2 ^ 128 ≤ n → sized_number n ≡ TooLarge
+sized_number_large n le =
     let above : ltb n (2 ^ 64) ≡ false = le-ltb n (2 ^ 64) (omega (arith, le)) in
     let far : ltb n (2 ^ 128) ≡ false = le-ltb n (2 ^ 128) le in
     rw (above, far) refl
 
-with_digit-capped : (n b : ℕ) → with_digit (capped n) b ≡ capped (n * 10 + (b - 48))
-with_digit-capped n b =
+with_digit-sized_number : (n b : ℕ) → with_digit (sized_number n) b ≡ sized_number (n * 10 + (b - 48))
+with_digit-sized_number n b =
     elim (cases_lt n (2 ^ 64)) [
-      | inl lt ↦ rw (capped_small n lt) refl
+      | inl lt ↦ rw (sized_number_small n lt) refl
       | inr le ↦ elim (cases_lt n (2 ^ 128)) [
-        | inl lt ↦ rw (capped_wide n le lt) refl
-        | inr far ↦ rw (capped_large n far) (sym (capped_large (n * 10 + (b - 48)) (omega (arith, far))))
+        | inl lt ↦ rw (sized_number_wide n le lt) refl
+        | inr far ↦ rw (sized_number_large n far) (sym (sized_number_large (n * 10 + (b - 48)) (omega (arith, far))))
       ]
     ]
 
 -- ---- whether it fits
 
 -- a number as one of 64 bits, and as a count
-pub fit_small : (n : ℕ) → n < 2 ^ 64 → fit (capped n) ≡ Ok n
-fit_small n lt = ap fit (capped_small n lt)
+pub fit_small : (n : ℕ) → n < 2 ^ 64 → fit (sized_number n) ≡ Ok n
+fit_small n lt = ap fit (sized_number_small n lt)
 
-pub fit_large : (n : ℕ) → 2 ^ 64 ≤ n → fit (capped n) ≡ Err NumberTooLarge
+pub fit_large : (n : ℕ) → 2 ^ 64 ≤ n → fit (sized_number n) ≡ Err NumberTooLarge
 fit_large n le =
     elim (cases_lt n (2 ^ 128)) [
-      | inl lt ↦ ap fit (capped_wide n le lt)
-      | inr far ↦ ap fit (capped_large n far)
+      | inl lt ↦ ap fit (sized_number_wide n le lt)
+      | inr far ↦ ap fit (sized_number_large n far)
     ]
 
-pub count_small : (n : ℕ) → n < 2 ^ 128 → fit_count (capped n) ≡ Ok n
+pub count_small : (n : ℕ) → n < 2 ^ 128 → fit_count (sized_number n) ≡ Ok n
 count_small n lt =
     elim (cases_lt n (2 ^ 64)) [
-      | inl less ↦ ap fit_count (capped_small n less)
-      | inr le ↦ ap fit_count (capped_wide n le lt)
+      | inl less ↦ ap fit_count (sized_number_small n less)
+      | inr le ↦ ap fit_count (sized_number_wide n le lt)
     ]
 
-pub count_large : (n : ℕ) → 2 ^ 128 ≤ n → fit_count (capped n) ≡ Err NumberTooLarge
-count_large n le = ap fit_count (capped_large n le)
+pub count_large : (n : ℕ) → 2 ^ 128 ≤ n → fit_count (sized_number n) ≡ Err NumberTooLarge
+count_large n le = ap fit_count (sized_number_large n le)
 
-fold-capped : (digits : List ℕ) (n : ℕ) → fold with_digit (capped n) digits ≡ capped (fold (λ m b. m * 10 + (b - 48)) n digits)
-fold-capped [] n = refl
-fold-capped (b ∷ bs) n = ap (λ (v : Number). fold with_digit v bs) (with_digit-capped n b) ∙ fold-capped bs (n * 10 + (b - 48))
+fold-sized_number : (digits : List ℕ) (n : ℕ) → fold with_digit (sized_number n) digits ≡ sized_number (fold (λ m b. m * 10 + (b - 48)) n digits)
+fold-sized_number [] n = refl
+fold-sized_number (b ∷ bs) n = ap (λ (v : Number). fold with_digit v bs) (with_digit-sized_number n b) ∙ fold-sized_number bs (n * 10 + (b - 48))
 
 -- ---- a number at the front
 
@@ -91,13 +91,13 @@ number_at-digit : (d : ℕ) (ds : List ℕ) → is_digit d ≡ true → number_a
 number_at-digit d ds test = ap (λ (t : Bool). cond t (Some (digits_from (Value 0) (d ∷ ds))) None) test
 
 -- a numeral is read as its number
-pub number_is : (digits rest : List ℕ) (n : ℕ) → IsNumeral digits n → Stops rest → number_at (digits ++ rest) ≡ Some (capped n, rest)
+pub number_is : (digits rest : List ℕ) (n : ℕ) → IsNumeral digits n → Stops rest → number_at (digits ++ rest) ≡ Some (sized_number n, rest)
 number_is [] rest n numeral stops = absurd (omega (arith, numeral.some))
 number_is (d ∷ ds) rest n numeral stops =
     let test : is_digit d ≡ true = digit_is d (All-head IsDigit d ds numeral.each) in
-    let value : fold with_digit (capped 0) (d ∷ ds) ≡ capped n = fold-capped (d ∷ ds) 0 ∙ ap capped (sym numeral.value) in
+    let value : fold with_digit (sized_number 0) (d ∷ ds) ≡ sized_number n = fold-sized_number (d ∷ ds) 0 ∙ ap sized_number (sym numeral.value) in
     let all : digits_from (Value 0) (d ∷ ds ++ rest) ≡ (fold with_digit (Value 0) (d ∷ ds), rest) = digits_are (d ∷ ds) rest (Value 0) numeral.each stops in
-    let same : Some (digits_from (Value 0) (d ∷ ds ++ rest)) ≡ Some (capped n, rest) = ap (λ (p : Number × List ℕ). Some p) all ∙ ap (λ (v : Number). Some (v, rest)) value in
+    let same : Some (digits_from (Value 0) (d ∷ ds ++ rest)) ≡ Some (sized_number n, rest) = ap (λ (p : Number × List ℕ). Some p) all ∙ ap (λ (v : Number). Some (v, rest)) value in
     number_at-digit d (ds ++ rest) test ∙ same
 
 -- the digits at the front
@@ -137,9 +137,9 @@ numeral_or_none text = let front = front_of text in number_or_none text front.di
 
 -- ---- a number alone
 
-pub whole_is : (text : List ℕ) (n : ℕ) → IsNumeral text n → number_of text ≡ Some (capped n)
+pub whole_is : (text : List ℕ) (n : ℕ) → IsNumeral text n → number_of text ≡ Some (sized_number n)
 whole_is text n numeral =
-    let e : number_at text ≡ Some (capped n, []) = ap number_at (sym (append-nil text)) ∙ number_is text [] n numeral tt in
+    let e : number_at text ≡ Some (sized_number n, []) = ap number_at (sym (append-nil text)) ∙ number_is text [] n numeral tt in
     ap whole e
 
 whole_from : (text digits rest : List ℕ) → text ≡ digits ++ rest → IsNumeral digits (digits_value digits) → Stops rest → ((n : ℕ) × IsNumeral text n) ⊎ (number_of text ≡ None)
@@ -164,7 +164,7 @@ count_at-plain b bs differ = let test : eqb b minus ≡ false = ne_eqb b minus d
 count_at-minus : (b : ℕ) (bs : List ℕ) → b ≡ minus → count_at (b ∷ bs) ≡ option_map as_zero (number_at bs)
 count_at-minus b bs same = let test : eqb b minus ≡ true = eq-eqb b minus same in rw test refl
 
-numeral_count : (text rest : List ℕ) (n : ℕ) → IsNumeral text n → Stops rest → count_at (text ++ rest) ≡ Some (capped n, rest)
+numeral_count : (text rest : List ℕ) (n : ℕ) → IsNumeral text n → Stops rest → count_at (text ++ rest) ≡ Some (sized_number n, rest)
 numeral_count [] rest n numeral stops = absurd (omega (arith, numeral.some))
 numeral_count (d ∷ ds) rest n numeral stops =
     let digit = All-head IsDigit d ds numeral.each in
@@ -172,10 +172,10 @@ numeral_count (d ∷ ds) rest n numeral stops =
     count_at-plain d (ds ++ rest) differ ∙ number_is (d ∷ ds) rest n numeral stops
 
 -- a count is read as its number
-pub count_is : (text rest : List ℕ) (n : ℕ) → IsCount text n → Stops rest → count_at (text ++ rest) ≡ Some (capped n, rest)
+pub count_is : (text rest : List ℕ) (n : ℕ) → IsCount text n → Stops rest → count_at (text ++ rest) ≡ Some (sized_number n, rest)
 count_is text rest n (inl numeral) stops = numeral_count text rest n numeral stops
 count_is text rest n (inr below) stops =
-    let zero_is : Value 0 ≡ capped n = ap capped (sym below.4) in
+    let zero_is : Value 0 ≡ sized_number n = ap sized_number (sym below.4) in
     ap (λ (t : List ℕ). count_at (t ++ rest)) below.2
     ∙ ap (option_map as_zero) (number_is below.0 rest below.1 below.3 stops)
     ∙ ap (λ (v : Number). Some (v, rest)) zero_is
@@ -220,7 +220,7 @@ count_or_none (b ∷ bs) =
 
 -- ---- a number or a count, and the comma behind it
 
-pub field_is : (digits rest : List ℕ) (n : ℕ) → IsNumeral digits n → field_at (digits ++ comma ∷ rest) ≡ Some (capped n, rest)
+pub field_is : (digits rest : List ℕ) (n : ℕ) → IsNumeral digits n → field_at (digits ++ comma ∷ rest) ≡ Some (sized_number n, rest)
 field_is digits rest n numeral = ap field_of (number_is digits (comma ∷ rest) n numeral refl)
 
 -- the text has a comma at its front
@@ -246,8 +246,8 @@ pub record BeginsWithField (text : List ℕ) : Type 0 where
 field_from : (text : List ℕ) (front : BeginsWithNumeral text) → BeginsWithField text ⊎ (field_at text ≡ None)
 field_from text front =
     let number = digits_value front.digits in
-    let read : number_at text ≡ Some (capped number, front.rest) = ap number_at front.parts ∙ number_is front.digits front.rest number front.numeral front.stops in
-    elim (comma_or_none (capped number) front.rest) [
+    let read : number_at text ≡ Some (sized_number number, front.rest) = ap number_at front.parts ∙ number_is front.digits front.rest number front.numeral front.stops in
+    elim (comma_or_none (sized_number number) front.rest) [
       | inl found ↦ inl (record { digits = front.digits; rest = found.0; number = number; parts = front.parts ∙ ap (λ (t : List ℕ). front.digits ++ t) found.1; numeral = front.numeral })
       | inr none ↦ inr (ap field_of read ∙ none)
     ]
@@ -259,15 +259,15 @@ field_or_none text =
       | inr none ↦ inr (ap field_of none)
     ]
 
-pub field_read : (text : List ℕ) (field : BeginsWithField text) → field_at text ≡ Some (capped field.number, field.rest)
+pub field_read : (text : List ℕ) (field : BeginsWithField text) → field_at text ≡ Some (sized_number field.number, field.rest)
 field_read text field = ap field_at field.parts ∙ field_is field.digits field.rest field.number field.numeral
 
-pub count_read : (text : List ℕ) (front : BeginsWithCount text) → count_at text ≡ Some (capped front.count, front.rest)
+pub count_read : (text : List ℕ) (front : BeginsWithCount text) → count_at text ≡ Some (sized_number front.count, front.rest)
 count_read text front = ap count_at front.parts ∙ count_is front.counted front.rest front.count front.counts front.stops
 
 -- ---- how often a branch was taken
 
-pub taken_is : (text : List ℕ) (taken : Option ℕ) → IsTaken text taken → taken_of text ≡ Some (option_map capped taken)
+pub taken_is : (text : List ℕ) (taken : Option ℕ) → IsTaken text taken → taken_of text ≡ Some (option_map sized_number taken)
 taken_is text None same = ap taken_of same
 taken_is [] (Some n) numeral = absurd (omega (arith, numeral.some))
 taken_is (b ∷ []) (Some n) numeral =

@@ -1,5 +1,5 @@
--- First lines that are read without being cut: they count a line or tell of a branch in digits alone, with numbers below
--- 2^64, and a line feed ends them.
+-- First lines that are read without being cut: they count a line or tell of a branch in digits (or `-` for how often a
+-- branch was taken), with numbers below 2^64, and a line feed ends them.
 use Rattle.std.specs.Prelude.{◌≡◌, ℕ, ◌<◌, ◌^◌, ◌==◌, if◌then◌else◌, List, [], ◌∷◌, ◌++◌, Option, Some, None, codes, option_map}
 use Rattle.std.specs.Option.{option_and_then}
 use Rattle.covline.specs.declared.reader.Number.{Number}

@@ -14,7 +14,7 @@ JoinedAgain = (text : List ℕ) → concat (pieces_of text) ≡ text
 abbrev pub GoodLines : Type 0
 GoodLines = (text : List ℕ) → All IsGoodTest (lines_of text)
 
--- so does what stands behind the front of such a line, as a name behind its key
+-- nor does what stands behind the front of such a line, as a name behind its key, have a line feed or end in a carriage return
 abbrev pub GoodRest : Type 0
 GoodRest = (front rest : List ℕ) → IsGoodTest (front ++ rest) → IsGoodTest rest
 

@@ -39,7 +39,7 @@ printed (Total kind value) = line_text (Total kind value) ++ line_feed ∷ []
 printed End = line_text End ++ line_feed ∷ []
 printed Skip = []
 
--- the texts of a record are lawful
+-- the texts of a record are lawful; a skipped line is never printed, so it has no lawful texts
 abbrev pub HasLawfulTexts : LineData → Type 0
 HasLawfulTexts (Test name) = IsGoodTest name
 HasLawfulTexts (Path path) = IsGoodName path

@@ -20,14 +20,14 @@ abbrev pub is_digit : ℕ → Bool
 is_digit b = nat_le 48 b && nat_le b 57
 
 -- a number of 64 bits, a larger one of 128 bits, or one that is larger still
-abbrev pub capped : ℕ → Number
-capped n = if nat_lt n (2 ^ 64) then Value n else (if nat_lt n (2 ^ 128) then Wide n else TooLarge)
+abbrev pub sized_number : ℕ → Number
+sized_number n = if nat_lt n (2 ^ 64) then Value n else (if nat_lt n (2 ^ 128) then Wide n else TooLarge)
 
 -- one digit more behind a number
 abbrev pub with_digit : Number → ℕ → Number
 with_digit TooLarge b = TooLarge
-with_digit (Value n) b = capped (n * 10 + (b - 48))
-with_digit (Wide n) b = capped (n * 10 + (b - 48))
+with_digit (Value n) b = sized_number (n * 10 + (b - 48))
+with_digit (Wide n) b = sized_number (n * 10 + (b - 48))
 
 -- the digits at the front, read behind a number, and what follows them
 abbrev pub digits_from : Number → List ℕ → Number × List ℕ

@@ -7,7 +7,7 @@ use Rattle.covline.specs.declared.trace_line.TotalKind.TheVariants.{FuncFound, F
 use Rattle.covline.specs.declared.trace_line.LineFault.{LineFault}
 use Rattle.covline.specs.declared.trace_line.LineFault.TheVariants.{BadLine, NumberTooLarge, EmptyPath}
 use Rattle.covline.specs.Lawful.{IsChecksum}
-use Rattle.covline.specs.Lines.{lines_of}
+use Rattle.covline.specs.Lines.{lines_of, IsFirstCut}
 
 -- what a line says, apart from where it lies in memory
 pub data LineData : Type 0 where
@@ -124,10 +124,11 @@ pub record Spells (line : List ℕ) (says : LineData) : Type 0 where
   pub form : HasForm line says
   pub small : HasSmallNumbers says
 
--- the text's first line says this, and this stands behind the line
+-- the text's first line says this, and this is the text behind the line
 pub record BeginsWithLine (text : List ℕ) (says : LineData) (rest : List ℕ) : Type 0 where
   pub line : List ℕ
   pub cut : lines_of text ≡ line ∷ lines_of rest
+  pub front : IsFirstCut text line rest
   pub spells : Spells line says
 
 -- the one fault of a line that spells no record

@@ -8,7 +8,7 @@ ghost use Rattle.covline.specs.PointView.{branch_point_data};
 ghost use Rattle.covline.specs.Spells.{LineData, Line, Branch, line_data, Spells, HasFault, BeginsWithLine};
 ghost use Rattle.covline.specs.Fronts.{BeginsWithBranchLine, BeginsWithCountLine, branch_front, count_front, small_front, small_of, taken_front};
 ghost use Rattle.covline.specs.Lines.{line_feed};
-ghost use Rattle.covline.specs.Reading.{Gives, behind_key, capped, with_digit, digits_from, number_at, number_of, count_at, before_comma, field_at, taken_of, only_checksum, checksum_of, fit, fit_count, start_fields, calls_fields, branch_of, branch_fields, line_fields, total_fields, path_fields, read_of};
+ghost use Rattle.covline.specs.Reading.{Gives, behind_key, sized_number, with_digit, digits_from, number_at, number_of, count_at, before_comma, field_at, taken_of, only_checksum, checksum_of, fit, fit_count, start_fields, calls_fields, branch_of, branch_fields, line_fields, total_fields, path_fields, read_of};
 
 use crate::names::good_checksum;
 use crate::point::BranchPoint;
@@ -28,7 +28,7 @@ enum Number {
 impl Number {
     /// A number of 128 bits.
     fn of(value: u128) -> Number
-        ensures { result ≡ capped value }
+        ensures { result ≡ sized_number value }
     {
         match u64::try_from(value) {
             Ok(value) => Number::Value(value),
@@ -83,7 +83,7 @@ fn push_digit(number: Number, digit: u8) -> Number
 /// A number of 128 bits with one more digit behind it.
 fn push_wide(value: u128, digit: u8) -> Number
     requires { 48 ≤ digit }
-    ensures { result ≡ capped (value * 10 + (digit - 48)) }
+    ensures { result ≡ sized_number (value * 10 + (digit - 48)) }
 {
     let tens = value.checked_mul(10);
     match tens.and_then(|tens| tens.checked_add(u128::from(digit - b'0'))) {
@@ -566,8 +566,9 @@ fn front_taken(text: &[u8]) -> Option<(Option<u64>, &[u8])>
     Some((Some(taken), rest))
 }
 
-/// The first line, where it is `BRDA:` with numbers below 2^64 and nothing else, and a line feed ends it: read in one pass,
-/// as by `first_count`. Any other first line is left to be cut and read.
+/// The first line, where it is `BRDA:<line>,<block>,<branch>,<taken>` of digits (or `-` for how often the branch was taken)
+/// with numbers below 2^64, and a line feed ends it: read in one pass, as by `first_count`. Any other first line is left to
+/// be cut and read.
 #[inline]
 pub fn first_branch(text: &[u8]) -> Option<FirstBranch<'_>>
     ensures says { IfSome result (λ f. BeginsWithLine text.now (Branch f.point.line f.point.block f.point.branch f.taken) f.rest.now) }
