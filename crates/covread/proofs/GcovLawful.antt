@@ -1,6 +1,6 @@
 -- What was read makes a submission: its texts fit into lines, its numbers 64 bits, and its items aren't too many.
-use Rattle.std.proofs.Common.{◌≡◌, ◌≢◌, ℕ, ◌+◌, ◌<◌, ◌≤◌, ◌^◌, inl, inr, Bool, true, false, cond, eqb, List, [], ◌∷◌, ◌++◌, length, map, Option, Some, None, Ok, Err, refl, ap, subst, ◌∙◌, arith}
-use Rattle.std.specs.Prelude.{codes, All, option_map, ◌||◌}
+use Rattle.std.proofs.Common.{◌≡◌, ◌≢◌, ℕ, ◌+◌, ◌<◌, ◌≤◌, ◌^◌, inl, inr, Bool, true, false, cond, eqb, List, [], ◌∷◌, ◌++◌, length, map, Option, Some, None, Result, Ok, Err, refl, sym, ap, subst, ◌∙◌, arith}
+use Rattle.std.specs.Prelude.{codes, All, option_map, ◌||◌, if◌then◌else◌}
 use Rattle.std.specs.Str.{bytes_eq}
 use Rattle.std.specs.List.{AllByRecursion}
 use Rattle.std.proofs.lemmas.Bool.{cases_Bool, cases_lt, lt-ltb, le-ltb}
@@ -9,21 +9,24 @@ use Rattle.std.proofs.lemmas.List.Elements.{All-from_recursion, recursion_from_A
 use Rattle.std.proofs.lemmas.List.Sums.{sum_by-cons, sum_by-append}
 use Rattle.std.proofs.Math.Seq.{take-append_seam}
 use Rattle.covline.specs.Lines.{line_feed, lines_of}
-use Rattle.covline.specs.Row.{ItemData, BranchItem, SectData, items_in}
+use Rattle.covline.specs.Row.{ItemData, BranchItem, SectData, SubmissionData, items_in}
 use Rattle.covline.specs.Lawful.{IsGoodTest, IsGoodName, IsLawfulItem, IsLawfulSect, FitsItem, AllFit, IsLawful}
 use Rattle.covline.specs.Spells.{digits_value}
 use Rattle.covline.specs.Reading.{behind_key}
 use Rattle.covline.proofs.LineLaws.{good_rest, good_lines, few_lines}
+use Rattle.covread.specs.declared.fault.ReadFault.{ReadFault}
+use Rattle.covread.specs.declared.fault.ReadFault.TheVariants as faults
 use Rattle.covread.specs.declared.gcov.line.OwnFault.TheVariants as own
 use Rattle.covread.specs.declared.gcov.reader.Place.{Place}
 use Rattle.covread.specs.Gcov.{Shape, Instances, Function, Never, Taken, Block, Numbered, Other, HasShape, IsName, Says, says_of, GcovLine, Path, SourceLine, FuncCount, BranchCount, BlockNumber, Nothing, with_number, are_digits, without_last, percent, star, branch_says, source_says, path_says, colon}
 use Rattle.covread.specs.GcovReading.{shape_of}
 use Rattle.covread.specs.GcovItems.{func_item, line_item, is_empty}
 use Rattle.covread.specs.Outcome.{most_bytes}
+use Rattle.covread.specs.GcovOutcome.{IsOutcome}
 use Rattle.covread.specs.GcovSteps.{SectionData, HeldData, empty, closed, section_with, Stepped, begun, step_path, step_source, step_func, step_branch, step_branch_in, in_block, section_in_block, step_block, step, line_step, run_on, run, submission_held}
 use Rattle.covread.proofs.GcovParts.{key_or_none}
 use Rattle.covread.proofs.GcovShapes.{found_fits}
-use Rattle.covread.proofs.GcovText.{read}
+use Rattle.covread.proofs.GcovText.{read, whole_run, then_ends, whole, whole_outcome, one_outcome}
 
 -- ---- what a line says
 
@@ -328,3 +331,19 @@ lawful_run test text held short good e =
       fit = all_weaker IsGoodSect (λ sect. AllFit sect.items) (λ sect g. g.fit) sects all;
       odd_fits = omega arith;
     }
+
+abbrev Told : Type 0
+Told = Result SubmissionData ReadFault
+
+lawful_if : (none : Bool) (s t : SubmissionData) → IsLawful t → (let told : Told = Ok s in told ≡ (if none then Ok t else Err faults.LostFunction)) → IsLawful s
+lawful_if true s t h e = let same : s ≡ t = cc in subst (λ (x : SubmissionData). IsLawful x) (sym same) h
+lawful_if false s t h e = absurd cc
+
+lawful_stepped : (test text : List ℕ) (s : SubmissionData) (stepped : Stepped) → length text ≤ most_bytes → IsGoodTest test → whole_run test text ≡ stepped → (let told : Told = Ok s in told ≡ then_ends test stepped) → IsLawful s
+lawful_stepped test text s (Err fault) short good e f = absurd cc
+lawful_stepped test text s (Ok held) short good e f = lawful_if (is_empty held.waiting) s (submission_held test held) (lawful_run test text held short good e) f
+
+-- what a text is read as is lawful
+pub lawful_outcome : (test text : List ℕ) (s : SubmissionData) → IsOutcome test text (Ok s) → IsLawful s
+lawful_outcome test text s h =
+    lawful_stepped test text s (whole_run test text) h.0 h.1 refl (one_outcome test text (Ok s) (whole test text) h (whole_outcome test text h.0 h.1))

@@ -1,19 +1,20 @@
 -- What was read makes a submission, and its numbers fit.
-use Rattle.std.proofs.Common.{◌≡◌, ◌≢◌, ℕ, ◌+◌, ◌<◌, ◌≤◌, ◌^◌, Bool, true, false, List, [], ◌∷◌, ◌++◌, length, Option, Some, None, sym, subst, arith}
+use Rattle.std.proofs.Common.{◌≡◌, ◌≢◌, ℕ, ◌+◌, ◌<◌, ◌≤◌, ◌^◌, Bool, true, false, List, [], ◌∷◌, ◌++◌, length, Option, Some, None, Ok, sym, subst, arith}
 use Rattle.std.specs.Prelude.{codes, All, IfSome, fold, min, if◌then◌else◌}
 use Rattle.std.specs.List.{flat_map, sum_by, AllByRecursion}
 use Rattle.std.specs.Str.{bytes_eq}
 use Rattle.std.proofs.lemmas.List.{append-nil, length-append}
 use Rattle.std.proofs.lemmas.List.Elements.{All-from_recursion, recursion_from_All, All-nil}
 use Rattle.std.proofs.lemmas.List.Sums.{sum_by-cons, count_by-le-length}
-use Rattle.covline.specs.Lines.{line_feed, carriage_return}
+use Rattle.covline.specs.Lines.{line_feed, carriage_return, lines_of}
 use Rattle.covline.specs.Points.{least}
-use Rattle.covline.specs.Row.{ItemData, LineItem, BranchItem, SectData, items_in}
+use Rattle.covline.specs.Row.{ItemData, LineItem, BranchItem, SectData, SubmissionData, items_in}
 use Rattle.covline.specs.Lawful.{IsGoodTest, IsGoodName, IsLawfulItem, IsLawfulSect, FitsItem, AllFit, IsLawful}
 use Rattle.covline.specs.Spells.{LineData, Test, Path, FuncStart, FuncCount, Branch, Line, End, comma, HasForm, HasSmallNumbers}
 use Rattle.covline.specs.LineLaws.{GoodRest}
+use Rattle.covline.proofs.LineLaws as line_laws
 use Rattle.covread.specs.Reads.{AllSpell, Part, Outside, Section, records_of, start_said, start_in, counted, items_said, items_of, is_odd, odd_in, test_after, sects_from}
-use Rattle.covread.specs.Outcome.{most_bytes}
+use Rattle.covread.specs.Outcome.{most_bytes, IsOutcome}
 use Rattle.covread.specs.TraceSteps.{HeldData, kept_in}
 use Rattle.covread.proofs.AllOf.{all_front, all_back, all_weaker, all_flat}
 use Rattle.covread.proofs.TraceGrammar.{Place, Between, Within}
@@ -200,3 +201,18 @@ lawful_parts good_rest lines parts s good short =
       fit = all_weaker IsGoodSect (λ sect. AllFit sect.items) (λ sect good. good.fit) (sects_from [] parts) sects;
       odd_fits = omega (arith, few_odd parts, len, short);
     }
+
+same_lawful : (s : SubmissionData) (sects : List SectData) (odd : ℕ) → s.sects ≡ sects → s.odd ≡ odd → IsLawful (record { sects = sects; odd = odd }) → IsLawful s
+same_lawful s sects odd e f h =
+    let k : IsLawful (record { sects = sects; odd = s.odd }) = subst (λ (n : ℕ). IsLawful (record { sects = sects; odd = n })) (sym f) h in
+    subst (λ (x : List SectData). IsLawful (record { sects = x; odd = s.odd })) (sym e) k
+
+-- what a text is read as is lawful
+pub lawful_outcome : (text : List ℕ) (s : SubmissionData) → IsOutcome text (Ok s) → IsLawful s
+lawful_outcome text s h =
+    let parts = h.1.parts in
+    let lines = lines_of text in
+    let stands : Stands lines parts Between =
+    record { lawful = h.1.lawful; inside = tt; spelled = subst (λ (x : List LineData). AllSpell lines x) (sym (append-nil (records parts))) h.1.spelled } in
+    same_lawful s (sects_from [] parts) (sum_by odd_in parts) h.1.sects h.1.odd
+    (lawful_parts line_laws.good_rest lines parts stands (line_laws.good_lines text) (omega (arith, h.0, line_laws.few_lines text)))
