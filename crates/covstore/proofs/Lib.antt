@@ -108,3 +108,17 @@ pub mod DropsRest
 pub mod WithoutSections
 pub mod DropsLoop
 pub mod WithoutStores
+pub mod CopiesLoop
+pub mod RenamedAlike
+pub mod RenamedValuesLists
+pub mod RenamedValues
+pub mod RenamedValuesState
+pub mod RenamedTables
+pub mod RenamedTablesState
+pub mod RenamedTablesCopies
+pub mod RenamedTablesFew
+pub mod RenamedTablesLoop
+pub mod CopiesMap
+pub mod CopiesFile
+pub mod NamedFiles
+pub mod RenamedStore

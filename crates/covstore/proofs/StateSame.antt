@@ -17,7 +17,7 @@ use Rattle.covstore.proofs.StateSections.{sections_are}
 use Rattle.covstore.proofs.SumsMore.{sums_more}
 
 -- items that add up to the same do so with the same items more
-tests_with_more : (xs ys more : List ItemData) → test_of xs ≡ test_of ys → test_of (xs ++ more) ≡ test_of (ys ++ more)
+pub tests_with_more : (xs ys more : List ItemData) → test_of xs ≡ test_of ys → test_of (xs ++ more) ≡ test_of (ys ++ more)
 tests_with_more xs ys [] same = ap test_of (append-nil xs) ∙ same ∙ ap test_of (sym (append-nil ys))
 tests_with_more xs ys (item ∷ more) same =
     let one : test_of (xs ++ item ∷ []) ≡ test_of (ys ++ item ∷ []) = sums_more xs item ∙ ap (with_item item) same ∙ sym (sums_more ys item) in

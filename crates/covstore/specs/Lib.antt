@@ -38,3 +38,5 @@ pub mod Without
 pub mod Fewer
 pub mod Drops
 pub mod Dropped
+pub mod Renamed
+pub mod Renaming

@@ -1,15 +1,17 @@
 //! A test that goes from the files of a store.
 
-ghost use Rattle.std.specs.Prelude.{◌≡◌, ℕ, List, true, count_by};
+ghost use Rattle.std.specs.Prelude.{◌≡◌, ℕ, List, true, count_by, map, IfOk};
 ghost use Rattle.std.specs.List.{AllByRecursion};
 ghost use Rattle.covstore.specs.Dropped.{AreWithoutTest, IsWithoutTest};
 ghost use Rattle.covstore.specs.Exchanged.{FitTotals};
 ghost use Rattle.covstore.specs.FileView.{file_held};
 ghost use Rattle.covstore.specs.MapsView.{AreSettledBut, IsSettledBut, files_held};
+ghost use Rattle.covstore.specs.Renaming.{names_with};
 ghost use Rattle.covstore.specs.State.{FileData, IsWholeFile, has_points_of, totals_in};
 
 use crate::file::File;
 use crate::totals::Totals;
+use covline::Memory;
 use std::alloc::Allocator;
 use std::collections::BTreeMap;
 
@@ -54,4 +56,21 @@ pub(crate) fn count_without<A: Allocator + Copy>(
         totals = totals.plus(rest);
     }
     (sections, totals)
+}
+
+/// The names of the files in which the test has points.
+pub(crate) fn names_with<A: Allocator + Copy>(
+    files: &BTreeMap<Vec<u8, A>, File<A>, A>,
+    alloc: A,
+    test: &[u8],
+) -> Result<Vec<Vec<u8, A>, A>, Memory>
+    ensures { IfOk result (λ names. map (λ name. name.items) names.items ≡ names_with test.now (files_held (λ name. name.items) files.now.entries)) }
+{
+    let mut names = Vec::new(alloc);
+    for (name, file) in files.iter() {
+        if file.has_test(test) {
+            names.push(Vec::from_slice(alloc, name.as_slice())?)?;
+        }
+    }
+    Ok(names)
 }

@@ -2,6 +2,7 @@
 
 ghost use Rattle.std.specs.Prelude.{◌≡◌, ℕ, List, [], ◌∷◌, ◌++◌, map, IfErr, IfOk, OnErr, OnOk};
 
+use crate::copies::add_values;
 use crate::marks::Marks;
 use crate::refuse::Refuse;
 use crate::section::add_items;
@@ -11,6 +12,7 @@ use crate::totals::Totals;
 use covline::{Bytes, Item, Memory};
 use std::alloc::Allocator;
 use std::collections::BTreeMap;
+use std::mem;
 
 /// The tests of a file, each with its points, and what is kept of them.
 #[derive(Drop)]
@@ -20,15 +22,19 @@ pub(crate) struct File<A: Allocator> {
 }
 
 impl<A: Allocator + Copy> File<A> {
-    ghost use Rattle.std.specs.Prelude.{true};
+    ghost use Rattle.std.specs.Prelude.{◌≢◌, true};
+    ghost use Rattle.std.specs.Cmp.Lexicographic.{slice_cmp};
     ghost use Rattle.std.specs.List.{list_any};
+    ghost use Rattle.std.specs.Ordering.{nat_cmp};
     ghost use Rattle.std.specs.Str.{bytes_eq};
     ghost use Rattle.covline.specs.Row.{item_data};
     ghost use Rattle.covstore.specs.Dropped.{IsWithoutTest};
     ghost use Rattle.covstore.specs.FileAdds.{AddsItems, ClashesIn, HasRoomIn};
     ghost use Rattle.covstore.specs.FileView.{KeepsFile, file_coming, file_held, no_file, with_test};
     ghost use Rattle.covstore.specs.MapsView.{IsSettledBut};
+    ghost use Rattle.covstore.specs.Puts.{value_of};
     ghost use Rattle.covstore.specs.RefuseView.{refuse_data};
+    ghost use Rattle.covstore.specs.Renaming.{CopiesIn, HasRoomToCopyIn};
     ghost use Rattle.covstore.specs.SectionAdds.{RefusedIn};
     ghost use Rattle.covstore.specs.State.{FileData, IsWholeFile, file_totals, has_points_of};
 
@@ -102,6 +108,32 @@ impl<A: Allocator + Copy> File<A> {
                 given,
             }),
         }
+    }
+
+    /// Takes what a test has into what is to come of another test of the file. Both are there.
+    pub(crate) fn copy_test(&mut self, alloc: A, old: &[u8], new: &[u8]) -> Result<(), Memory>
+        requires apart { old.now ≢ new.now }
+        requires room { HasRoomToCopyIn old.now new.now (file_coming self.old) }
+        requires same { value_of (slice_cmp nat_cmp) old.now (file_coming self.old).tests ≡ value_of (slice_cmp nat_cmp) old.now (file_held self.old).tests }
+        ensures held { KeepsFile (file_held self.old) (file_held self.new) }
+        ensures ok { OnOk result (CopiesIn old.now new.now (file_coming self.old) (file_coming self.new)) }
+        ensures settled { (tests : List (List ℕ)) → list_any (λ name. bytes_eq name new.now) tests ≡ true → IsSettledBut tests self.old → IsSettledBut tests self.new }
+    {
+        // Tells that a map has fewer than 2^63 entries.
+        self.tests.len();
+        let Some(place) = self.tests.get_mut(new) else {
+            return Ok(());
+        };
+        // Lifted out while the other test is looked at.
+        let mut points = mem::replace(place, Test::new(alloc));
+        let added = match self.tests.get(old) {
+            Some(source) => add_values(&mut points, &mut self.marks, alloc, source),
+            None => Ok(()),
+        };
+        if let Some(place) = self.tests.get_mut(new) {
+            *place = points;
+        }
+        added
     }
 
     /// What was to come of a test, and of what is kept of the file, is there.

@@ -65,7 +65,7 @@ pub(crate) fn add_item<A: Allocator + Copy>(
 }
 
 /// Takes a line's item.
-fn add_line<A: Allocator + Copy>(
+pub(crate) fn add_line<A: Allocator + Copy>(
     test: &mut Test<A>,
     marks: &mut Marks<A>,
     alloc: A,
@@ -103,7 +103,7 @@ fn add_line<A: Allocator + Copy>(
 }
 
 /// Takes a function's item.
-fn add_function<A: Allocator + Copy>(
+pub(crate) fn add_function<A: Allocator + Copy>(
     test: &mut Test<A>,
     marks: &mut Marks<A>,
     alloc: A,
@@ -132,7 +132,7 @@ fn add_function<A: Allocator + Copy>(
 }
 
 /// Takes a branch's item.
-fn add_branch<A: Allocator + Copy>(
+pub(crate) fn add_branch<A: Allocator + Copy>(
     test: &mut Test<A>,
     marks: &mut Marks<A>,
     alloc: A,

@@ -10,6 +10,7 @@ ghost use Rattle.covstore.specs.Ascending.{IsAscendingOf};
 ghost use Rattle.covstore.specs.Clash.{Checksum, ClashData, Agree, IsFirstClash, checksums_in, first_clash};
 ghost use Rattle.covstore.specs.Content.{SectionData, content_of, content_at};
 ghost use Rattle.covstore.specs.Counted.{lines, functions, branches, found, hit};
+ghost use Rattle.covstore.specs.Renamed.{renamed};
 ghost use Rattle.covstore.specs.Table.{Table, all_rows, clash_at};
 ghost use Rattle.covstore.specs.Totals.{AreTotals, totals_of};
 ghost use Rattle.covstore.specs.TotalsSteps.{totals_over};
@@ -84,4 +85,11 @@ pub fn order_of_rows_does_not_matter()
 pub fn order_of_submissions_does_not_matter()
     ensures content { (table others : Table) → IsPermutation table others → Agree (checksums_in (all_rows table)) → content_at table ≡ content_at others }
     ensures agree { (table others : Table) → IsPermutation table others → Agree (checksums_in (all_rows table)) → Agree (checksums_in (all_rows others)) }
+{}
+
+/// A rename changes neither the totals nor the checksums: points are counted once for all tests of their file.
+pub fn renaming_keeps_totals()
+    ensures totals { (old new : List ℕ) (table : Table) → totals_of (content_at (renamed old new table)) ≡ totals_of (content_at table) }
+    ensures agree { (old new : List ℕ) (table : Table) → Agree (checksums_in (all_rows table)) → Agree (checksums_in (all_rows (renamed old new table))) }
+    ensures still { (old : List ℕ) (table : Table) → renamed old old table ≡ table }
 {}

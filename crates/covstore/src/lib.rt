@@ -30,6 +30,7 @@
 
 mod checksums;
 mod content;
+mod copies;
 mod drops;
 mod file;
 mod items;
@@ -39,6 +40,7 @@ mod marks;
 mod plan;
 mod points;
 mod refuse;
+mod renaming;
 mod section;
 mod slots;
 mod stop;
@@ -53,6 +55,7 @@ mod wide;
 pub use content::{Branches, Functions, Lines, Section, Sections};
 pub use plan::Plan;
 pub use refuse::Refuse;
+pub use renaming::Renaming;
 pub use store::Store;
 pub use totals::Totals;
 pub use values::{BranchValue, FunctionValue, LineValue};

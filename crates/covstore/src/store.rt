@@ -1,12 +1,14 @@
 //! The store.
 
-ghost use Rattle.std.specs.Prelude.{◌≡◌, ◌+◌, ◌≤◌, OnOk};
+ghost use Rattle.std.specs.Prelude.{◌≡◌, ◌+◌, ◌≤◌, [], OnOk};
+ghost use Rattle.covstore.specs.MapsView.{AreSettledBut, files_coming, files_held, touched_data};
 
 use crate::content::Sections;
-use crate::drops::{count_without, drop_from_files};
+use crate::drops::{count_without, drop_from_files, names_with};
 use crate::file::File;
 use crate::plan::Plan;
 use crate::refuse::Refuse;
+use crate::renaming::Renaming;
 use crate::totals::Totals;
 use covline::{Item, Memory, Sect, Submission};
 use std::alloc::{Allocator, Global};
@@ -43,6 +45,24 @@ impl<A: Allocator + Copy> Touched<A> {
     }
 }
 
+/// What was to come of these tests is there.
+fn take_coming<A: Allocator + Copy>(
+    files: &mut BTreeMap<Vec<u8, A>, File<A>, A>,
+    touched: &mut Vec<Touched<A>, A>,
+)
+    requires { AreSettledBut (λ name. name.items) (touched_data touched.old.items) files.old.entries }
+    ensures held { files_held (λ name. name.items) files.new.entries ≡ files_coming (λ name. name.items) files.old.entries }
+    ensures coming { files_coming (λ name. name.items) files.new.entries ≡ files_coming (λ name. name.items) files.old.entries }
+    ensures none { touched.new.items ≡ [] }
+    ensures settled { AreSettledBut (λ name. name.items) [] files.new.entries }
+{
+    while let Some(last) = touched.pop() {
+        if let Some(file) = files.get_mut(last.file.as_slice()) {
+            file.take(last.test.as_slice());
+        }
+    }
+}
+
 /// The value of every line, function and branch at its file and test, over the rows that are left of all submissions that
 /// are held, of which there are at most 1,048,576; rows go where their test is dropped. Contracts see these values as
 /// sections, how many submissions there are, and what the store keeps of the files, as they are and as they are to be.
@@ -68,7 +88,7 @@ impl<A: Allocator> Model for Store<A> {
 }
 
 impl<A: Allocator + Copy> Store<A> {
-    ghost use Rattle.std.specs.Prelude.{◌≡◌, ◌<◌, ◌++◌, [], ◌∷◌, map, true, IfOk, IfErr, None, OnOk};
+    ghost use Rattle.std.specs.Prelude.{◌≡◌, ◌≢◌, ◌<◌, ℕ, List, ◌++◌, [], ◌∷◌, map, true, IfOk, IfErr, None, OnOk};
     ghost use Rattle.std.specs.Cmp.Lexicographic.{slice_cmp};
     ghost use Rattle.std.specs.Option.{is_some};
     ghost use Rattle.std.specs.Ordering.{nat_cmp};
@@ -82,6 +102,8 @@ impl<A: Allocator + Copy> Store<A> {
     ghost use Rattle.covstore.specs.SectionAdds.{HasPlace, rows_of_items};
     ghost use Rattle.covstore.specs.StoreHeld.{IsKept};
     ghost use Rattle.covstore.specs.RefuseView.{refuse_data};
+    ghost use Rattle.covstore.specs.Renamed.{renamed};
+    ghost use Rattle.covstore.specs.Renaming.{Copies, HasRoomToCopy, IsMoving, IsRenamingOf};
     ghost use Rattle.covstore.specs.MapsView.{IsStore};
     ghost use Rattle.covstore.specs.State.{sections_of, totals_in};
     ghost use Rattle.covstore.specs.FileView.{with_file};
@@ -141,14 +163,57 @@ impl<A: Allocator + Copy> Store<A> {
         requires { (s : SubmissionData) × IsPlanOf self.old s plan }
         ensures stands { (s : SubmissionData) (table : Table) → IsPlanOf self.old s plan → StandsFor self.old table → StandsFor self.new (table ++ rows_of s ∷ []) }
     {
-        while let Some(touched) = self.touched.pop() {
-            if let Some(file) = self.files.get_mut(touched.file.as_slice()) {
-                file.take(touched.test.as_slice());
-            }
-        }
+        take_coming(&mut self.files, &mut self.touched);
         self.coming = plan.after();
         self.held = self.coming;
         self.members += 1;
+    }
+
+    /// Makes all ready to give the rows of one test the name of another. The content stays as it is. What a renaming holds is
+    /// the store's own business: callers know of it in how many sections the old test stands, and that it is a renaming of
+    /// this store as it is left here, which `commit_rename` asks for. Any new name is taken. Where no row is of the old test, or
+    /// both names are the same, the renaming does nothing. The time is that of one look-up in each file, and of the points
+    /// that the old test has.
+    ///
+    /// # Errors
+    ///
+    /// `Memory` where a growth was refused.
+    pub fn prepare_rename(
+        &mut self,
+        alloc: A,
+        old: &[u8],
+        new: &[u8],
+    ) -> Result<Renaming<A>, Memory>
+        ensures content { SameContent self.old self.new }
+        ensures planned { IfOk result (λ renaming. IsRenamingOf self.new old.now new.now renaming) }
+        ensures sections { IfOk result (λ renaming. (table : Table) → StandsFor self.old table → renaming.sections ≡ sections_of_test old.now table) }
+    {
+        // What a plan left that was dropped.
+        self.forget();
+        let (sections, _) = self.after_drop(old);
+        if sections == 0 || old == new {
+            return Ok(Renaming::none(sections));
+        }
+        let leaves = Vec::from_slice(alloc, old)?;
+        match self.copy_all(alloc, old, new) {
+            Ok(()) => Ok(Renaming::of(sections, leaves)),
+            Err(refused) => {
+                self.forget();
+                Err(refused)
+            }
+        }
+    }
+
+    /// Gives the rows of the old test their new name, where the store is as `prepare_rename` left it. Values that meet under
+    /// the new name are those of all rows. The totals stay. Takes no memory.
+    pub fn commit_rename(&mut self, renaming: Renaming<A>)
+        requires { (old new : List ℕ) × IsRenamingOf self.old old new renaming }
+        ensures stands { (old new : List ℕ) (table : Table) → IsRenamingOf self.old old new renaming → StandsFor self.old table → StandsFor self.new (renamed old new table) }
+    {
+        if let Some(old) = renaming.leaves() {
+            take_coming(&mut self.files, &mut self.touched);
+            drop_from_files(&mut self.files, old);
+        }
     }
 
     /// The totals of what is held, which is the state of the rows of a table.
@@ -261,6 +326,48 @@ impl<A: Allocator + Copy> Store<A> {
         let totals = opened.exchange(alloc, file, test, items)?;
         self.coming = self.coming.exchanged(totals.0, totals.1);
         Ok(())
+    }
+
+    /// Takes the values of the old test into what is to come of the new one, file by file.
+    fn copy_all(&mut self, alloc: A, old: &[u8], new: &[u8]) -> Result<(), Memory>
+        requires apart { old.now ≢ new.now }
+        requires still { self.old.coming ≡ self.old.held }
+        ensures held { SameHeld self.old self.new }
+        ensures ok { OnOk result (IsMoving self.new old.now new.now old.now) }
+    {
+        // Tells that few enough rows are held.
+        self.kept();
+        let names = names_with(&self.files, alloc, old)?;
+        for name in names.as_slice() {
+            self.copy_file(alloc, name.as_slice(), old, new)?;
+        }
+        Ok(())
+    }
+
+    /// Takes the values of the old test of a file, which has some.
+    fn copy_file(&mut self, alloc: A, file: &[u8], old: &[u8], new: &[u8]) -> Result<(), Memory>
+        requires apart { old.now ≢ new.now }
+        requires room { HasRoomToCopy file.now old.now self.old }
+        ensures held { SameHeld self.old self.new }
+        ensures ok { OnOk result (Copies file.now old.now new.now self.old.coming self.new.coming) }
+    {
+        self.open_test(alloc, file, new)?;
+        self.copy_values(alloc, file, old, new)
+    }
+
+    /// Takes the values of the old test of a file where both tests are there. Of the new one something is to come then.
+    fn copy_values(&mut self, alloc: A, file: &[u8], old: &[u8], new: &[u8]) -> Result<(), Memory>
+        requires apart { old.now ≢ new.now }
+        requires room { HasRoomToCopy file.now old.now self.old }
+        requires place { HasPlace file.now new.now self.old.coming }
+        ensures held { SameHeld self.old self.new }
+        ensures ok { OnOk result (Copies file.now old.now new.now self.old.coming self.new.coming) }
+    {
+        Touched::push(&mut self.touched, alloc, file, new)?;
+        match self.files.get_mut(file) {
+            Some(opened) => opened.copy_test(alloc, old, new),
+            None => Ok(()),
+        }
     }
 
     /// Whether some section is of this test, and so some row: found by one look-up in each file. Takes no memory.

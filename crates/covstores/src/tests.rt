@@ -8,6 +8,7 @@ mod drops;
 mod held;
 mod patterns;
 mod plans;
+mod renames;
 mod texts;
 
 /// The bytes are as wanted. The tests compare here, since each comparison in a test's own body is proved there.

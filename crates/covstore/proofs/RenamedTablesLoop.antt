@@ -1,0 +1,153 @@
+-- A rename that is made ready: the old test's values are copied file by file, and then the rename is ready.
+use Rattle.std.proofs.Common.{◌≡◌, ℕ, ◌+◌, ◌*◌, ◌≤◌, ◌^◌, Bool, true, false, cond, not, Option, Some, List, [], ◌∷◌, ◌++◌, length, filter, refl, sym, ap, ◌∙◌, subst, append_assoc, inl, inr, arith}
+use Rattle.std.specs.Cmp.Lexicographic.{slice_cmp}
+use Rattle.std.specs.Ordering.{nat_cmp}
+use Rattle.std.specs.Str.{bytes_eq}
+use Rattle.std.proofs.lemmas.List.{append-nil}
+use Rattle.std.proofs.lemmas.List.Concat.{flat_map-append}
+use Rattle.covline.specs.Row.{ItemData, Row}
+use Rattle.covstore.specs.declared.totals.Totals.{Totals}
+use Rattle.covstore.specs.Clash.{checksum_of_row, checksums_in}
+use Rattle.covstore.specs.Puts.{ArePairs, value_of}
+use Rattle.covstore.specs.Renamed.{moved_rows}
+use Rattle.covstore.specs.Renaming.{Copies, HasRoomToCopy, IsMoving, key_of, names_with}
+use Rattle.covstore.specs.State.{FileData, IsStateOf, has_no_points, has_points_of, points_at, points_in}
+use Rattle.covstore.specs.Stored.{SameHeld, StoreData}
+use Rattle.covstore.specs.StoreHeld.{IsKept}
+use Rattle.covstore.specs.Sums.{test_of}
+use Rattle.covstore.specs.Table.{all_rows}
+use Rattle.covstore.specs.Value.{items_at}
+use Rattle.covstore.proofs.AddsPlace.{state_agrees}
+use Rattle.covstore.proofs.AddsStore.{held_by_both, same_held}
+use Rattle.covstore.proofs.ContentsChecksums.{checksums_there}
+use Rattle.covstore.proofs.ContentsLists.{In-unfilter}
+use Rattle.covstore.proofs.ContentsSections.{items_at-append}
+use Rattle.covstore.proofs.Members.{Contains-from, In, In-from, In-joined, In-unmap}
+use Rattle.covstore.proofs.Orders.{names_order}
+use Rattle.covstore.proofs.Prepares.{rows_in_table}
+use Rattle.covstore.proofs.Puts.{value_of_pair}
+use Rattle.covstore.proofs.RenamedValues.{tests_swapped}
+use Rattle.covstore.proofs.RenamedTablesCopies.{all_copied, copied_next, copies_of, held_in_moved, later_items, moved_items, points_still}
+use Rattle.covstore.proofs.RenamedTablesFew.{copied_room}
+use Rattle.covstore.proofs.StateSame.{same_contents, tests_with_more}
+
+-- ---- what is moved depends on the state alone
+
+tests_joined : (xs ys some others : List ItemData) → test_of xs ≡ test_of some → test_of ys ≡ test_of others → test_of (xs ++ ys) ≡ test_of (some ++ others)
+tests_joined xs ys some others first second = tests_with_more xs some ys first ∙ tests_swapped some ys ∙ tests_with_more ys others some second ∙ tests_swapped others some
+
+test_or_none : (b : Bool) (xs ys : List ItemData) → test_of xs ≡ test_of ys → test_of (cond b xs []) ≡ test_of (cond b ys [])
+test_or_none true xs ys same = same
+test_or_none false xs ys same = refl
+
+module _ (old new : List ℕ) (rows others : List Row) (held : List (List ℕ × FileData)) (state : IsStateOf rows held) (other : IsStateOf others held) where
+  -- with the moved rows of some there are those of the others
+  pub moved_too : (coming : List (List ℕ × FileData)) → IsStateOf (rows ++ moved_rows old new rows) coming → IsStateOf (others ++ moved_rows old new others) coming
+  moved_too coming later = record {
+    ascending = later.ascending;
+    points = λ key.
+        later.points key
+        ∙ ap test_of (items_at-append key rows (moved_rows old new rows) ∙ ap (λ (is : List ItemData). items_at key rows ++ is) (moved_items old new key rows))
+        ∙ tests_joined (items_at key rows) (cond (bytes_eq new key.test) (items_at (key_of key.file old) rows) []) (items_at key others) (cond (bytes_eq new key.test) (items_at (key_of key.file old) others) [])
+        (sym (state.points key) ∙ other.points key)
+        (test_or_none (bytes_eq new key.test) (items_at (key_of key.file old) rows) (items_at (key_of key.file old) others)
+        (sym (state.points (key_of key.file old)) ∙ other.points (key_of key.file old)))
+        ∙ ap test_of (sym (items_at-append key others (moved_rows old new others) ∙ ap (λ (is : List ItemData). items_at key others ++ is) (moved_items old new key others)));
+    texts = λ sum i. later.texts sum (Contains-from (checksums_in (rows ++ moved_rows old new rows)) sum (
+        subst (In sum) (sym (flat_map-append checksum_of_row rows (moved_rows old new rows)))
+        (In-joined (checksums_in rows) (checksums_in (moved_rows old new rows)) sum
+        (inl (checksums_there others rows (state_agrees others held other) (sym (same_contents rows others held state other)) sum
+        (held_in_moved old new others sum (In-from (checksums_in (others ++ moved_rows old new others)) sum i)))))));
+    whole = later.whole;
+  }
+
+-- ---- a file that is named has points of the test
+
+last_in : (some others : List (List ℕ)) (file : List ℕ) → In file (some ++ file ∷ others)
+last_in some others file = In-joined some (file ∷ others) file (inr (inl refl))
+
+not_false : (b : Bool) → not b ≡ true → b ≡ false
+not_false b e = by b e
+  where
+    by : (b : Bool) → not b ≡ true → b ≡ false
+    by true e = sym e
+    by false e = refl
+
+pub named_has_points : (old : List ℕ) (files : List (List ℕ × FileData)) → ArePairs (slice_cmp nat_cmp) files → (file : List ℕ) → In file (names_with old files)
+    → has_no_points (points_at (key_of file old) files) ≡ false
+named_has_points old files sorted file i =
+    let pair = In-unmap (λ (p : List ℕ × FileData). p.0) (filter (λ p. has_points_of old p.1) files) file i in
+    let own = In-unfilter (λ (p : List ℕ × FileData). has_points_of old p.1) files pair.0 pair.1 in
+    let found : value_of (slice_cmp nat_cmp) pair.0.0 files ≡ Some pair.0.1 = value_of_pair names_order pair.0.0 pair.0.1 files sorted own.0 in
+    let has : has_no_points (points_at (key_of pair.0.0 old) files) ≡ false =
+    ap (λ (f : Option FileData). has_no_points (points_in f old)) found ∙ not_false (has_no_points (points_in (Some pair.0.1) old)) own.1 in
+    subst (λ (name : List ℕ). has_no_points (points_at (key_of name old) files) ≡ false) pair.2 has
+
+-- ---- the loop over the files
+
+-- some of the files with points of the old test are copied, and these are to be
+pub record HasCopied (old new : List ℕ) (some rest : List (List ℕ)) (before now : StoreData) : Type 0 where
+  pub held : SameHeld before now
+  pub names : names_with old before.held ≡ some ++ rest
+  pub rows : List Row
+  pub first : IsStateOf rows before.held
+  pub few : 2 * length rows ≤ 2 ^ 47
+  pub state : IsStateOf (rows ++ copies_of old new rows some) now.coming
+
+-- at first none is copied
+pub none_copied : (old new : List ℕ) (names : List (List ℕ)) (store : StoreData) (totals : Totals) → IsKept store totals → store.coming ≡ store.held → names ≡ names_with old store.held
+    → HasCopied old new [] names store store
+none_copied old new names store totals kept still named =
+    let rows = all_rows kept.is.own in
+    record {
+      held = same_held store;
+      names = sym named;
+      rows = rows;
+      first = kept.is.state;
+      few = omega (arith, rows_in_table kept.is.own kept.is.small, kept.is.few);
+      state = subst (λ (rs : List Row). IsStateOf rs store.coming) (sym (append-nil rows)) (subst (λ (files : List (List ℕ × FileData)). IsStateOf rows files) (sym still) kept.is.state);
+    }
+
+module _ (old new : List ℕ) (apart : old ≡ new → ⊥) (some : List (List ℕ)) (before now : StoreData) where
+  -- there is room for the next one
+  pub copy_room : (file : List ℕ) (rest : List (List ℕ)) → HasCopied old new some (file ∷ rest) before now → HasRoomToCopy file old now
+  copy_room file rest copied =
+      let items : items_at (key_of file old) (copied.rows ++ copies_of old new copied.rows some) ≡ items_at (key_of file old) copied.rows = later_items old new apart file copied.rows some in
+      let room : length (copied.rows ++ copies_of old new copied.rows some) + length (items_at (key_of file old) copied.rows) ≤ 2 * length copied.rows =
+      copied_room old new copied.rows before.held copied.first.ascending some file rest copied.names in
+      let has : has_no_points (points_at (key_of file old) before.held) ≡ false =
+      named_has_points old before.held copied.first.ascending file (subst (In file) (sym copied.names) (last_in some rest file)) in
+      record {
+        own = copied.rows;
+        stands = copied.held.held.states copied.rows copied.first;
+        rows = copied.rows ++ copies_of old new copied.rows some;
+        state = copied.state;
+        few = omega (arith, room, copied.few, ap (λ (is : List ItemData). length is) items);
+        some = ap has_no_points (points_still old new apart file copied.rows some before.held now.coming copied.first copied.state) ∙ has;
+        same = points_still old new apart file copied.rows some now.held now.coming (copied.held.held.states copied.rows copied.first) copied.state;
+      }
+
+  -- and then it is copied too
+  pub one_file_copied : (file : List ℕ) (rest : List (List ℕ)) → HasCopied old new some (file ∷ rest) before now → (later : StoreData) → SameHeld now later
+      → Copies file old new now.coming later.coming → HasCopied old new (some ++ file ∷ []) rest before later
+  one_file_copied file rest copied later held copies = record {
+    held = held_by_both before now later copied.held held;
+    names = copied.names ∙ sym (append_assoc some (file ∷ []) rest);
+    rows = copied.rows;
+    first = copied.first;
+    few = copied.few;
+    state = copied_next old new apart file copied.rows some now.coming later.coming copied.state copies;
+  }
+
+  -- after the last one the rename is ready
+  pub moving_ready : HasCopied old new some [] before now → IsMoving now old new old
+  moving_ready copied =
+      let names : some ≡ names_with old before.held = sym (copied.names ∙ append-nil some) in
+      let state : IsStateOf (copied.rows ++ moved_rows old new copied.rows) now.coming =
+      all_copied old new copied.rows before.held now.coming copied.first
+      (subst (λ (ns : List (List ℕ)). IsStateOf (copied.rows ++ copies_of old new copied.rows ns) now.coming) names copied.state) in
+      record {
+        is_old = refl;
+        apart = apart;
+        moves = λ rows held. moved_too old new copied.rows rows now.held (copied.held.held.states copied.rows copied.first) held now.coming state;
+      }

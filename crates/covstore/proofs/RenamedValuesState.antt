@@ -1,0 +1,138 @@
+-- The values of a test of a file, as items, and the state of the rows that they are with another test's name.
+use Rattle.std.proofs.Common.{◌≡◌, ℕ, Bool, true, false, ◌&&◌, cond, Option, Some, None, List, [], ◌∷◌, ◌++◌, map, filter, refl, sym, ap, ap₂, ◌∙◌, subst, inl, ⊎_elim}
+use Rattle.std.specs.Cmp.Lexicographic.{slice_cmp}
+use Rattle.std.specs.Option.{is_some}
+use Rattle.std.specs.Ordering.{nat_cmp}
+use Rattle.std.specs.Str.{bytes_eq}
+use Rattle.std.proofs.lemmas.Bool.{cond-true, cond-false, false≢true}
+use Rattle.std.proofs.lemmas.List.Concat.{flat_map-append}
+use Rattle.covline.specs.Row.{ItemData, LineItem, Row}
+use Rattle.covstore.specs.declared.sums.LineSum.{LineSum}
+use Rattle.covstore.specs.Clash.{Checksum, checksum_of, checksum_of_row, checksums_in}
+use Rattle.covstore.specs.Counts.{is_above_at}
+use Rattle.covstore.specs.Puts.{value_of}
+use Rattle.covstore.specs.Renaming.{key_of, copied_rows, line_item, function_item, branch_item, items_of_test}
+use Rattle.covstore.specs.SectionAdds.{rows_of_items}
+use Rattle.covstore.specs.State.{FileData, IsStateOf, IsWholeFile, has_checksum, points_in, tests_in, text_at}
+use Rattle.covstore.specs.Sums.{TestData, test_of, line_sum, function_sum, branch_sum}
+use Rattle.covstore.specs.Value.{Key, has_key, items_at, lines_in, names_in, branches_in, line_value, line_checksum}
+use Rattle.covstore.proofs.AddsPlace.{HasSum, held_of}
+use Rattle.covstore.proofs.ContentsLists.{In-flat, In-unflat, In-unfilter}
+use Rattle.covstore.proofs.ContentsSections.{items_at-append, own_key}
+use Rattle.covstore.proofs.Members.{In, In-from, Contains-from, All-in, In-map, In-unmap, In-joined, In-parts}
+use Rattle.covstore.proofs.Orders.{names_order}
+use Rattle.covstore.proofs.Puts.{pair_in}
+use Rattle.covstore.proofs.RenamedValues.{values_of, values_stand, line_value_item, function_value_item, branch_value_item}
+use Rattle.covstore.proofs.StateSections.{file_has_checksums, points_there}
+use Rattle.covstore.proofs.StateSeen.{HasChecksums, map_of_map}
+
+-- ---- the items of a test
+
+text_as_said : (texts : List (ℕ × List ℕ)) (line : ℕ) (said : Option (List ℕ)) → ((text : List ℕ) → said ≡ Some text → value_of nat_cmp line texts ≡ Some text) → text_at texts line (is_some said) ≡ said
+text_as_said texts line None held = refl
+text_as_said texts line (Some text) held = held text refl
+
+-- the items of what items add up to are their values
+pub items_as_values : (texts : List (ℕ × List ℕ)) (items : List ItemData) → HasChecksums texts items → items_of_test texts (test_of items) ≡ values_of items
+items_as_values texts items held =
+    ap₂ (λ (ls others : List ItemData). ls ++ others)
+    (map_of_map (line_sum items) (line_item texts) (line_value_item items) (lines_in items)
+    (λ line. ap (λ (text : Option (List ℕ)). LineItem line (line_value line items) text) (text_as_said texts line (line_checksum line items) (held line))))
+    (ap₂ (λ (fs bs : List ItemData). fs ++ bs)
+    (map_of_map (function_sum items) function_item (function_value_item items) (names_in items) (λ name. refl))
+    (map_of_map (branch_sum items) branch_item (branch_value_item items) (branches_in items) (λ point. refl)))
+
+-- the points of a test that is there are what its items add up to
+pub source_is : (rows : List Row) (files : List (List ℕ × FileData)) → IsStateOf rows files → (name old : List ℕ) (file : FileData) (source : TestData)
+    → value_of (slice_cmp nat_cmp) name files ≡ Some file → value_of (slice_cmp nat_cmp) old file.tests ≡ Some source → source ≡ test_of (items_at (key_of name old) rows)
+source_is rows files state name old file source its_file its_test =
+    sym (points_there file old source its_test) ∙ ap (λ (found : Option FileData). points_in found old) (sym its_file) ∙ state.points (key_of name old)
+
+-- the items of a test that is there are the values of the items of its rows
+pub values_are : (rows : List Row) (files : List (List ℕ × FileData)) → IsStateOf rows files → (name old : List ℕ) (file : FileData) (source : TestData)
+    → value_of (slice_cmp nat_cmp) name files ≡ Some file → value_of (slice_cmp nat_cmp) old file.tests ≡ Some source → items_of_test file.texts source ≡ values_of (items_at (key_of name old) rows)
+values_are rows files state name old file source its_file its_test =
+    ap (items_of_test file.texts) (source_is rows files state name old file source its_file its_test)
+    ∙ items_as_values file.texts (items_at (key_of name old) rows) (file_has_checksums rows files state (key_of name old) file its_file)
+
+-- ---- the rows of items
+
+abbrev row_with : List ℕ → List ℕ → ItemData → Row
+row_with name test item = record { test = test; file = name; item = item }
+
+-- they are of one file and one test
+pub items_of_rows : (key : Key) (name test : List ℕ) (items : List ItemData) (own : Bool) → (bytes_eq name key.file && bytes_eq test key.test) ≡ own
+    → items_at key (rows_of_items name test items) ≡ cond own items []
+items_of_rows key name test [] true is = refl
+items_of_rows key name test [] false is = refl
+items_of_rows key name test (item ∷ items) true is =
+    ap (map (λ (row : Row). row.item))
+    (cond-true (bytes_eq name key.file && bytes_eq test key.test) (row_with name test item ∷ filter (has_key key) (rows_of_items name test items)) (filter (has_key key) (rows_of_items name test items)) is)
+    ∙ ap (λ (others : List ItemData). item ∷ others) (items_of_rows key name test items true is)
+items_of_rows key name test (item ∷ items) false is =
+    ap (map (λ (row : Row). row.item))
+    (cond-false (bytes_eq name key.file && bytes_eq test key.test) (row_with name test item ∷ filter (has_key key) (rows_of_items name test items)) (filter (has_key key) (rows_of_items name test items)) is)
+    ∙ items_of_rows key name test items false is
+
+stand_or_none : (xs ys : List ItemData) (own : Bool) → test_of (xs ++ cond own (values_of ys) []) ≡ test_of (xs ++ cond own ys [])
+stand_or_none xs ys true = values_stand xs ys
+stand_or_none xs ys false = refl
+
+-- the checksums of copied rows are those of the rows
+pub checksums_copied : (rows : List Row) (name old new : List ℕ) (c : Checksum) → In c (checksums_in (copied_rows name old new rows)) → In c (checksums_in rows)
+checksums_copied rows name old new c i =
+    let key = key_of name old in
+    let copy = In-unflat checksum_of_row (copied_rows name old new rows) c i in
+    let item = In-unmap (row_with name new) (items_at key rows) copy.0 copy.1 in
+    let row = In-unmap (λ (row : Row). row.item) (filter (has_key key) rows) item.0 item.1 in
+    let own = In-unfilter (has_key key) rows row.0 row.1 in
+    let same_file : name ≡ row.0.file = sym (ap (λ (k : Key). k.file) (own_key key row.0 own.1)) in
+    let of_item : In c (checksum_of name item.0) = subst (λ (r : Row). In c (checksum_of_row r)) (sym item.2) copy.2 in
+    let of_row : In c (checksum_of name row.0.item) = subst (λ (x : ItemData). In c (checksum_of name x)) (sym row.2) of_item in
+    In-flat checksum_of_row rows row.0 c own.0 (subst (λ (file : List ℕ). In c (checksum_of file row.0.item)) same_file of_row)
+
+module _ (rows : List Row) (name old new : List ℕ) where
+  abbrev its_items : List ItemData
+  its_items = items_at (key_of name old) rows
+
+  points_copied : (key : Key) → test_of (items_at key (rows ++ rows_of_items name new (values_of its_items))) ≡ test_of (items_at key (rows ++ copied_rows name old new rows))
+  points_copied key =
+      let own : Bool = bytes_eq name key.file && bytes_eq new key.test in
+      ap test_of (items_at-append key rows (rows_of_items name new (values_of its_items)) ∙ ap (λ (more : List ItemData). items_at key rows ++ more) (items_of_rows key name new (values_of its_items) own refl))
+      ∙ stand_or_none (items_at key rows) its_items own
+      ∙ ap test_of (sym (items_at-append key rows (copied_rows name old new rows) ∙ ap (λ (more : List ItemData). items_at key rows ++ more) (items_of_rows key name new its_items own refl)))
+
+  checksums_joined : (c : Checksum) → In c (checksums_in (rows ++ copied_rows name old new rows)) → In c (checksums_in rows)
+  checksums_joined c i =
+      ⊎_elim {C = In c (checksums_in rows)} (λ j. j) (λ j. checksums_copied rows name old new c j)
+      (In-parts (checksums_in rows) (checksums_in (copied_rows name old new rows)) c (subst (In c) (flat_map-append checksum_of_row rows (copied_rows name old new rows)) i))
+
+  -- files that are the state of the rows and the values of a test of a file are that of the rows and its copied rows
+  pub copied_state : (after : List (List ℕ × FileData)) → IsStateOf (rows ++ rows_of_items name new (values_of (items_at (key_of name old) rows))) after → IsStateOf (rows ++ copied_rows name old new rows) after
+  copied_state after state = record {
+    ascending = state.ascending;
+    points = λ key. state.points key ∙ points_copied key;
+    texts = λ held i.
+        state.texts held
+        (Contains-from (checksums_in (rows ++ rows_of_items name new (values_of its_items))) held
+        (subst (In held) (sym (flat_map-append checksum_of_row rows (rows_of_items name new (values_of its_items))))
+        (In-joined (checksums_in rows) (checksums_in (rows_of_items name new (values_of its_items))) held
+        (inl (checksums_joined held (In-from (checksums_in (rows ++ copied_rows name old new rows)) held i))))));
+    whole = state.whole;
+  }
+
+-- ---- the lines with a checksum
+
+above_sum : (value : Option LineSum) → is_above_at has_checksum value ≡ true → (sum : LineSum) × (value ≡ Some sum) × (sum.has_checksum ≡ true)
+above_sum None e = absurd (false≢true e)
+above_sum (Some sum) e = (sum, refl, e)
+
+-- each line of a test that has a checksum is among those of which one is held
+pub holders_are : (rows : List Row) (files : List (List ℕ × FileData)) → IsStateOf rows files → (name old : List ℕ) (file : FileData) (source : TestData)
+    → value_of (slice_cmp nat_cmp) name files ≡ Some file → value_of (slice_cmp nat_cmp) old file.tests ≡ Some source
+    → (line : ℕ) → is_above_at has_checksum (value_of nat_cmp line source.lines) ≡ true → is_some (value_of nat_cmp line file.holders) ≡ true
+holders_are rows files state name old file source its_file its_test line has =
+    let whole : IsWholeFile file = All-in (λ (pair : List ℕ × FileData). IsWholeFile pair.1) files (name, file) state.whole (pair_in names_order name file files its_file) in
+    let sum : HasSum source line = above_sum (value_of nat_cmp line source.lines) has in
+    ap (λ (held : Option ℕ). is_some held) (whole.kept.holders line)
+    ∙ held_of line (tests_in file) source (In-map (λ (pair : List ℕ × TestData). pair.1) file.tests (old, source) (pair_in names_order old source file.tests its_test)) sum

@@ -1,0 +1,44 @@
+use Rattle.std.proofs.Common.{ℕ, List, ap, ◌∙◌}
+use Rattle.covline.specs.Row.{FuncItem}
+use Rattle.covstore.specs.Renaming.{function_item}
+use Rattle.covstore.proofs.CopiesLoop.{copying_all, copying_first, copying_more, copying_room}
+use Rattle.covstore.proofs.StepsMore.{held_both}
+use Rattle.covstore.proofs.StepsTexts.{ok_unless}
+use Rattle.covstore.proofs.copies.add_functions.Goals as goal
+
+pub loop-name-init : goal.loop-name-init
+loop-name-init g c = copying_first function_item c.args.functions.now.held c.args.test.now c.args.marks.now c.into_iter-name-iterator.result (c.into_iter-name-iterator.ensures.into_iter_gives ∙ c.filled-name-items.ensures) c.requires
+
+pub add_function-requires : goal.add_function-requires
+add_function-requires g c = record {
+  room = copying_room function_item c.args.functions.now.held c.args.test.now c.args.marks.now (c.in-Some.name.now, c.in-Some.sum.now) c.loop-name.name-iterator c.next.new.self c.in-Some.ensures.steps
+      c.loop-name.test c.loop-name.marks c.loop-name.invariant;
+}
+
+pub loop-name-preserved : goal.loop-name-preserved
+loop-name-preserved g c =
+    let e = c.add_function.ensures in
+    let is = c.is_err.ensures.value in
+    let ok = c.if-is_err.false in
+    let line = c.in-Some.sum.now.line in
+    copying_more function_item c.args.functions.now.held c.args.test.now c.args.marks.now (c.in-Some.name.now, c.in-Some.sum.now) c.loop-name.name-iterator c.next.new.self c.in-Some.ensures.steps
+    c.loop-name.test c.loop-name.marks c.loop-name.invariant (FuncItem c.get.result.now line c.get-in-loop-name.result)
+    (ap (λ (name : List ℕ). FuncItem name line c.get-in-loop-name.result) c.get.ensures ∙ ap (FuncItem c.in-Some.name.now line) c.get-in-loop-name.ensures)
+    c.add_function.new.test c.add_function.new.marks e.test_held e.marks_held (ok_unless c.add_function.result is ok e.test) (ok_unless c.add_function.result is ok e.counts) tt
+    (ok_unless c.add_function.result is ok e.others)
+
+pub returns-then-is_err-clause-test_held : goal.returns-then-is_err-clause-test_held
+returns-then-is_err-clause-test_held g c = c.add_function.ensures.test_held ∙ c.loop-name.invariant.takes.same_test
+
+pub returns-then-is_err-clause-marks_held : goal.returns-then-is_err-clause-marks_held
+returns-then-is_err-clause-marks_held g c = held_both c.args.marks.now c.loop-name.marks c.add_function.new.marks c.loop-name.invariant.takes.same_marks c.add_function.ensures.marks_held
+
+pub returns-clause-test_held : goal.returns-clause-test_held
+returns-clause-test_held g c = c.loop-name.invariant.takes.same_test
+
+pub returns-clause-marks_held : goal.returns-clause-marks_held
+returns-clause-marks_held g c = c.loop-name.invariant.takes.same_marks
+
+pub returns-clause-ok : goal.returns-clause-ok
+returns-clause-ok g c =
+    copying_all function_item c.args.functions.now.held c.args.test.now c.args.marks.now c.loop-name.name-iterator c.loop-name.test c.loop-name.marks c.in-None.ensures.steps.0 c.loop-name.invariant

@@ -1,0 +1,108 @@
+-- A rename that a store has made ready: what is to come has the values of the old test under the new name too. Then the old test
+-- goes.
+use Rattle.std.specs.Prelude.{◌≡◌, ◌≢◌, ℕ, ◌+◌, ◌≤◌, ◌^◌, true, false, List, ◌++◌, Option, Some, None, length, map, filter}
+use Rattle.std.specs.Cmp.Lexicographic.{slice_cmp}
+use Rattle.std.specs.Option.{is_some}
+use Rattle.std.specs.Ordering.{nat_cmp}
+use Rattle.covline.specs.Row.{ItemData, LineItem, FuncItem, BranchItem, Row}
+use Rattle.covline.specs.Points.{BranchPoint}
+use Rattle.covstore.specs.declared.sums.LineSum.{LineSum}
+use Rattle.covstore.specs.declared.sums.FunctionSum.{FunctionSum}
+use Rattle.covstore.specs.declared.sums.Taken.{Taken}
+use Rattle.covstore.specs.FileAdds.{HasFile}
+use Rattle.covstore.specs.Marks.{MarksData}
+use Rattle.covstore.specs.Puts.{put, value_of}
+use Rattle.covstore.specs.Renamed.{moved_rows, renamed}
+use Rattle.covstore.specs.SectionAdds.{rows_of_items}
+use Rattle.covstore.specs.State.{FileData, IsStateOf, has_checksum, has_no_points, has_points_of, points_at, text_at}
+use Rattle.covstore.specs.Stored.{StandsFor, StoreData}
+use Rattle.covstore.specs.Sums.{TestData}
+use Rattle.covstore.specs.Table.{Table}
+use Rattle.covstore.specs.Value.{Key, items_at}
+use Rattle.covstore.specs.Counts.{is_above_at}
+
+-- what is planned: in how many sections the test stands, and the test that goes, where one does
+pub record RenamingData : Type 0 where
+  pub sections : ℕ
+  pub leaves : Option (List ℕ)
+
+-- what is to come are the rows that are held and, under the new name, those of the old test
+pub record IsMoving (store : StoreData) (old new leaves : List ℕ) : Type 0 where
+  pub is_old : leaves ≡ old
+  pub apart : old ≢ new
+  pub moves : (rows : List Row) → IsStateOf rows store.held → IsStateOf (rows ++ moved_rows old new rows) store.coming
+
+-- nothing is to be done where the table stays as it is
+abbrev pub IsMovingIfAny : StoreData → List ℕ → List ℕ → Option (List ℕ) → Type 0
+IsMovingIfAny store old new None = (table : Table) → StandsFor store table → renamed old new table ≡ table
+IsMovingIfAny store old new (Some leaves) = IsMoving store old new leaves
+
+-- the store is as `prepare_rename` left it when it planned this rename. Callers hand it from there to `commit_rename` and look at
+-- none of its parts
+abbrev pub IsRenamingOf : StoreData → List ℕ → List ℕ → RenamingData → Type 0
+IsRenamingOf store old new renaming = IsMovingIfAny store old new renaming.leaves
+
+-- ---- one file
+
+abbrev pub key_of : List ℕ → List ℕ → Key
+key_of file test = record { file = file; test = test }
+
+-- the items of the old test of a file, under the new name
+abbrev pub copied_rows : List ℕ → List ℕ → List ℕ → List Row → List Row
+copied_rows file old new rows = rows_of_items file new (items_at (key_of file old) rows)
+
+-- files that are the state of rows are, with the old test's values under the new name, the state of the copied rows too
+abbrev pub Copies : List ℕ → List ℕ → List ℕ → List (List ℕ × FileData) → List (List ℕ × FileData) → Type 0
+Copies file old new before after = (rows : List Row) → IsStateOf rows before → IsStateOf (rows ++ copied_rows file old new rows) after
+
+-- the same, of the file alone
+abbrev pub CopiesIn : List ℕ → List ℕ → FileData → FileData → Type 0
+CopiesIn old new before after =
+    (rows : List Row) (files : List (List ℕ × FileData)) (name : List ℕ) → HasFile rows files name before
+    → HasFile (rows ++ copied_rows name old new rows) (put (slice_cmp nat_cmp) name after files) name after
+
+-- the file has both tests and stands for rows, not too many with those that are copied
+pub record HasRoomToCopyIn (old new : List ℕ) (file : FileData) : Type 0 where
+  pub source : TestData
+  pub target : TestData
+  pub its_source : value_of (slice_cmp nat_cmp) old file.tests ≡ Some source
+  pub its_target : value_of (slice_cmp nat_cmp) new file.tests ≡ Some target
+  pub rows : List Row
+  pub files : List (List ℕ × FileData)
+  pub name : List ℕ
+  pub stands : HasFile rows files name file
+  pub few : length rows + length (items_at (key_of name old) rows) ≤ 2 ^ 47
+
+-- what is to come is the state of rows, not too many with those of the file that are copied; its old test has points, and of these
+-- nothing is to come. What is held is the state of some rows too
+pub record HasRoomToCopy (file old : List ℕ) (store : StoreData) : Type 0 where
+  pub own : List Row
+  pub stands : IsStateOf own store.held
+  pub rows : List Row
+  pub state : IsStateOf rows store.coming
+  pub few : length rows + length (items_at (key_of file old) rows) ≤ 2 ^ 47
+  pub some : has_no_points (points_at (key_of file old) store.coming) ≡ false
+  pub same : points_at (key_of file old) store.coming ≡ points_at (key_of file old) store.held
+
+-- the names of the files in which a test has points
+abbrev pub names_with : List ℕ → List (List ℕ × FileData) → List (List ℕ)
+names_with test files = map (λ pair. pair.0) (filter (λ pair. has_points_of test pair.1) files)
+
+-- ---- the items that the values of a test are
+
+abbrev pub line_item : List (ℕ × List ℕ) → ℕ × LineSum → ItemData
+line_item texts pair = LineItem pair.0 pair.1.count (text_at texts pair.0 pair.1.has_checksum)
+
+abbrev pub function_item : List ℕ × FunctionSum → ItemData
+function_item pair = FuncItem pair.0 pair.1.line pair.1.count
+
+abbrev pub branch_item : BranchPoint × Taken → ItemData
+branch_item pair = BranchItem pair.0.line pair.0.block pair.0.branch pair.1.times
+
+-- one for each point, with its value; the checksums' texts are these
+abbrev pub items_of_test : List (ℕ × List ℕ) → TestData → List ItemData
+items_of_test texts test = map (line_item texts) test.lines ++ (map function_item test.functions ++ map branch_item test.branches)
+
+-- each line that has a checksum is among those of which one is held
+abbrev pub HasHolders : List (ℕ × LineSum) → MarksData → Type 0
+HasHolders lines marks = (line : ℕ) → is_above_at has_checksum (value_of nat_cmp line lines) ≡ true → is_some (value_of nat_cmp line marks.holders) ≡ true
