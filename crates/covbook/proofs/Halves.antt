@@ -1,13 +1,16 @@
 -- What is made ready is what the second half of a step asks for.
 use Rattle.std.proofs.Common.{◌≡◌, ℕ, Bool, true, List, length, sym, ap, ◌∙◌, subst}
 use Rattle.covstore.specs.declared.totals.Totals.{Totals}
+use Rattle.covstore.specs.Renamed.{renamed}
+use Rattle.covstore.specs.Renaming.{RenamingData, IsRenamingOf}
 use Rattle.covstore.specs.Stored.{StoreData}
+use Rattle.covstore.specs.Table.{Table}
 use Rattle.covstore.specs.Totals.{totals_of}
 use Rattle.covstore.specs.Without.{sections_of_test, without_test}
 use Rattle.covbook.specs.Held.{BookData, SameBook, IsBook}
-use Rattle.covbook.specs.Op.{OpData, DropTestOp, AnswerData, DroppedAnswer, EntryData}
-use Rattle.covbook.specs.Ready.{ReadyData, ChangeData, HasRoom, IsNextOf, IsPlanned, IsAfter, IsReadyFor}
-use Rattle.covbook.specs.Step.{answer_of, answer_to_drop, has_test, table_after, table_after_drop, table_of, totals_at, ops_in, next_entry}
+use Rattle.covbook.specs.Op.{OpData, DropTestOp, RenameOp, AnswerData, DroppedAnswer, RenamedAnswer, EntryData}
+use Rattle.covbook.specs.Ready.{ReadyData, ChangeData, RenameChange, HasRoom, IsNextOf, IsPlanned, IsAfter, IsReadyFor}
+use Rattle.covbook.specs.Step.{answer_of, answer_to_drop, answer_to_rename, has_test, table_after, table_after_drop, table_after_rename, table_of, totals_at, ops_in, next_entry}
 use Rattle.covbook.proofs.Runs.{shown}
 
 -- a step with this entry, and what it does to the store
@@ -59,6 +62,28 @@ dropped_next entries job test answer after there said told =
     next_with entries job (DropTestOp test) answer after
     (said ∙ ap (answer_to_drop table test) (sym there))
     (told ∙ ap (λ (b : Bool). totals_at (table_after_drop table test b)) (sym there))
+
+-- the entry of a test that is renamed, of which a row is
+pub renamed_next : (entries : List EntryData) (job : ℕ) (old new : List ℕ) (answer : AnswerData) (after : Totals) → has_test (table_of (ops_in entries)) old ≡ true
+    → answer ≡ RenamedAnswer (sections_of_test old (table_of (ops_in entries))) → after ≡ totals_at (renamed old new (table_of (ops_in entries)))
+    → record { job = job; op = RenameOp old new; answer = answer; after = after } ≡ next_entry entries job (RenameOp old new)
+renamed_next entries job old new answer after there said told =
+    let table = table_of (ops_in entries) in
+    next_with entries job (RenameOp old new) answer after
+    (said ∙ ap (answer_to_rename table old) (sym there))
+    (told ∙ ap (λ (b : Bool). totals_at (table_after_rename table old new b)) (sym there))
+
+-- a renaming of the given names is planned for an operation that has them
+pub renaming_planned : (store : StoreData) (table : Table) (old new own_old own_new : List ℕ) (renaming : RenamingData) → has_test table own_old ≡ true → own_old ≡ old → own_new ≡ new
+    → IsRenamingOf store old new renaming → IsPlanned store table (RenameOp own_old own_new) (RenameChange renaming)
+renaming_planned store table old new own_old own_new renaming there same_old same_new is = (
+  old,
+  new,
+  is,
+  ap (table_after_rename table own_old own_new) there
+      ∙ ap (λ (t : List ℕ). renamed t own_new table) same_old
+      ∙ ap (λ (t : List ℕ). renamed old t table) same_new,
+)
 
 -- the test is there by its own copy of the name, in the book's table
 pub row_there : (store : StoreData) (room : ℕ) (entries : List EntryData) (book : BookData) (own given : List ℕ) → shown store room entries ≡ book → own ≡ given

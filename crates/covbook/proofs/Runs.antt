@@ -3,13 +3,15 @@ use Rattle.std.proofs.Common.{◌≡◌, ℕ, ◌+◌, ◌<◌, ◌≤◌, List,
 use Rattle.std.proofs.lemmas.List.{map_push, length_push}
 use Rattle.covstore.specs.declared.totals.Totals.{Totals}
 use Rattle.covline.specs.Row.{SubmissionData, items_in, rows_of}
+use Rattle.covstore.specs.Renamed.{renamed}
+use Rattle.covstore.specs.Renaming.{RenamingData, IsRenamingOf}
 use Rattle.covstore.specs.Stored.{StoreData, PlanData, IsPlanOf, SameContent, StandsFor}
 use Rattle.covstore.specs.Table.{Table, clash_at}
 use Rattle.covstore.specs.Without.{without_test}
-use Rattle.covbook.proofs.Members.{members_stay}
+use Rattle.covbook.proofs.Members.{members_kept, members_stay}
 use Rattle.covbook.specs.Held.{BookData, IsBook}
 use Rattle.covbook.specs.Op.{OpData, AreLawfulOps, IsLawfulOp, SubmitOp, AnswerData, AcceptedAnswer, EntryData}
-use Rattle.covbook.specs.Ready.{HasRoom, IsNextOf, IsPlanned, HoldChange, DropChange}
+use Rattle.covbook.specs.Ready.{HasRoom, IsNextOf, IsPlanned, HoldChange, DropChange, RenameChange}
 use Rattle.covbook.specs.Texts.{IsText}
 use Rattle.covbook.specs.Step.{answer_to_submit, table_after_submit, answer_of, table_after, totals_at, answers_from, totals_from, table_from, answers_to, totals_to, table_of, ops_in, next_entry, totals_in, IsLegal, no_totals, last_totals, most_entries}
 
@@ -163,6 +165,34 @@ dropped_book store without accepted room entries book new e test b lawful view h
     let fewer : accepted ≤ length entries + 1 = omega (arith, b.fewer) in
     let made = next_book without accepted entries e.job e.op b.legal b.lawful lawful few stands number fewer in
     subst (IsBook without accepted) (ap (λ (x : EntryData). entries ++ x ∷ []) (sym next_here) ∙ sym is) made
+
+-- ---- a test that is renamed
+
+-- what is planned is a renaming of the store
+pub renaming_here : (store : StoreData) (room : ℕ) (entries : List EntryData) (book : BookData) (op : OpData) (renaming : RenamingData) → shown store room entries ≡ book
+    → IsPlanned book.store (table_of (ops_in book.entries)) op (RenameChange renaming) → (old new : List ℕ) × IsRenamingOf store old new renaming
+renaming_here store room entries book op renaming view planned =
+    let here = subst (λ (x : BookData). IsPlanned x.store (table_of (ops_in x.entries)) op (RenameChange renaming)) (sym view) planned in
+    (here.0, here.1, here.2)
+
+-- the book with the new name
+pub renamed_book : (store committed : StoreData) (accepted room : ℕ) (entries : List EntryData) (book : BookData) (new : List EntryData) (e : EntryData) (renaming : RenamingData) → IsBook store accepted entries → IsLawfulOp e.op
+    → shown store room entries ≡ book → HasRoom book → IsNextOf book e → IsPlanned book.store (table_of (ops_in book.entries)) e.op (RenameChange renaming)
+    → ((from to : List ℕ) (table : Table) → IsRenamingOf store from to renaming → StandsFor store table → StandsFor committed (renamed from to table)) → new ≡ entries ++ e ∷ [] → IsBook committed accepted new
+renamed_book store committed accepted room entries book new e renaming b lawful view has next planned commit is =
+    let back = sym view in
+    let few = (subst HasRoom back has).few in
+    let next_here = subst (λ (x : BookData). IsNextOf x e) back next in
+    let planned_here = subst (λ (x : BookData). IsPlanned x.store (table_of (ops_in x.entries)) e.op (RenameChange renaming)) back planned in
+    let table = table_of (ops_in entries) in
+    let from = planned_here.0 in
+    let to = planned_here.1 in
+    let leaves : renamed from to table ≡ table_after table e.op = sym planned_here.3 in
+    let stands : StandsFor committed (table_after table e.op) = subst (StandsFor committed) leaves (commit from to table planned_here.2 b.stands) in
+    let number : accepted ≡ length (table_after table e.op) = b.number ∙ members_kept from to table ∙ ap length leaves in
+    let fewer : accepted ≤ length entries + 1 = omega (arith, b.fewer) in
+    let made = next_book committed accepted entries e.job e.op b.legal b.lawful lawful few stands number fewer in
+    subst (IsBook committed accepted) (ap (λ (x : EntryData). entries ++ x ∷ []) (sym next_here) ∙ sym is) made
 
 -- ---- the last totals
 

@@ -1,7 +1,7 @@
 -- Operations, answers, entries of a history and receipts, apart from where they lie in memory.
 use Rattle.std.specs.Prelude.{ℕ, List}
 use Rattle.std.specs.List.{AllByRecursion}
-use Rattle.covline.specs.Lawful.{IsLawful}
+use Rattle.covline.specs.Lawful.{IsGoodTest, IsLawful}
 use Rattle.covline.specs.Row.{SubmissionData}
 use Rattle.covstore.specs.declared.totals.Totals.{Totals}
 use Rattle.covstore.specs.Clash.{ClashData}
@@ -9,23 +9,43 @@ use Rattle.covstore.specs.Clash.{ClashData}
 pub data OpData : Type 0 where
   SubmitOp : (submission : SubmissionData) → OpData
   DropTestOp : (test : List ℕ) → OpData
+  RenameOp : (old new : List ℕ) → OpData
   ReportOp : OpData
   ExtractOp : (patterns : List (List ℕ)) → OpData
   RemoveOp : (patterns : List (List ℕ)) → OpData
   SummaryOp : OpData
 
--- a submission that is handed in is lawful; nothing is asked of other operations
+-- a submission that is handed in is lawful; nothing is asked of other operations: any new name is taken
 abbrev pub IsLawfulOp : OpData → Type 0
 IsLawfulOp (SubmitOp submission) = IsLawful submission
-IsLawfulOp other = Unit {0}
+IsLawfulOp (DropTestOp test) = Unit {0}
+IsLawfulOp (RenameOp old new) = Unit {0}
+IsLawfulOp ReportOp = Unit {0}
+IsLawfulOp (ExtractOp patterns) = Unit {0}
+IsLawfulOp (RemoveOp patterns) = Unit {0}
+IsLawfulOp SummaryOp = Unit {0}
 
 abbrev pub AreLawfulOps : List OpData → Type 0
 AreLawfulOps ops = AllByRecursion IsLawfulOp ops
+
+-- a new name is one that a tracefile can have, so what is renamed to it can be printed and read back
+abbrev pub HasGoodName : OpData → Type 0
+HasGoodName (RenameOp old new) = IsGoodTest new
+HasGoodName (SubmitOp submission) = Unit {0}
+HasGoodName (DropTestOp test) = Unit {0}
+HasGoodName ReportOp = Unit {0}
+HasGoodName (ExtractOp patterns) = Unit {0}
+HasGoodName (RemoveOp patterns) = Unit {0}
+HasGoodName SummaryOp = Unit {0}
+
+abbrev pub HaveGoodNames : List OpData → Type 0
+HaveGoodNames ops = AllByRecursion HasGoodName ops
 
 pub data AnswerData : Type 0 where
   AcceptedAnswer : (number items odd : ℕ) → AnswerData
   ClashAnswer : (clash : ClashData) → AnswerData
   DroppedAnswer : (sections : ℕ) → AnswerData
+  RenamedAnswer : (sections : ℕ) → AnswerData
   NoSuchTestAnswer : AnswerData
   TextAnswer : (text : List ℕ) → AnswerData
 

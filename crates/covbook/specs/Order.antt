@@ -4,13 +4,17 @@ use Rattle.std.specs.List.{AllByRecursion, flat_map}
 use Rattle.std.specs.List.Sorted.{IsPermutation}
 use Rattle.covline.specs.Row.{SubmissionData, rows_of}
 use Rattle.covstore.specs.Clash.{Agree, checksums_in}
-use Rattle.covbook.specs.Op.{OpData, SubmitOp}
-use Rattle.covbook.specs.Texts.{IsText}
+use Rattle.covbook.specs.Op.{OpData, SubmitOp, DropTestOp, RenameOp, ReportOp, ExtractOp, RemoveOp, SummaryOp}
 
 -- the submission that an operation hands in, where it does
 abbrev pub submission_of : OpData → List SubmissionData
 submission_of (SubmitOp submission) = submission ∷ []
-submission_of other = []
+submission_of (DropTestOp test) = []
+submission_of (RenameOp old new) = []
+submission_of ReportOp = []
+submission_of (ExtractOp patterns) = []
+submission_of (RemoveOp patterns) = []
+submission_of SummaryOp = []
 
 -- the submissions that operations hand in, in their order
 abbrev pub submissions_in : List OpData → List SubmissionData
@@ -27,7 +31,12 @@ AreAgreeing submissions = Agree (checksums_in (flat_map rows_of submissions))
 -- the operation hands in a submission or asks for a text
 abbrev pub SubmitsOrAsks : OpData → Type 0
 SubmitsOrAsks (SubmitOp submission) = Unit {0}
-SubmitsOrAsks other = IsText other
+SubmitsOrAsks (DropTestOp test) = ⊥
+SubmitsOrAsks (RenameOp old new) = ⊥
+SubmitsOrAsks ReportOp = Unit {0}
+SubmitsOrAsks (ExtractOp patterns) = Unit {0}
+SubmitsOrAsks (RemoveOp patterns) = Unit {0}
+SubmitsOrAsks SummaryOp = Unit {0}
 
 abbrev pub OnlySubmitsAndAsks : List OpData → Type 0
 OnlySubmitsAndAsks ops = AllByRecursion SubmitsOrAsks ops

@@ -3,17 +3,20 @@ use Rattle.std.specs.Prelude.{◌≡◌, ℕ, ◌<◌, List, [], ◌∷◌, ◌+
 use Rattle.covline.specs.Row.{SubmissionData, rows_of}
 use Rattle.covstore.specs.declared.totals.Totals.{Totals}
 use Rattle.covstore.specs.Stored.{StoreData, PlanData, IsPlanOf}
+use Rattle.covstore.specs.Renamed.{renamed}
+use Rattle.covstore.specs.Renaming.{RenamingData, IsRenamingOf}
 use Rattle.covstore.specs.Table.{Table}
 use Rattle.covstore.specs.Without.{without_test}
 use Rattle.covbook.specs.Held.{BookData}
 use Rattle.covbook.specs.Op.{OpData, EntryData}
 use Rattle.covbook.specs.Step.{table_after, table_of, totals_at, ops_in, ComesNext, most_entries}
 
--- what a step does to the store: nothing, or it holds what is planned, or drops a test
+-- what a step does to the store: nothing, or it holds what is planned, or drops a test, or renames one
 pub data ChangeData : Type 0 where
   NoChange : ChangeData
   HoldChange : (plan : PlanData) → ChangeData
   DropChange : (test : List ℕ) → ChangeData
+  RenameChange : (renaming : RenamingData) → ChangeData
 
 -- a step made ready: the entry that comes, and its place; what it does to the store; the totals after it
 pub record ReadyData : Type 0 where
@@ -32,11 +35,12 @@ abbrev pub IsNextOf : BookData → EntryData → Type 0
 IsNextOf book entry = ComesNext book.entries entry
 
 -- a plan is the store's own for the rows that the operation adds to the table; a test is dropped where the operation takes its
--- rows out of the table; where nothing is done the table stays
+-- rows out of the table; a renaming is the store's own for the names of the operation; where nothing is done the table stays
 abbrev pub IsPlanned : StoreData → Table → OpData → ChangeData → Type 0
 IsPlanned store table op NoChange = table_after table op ≡ table
 IsPlanned store table op (HoldChange plan) = (s : SubmissionData) × IsPlanOf store s plan × (table_after table op ≡ table ++ rows_of s ∷ [])
 IsPlanned store table op (DropChange test) = table_after table op ≡ without_test test table
+IsPlanned store table op (RenameChange renaming) = (old new : List ℕ) × IsRenamingOf store old new renaming × (table_after table op ≡ renamed old new table)
 
 -- the totals are those that stand when the operation is answered
 abbrev pub IsAfter : BookData → OpData → Totals → Type 0

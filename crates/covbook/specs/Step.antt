@@ -5,13 +5,14 @@ use Rattle.covline.specs.Row.{SubmissionData, rows_of, items_in}
 use Rattle.covstore.specs.declared.totals.Totals.{Totals}
 use Rattle.covstore.specs.Clash.{ClashData}
 use Rattle.covstore.specs.Content.{content_at}
+use Rattle.covstore.specs.Renamed.{renamed}
 use Rattle.covstore.specs.Table.{Table, all_rows, clash_at}
 use Rattle.covstore.specs.Totals.{totals_of}
 use Rattle.covstore.specs.Without.{is_of_test, without_test, sections_of_test}
 use Rattle.covreport.specs.Choice.{AllFiles, Extracted, Removed}
 use Rattle.covreport.specs.Report.{report_text}
 use Rattle.covreport.specs.Summary.{summary_of}
-use Rattle.covbook.specs.Op.{OpData, SubmitOp, DropTestOp, ReportOp, ExtractOp, RemoveOp, SummaryOp, AnswerData, AcceptedAnswer, ClashAnswer, DroppedAnswer, NoSuchTestAnswer, TextAnswer, EntryData, ReceiptData}
+use Rattle.covbook.specs.Op.{OpData, SubmitOp, DropTestOp, RenameOp, ReportOp, ExtractOp, RemoveOp, SummaryOp, AnswerData, AcceptedAnswer, ClashAnswer, DroppedAnswer, RenamedAnswer, NoSuchTestAnswer, TextAnswer, EntryData, ReceiptData}
 
 -- a submission that clashes is refused whole; another one is accepted with the next number
 abbrev pub answer_to_submit : Table → SubmissionData → Option ClashData → AnswerData
@@ -35,10 +36,20 @@ abbrev pub table_after_drop : Table → List ℕ → Bool → Table
 table_after_drop table test true = without_test test table
 table_after_drop table test false = table
 
+-- nor can such a test be renamed; the rows of another one have the new name, and rows that had it stay
+abbrev pub answer_to_rename : Table → List ℕ → Bool → AnswerData
+answer_to_rename table old true = RenamedAnswer (sections_of_test old table)
+answer_to_rename table old false = NoSuchTestAnswer
+
+abbrev pub table_after_rename : Table → List ℕ → List ℕ → Bool → Table
+table_after_rename table old new true = renamed old new table
+table_after_rename table old new false = table
+
 -- the answer to an operation at a table
 abbrev pub answer_of : Table → OpData → AnswerData
 answer_of table (SubmitOp submission) = answer_to_submit table submission (clash_at table submission)
 answer_of table (DropTestOp test) = answer_to_drop table test (has_test table test)
+answer_of table (RenameOp old new) = answer_to_rename table old (has_test table old)
 answer_of table ReportOp = TextAnswer (report_text AllFiles (content_at table))
 answer_of table (ExtractOp patterns) = TextAnswer (report_text (Extracted patterns) (content_at table))
 answer_of table (RemoveOp patterns) = TextAnswer (report_text (Removed patterns) (content_at table))
@@ -48,7 +59,11 @@ answer_of table SummaryOp = TextAnswer (summary_of (totals_of (content_at table)
 abbrev pub table_after : Table → OpData → Table
 table_after table (SubmitOp submission) = table_after_submit table submission (clash_at table submission)
 table_after table (DropTestOp test) = table_after_drop table test (has_test table test)
-table_after table text = table
+table_after table (RenameOp old new) = table_after_rename table old new (has_test table old)
+table_after table ReportOp = table
+table_after table (ExtractOp patterns) = table
+table_after table (RemoveOp patterns) = table
+table_after table SummaryOp = table
 
 -- the totals of a table
 abbrev pub totals_at : Table → Totals

@@ -7,7 +7,8 @@ use crate::ready::{Change, Ready};
 use crate::shared::{SubRef, TextRef};
 use covline::{Bytes, Memory};
 use covreport::{Choice, summary_text, trace_text};
-use covstore::{Plan, Refuse, Store, Totals};
+use covstore::laws::renaming_keeps_totals;
+use covstore::{Plan, Refuse, Renaming, Store, Totals};
 use std::alloc::{Allocator, Global};
 use std::marker::Model;
 use thiserror::Error;
@@ -71,13 +72,13 @@ impl<A: Allocator + Copy> Book<A> {
     ghost use Rattle.covstore.specs.Totals.{AreTotals};
     ghost use Rattle.covstore.specs.Without.{sections_of_test, without_test};
     ghost use Rattle.covbook.specs.ChangeView.{change_data};
-    ghost use Rattle.covbook.specs.Op.{SubmitOp, DropTestOp, AcceptedAnswer, DroppedAnswer, TextAnswer, AreLawfulOps, IsLawfulOp};
+    ghost use Rattle.covbook.specs.Op.{SubmitOp, DropTestOp, RenameOp, AcceptedAnswer, DroppedAnswer, RenamedAnswer, TextAnswer, AreLawfulOps, IsLawfulOp};
     ghost use Rattle.covbook.specs.Step.{IsLegal, answer_of, last_totals, next_entry, receipt_of, table_after, table_of, totals_at, ops_in, most_entries};
     ghost use Rattle.covbook.specs.Texts.{IsText};
     ghost use Rattle.covbook.specs.View.{op_data, answer_data};
     ghost use Rattle.covbook.specs.EntryView.{entry_data, receipt_data};
     ghost use Rattle.covbook.specs.Held.{SameBook};
-    ghost use Rattle.covbook.specs.Ready.{DropChange, HasRoom, HoldChange, IsNextOf, IsPlanned, IsAfter, IsReadyOf, IsReadyFor};
+    ghost use Rattle.covbook.specs.Ready.{DropChange, HasRoom, HoldChange, RenameChange, IsNextOf, IsPlanned, IsAfter, IsReadyOf, IsReadyFor};
 
     /// A book without entries. Takes no memory.
     pub fn new(alloc: A) -> Book<A>
@@ -125,8 +126,8 @@ impl<A: Allocator + Copy> Book<A> {
     }
 
     /// The first half of a step: all that can be refused. The operation is answered and its entry made, with room for it
-    /// and, for a submission, a plan of the store; for a test that is dropped, in how many sections it stands and the totals
-    /// without it. The history and the table stay as they are, whatever is answered.
+    /// and, for a submission or a rename, what the store plans; for a test that is dropped, in how many sections it stands and the
+    /// totals without it. The history and the table stay as they are, whatever is answered.
     /// `finish` does the rest, where the book is as it is left here; a step that is dropped is none.
     pub fn ready(&mut self, alloc: A, job: u32, op: &Op<A>) -> Result<Ready<A>, BookFault>
         ensures same { SameBook self.old self.new }
@@ -141,7 +142,7 @@ impl<A: Allocator + Copy> Book<A> {
         Ok(self.made_ready(alloc, job, op)?)
     }
 
-    /// The second half of a step: its entry is appended, and what is planned is held, or the test dropped. Takes no memory.
+    /// The second half of a step: its entry is appended, and what is planned is done, or the test dropped. Takes no memory.
     pub fn finish(&mut self, ready: Ready<A>) -> Receipt<A>
         requires { IsReadyOf self.old ready }
         ensures receipt { receipt_data result ≡ receipt_of (length self.old.entries) (next_entry self.old.entries ready.entry.job ready.entry.op) }
@@ -153,6 +154,7 @@ impl<A: Allocator + Copy> Book<A> {
             Change::Nothing => self.note(entry),
             Change::Hold(plan) => self.hold(plan, entry),
             Change::Drop(test) => self.drop_test(&test, entry),
+            Change::Rename(renaming) => self.rename(renaming, entry),
         }
         receipt
     }
@@ -167,6 +169,7 @@ impl<A: Allocator + Copy> Book<A> {
         match op {
             Op::Submit(submission) => self.submission_ready(alloc, job, submission),
             Op::DropTest(test) => self.drop_ready(alloc, job, test),
+            Op::Rename { old, new } => self.rename_ready(alloc, job, old, new),
             Op::Report | Op::Extract(_) | Op::Remove(_) | Op::Summary => {
                 self.text_ready(alloc, job, op)
             }
@@ -257,6 +260,39 @@ impl<A: Allocator + Copy> Book<A> {
         (Answer::Dropped { sections }, after)
     }
 
+    /// The rename of a test made ready, where a row is of it. The totals stay.
+    fn rename_ready(
+        &mut self,
+        alloc: A,
+        job: u32,
+        old: &Bytes<A>,
+        new: &Bytes<A>,
+    ) -> Result<Ready<A>, Memory>
+        requires { HasRoom self.old }
+        ensures same { SameBook self.old self.new }
+        ensures ready { IfOk result (λ r. IsReadyFor self.new job (RenameOp old.now new.now) r) }
+    {
+        let op = Op::Rename {
+            old: old.copy(alloc)?,
+            new: new.copy(alloc)?,
+        };
+        if !self.store.has_test(old.get()) {
+            return self.noting(alloc, job, op, Answer::NoSuchTest);
+        }
+        let renaming = self.store.prepare_rename(alloc, old.get(), new.get())?;
+        // Tells that the totals stay.
+        renaming_keeps_totals();
+        let entry = Entry {
+            job,
+            op,
+            answer: Answer::Renamed {
+                sections: renaming.sections(),
+            },
+            after: self.store.totals(),
+        };
+        self.changing(alloc, entry, Change::Rename(renaming))
+    }
+
     /// A text made ready: it is printed, and shared between the entry and the receipt.
     fn text_ready(&self, alloc: A, job: u32, op: &Op<A>) -> Result<Ready<A>, Memory>
         requires room { HasRoom self.now }
@@ -326,6 +362,19 @@ impl<A: Allocator + Copy> Book<A> {
         self.history.append(entry);
     }
 
+    /// Renames a test as it is planned, and appends the entry.
+    fn rename(&mut self, renaming: Renaming<A>, entry: Entry<A>)
+        requires room { HasRoom self.old }
+        requires next { IsNextOf self.old (entry_data entry) }
+        requires planned { IsPlanned self.old.store (table_of (ops_in self.old.entries)) (op_data entry.op) (RenameChange renaming) }
+        requires lawful { IsLawfulOp (op_data entry.op) }
+        ensures entry { self.new.entries ≡ self.old.entries ++ entry_data entry ∷ [] }
+        ensures legal { IsLegal self.new.entries }
+    {
+        self.store.commit_rename(renaming);
+        self.history.append(entry);
+    }
+
     /// Appends the entry of an operation that leaves the table as it is.
     fn note(&mut self, entry: Entry<A>)
         requires room { HasRoom self.old }
@@ -344,7 +393,7 @@ impl<A: Allocator + Copy> Book<A> {
         ensures { IfOk result (λ t. TextAnswer t ≡ answer_of (table_of (ops_in self.now.entries)) (op_data op.now)) }
     {
         match op {
-            Op::Submit(_) | Op::DropTest(_) => unreachable!(),
+            Op::Submit(_) | Op::DropTest(_) | Op::Rename { .. } => unreachable!(),
             Op::Report => trace_text(alloc, &self.store, &Choice::All),
             Op::Extract(patterns) => {
                 trace_text(alloc, &self.store, &Choice::Extract(patterns.copy(alloc)?))
@@ -359,10 +408,13 @@ impl<A: Allocator + Copy> Book<A> {
 
 impl<A: Allocator> Book<A> {
     ghost use Rattle.std.specs.Prelude.{◌≡◌};
+    ghost use Rattle.covbook.specs.Op.{AreLawfulOps};
+    ghost use Rattle.covbook.specs.Step.{ops_in};
 
-    /// The entries of the book, which is given up. Takes no memory.
+    /// The entries of the book, which is given up; each submission in it is lawful. Takes no memory.
     pub fn into_entries(self) -> Entries<A>
-        ensures { result ≡ self.entries }
+        ensures entries { result ≡ self.entries }
+        ensures lawful { AreLawfulOps (ops_in self.entries) }
     {
         self.history.into_entries()
     }

@@ -14,7 +14,8 @@ ghost use Rattle.covstore.specs.Clash.{ClashData, Agree, checksums_in};
 ghost use Rattle.covstore.specs.Table.{all_rows};
 
 use covstore::laws::{
-    accepted_rows_agree, order_of_submissions_does_not_matter, the_first_clash_is_told,
+    accepted_rows_agree, order_of_submissions_does_not_matter, renaming_keeps_totals,
+    the_first_clash_is_told,
 };
 
 /// No run mixes two versions of a source: the rows of its table have no two different checksums of one line of a file.
@@ -22,6 +23,7 @@ pub fn no_versions_are_mixed()
     ensures { (ops : List OpData) → Agree (checksums_in (all_rows (table_of ops))) }
 {
     accepted_rows_agree();
+    renaming_keeps_totals();
 }
 
 /// A run goes on where it stood: with one operation more the answers and the totals get one more, and the table goes one

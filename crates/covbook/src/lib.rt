@@ -1,8 +1,8 @@
 //! The book of one collector: a table of counts, and the history of all that the table was asked and what it answered.
 //!
-//! An `Op` is an operation on the table: add a submission, or print a text of what is held. `Book::step` answers one and
-//! appends its entry; the job that asked gets a `Receipt` with the entry's place and answer. The history is legal at every
-//! moment: its answers are those of a run over its operations that begins with nothing.
+//! An `Op` is an operation on the table: add a submission, drop a test or rename it, or print a text of what is held.
+//! `Book::step` answers one and appends its entry; the job that asked gets a `Receipt` with the entry's place and answer. The
+//! history is legal at every moment: its answers are those of a run over its operations that begins with nothing.
 //!
 //! A caller with something to do in between takes a step in two halves: `Book::ready` makes all that can be refused, and what
 //! it makes tells the totals behind the step (`Ready::after`); `Book::finish` takes the step, and no memory.

@@ -12,6 +12,9 @@ pub enum Op<A: Allocator = Global> {
     Submit(SubRef<A>),
     /// Take the counts of a test out again, in all files.
     DropTest(Bytes<A>),
+    /// Give the counts of a test the name of another, in all files. Counts that meet there are added up. Any new name is
+    /// taken; a tracefile that is printed can be read only if the name fits into one line of it (`covline::good_test`).
+    Rename { old: Bytes<A>, new: Bytes<A> },
     /// Print the merged tracefile.
     Report,
     /// Print the sections of the files that match at least one of the patterns (lcov(1), `--extract`).
@@ -26,13 +29,17 @@ impl<A: Allocator + Copy> Op<A> {
     ghost use Rattle.std.specs.Prelude.{◌≡◌, IfOk};
     ghost use Rattle.covbook.specs.View.{op_data};
 
-    /// An equal operation, which shares the submission; a test's name and patterns are copied.
+    /// An equal operation, which shares the submission; the names of tests and patterns are copied.
     pub fn copy(&self, alloc: A) -> Result<Op<A>, Memory>
         ensures { IfOk result (λ o. op_data o ≡ op_data self.now) }
     {
         match self {
             Op::Submit(submission) => Ok(Op::Submit(submission.copy()?)),
             Op::DropTest(test) => Ok(Op::DropTest(test.copy(alloc)?)),
+            Op::Rename { old, new } => Ok(Op::Rename {
+                old: old.copy(alloc)?,
+                new: new.copy(alloc)?,
+            }),
             Op::Report => Ok(Op::Report),
             Op::Extract(patterns) => Ok(Op::Extract(patterns.copy(alloc)?)),
             Op::Remove(patterns) => Ok(Op::Remove(patterns.copy(alloc)?)),
@@ -43,7 +50,7 @@ impl<A: Allocator + Copy> Op<A> {
 
 impl<A: Allocator> Op<A> {
     ghost use Rattle.std.specs.Prelude.{◌≡◌, ◌↔◌, IsTrue};
-    ghost use Rattle.covbook.specs.Op.{SubmitOp, DropTestOp, ExtractOp, RemoveOp};
+    ghost use Rattle.covbook.specs.Op.{SubmitOp, DropTestOp, RenameOp, ExtractOp, RemoveOp};
     ghost use Rattle.covbook.specs.View.{op_data};
 
     /// Whether the other operation asks the same, whatever memory the two share. Takes no memory.
@@ -53,6 +60,7 @@ impl<A: Allocator> Op<A> {
         match self {
             Op::Submit(submission) => other.is_submit(submission),
             Op::DropTest(test) => other.is_drop_test(test),
+            Op::Rename { old, new } => other.is_rename(old, new),
             Op::Report => matches!(other, Op::Report),
             Op::Extract(patterns) => other.is_extract(patterns),
             Op::Remove(patterns) => other.is_remove(patterns),
@@ -76,6 +84,19 @@ impl<A: Allocator> Op<A> {
     {
         match self {
             Op::DropTest(own) => test.is_same(own),
+            _ => false,
+        }
+    }
+
+    /// Whether this gives the one test the name of the other.
+    fn is_rename(&self, old: &Bytes<A>, new: &Bytes<A>) -> bool
+        ensures { IsTrue result ↔ (RenameOp old.now new.now ≡ op_data self.now) }
+    {
+        match self {
+            Op::Rename {
+                old: own_old,
+                new: own_new,
+            } => old.is_same(own_old) && new.is_same(own_new),
             _ => false,
         }
     }
@@ -123,6 +144,10 @@ pub enum Answer<A: Allocator = Global> {
     Dropped {
         sections: u64,
     },
+    /// The test's counts have the new name. It stood in so many sections, each of a file.
+    Renamed {
+        sections: u64,
+    },
     /// No count is of this test.
     NoSuchTest,
     /// The printed text.
@@ -157,6 +182,9 @@ impl<A: Allocator + Copy> Answer<A> {
             Answer::Dropped { sections } => Ok(Answer::Dropped {
                 sections: *sections,
             }),
+            Answer::Renamed { sections } => Ok(Answer::Renamed {
+                sections: *sections,
+            }),
             Answer::NoSuchTest => Ok(Answer::NoSuchTest),
             Answer::Text(text) => Ok(Answer::Text(text.copy()?)),
         }
@@ -165,7 +193,7 @@ impl<A: Allocator + Copy> Answer<A> {
 
 impl<A: Allocator> Answer<A> {
     ghost use Rattle.std.specs.Prelude.{◌≡◌, ◌↔◌, IsTrue};
-    ghost use Rattle.covbook.specs.Op.{AcceptedAnswer, ClashAnswer, DroppedAnswer, TextAnswer};
+    ghost use Rattle.covbook.specs.Op.{AcceptedAnswer, ClashAnswer, DroppedAnswer, RenamedAnswer, TextAnswer};
     ghost use Rattle.covbook.specs.View.{answer_data};
 
     /// Whether the other answer says the same, whatever memory the two share. Takes no memory.
@@ -181,6 +209,7 @@ impl<A: Allocator> Answer<A> {
                 given,
             } => other.is_clash(file, *line, held, given),
             Answer::Dropped { sections } => other.is_dropped(*sections),
+            Answer::Renamed { sections } => other.is_renamed(*sections),
             Answer::NoSuchTest => matches!(other, Answer::NoSuchTest),
             Answer::Text(text) => other.is_text(text),
         }
@@ -226,6 +255,16 @@ impl<A: Allocator> Answer<A> {
     {
         match *self {
             Answer::Dropped { sections: own } => sections == own,
+            _ => false,
+        }
+    }
+
+    /// Whether this tells of so many renamed sections.
+    fn is_renamed(&self, sections: u64) -> bool
+        ensures { IsTrue result ↔ (RenamedAnswer sections ≡ answer_data self.now) }
+    {
+        match *self {
+            Answer::Renamed { sections: own } => sections == own,
             _ => false,
         }
     }

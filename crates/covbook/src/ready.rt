@@ -2,7 +2,7 @@
 
 use crate::entry::{Entry, Receipt};
 use covline::Bytes;
-use covstore::{Plan, Totals};
+use covstore::{Plan, Renaming, Totals};
 use std::alloc::{Allocator, Global};
 use std::marker::Model;
 
@@ -15,6 +15,8 @@ pub(crate) enum Change<A: Allocator> {
     Hold(Plan),
     /// The test of this name is dropped.
     Drop(Bytes<A>),
+    /// A test is renamed, as it is planned.
+    Rename(Renaming<A>),
 }
 
 /// A step that its book can take without further memory. Contracts see its entry with its place, what it does to the

@@ -4,7 +4,7 @@ use super::calls::{
     bytes_of, copied_answer, copied_op, entries, gathered, is_same_answer, is_same_op,
 };
 use super::said::put_answer;
-use super::script::{op_of, run};
+use super::script::{check_run, op_of, run};
 use covbook::{
     Answer, Book, Entry, GatherFault, JobLog, Logs, Reading, Readings, Receipt, Receipts, TextRef,
 };
@@ -272,6 +272,59 @@ const EXAMPLES: &[u8] = b"0 000 222 444
 > BadReading 0 0
 = a reading comes before a receipt of the next log";
 
+/// The same six calls, but that job 1 renames the test that both submit, and what is told of them.
+const A_RENAME: &[u8] = b"0 submit DA:1,2;DA:2,0
+1 submit DA:1,2;DA:2,0
+0 summary
+1 rename t v
+0 report
+1 summary";
+
+const OF_A_RENAME: &[u8] = b"0 submit 2 > accepted 1 2 0 ; 2 1 \n\
+1 submit 2 > accepted 2 2 0 ; 2 1 \n\
+2 summary > Summary coverage rate:
+  lines......: 50.0% (1 of 2 lines)
+  functions..: no data found
+  branches...: no data found
+; 2 1 \n\
+3 rename t v > renamed 1 ; 2 1 \n\
+4 report > TN:v
+SF:/a.c
+DA:1,4
+DA:2,0
+LF:2
+LH:1
+end_of_record
+; 2 1 \n\
+5 summary > Summary coverage rate:
+  lines......: 50.0% (1 of 2 lines)
+  functions..: no data found
+  branches...: no data found
+; 2 1 \n";
+
+/// A rename has its entry and its receipt like any other call, and the totals stay.
+#[test]
+fn a_rename_among_six_calls(rt: HostRuntime) -> Result<(), Fail> {
+    let mut book = Book::new(rt.alloc());
+    check_run(&rt, &mut book, A_RENAME, OF_A_RENAME)?;
+    check_all(
+        &rt,
+        entries(&book),
+        b"0 000 222 444 3=21 4=21
+1 111 333 555
+> yes
+= all that they kept
+0 000 222 444
+1 111 323 555
+> Differs 1 1
+= another operation
+0 000 222 444
+1 111 555
+> Missing 3
+= the rename left out",
+    )
+}
+
 #[test]
 fn what_two_jobs_kept(rt: HostRuntime) -> Result<(), Fail> {
     let mut book = Book::new(rt.alloc());
@@ -321,6 +374,16 @@ fn clash_in(file: Bytes, held: Bytes, given: Bytes) -> Answer {
     }
 }
 
+/// The answer to a rename tells of so many sections, which a drop of as many isn't.
+#[test]
+fn a_number_of_an_answer_differs(rt: HostRuntime) {
+    let renamed = |sections| Answer::Renamed { sections };
+    assert!(rt; is_same_answer(&renamed(2), &renamed(2)));
+    assert!(rt; !is_same_answer(&renamed(2), &renamed(3)));
+    assert!(rt; !is_same_answer(&renamed(2), &Answer::Dropped { sections: 2 }));
+    assert!(rt; !is_same_answer(&renamed(0), &Answer::NoSuchTest));
+}
+
 /// Each operation is the same as another of the same words, and not as one of words with another byte.
 #[test]
 fn a_byte_of_an_operation_differs(rt: HostRuntime) -> Result<(), Fail> {
@@ -330,6 +393,9 @@ submit FN:3,f;FNDA:2,f&submit FN:3,g;FNDA:2,g
 submit BRDA:1,0,0,4&submit BRDA:1,0,0,-
 submit DA:1,2;DA:2,2&submit DA:1,2;DA:3,2
 drop t&drop u
+rename t u&rename u u
+rename t u&rename t v
+rename t u&drop t
 extract /a|/b&extract /a|/c
 remove /a|/b&remove /a|/c";
     for line in examples.split(|byte| *byte == b'\n') {

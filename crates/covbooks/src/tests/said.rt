@@ -28,11 +28,12 @@ fn put_word(text: &mut Vec<u8>, word: &[u8]) -> Result<(), AllocError> {
     Ok(())
 }
 
-/// Appends an operation: its name, and how many items or patterns it has, or which test it drops.
+/// Appends an operation: its name, and how many items or patterns it has, or which test it drops or renames.
 fn put_op(alloc: Global, text: &mut Vec<u8>, op: &Op) -> Result<(), AllocError> {
     match op {
         Op::Submit(submission) => put_counted(alloc, text, b"submit ", submission.get().items()),
         Op::DropTest(test) => put_dropped(text, test),
+        Op::Rename { old, new } => put_renamed(text, old, new),
         Op::Report => put_word(text, b"report"),
         Op::Extract(patterns) => put_counted(alloc, text, b"extract ", patterns.get().len() as u64),
         Op::Remove(patterns) => put_counted(alloc, text, b"remove ", patterns.get().len() as u64),
@@ -43,6 +44,12 @@ fn put_op(alloc: Global, text: &mut Vec<u8>, op: &Op) -> Result<(), AllocError> 
 fn put_dropped(text: &mut Vec<u8>, test: &Bytes) -> Result<(), AllocError> {
     put_word(text, b"drop")?;
     put_word(text, test.get())
+}
+
+fn put_renamed(text: &mut Vec<u8>, old: &Bytes, new: &Bytes) -> Result<(), AllocError> {
+    put_word(text, b"rename")?;
+    put_word(text, old.get())?;
+    put_word(text, new.get())
 }
 
 /// Appends the numbers of an accepted submission.
@@ -88,6 +95,7 @@ pub(super) fn put_answer(
             given,
         } => put_clash(alloc, text, file, *line, (held, given)),
         Answer::Dropped { sections } => put_counted(alloc, text, b"dropped ", *sections),
+        Answer::Renamed { sections } => put_counted(alloc, text, b"renamed ", *sections),
         Answer::NoSuchTest => text.extend_from_slice(b"no such test"),
         Answer::Text(printed) => text.extend_from_slice(printed.get().get()),
     }

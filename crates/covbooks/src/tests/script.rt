@@ -15,6 +15,8 @@ pub(super) fn op_of(rt: &(impl Abort + AllocGlobal), words: &[u8]) -> Result<Op,
         submit_lines(rt.alloc(), lines)
     } else if let Some(test) = words.strip_prefix(b"drop ") {
         Ok(Op::DropTest(bytes_of(rt.alloc(), test)?))
+    } else if let Some(names) = words.strip_prefix(b"rename ") {
+        rename_op(rt, names)
     } else if let Some(patterns) = words.strip_prefix(b"extract ") {
         Ok(Op::Extract(list_of(rt.alloc(), patterns)?))
     } else if let Some(patterns) = words.strip_prefix(b"remove ") {
@@ -22,6 +24,18 @@ pub(super) fn op_of(rt: &(impl Abort + AllocGlobal), words: &[u8]) -> Result<Op,
     } else {
         Ok(plain_op(rt, words))
     }
+}
+
+/// The operation that renames a test: its old and its new name, with a space between them.
+fn rename_op(rt: &(impl Abort + AllocGlobal), names: &[u8]) -> Result<Op, Fail> {
+    let mut words = names.split(|byte| *byte == b' ');
+    let (Some(old), Some(new)) = (words.next(), words.next()) else {
+        panic!(rt; "no names {names:?}");
+    };
+    Ok(Op::Rename {
+        old: bytes_of(rt.alloc(), old)?,
+        new: bytes_of(rt.alloc(), new)?,
+    })
 }
 
 /// The operation of this name, which takes nothing.

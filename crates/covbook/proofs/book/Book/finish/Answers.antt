@@ -11,3 +11,6 @@ hold-requires-clause-next g c = let is = c.into_parts-entry.ensures.entry in is 
 
 pub drop_test-requires-clause-next : goal.drop_test-requires-clause-next
 drop_test-requires-clause-next g c = let is = c.into_parts-entry.ensures.entry in is ∙ c.requires.next ∙ ap (λ (e : EntryData). next_entry c.args.self.now.entries e.job e.op) (sym is)
+
+pub rename-requires-clause-next : goal.rename-requires-clause-next
+rename-requires-clause-next g c = let is = c.into_parts-entry.ensures.entry in is ∙ c.requires.next ∙ ap (λ (e : EntryData). next_entry c.args.self.now.entries e.job e.op) (sym is)
