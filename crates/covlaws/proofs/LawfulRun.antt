@@ -1,17 +1,20 @@
--- The rows of a table that lawful operations leave are lawful.
-use Rattle.std.proofs.Common.{◌≡◌, ℕ, Bool, true, false, not, Option, Some, None, List, [], ◌∷◌, ◌++◌, map, filter, refl, sym, ap, ◌∙◌, subst}
+-- The rows of a table that lawful operations leave are lawful, where each new name is a good one.
+use Rattle.std.proofs.Common.{◌≡◌, ℕ, Bool, true, false, not, cond, Option, Some, None, List, [], ◌∷◌, ◌++◌, map, filter, refl, sym, ap, ◌∙◌, subst}
 use Rattle.std.specs.List.{AllByRecursion, flat_map}
+use Rattle.std.specs.Str.{bytes_eq}
 use Rattle.std.proofs.lemmas.List.Elements.{filter-append, recursion_from_All}
 use Rattle.covstore.specs.Clash.{ClashData}
 use Rattle.covline.specs.Lawful.{AllFit, IsGoodName, IsGoodTest, IsLawful, IsLawfulItem, IsLawfulSect}
-use Rattle.covbook.specs.Op.{OpData, SubmitOp, DropTestOp, ReportOp, ExtractOp, RemoveOp, SummaryOp, AreLawfulOps, IsLawfulOp}
+use Rattle.covbook.specs.Op.{OpData, SubmitOp, DropTestOp, RenameOp, ReportOp, ExtractOp, RemoveOp, SummaryOp, AreLawfulOps, IsLawfulOp, HasGoodName, HaveGoodNames}
 use Rattle.covlaws.specs.Printable.{IsLawfulRow}
 use Rattle.covline.specs.Row.{ItemData, Row, SectData, SubmissionData, rows_of, rows_of_sect}
-use Rattle.covbook.specs.Step.{has_test, table_after, table_after_drop, table_after_submit, table_from, table_of}
+use Rattle.covbook.specs.Step.{has_test, table_after, table_after_drop, table_after_rename, table_after_submit, table_from, table_of}
+use Rattle.covstore.specs.Renamed.{renamed_row}
 use Rattle.covstore.specs.Table.{Table, all_rows, clash_at}
 use Rattle.covstore.specs.Without.{is_of_test, without_test}
 use Rattle.covstore.proofs.WithoutContent.{All-picked}
 use Rattle.covstore.proofs.Stores.{All-joined, rows_accepted}
+use Rattle.covstore.proofs.RenamedTables.{rows_renamed}
 
 -- ---- the rows of a lawful submission
 
@@ -54,19 +57,35 @@ after_drop table test true held =
     subst (AllByRecursion IsLawfulRow) (sym (rows_left test table)) (All-picked IsLawfulRow (λ row. not (is_of_test test row)) (all_rows table) held)
 after_drop table test false held = held
 
-after_op : (table : Table) (op : OpData) → IsLawfulTable table → IsLawfulOp op → IsLawfulTable (table_after table op)
-after_op table (SubmitOp s) held lawful = after_submit table s (clash_at table s) held lawful
-after_op table (DropTestOp test) held lawful = after_drop table test (has_test table test) held
-after_op table ReportOp held lawful = held
-after_op table (ExtractOp patterns) held lawful = held
-after_op table (RemoveOp patterns) held lawful = held
-after_op table SummaryOp held lawful = held
+good_or_own : (new : List ℕ) (row : Row) (b : Bool) → IsGoodTest new → IsLawfulRow row → IsGoodTest (cond b new row.test)
+good_or_own new row true good lawful = good
+good_or_own new row false good lawful = lawful.test
+
+rows_moved : (old new : List ℕ) → IsGoodTest new → (rows : List Row) → AllByRecursion IsLawfulRow rows → AllByRecursion IsLawfulRow (map (renamed_row old new) rows)
+rows_moved old new good [] lawful = tt
+rows_moved old new good (row ∷ rows) lawful = (
+  record { test = good_or_own new row (bytes_eq row.test old) good lawful.0; file = lawful.0.file; item = lawful.0.item; fits = lawful.0.fits },
+  rows_moved old new good rows lawful.1,
+)
+
+after_rename : (table : Table) (old new : List ℕ) (there : Bool) → IsLawfulTable table → IsGoodTest new → IsLawfulTable (table_after_rename table old new there)
+after_rename table old new true held good = subst (AllByRecursion IsLawfulRow) (sym (rows_renamed old new table)) (rows_moved old new good (all_rows table) held)
+after_rename table old new false held good = held
+
+after_op : (table : Table) (op : OpData) → IsLawfulTable table → IsLawfulOp op → HasGoodName op → IsLawfulTable (table_after table op)
+after_op table (SubmitOp s) held lawful good = after_submit table s (clash_at table s) held lawful
+after_op table (DropTestOp test) held lawful good = after_drop table test (has_test table test) held
+after_op table (RenameOp old new) held lawful good = after_rename table old new (has_test table old) held good
+after_op table ReportOp held lawful good = held
+after_op table (ExtractOp patterns) held lawful good = held
+after_op table (RemoveOp patterns) held lawful good = held
+after_op table SummaryOp held lawful good = held
 
 -- ---- a run
 
-after_ops : (table : Table) (ops : List OpData) → IsLawfulTable table → AreLawfulOps ops → IsLawfulTable (table_from table ops)
-after_ops table [] held lawful = held
-after_ops table (op ∷ ops) held lawful = after_ops (table_after table op) ops (after_op table op held lawful.0) lawful.1
+after_ops : (table : Table) (ops : List OpData) → IsLawfulTable table → AreLawfulOps ops → HaveGoodNames ops → IsLawfulTable (table_from table ops)
+after_ops table [] held lawful good = held
+after_ops table (op ∷ ops) held lawful good = after_ops (table_after table op) ops (after_op table op held lawful.0 good.0) lawful.1 good.1
 
-pub lawful_run : (ops : List OpData) → AreLawfulOps ops → AllByRecursion IsLawfulRow (all_rows (table_of ops))
-lawful_run ops lawful = after_ops [] ops tt lawful
+pub lawful_run : (ops : List OpData) → AreLawfulOps ops → HaveGoodNames ops → AllByRecursion IsLawfulRow (all_rows (table_of ops))
+lawful_run ops lawful good = after_ops [] ops tt lawful good

@@ -12,7 +12,7 @@ use Rattle.covstore.specs.Clash.{Agree, Checksum, checksum_of_row, checksums_in}
 use Rattle.covstore.specs.Content.{SectionData, content_at, content_of}
 use Rattle.covline.specs.Lawful.{IsLawful}
 use Rattle.covline.specs.LineLaws.{OneBehindOther, PrintedSpells}
-use Rattle.covbook.specs.Op.{OpData, SubmitOp, DropTestOp, ReportOp, ExtractOp, RemoveOp, SummaryOp, TextAnswer}
+use Rattle.covbook.specs.Op.{OpData, SubmitOp, DropTestOp, RenameOp, ReportOp, ExtractOp, RemoveOp, SummaryOp, TextAnswer}
 use Rattle.covbook.specs.Order.{AreAgreeing}
 use Rattle.covlaws.specs.Printable.{IsLawfulRow, submission_shown}
 use Rattle.covlaws.specs.ReadsBack.{AreMergesOf, IsMergeOf, IsReadAs}
@@ -162,6 +162,7 @@ module _ (order : SameInAnyOrder) where
 text_told : (op : OpData) → IsText op → (some other : Table) → content_at some ≡ content_at other → answer_of some op ≡ answer_of other op
 text_told (SubmitOp submission) asks some other same = absurd asks
 text_told (DropTestOp test) asks some other same = absurd asks
+text_told (RenameOp old new) asks some other same = absurd asks
 text_told ReportOp asks some other same = ap (λ (sections : List SectionData). TextAnswer (report_text AllFiles sections)) same
 text_told (ExtractOp patterns) asks some other same = ap (λ (sections : List SectionData). TextAnswer (report_text (Extracted patterns) sections)) same
 text_told (RemoveOp patterns) asks some other same = ap (λ (sections : List SectionData). TextAnswer (report_text (Removed patterns) sections)) same

@@ -8,7 +8,7 @@ use Rattle.covstore.specs.Clash.{Agree, Checksum, checksum_of_row, checksums_in,
 use Rattle.covstore.specs.Content.{SectionData, content_at, content_of}
 use Rattle.covline.specs.LineLaws.{OneBehindOther, PrintedSpells}
 use Rattle.covline.specs.Lines.{lines_of}
-use Rattle.covbook.specs.Op.{OpData, SubmitOp, DropTestOp, ReportOp, ExtractOp, RemoveOp, SummaryOp, AcceptedAnswer, TextAnswer, AreLawfulOps}
+use Rattle.covbook.specs.Op.{OpData, SubmitOp, DropTestOp, RenameOp, ReportOp, ExtractOp, RemoveOp, SummaryOp, AcceptedAnswer, TextAnswer, AreLawfulOps, HaveGoodNames}
 use Rattle.covread.specs.Outcome.{most_bytes}
 use Rattle.covlaws.specs.Printable.{IsLawfulRow, IsPrintable, submission_shown}
 use Rattle.covread.specs.Reads.{Reads}
@@ -117,12 +117,13 @@ module _ (spells : PrintedSpells) (behind : OneBehindOther) (told : ToldByFirstC
       → (op : OpData) → IsReport op → (text : List ℕ) → answer_of table op ≡ TextAnswer text → length text ≤ most_bytes → ReadsBack text
   answer_reads_back table lawful agree (SubmitOp submission) asks text is short = absurd asks
   answer_reads_back table lawful agree (DropTestOp test) asks text is short = absurd asks
+  answer_reads_back table lawful agree (RenameOp old new) asks text is short = absurd asks
   answer_reads_back table lawful agree ReportOp asks text is short = chosen_reads_back AllFiles (all_rows table) lawful agree text (same_text _ text is) short
   answer_reads_back table lawful agree (ExtractOp patterns) asks text is short =
       chosen_reads_back (Extracted patterns) (all_rows table) lawful agree text (same_text _ text is) short
   answer_reads_back table lawful agree (RemoveOp patterns) asks text is short = chosen_reads_back (Removed patterns) (all_rows table) lawful agree text (same_text _ text is) short
   answer_reads_back table lawful agree SummaryOp asks text is short = absurd asks
 
-  pub reports_back : ((ops : List OpData) → Agree (checksums_in (all_rows (table_of ops)))) → (ops : List OpData) → AreLawfulOps ops
+  pub reports_back : ((ops : List OpData) → Agree (checksums_in (all_rows (table_of ops)))) → (ops : List OpData) → AreLawfulOps ops → HaveGoodNames ops
       → (op : OpData) → IsReport op → (text : List ℕ) → answer_of (table_of ops) op ≡ TextAnswer text → length text ≤ most_bytes → ReadsBack text
-  reports_back agree ops lawful = answer_reads_back (table_of ops) (lawful_run ops lawful) (agree ops)
+  reports_back agree ops lawful good = answer_reads_back (table_of ops) (lawful_run ops lawful good) (agree ops)

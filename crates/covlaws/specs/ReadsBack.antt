@@ -3,7 +3,7 @@ use Rattle.std.specs.Prelude.{◌≡◌, ℕ, List, [], ◌∷◌, Ok, map}
 use Rattle.covline.specs.Row.{SubmissionData, items_in}
 use Rattle.covline.specs.Lawful.{IsLawful}
 use Rattle.covread.specs.Outcome.{IsOutcome}
-use Rattle.covbook.specs.Op.{OpData, SubmitOp, ReportOp, ExtractOp, RemoveOp, AcceptedAnswer, TextAnswer}
+use Rattle.covbook.specs.Op.{OpData, SubmitOp, DropTestOp, RenameOp, ReportOp, ExtractOp, RemoveOp, SummaryOp, AcceptedAnswer, TextAnswer}
 use Rattle.covbook.specs.Step.{answer_of, table_of}
 
 -- the text is read as this submission
@@ -15,7 +15,10 @@ abbrev pub IsReport : OpData → Type 0
 IsReport ReportOp = Unit {0}
 IsReport (ExtractOp patterns) = Unit {0}
 IsReport (RemoveOp patterns) = Unit {0}
-IsReport other = ⊥
+IsReport (SubmitOp submission) = ⊥
+IsReport (DropTestOp test) = ⊥
+IsReport (RenameOp old new) = ⊥
+IsReport SummaryOp = ⊥
 
 -- the text is read as a lawful submission in which nothing is odd; an empty book accepts it with all its items, and reports
 -- the same text again. The submission is the only one that the text is read as: covread's law each_text_has_one_outcome

@@ -1,13 +1,14 @@
 //! Laws of reading, adding up and printing together. The functions do nothing: the contract is the law.
 //!
 //! A tracefile of at most 67,108,864 bytes that a run prints reads back: read and submitted to an empty book it is printed
-//! again, byte for byte.
+//! again, byte for byte. The new names of renames must fit into a line of a tracefile (`covline::good_test`); a book takes
+//! any.
 //!
 //! So merges can be merged: what the reports of several machines are read as gives together the same texts as all that was
 //! handed in on any of them. This holds if
 //!
 //! - the checksums of all that was handed in agree,
-//! - nothing was dropped on the machines before their reports,
+//! - nothing was dropped or renamed on the machines before their reports,
 //! - each report has at most 67,108,864 bytes.
 //!
 //! The laws speak of definitions. The contracts of `covread::read_trace` and `covbook::Book` carry them into the product:
@@ -26,7 +27,7 @@ ghost use Rattle.covstore.specs.Content.{SectionData, content_of};
 ghost use Rattle.covstore.specs.Table.{all_rows};
 ghost use Rattle.covreport.specs.Choice.{ChoiceData, is_chosen};
 ghost use Rattle.covreport.specs.Report.{section_text};
-ghost use Rattle.covbook.specs.Op.{AreLawfulOps, EntryData, OpData, SubmitOp, TextAnswer};
+ghost use Rattle.covbook.specs.Op.{AreLawfulOps, EntryData, HaveGoodNames, OpData, SubmitOp, TextAnswer};
 ghost use Rattle.covbook.specs.Order.{AreAgreeing};
 ghost use Rattle.covbook.specs.Step.{IsLegal, answer_of, ops_in, table_of};
 ghost use Rattle.covbook.specs.Texts.{IsText};
@@ -39,10 +40,11 @@ use covline::lines_are_the_text;
 use covread::each_text_has_one_outcome;
 use covstore::laws::{order_of_rows_does_not_matter, the_first_clash_is_told};
 
-/// Each text that a run over lawful operations answers to a report, an extract or a remove reads back, if it has at most
-/// 67,108,864 bytes: it is read as a lawful submission with no odd line, an empty book accepts that, and reports the same text.
+/// Each text that a run over lawful operations answers to a report, an extract or a remove reads back, if no rename has a new
+/// name that a line can't hold and the text has at most 67,108,864 bytes: it is read as a lawful submission with no odd line,
+/// an empty book accepts that, and reports the same text.
 pub fn reports_read_back()
-    ensures { (ops : List OpData) → AreLawfulOps ops → (op : OpData) → IsReport op → (text : List ℕ) → answer_of (table_of ops) op ≡ TextAnswer text → length text ≤ most_bytes → ReadsBack text }
+    ensures { (ops : List OpData) → AreLawfulOps ops → HaveGoodNames ops → (op : OpData) → IsReport op → (text : List ℕ) → answer_of (table_of ops) op ≡ TextAnswer text → length text ≤ most_bytes → ReadsBack text }
 {
     printed_records_spell();
     lines_are_the_text();
@@ -51,9 +53,9 @@ pub fn reports_read_back()
 }
 
 /// The same of a legal history with lawful operations: the text of each entry that answers a report, an extract or a remove
-/// reads back, if it has at most 67,108,864 bytes.
+/// reads back, if it has at most 67,108,864 bytes and no rename before it has a new name that a line can't hold.
 pub fn each_report_of_a_history_reads_back()
-    ensures { (entries : List EntryData) → IsLegal entries → AreLawfulOps (ops_in entries) → (before after : List EntryData) (entry : EntryData) → entries ≡ before ++ entry ∷ after
+    ensures { (entries : List EntryData) → IsLegal entries → AreLawfulOps (ops_in entries) → (before after : List EntryData) (entry : EntryData) → entries ≡ before ++ entry ∷ after → HaveGoodNames (ops_in before)
         → IsReport entry.op → (text : List ℕ) → entry.answer ≡ TextAnswer text → length text ≤ most_bytes → ReadsBack text }
 {
     reports_read_back();
@@ -63,7 +65,7 @@ pub fn each_report_of_a_history_reads_back()
 /// is what its report is read as. Other submissions may stand beside the merges, handed in as they are. This holds if
 ///
 /// - the checksums of all submissions agree,
-/// - nothing was dropped before a report: it is that of a run over the part's submissions alone,
+/// - nothing was dropped or renamed before a report: it is that of a run over the part's submissions alone,
 /// - each report has at most 67,108,864 bytes.
 ///
 /// Then the merges are lawful, so they can be merged again. The checksums of the merges and the others agree, and they give
@@ -91,11 +93,11 @@ pub fn printed_sections_read_back()
 }
 
 /// What lawful rows add up to is printable, where their checksums agree. What is chosen of it is what the rows of the chosen
-/// files add up to, and all rows of a run over lawful operations are lawful.
+/// files add up to, and all rows of a run over lawful operations with good new names are lawful.
 pub fn lawful_rows_are_printable()
     ensures printable { (rows : List Row) → AllByRecursion IsLawfulRow rows → Agree (checksums_in rows) → IsPrintable (content_of rows) }
     ensures chosen { (choice : ChoiceData) (rows : List Row) → filter (λ s. is_chosen choice s.key.file) (content_of rows) ≡ content_of (filter (λ row. is_chosen choice row.file) rows) }
-    ensures run { (ops : List OpData) → AreLawfulOps ops → AllByRecursion IsLawfulRow (all_rows (table_of ops)) }
+    ensures run { (ops : List OpData) → AreLawfulOps ops → HaveGoodNames ops → AllByRecursion IsLawfulRow (all_rows (table_of ops)) }
 {}
 
 /// What rows add up to may stand for them: what it is read as adds up, with whatever else, to the same.
