@@ -2,8 +2,8 @@
 use Rattle.std.proofs.Common.{◌≡◌, ◌∙◌, ℕ, ◌<◌, List, ◌++◌, length, ap, sym, subst}
 use Rattle.std.specs.List.Sorted.{IsPermutation, IsNonDecreasingBy}
 use Rattle.covbook.specs.Gather.{LogData, IsGathered}
-use Rattle.covbook.specs.Op.{OpData, EntryData}
-use Rattle.covbook.specs.Step.{IsLegal}
+use Rattle.covbook.specs.Op.{OpData, EntryData, AreLawfulOps}
+use Rattle.covbook.specs.Step.{IsLegal, ops_in}
 use Rattle.covjobs.specs.declared.refused.RefusedInput.{RefusedInput}
 use Rattle.covjobs.specs.Collect.{InputData, IsCollected}
 use Rattle.covjobs.specs.Work.{WorkerData, HaveDone, FirstAsks, logs_in, refused_in}
@@ -21,9 +21,9 @@ same_refused workers after end last asks =
 
 all_collected_in : (inputs : List InputData) (jobs end : ℕ) (last : OpData) (workers after : List WorkerData) (entries : List EntryData) (refused : List RefusedInput) → 0 < jobs
     → HaveDone (works_from inputs jobs 0 jobs) workers → FirstAsks workers after end last
-    → IsPermutation (refused_in after) refused → IsNonDecreasingBy (λ (r : RefusedInput). r.index) refused → IsLegal entries → IsGathered entries (logs_in after) → length entries ≡ end
+    → IsPermutation (refused_in after) refused → IsNonDecreasingBy (λ (r : RefusedInput). r.index) refused → IsLegal entries → AreLawfulOps (ops_in entries) → IsGathered entries (logs_in after) → length entries ≡ end
     → GoesOn → SameTexts → IsCollected inputs jobs last entries (logs_in after) refused
-all_collected_in inputs jobs end last workers after entries refused some done asks same sorted legal gathered long goes texts =
+all_collected_in inputs jobs end last workers after entries refused some done asks same sorted legal lawful gathered long goes texts =
     let whole = whole_of inputs jobs workers some done in
     let count = length inputs in
     let asked = logs_asked whole.fate count jobs end last workers after some whole.tell asks in
@@ -32,6 +32,7 @@ all_collected_in inputs jobs end last workers after entries refused some done as
       fate = whole.fate;
       fates = whole.fates;
       legal = legal;
+      lawful = lawful;
       merge = gathered.merge;
       gathered = gathered;
       asked = asked;
@@ -42,8 +43,8 @@ all_collected_in inputs jobs end last workers after entries refused some done as
 
 pub all_collected : (inputs : List InputData) (jobs end : ℕ) (last : OpData) (workers after : List WorkerData) (entries : List EntryData) (logs : List LogData) (refused : List RefusedInput) → 0 < jobs
     → HaveDone (works_from inputs jobs 0 jobs) workers → FirstAsks workers after end last → logs ≡ logs_in after
-    → IsPermutation (refused_in after) refused → IsNonDecreasingBy (λ (r : RefusedInput). r.index) refused → IsLegal entries → IsGathered entries logs → length entries ≡ end
+    → IsPermutation (refused_in after) refused → IsNonDecreasingBy (λ (r : RefusedInput). r.index) refused → IsLegal entries → AreLawfulOps (ops_in entries) → IsGathered entries logs → length entries ≡ end
     → GoesOn → SameTexts → IsCollected inputs jobs last entries logs refused
-all_collected inputs jobs end last workers after entries logs refused some done asks are same sorted legal gathered long goes texts =
+all_collected inputs jobs end last workers after entries logs refused some done asks are same sorted legal lawful gathered long goes texts =
     subst (λ (ls : List LogData). IsCollected inputs jobs last entries ls refused) (sym are)
-    (all_collected_in inputs jobs end last workers after entries refused some done asks same sorted legal (subst (λ (ls : List LogData). IsGathered entries ls) are gathered) long goes texts)
+    (all_collected_in inputs jobs end last workers after entries refused some done asks same sorted legal lawful (subst (λ (ls : List LogData). IsGathered entries ls) are gathered) long goes texts)

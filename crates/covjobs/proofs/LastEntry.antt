@@ -9,7 +9,7 @@ use Rattle.std.specs.List.{AllByRecursion, range_with_len, flat_map}
 use Rattle.std.specs.List.Sorted.{IsPermutation}
 use Rattle.covline.specs.Row.{SubmissionData}
 use Rattle.covbook.specs.Gather.{LogData, places_of, places_in, IsReceiptOf, IsLogOf, IsMerge}
-use Rattle.covbook.specs.Op.{OpData, SubmitOp, EntryData, ReceiptData}
+use Rattle.covbook.specs.Op.{OpData, SubmitOp, DropTestOp, RenameOp, ReportOp, ExtractOp, RemoveOp, SummaryOp, EntryData, ReceiptData}
 use Rattle.covbook.specs.Order.{AreAgreeing, AreTheSame, OnlySubmitsAndAsks, SubmitsOrAsks, submission_of, submissions_in}
 use Rattle.covbook.specs.Step.{IsLegal, answer_of, answers_in, answers_to, receipt_of, table_of, ops_in as ops_of}
 use Rattle.covbook.specs.Texts.{IsText}
@@ -141,11 +141,21 @@ submitted_all (s ∷ subs) = ap (λ (ss : List SubmissionData). s ∷ ss) (submi
 
 text_asks : (op : OpData) → IsText op → SubmitsOrAsks op
 text_asks (SubmitOp submission) is = tt
-text_asks op is = is
+text_asks (DropTestOp test) is = absurd is
+text_asks (RenameOp old new) is = absurd is
+text_asks ReportOp is = tt
+text_asks (ExtractOp patterns) is = tt
+text_asks (RemoveOp patterns) is = tt
+text_asks SummaryOp is = tt
 
 no_submission : (op : OpData) → IsText op → submission_of op ≡ []
 no_submission (SubmitOp submission) is = absurd is
-no_submission op is = refl
+no_submission (DropTestOp test) is = refl
+no_submission (RenameOp old new) is = refl
+no_submission ReportOp is = refl
+no_submission (ExtractOp patterns) is = refl
+no_submission (RemoveOp patterns) is = refl
+no_submission SummaryOp is = refl
 
 asks_last : (last : OpData) → IsText last → (here : Bool) → OnlySubmitsAndAsks (if here then last ∷ [] else [])
 asks_last last is true = (text_asks last is, tt)

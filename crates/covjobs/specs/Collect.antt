@@ -9,10 +9,10 @@ use Rattle.covread.specs.declared.fault.ReadFault.TheVariants as faults
 use Rattle.covread.specs.Outcome as trace
 use Rattle.covread.specs.GcovOutcome as gcov
 use Rattle.covbook.specs.declared.reading.Reading.{Reading}
-use Rattle.covbook.specs.Op.{OpData, SubmitOp, EntryData, ReceiptData}
+use Rattle.covbook.specs.Op.{OpData, SubmitOp, EntryData, ReceiptData, AreLawfulOps}
 use Rattle.covbook.specs.Gather.{LogData, IsMerge, IsGathered}
 use Rattle.covbook.specs.Order.{AreAgreeing}
-use Rattle.covbook.specs.Step.{IsLegal, table_of, answer_of}
+use Rattle.covbook.specs.Step.{IsLegal, table_of, answer_of, ops_in as ops_of}
 use Rattle.covbook.specs.Texts.{IsText}
 use Rattle.covjobs.specs.declared.refused.RefusedInput.{RefusedInput}
 
@@ -115,11 +115,12 @@ pub record EndsWith (submissions : List SubmissionData) (last : OpData) (entries
   pub text : IsText last → AreAgreeing submissions → entry.answer ≡ answer_of (table_of (map SubmitOp submissions)) last
 
 -- what is collected of inputs by so many jobs: what became of each input decides what the jobs ask. The order of their turns, and
--- how many entries their readings count, stay open. Each reading has the totals after its number of entries
+-- how many entries their readings count, stay open. The submissions are lawful, and each reading has the totals after its number of entries
 pub record IsCollected (inputs : List InputData) (jobs : ℕ) (last : OpData) (entries : List EntryData) (logs : List LogData) (refused : List RefusedInput) : Type 0 where
   pub fate : ℕ → Result SubmissionData ReadFault
   pub fates : AreFates inputs fate
   pub legal : IsLegal entries
+  pub lawful : AreLawfulOps (ops_of entries)
   pub merge : IsMerge entries logs
   pub gathered : IsGathered entries logs
   pub asked : AreJobLogs fate (length inputs) jobs last logs

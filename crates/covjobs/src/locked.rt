@@ -101,7 +101,8 @@ impl<L: Name, A: Allocator + Copy> Locked<L, A> {
 
 impl<L: Name, A: Allocator> Locked<L, A> {
     ghost use Rattle.std.specs.Prelude.{◌≡◌, ◌≤◌, length, IfOk, IfErr};
-    ghost use Rattle.covbook.specs.Step.{IsLegal};
+    ghost use Rattle.covbook.specs.Op.{AreLawfulOps};
+    ghost use Rattle.covbook.specs.Step.{IsLegal, ops_in};
     ghost use Rattle.covjobs.specs.Seat.{calls_in};
     ghost use Rattle.covnews.specs.declared.fault.ReaderFault.TheVariants as reader_faults;
 
@@ -121,6 +122,7 @@ impl<L: Name, A: Allocator> Locked<L, A> {
         ensures history { result.0 ≡ self }
         ensures news { result.1 ≡ self }
         ensures legal { IsLegal self }
+        ensures lawful { AreLawfulOps (ops_in self) }
         ensures calls { length self ≡ calls_in seats }
     {
         let Locked {

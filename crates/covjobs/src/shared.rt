@@ -117,7 +117,8 @@ impl<L: Name, A: Allocator + Copy> Shared<L, A> {
 
 impl<L: Name, A: Allocator> Shared<L, A> {
     ghost use Rattle.std.specs.Prelude.{◌≡◌, length, IfOk, IfErr, MatchResult};
-    ghost use Rattle.covbook.specs.Step.{IsLegal};
+    ghost use Rattle.covbook.specs.Op.{AreLawfulOps};
+    ghost use Rattle.covbook.specs.Step.{IsLegal, ops_in};
     ghost use Rattle.covjobs.specs.Seat.{calls_in};
     ghost use Rattle.covnews.specs.declared.fault.ReaderFault.TheVariants as reader_faults;
     ghost use Rattle.covjobs.specs.Handed.{AllAreSeated, IsLeastMissing};
@@ -132,7 +133,7 @@ impl<L: Name, A: Allocator> Shared<L, A> {
         self.locked.lock(rt).reader()
     }
 
-    /// Closes the book, where the seat of each job is handed in, and gives its history, with news of it. Else all is handed back,
+    /// Closes the book, where the seat of each job is handed in, and gives its history, whose submissions are lawful, with news of it. Else all is handed back,
     /// with the least job whose seat is missing. Takes no memory. May wait for a reader to leave. Readers are then shown nothing
     /// new: they answer the longest history that they saw or learned.
     pub fn close<R: Wait>(
@@ -142,6 +143,7 @@ impl<L: Name, A: Allocator> Shared<L, A> {
     ) -> Result<(Entries<A>, News<L>), (Shared<L, A>, Seats<L, A>, CloseFault)>
         ensures seated { MatchResult result (λ _. AllAreSeated self.jobs seats) (λ back. IsLeastMissing self.jobs seats (told_job back.2)) }
         ensures history { IfOk result (λ closed. IsLegal closed.0) }
+        ensures lawful { IfOk result (λ closed. AreLawfulOps (ops_in closed.0)) }
         ensures calls { IfOk result (λ closed. length closed.0 ≡ calls_in seats) }
         ensures news { IfOk result (λ closed. closed.1 ≡ closed.0) }
         ensures back { MatchResult result (λ _. Unit {0}) (λ back. (back.0 ≡ self) × (back.1 ≡ seats)) }

@@ -3,7 +3,7 @@
 
 ghost use Rattle.std.specs.Prelude.{◌≡◌};
 
-use super::calls::{close, done, drop_of, open, submit};
+use super::calls::{close, done, drop_of, open, rename_of, submit};
 use super::turns::SMALL;
 use covbook::{Entries, JobLog, Op, Readings, Receipt, Receipts};
 use covjobs::{Done, Name, News, Seat, Shared, Start};
@@ -53,6 +53,7 @@ fn made(alloc: Global, name: &[u8]) -> Option<Op> {
     match name {
         b"submit" => submit(alloc, SMALL),
         b"drop" => drop_of(alloc, b"x"),
+        b"rename" => rename_of(alloc, b"t", b"v"),
         b"report" => Some(Op::Report),
         b"summary" => Some(Op::Summary),
         _ => None,

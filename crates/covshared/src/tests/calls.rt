@@ -92,6 +92,14 @@ pub(super) fn submit(alloc: Global, text: &[u8]) -> Option<Op> {
     Some(Op::Submit(SubRef::of(alloc, trace).ok()?))
 }
 
+/// The operation that gives the one test the name of the other.
+pub(super) fn rename_of(alloc: Global, old: &[u8], new: &[u8]) -> Option<Op> {
+    Some(Op::Rename {
+        old: Bytes::of(alloc, old).ok()?,
+        new: Bytes::of(alloc, new).ok()?,
+    })
+}
+
 /// The operation that drops the test.
 pub(super) fn drop_of(alloc: Global, test: &[u8]) -> Option<Op> {
     Some(Op::DropTest(Bytes::of(alloc, test).ok()?))

@@ -1,5 +1,6 @@
 //! Inputs that jobs collect.
 
+use super::books::op_of;
 use super::turns::{SMALL, check_entries};
 use covbook::{GatherFault, JobLog, Op};
 use covjobs::{CollectFault, Collected, Gate, Input, NoGate, RefusedInput, collect};
@@ -38,27 +39,54 @@ pub(super) fn traces(alloc: Global, texts: &[&[u8]]) -> Result<Vec<Input>, Fail>
     Ok(inputs)
 }
 
-/// What so many jobs collect of the inputs, with the report as the last operation.
-fn report_of<R: Threads + Wait + Sync + AllocGlobal, G: Gate + Sync>(
+/// What so many jobs collect of the inputs, with this last operation.
+fn answered<R: Threads + Wait + Sync + AllocGlobal, G: Gate + Sync>(
     rt: &R,
     inputs: &[Input],
+    last: &Op,
     jobs: u32,
     gate: &G,
 ) -> Result<Collected, CollectFault> {
-    collect(rt, rt.alloc(), inputs, &Op::Report, jobs, gate)
+    collect(rt, rt.alloc(), inputs, last, jobs, gate)
 }
 
-/// What so many jobs do collect of the inputs.
+/// What so many jobs do collect of the inputs, with this last operation.
+fn collected_behind<R: Threads + Wait + Sync + AllocGlobal + Abort, G: Gate + Sync>(
+    rt: &R,
+    inputs: &[Input],
+    last: &Op,
+    jobs: u32,
+    gate: &G,
+) -> Collected {
+    match answered(rt, inputs, last, jobs, gate) {
+        Ok(collected) => collected,
+        Err(_fault) => panic!(rt; "nothing is collected"),
+    }
+}
+
+/// What so many jobs do collect of the inputs, with the report as the last operation.
 pub(super) fn collected_of<R: Threads + Wait + Sync + AllocGlobal + Abort, G: Gate + Sync>(
     rt: &R,
     inputs: &[Input],
     jobs: u32,
     gate: &G,
 ) -> Collected {
-    match report_of(rt, inputs, jobs, gate) {
-        Ok(collected) => collected,
-        Err(_fault) => panic!(rt; "nothing is collected"),
-    }
+    collected_behind(rt, inputs, &Op::Report, jobs, gate)
+}
+
+/// The last operation may rename what the inputs brought.
+fn rename_at_the_end<R: Threads + Wait + Sync + AllocGlobal + Abort>(rt: &R) -> Result<(), Fail> {
+    let inputs = traces(rt.alloc(), &[SMALL])?;
+    let last = op_of(rt, rt.alloc(), b"rename");
+    let collected = collected_behind(rt, inputs.as_slice(), &last, 1, &NoGate);
+    let wanted = b"0 submit: accepted 1 2 0 \n0 rename: renamed 1 \n";
+    check_entries(rt, collected.entries.get(), wanted);
+    Ok(())
+}
+
+#[test]
+fn a_rename_at_the_end(rt: HostRuntime) -> Result<(), Fail> {
+    rename_at_the_end(&rt)
 }
 
 /// Whether these alone are refused: one input at this place, outside a section at its first line.
@@ -116,7 +144,7 @@ fn a_reading_for_each_submit(rt: HostRuntime) -> Result<(), Fail> {
 
 /// Whether nothing is collected by so many jobs, as there can't be so many.
 fn are_bad<R: Threads + Wait + Sync + AllocGlobal>(rt: &R, jobs: u32) -> bool {
-    match report_of(rt, &[], jobs, &NoGate) {
+    match answered(rt, &[], &Op::Report, jobs, &NoGate) {
         Ok(_collected) => false,
         Err(fault) => fault == CollectFault::BadJobs,
     }

@@ -5,7 +5,7 @@ ghost use Rattle.std.specs.Prelude.{◌≡◌};
 
 use super::books::{empty_logs, history_of, keep, op_of, opened, receipt_of};
 use super::calls::{copied, gathered, start};
-use super::turns::ASKED;
+use super::turns::{ASKED, check_entries};
 use covbook::{Answer, Entries, GatherFault, JobLog, Op, Reading, Readings, Receipt, Receipts};
 use covjobs::{Name, Seat, Shared, Start};
 use covstore::Totals;
@@ -89,6 +89,39 @@ fn second_answer(rt: &impl Abort, alloc: Global, logs: &[JobLog]) -> Answer {
 fn genuine_logs(rt: HostRuntime) -> Result<(), Fail> {
     let (entries, logs) = history(&rt, ASKED)?;
     assert_eq!(&rt; entries.get().len(), 6);
+    assert!(&rt; gathered(entries.get(), logs.as_slice()).is_ok());
+    Ok(())
+}
+
+const OF_A_RENAME: &[u8] = b"\
+0 submit: accepted 1 2 0 
+1 submit: accepted 2 2 0 
+0 summary: Summary coverage rate:
+  lines......: 50.0% (1 of 2 lines)
+  functions..: no data found
+  branches...: no data found
+
+1 rename: renamed 1 
+0 report: TN:v
+SF:/a.c
+DA:1,4
+DA:2,0
+LF:2
+LH:1
+end_of_record
+
+1 summary: Summary coverage rate:
+  lines......: 50.0% (1 of 2 lines)
+  functions..: no data found
+  branches...: no data found
+
+";
+
+/// A rename is a call like others: it has its entry, and its receipt is gathered.
+#[test]
+fn a_rename_among_six_calls(rt: HostRuntime) -> Result<(), Fail> {
+    let (entries, logs) = history(&rt, b"submit\nsubmit\nsummary\nrename\nreport\nsummary")?;
+    check_entries(&rt, entries.get(), OF_A_RENAME);
     assert!(&rt; gathered(entries.get(), logs.as_slice()).is_ok());
     Ok(())
 }

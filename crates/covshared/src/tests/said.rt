@@ -22,6 +22,7 @@ fn put_op(text: &mut Vec<u8>, op: &Op) -> Result<(), AllocError> {
     let word: &[u8] = match op {
         Op::Submit(_) => b"submit: ",
         Op::DropTest(_) => b"drop: ",
+        Op::Rename { .. } => b"rename: ",
         Op::Report => b"report: ",
         Op::Extract(_) => b"extract: ",
         Op::Remove(_) => b"remove: ",
@@ -36,6 +37,10 @@ fn put_answer(text: &mut Vec<u8>, answer: &Answer) -> Result<(), AllocError> {
         Answer::Accepted { number, items, odd } => put_accepted(text, *number, *items, *odd)?,
         Answer::Clash { .. } => text.extend_from_slice(b"clash")?,
         Answer::Dropped { sections } => put_number(text, *sections)?,
+        Answer::Renamed { sections } => {
+            text.extend_from_slice(b"renamed ")?;
+            put_number(text, *sections)?;
+        }
         Answer::NoSuchTest => text.extend_from_slice(b"no such test")?,
         Answer::Text(printed) => text.extend_from_slice(printed.get().get())?,
     }

@@ -27,5 +27,5 @@ returns-clause-collected g c =
     let told : length (map (entry_data {A = Global}) c.get-3.result.now) ≡ length entries = ap (λ (es : List EntryData). length es) c.get-3.ensures in
     let long : length entries ≡ c.in_ok-end.end = omega (arith, told, length-map c.get-3.result.now (entry_data {A = Global}), c.if-get-end.false) in
     all_collected inputs jobs c.in_ok-end.end (op_data c.args.last.now) workers c.ask_last.new.workers.items entries c.in_ok-seats.logs c.in_ok-seats.refused c.requires.some done
-    c.in_ok-end.ensures c.in_ok-seats.ensures.logs c.in_ok-seats.ensures.refused c.in_ok-seats.ensures.ascending c.in-Ok.ensures.history gathered long
+    c.in_ok-end.ensures c.in_ok-seats.ensures.logs c.in_ok-seats.ensures.refused c.in_ok-seats.ensures.ascending c.in-Ok.ensures.history c.in-Ok.ensures.lawful gathered long
     c.a_run_goes_on.ensures.answers c.order_does_not_matter.ensures.texts
