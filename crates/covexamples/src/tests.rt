@@ -20,6 +20,7 @@ mod drops;
 mod gcov;
 mod lines;
 mod merging;
+mod renames;
 mod sections;
 mod streams;
 mod summaries;

@@ -3,7 +3,7 @@ use Rattle.std.specs.List.{flat_map}
 use Rattle.std.specs.Prelude.{ℕ, ◌-◌, length, List, [], ◌∷◌, ◌++◌, Bool, true, false, if◌then◌else◌, Option, Some, None, codes, slice_get}
 use Rattle.covread.specs.declared.fault.ReadFault.{ReadFault}
 use Rattle.covread.specs.declared.fault.ReadFault.TheVariants as reads
-use Rattle.covbook.specs.Op.{EntryData, AnswerData, AcceptedAnswer, ClashAnswer, DroppedAnswer, NoSuchTestAnswer, TextAnswer}
+use Rattle.covbook.specs.Op.{EntryData, AnswerData, AcceptedAnswer, ClashAnswer, DroppedAnswer, RenamedAnswer, NoSuchTestAnswer, TextAnswer}
 use Rattle.covjobs.specs.declared.collect_fault.CollectFault.{CollectFault}
 use Rattle.covjobs.specs.declared.collect_fault.CollectFault.TheVariants as collects
 use Rattle.covjobs.specs.declared.refused.RefusedInput.{RefusedInput}
@@ -92,6 +92,7 @@ abbrev pub clash_text : AnswerData → List ℕ
 clash_text (AcceptedAnswer number items odd) = []
 clash_text (ClashAnswer clash) = answer_text (ClashAnswer clash)
 clash_text (DroppedAnswer sections) = []
+clash_text (RenamedAnswer sections) = []
 clash_text NoSuchTestAnswer = []
 clash_text (TextAnswer text) = []
 
@@ -103,6 +104,7 @@ abbrev pub text_in : AnswerData → List ℕ
 text_in (AcceptedAnswer number items odd) = []
 text_in (ClashAnswer clash) = []
 text_in (DroppedAnswer sections) = []
+text_in (RenamedAnswer sections) = []
 text_in NoSuchTestAnswer = []
 text_in (TextAnswer text) = text
 

@@ -179,8 +179,11 @@ fn add_clash(alloc: Global, answer: &Answer, lines: &mut Vec<u8>) -> Result<(), 
             lines.extend_from_slice(text.as_slice())?;
             Ok(())
         }
-        Answer::Accepted { .. } | Answer::Dropped { .. } | Answer::NoSuchTest | Answer::Text(_) =>
-            Ok(()),
+        Answer::Accepted { .. }
+        | Answer::Dropped { .. }
+        | Answer::Renamed { .. }
+        | Answer::NoSuchTest
+        | Answer::Text(_) => Ok(()),
     }
 }
 
@@ -205,6 +208,7 @@ fn text_of_answer(alloc: Global, answer: &Answer) -> Result<TextRef, SessionFaul
         Answer::Accepted { .. }
         | Answer::Clash { .. }
         | Answer::Dropped { .. }
+        | Answer::Renamed { .. }
         | Answer::NoSuchTest => Ok(TextRef::of(alloc, Bytes::new(alloc))?),
     }
 }

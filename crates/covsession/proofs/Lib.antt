@@ -4,6 +4,7 @@ pub mod SessionMoves
 pub mod SessionPieces
 pub mod SessionRun
 pub mod SessionSteps
+pub mod SessionRename
 pub mod SessionWords
 pub mod SessionLaw
 pub mod SessionFaultLaw

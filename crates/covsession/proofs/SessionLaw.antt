@@ -5,7 +5,7 @@ use Rattle.std.proofs.lemmas.Bool.{eqb-true, eqb-false, leb-true, leb-false}
 use Rattle.covline.specs.Row.{SubmissionData}
 use Rattle.covline.specs.Lines.{line_of, pieces_of}
 use Rattle.covread.specs.declared.fault.ReadFault.{ReadFault}
-use Rattle.covbook.specs.Op.{OpData, SubmitOp, DropTestOp, ReportOp, ExtractOp, RemoveOp, SummaryOp}
+use Rattle.covbook.specs.Op.{OpData, SubmitOp, DropTestOp, RenameOp, ReportOp, ExtractOp, RemoveOp, SummaryOp}
 use Rattle.covreport.specs.Choice.{most_pattern_bytes}
 use Rattle.covsession.specs.Command.{Command, Format, Tracefile, Annotated, Announces, IsReadAs, Blank, Ask, RefusePattern, Unknown, Unfinished, AsksFor, IsTooLong, IsBody, AreCommands, space}
 use Rattle.covsession.specs.Session.{IsSession, session_text}
@@ -13,7 +13,7 @@ use Rattle.covsession.specs.Text.{asked_for}
 use Rattle.covsession.specs.Run.{IsRun}
 use Rattle.covsession.specs.declared.session.text.LineEnd.TheVariants.{Feed, Input}
 use Rattle.covsession.proofs.SessionRun.{run_none, run_one_input, run_more, IsWhole, open_determined}
-use Rattle.covsession.proofs.SessionSteps.{whole_run, blank_run, ask_run, long_run, unknown_run}
+use Rattle.covsession.proofs.SessionSteps.{whole_run, blank_run, ask_run, rename_run, open_rename_run, long_run, unknown_run}
 
 -- ---- a line is one of the commands, or a text follows it
 
@@ -55,9 +55,10 @@ behind [] (x ∷ xs) = behind_space x xs (eqb x space) refl
 behind (w ∷ ws) [] = inr (λ h. none_some w (ws ++ space ∷ h.0) h.1)
 behind (w ∷ ws) (x ∷ xs) = behind_cons w x ws xs (eqb x w) refl (behind ws xs)
 
--- a piece is a command of its own, or a line that a text follows
+-- a piece is a command of its own, or a line that a text or two names follow
 abbrev Kind : List ℕ → Type 0
-Kind piece = ((commands : List Command) × IsRun Feed (piece ∷ []) commands) ⊎ ((format : Format) × Announces format (line_of piece))
+Kind piece = ((commands : List Command) × IsRun Feed (piece ∷ []) commands)
+    ⊎ (((format : Format) × Announces format (line_of piece)) ⊎ (line_of piece ≡ codes "rename"))
 
 fit_kind : (piece pattern : List ℕ) (op : OpData) (fits : Bool) → leb (length pattern) most_pattern_bytes ≡ fits
     → (length pattern ≤ most_pattern_bytes → AsksFor op (line_of piece)) → (most_pattern_bytes < length pattern → IsTooLong (line_of piece)) → Kind piece
@@ -74,12 +75,14 @@ pub record IsNoWord (line : List ℕ) : Type 0 where
   pub remove : line ≢ codes "remove"
   pub gcov : line ≢ codes "gcov"
   pub drop : line ≢ codes "drop"
+  pub rename : line ≢ codes "rename"
 
 no_op : (line : List ℕ) → IsNoWord line → (Behind (codes "extract") line → ⊥) → (Behind (codes "remove") line → ⊥)
     → (Behind (codes "drop") line → ⊥) → (op : OpData) → AsksFor op line → ⊥
 no_op line n e r d (SubmitOp submission) h = h
 no_op line n e r d (DropTestOp test) (inl h) = n.drop h.0
 no_op line n e r d (DropTestOp test) (inr h) = d (test, h)
+no_op line n e r d (RenameOp old new) h = h
 no_op line n e r d ReportOp h = n.report h
 no_op line n e r d SummaryOp h = n.summary h
 no_op line n e r d (ExtractOp []) h = n.extract h
@@ -108,7 +111,7 @@ choice_kind piece n (inl e) r g d =
     fit_kind piece e.0 (ExtractOp (e.0 ∷ [])) (leb (length e.0) most_pattern_bytes) refl (λ fits. (e.1, fits)) (λ long. (e.0, long, inl e.1))
 choice_kind piece n (inr e) (inl r) g d =
     fit_kind piece r.0 (RemoveOp (r.0 ∷ [])) (leb (length r.0) most_pattern_bytes) refl (λ fits. (r.1, fits)) (λ long. (r.0, long, inr r.1))
-choice_kind piece n (inr e) (inr r) (inl g) d = inr (Annotated g.0, inr g.1)
+choice_kind piece n (inr e) (inr r) (inl g) d = inr (inl (Annotated g.0, inr g.1))
 choice_kind piece n (inr e) (inr r) (inr g) (inl d) = inl (Ask (DropTestOp d.0) ∷ [], ask_run Feed piece (DropTestOp d.0) (inr d.1))
 choice_kind piece n (inr e) (inr r) (inr g) (inr d) = inl (
   Unknown ∷ [],
@@ -116,6 +119,7 @@ choice_kind piece n (inr e) (inr r) (inr g) (inr d) = inl (
     some = n.some;
     no_text = no_text (line_of piece) n g;
     no_op = no_op (line_of piece) n e r d;
+    no_rename = n.rename;
     short = no_long (line_of piece) e r;
   }),
 )
@@ -123,31 +127,32 @@ choice_kind piece n (inr e) (inr r) (inr g) (inr d) = inl (
 abbrev Same : List ℕ → List ℕ → Type 0
 Same line word = (line ≡ word) ⊎ (line ≢ word)
 
--- the words that stand alone with a text of their own behind them
-text_kind : (piece : List ℕ) → Same (line_of piece) (codes "trace") → Same (line_of piece) (codes "gcov")
-    → (line_of piece ≢ codes "trace" → line_of piece ≢ codes "gcov" → Kind piece) → Kind piece
-text_kind piece (inl h) g more = inr (Tracefile, h)
-text_kind piece (inr t) (inl h) more = inr (Annotated [], inl (h, refl))
-text_kind piece (inr t) (inr g) more = more t g
+-- the words that stand alone with lines of their own behind them
+text_kind : (piece : List ℕ) → Same (line_of piece) (codes "trace") → Same (line_of piece) (codes "gcov") → Same (line_of piece) (codes "rename")
+    → (line_of piece ≢ codes "trace" → line_of piece ≢ codes "gcov" → line_of piece ≢ codes "rename" → Kind piece) → Kind piece
+text_kind piece (inl h) g a more = inr (inl (Tracefile, h))
+text_kind piece (inr t) (inl h) a more = inr (inl (Annotated [], inl (h, refl)))
+text_kind piece (inr t) (inr g) (inl h) more = inr (inr h)
+text_kind piece (inr t) (inr g) (inr a) more = more t g a
 
-word_kind : (piece : List ℕ) → line_of piece ≢ codes "trace" → line_of piece ≢ codes "gcov" → Same (line_of piece) [] → Same (line_of piece) (codes "report")
+word_kind : (piece : List ℕ) → line_of piece ≢ codes "trace" → line_of piece ≢ codes "gcov" → line_of piece ≢ codes "rename" → Same (line_of piece) [] → Same (line_of piece) (codes "report")
     → Same (line_of piece) (codes "summary") → Same (line_of piece) (codes "extract") → Same (line_of piece) (codes "remove")
     → Same (line_of piece) (codes "drop") → Kind piece
-word_kind piece t g (inl h) r s e m d = inl (Blank ∷ [], blank_run Feed piece h)
-word_kind piece t g (inr n) (inl h) s e m d = inl (Ask ReportOp ∷ [], ask_run Feed piece ReportOp h)
-word_kind piece t g (inr n) (inr r) (inl h) e m d = inl (Ask SummaryOp ∷ [], ask_run Feed piece SummaryOp h)
-word_kind piece t g (inr n) (inr r) (inr s) (inl h) m d = inl (Ask (ExtractOp []) ∷ [], ask_run Feed piece (ExtractOp []) h)
-word_kind piece t g (inr n) (inr r) (inr s) (inr e) (inl h) d = inl (Ask (RemoveOp []) ∷ [], ask_run Feed piece (RemoveOp []) h)
-word_kind piece t g (inr n) (inr r) (inr s) (inr e) (inr m) (inl h) = inl (Ask (DropTestOp []) ∷ [], ask_run Feed piece (DropTestOp []) (inl (h, refl)))
-word_kind piece t g (inr n) (inr r) (inr s) (inr e) (inr m) (inr d) =
-    choice_kind piece (record { some = n; trace = t; report = r; summary = s; extract = e; remove = m; gcov = g; drop = d })
+word_kind piece t g a (inl h) r s e m d = inl (Blank ∷ [], blank_run Feed piece h)
+word_kind piece t g a (inr n) (inl h) s e m d = inl (Ask ReportOp ∷ [], ask_run Feed piece ReportOp h)
+word_kind piece t g a (inr n) (inr r) (inl h) e m d = inl (Ask SummaryOp ∷ [], ask_run Feed piece SummaryOp h)
+word_kind piece t g a (inr n) (inr r) (inr s) (inl h) m d = inl (Ask (ExtractOp []) ∷ [], ask_run Feed piece (ExtractOp []) h)
+word_kind piece t g a (inr n) (inr r) (inr s) (inr e) (inl h) d = inl (Ask (RemoveOp []) ∷ [], ask_run Feed piece (RemoveOp []) h)
+word_kind piece t g a (inr n) (inr r) (inr s) (inr e) (inr m) (inl h) = inl (Ask (DropTestOp []) ∷ [], ask_run Feed piece (DropTestOp []) (inl (h, refl)))
+word_kind piece t g a (inr n) (inr r) (inr s) (inr e) (inr m) (inr d) =
+    choice_kind piece (record { some = n; trace = t; report = r; summary = s; extract = e; remove = m; gcov = g; drop = d; rename = a })
     (behind (codes "extract") (line_of piece)) (behind (codes "remove") (line_of piece)) (behind (codes "gcov") (line_of piece))
     (behind (codes "drop") (line_of piece))
 
 kind : (piece : List ℕ) → Kind piece
 kind piece =
-    text_kind piece (same (line_of piece) (codes "trace")) (same (line_of piece) (codes "gcov"))
-    (λ t g. word_kind piece t g (same (line_of piece) []) (same (line_of piece) (codes "report"))
+    text_kind piece (same (line_of piece) (codes "trace")) (same (line_of piece) (codes "gcov")) (same (line_of piece) (codes "rename"))
+    (λ t g a. word_kind piece t g a (same (line_of piece) []) (same (line_of piece) (codes "report"))
     (same (line_of piece) (codes "summary")) (same (line_of piece) (codes "extract")) (same (line_of piece) (codes "remove"))
     (same (line_of piece) (codes "drop")))
 
@@ -189,7 +194,7 @@ module _ (read : (format : Format) (text : List ℕ) → (outcome : Result Submi
   text_commands : (format : Format) (first : List ℕ) (pieces : List (List ℕ)) → Announces format (line_of first) → Ends pieces ⊎ IsBody pieces
       → ((rest : List (List ℕ)) → length rest < length pieces → Commands rest) → Commands (first ∷ pieces)
   text_commands format first pieces announces (inr none) more =
-      (Unfinished ∷ [], run_one_input (first ∷ pieces) Unfinished (format, first, pieces, refl, announces, none) refl (open_determined format first pieces announces none))
+      (Unfinished ∷ [], run_one_input (first ∷ pieces) Unfinished (inl (format, first, pieces, refl, announces, none)) refl (open_determined format first pieces announces none))
   text_commands format first pieces announces (inl e) more =
       let text = concat e.body in
       let o = read format text in
@@ -201,12 +206,23 @@ module _ (read : (format : Format) (text : List ℕ) → (outcome : Result Submi
       let P : List (List ℕ) → Type 0 = λ u. IsRun Input (first ∷ u) (asked_for o.0 ++ r.0) in
       (asked_for o.0 ++ r.0, subst P (sym e.is) (run_more Input these e.rest (asked_for o.0) r.0 run r.1))
 
+  rename_commands : (first : List ℕ) (pieces : List (List ℕ)) → line_of first ≡ codes "rename"
+      → ((rest : List (List ℕ)) → length rest ≤ length pieces → Commands rest) → Commands (first ∷ pieces)
+  rename_commands first [] word more = (Unfinished ∷ [], open_rename_run first [] word (omega arith))
+  rename_commands first (second ∷ []) word more = (Unfinished ∷ [], open_rename_run first (second ∷ []) word (omega arith))
+  rename_commands first (second ∷ third ∷ rest) word more =
+      let these = first ∷ second ∷ third ∷ [] in
+      let commands = Ask (RenameOp (line_of second) (line_of third)) ∷ [] in
+      let r = more rest (omega arith) in
+      (commands ++ r.0, run_more Input these rest commands r.0 (rename_run Feed first second third word) r.1)
+
   piece_commands : (piece : List ℕ) (pieces : List (List ℕ)) → Kind piece → ((rest : List (List ℕ)) → length rest ≤ length pieces → Commands rest)
       → Commands (piece ∷ pieces)
   piece_commands piece pieces (inl k) more =
       let r = more pieces (omega arith) in
       (k.0 ++ r.0, run_more Input (piece ∷ []) pieces k.0 r.0 k.1 r.1)
-  piece_commands piece pieces (inr k) more = text_commands k.0 piece pieces k.1 (ends pieces) (λ rest few. more rest (omega arith))
+  piece_commands piece pieces (inr (inl k)) more = text_commands k.0 piece pieces k.1 (ends pieces) (λ rest few. more rest (omega arith))
+  piece_commands piece pieces (inr (inr k)) more = rename_commands piece pieces k more
 
   commands_of : (n : ℕ) (pieces : List (List ℕ)) → length pieces ≤ n → Commands pieces
   commands_of n [] few = ([], run_none Input)

@@ -1,9 +1,9 @@
 -- The commands of an input: there is one list of them, and it is found piece by piece.
-use Rattle.std.proofs.Common.{◌≡◌, ◌≢◌, ℕ, List, [], ◌∷◌, ◌++◌, Result, Ok, Err, refl, sym, ◌∙◌, ap, subst, append_assoc, append-nil, codes, inl, inr}
+use Rattle.std.proofs.Common.{◌≡◌, ◌≢◌, ℕ, ◌<◌, length, List, [], ◌∷◌, ◌++◌, Result, Ok, Err, refl, sym, ◌∙◌, ap, ap₂, subst, arith, append_assoc, append-nil, codes, inl, inr}
 use Rattle.std.specs.List.{concat}
 use Rattle.covline.specs.Row.{SubmissionData}
 use Rattle.covline.specs.Lines.{line_of}
-use Rattle.covbook.specs.Op.{SubmitOp}
+use Rattle.covbook.specs.Op.{OpData, SubmitOp, DropTestOp, RenameOp, ReportOp, ExtractOp, RemoveOp, SummaryOp}
 use Rattle.covstore.specs.Table.{Table}
 use Rattle.covbook.specs.Step.{answer_of, table_after, table_from}
 use Rattle.covread.specs.declared.fault.ReadFault.{ReadFault}
@@ -11,11 +11,11 @@ use Rattle.covsession.specs.declared.session.text.LineEnd.{LineEnd}
 use Rattle.covsession.specs.declared.session.text.LineEnd.TheVariants.{Feed, Input}
 use Rattle.covread.specs.Outcome.{IsOrMemory}
 use Rattle.covread.specs.declared.fault.ReadFault.TheVariants as faults
-use Rattle.covsession.specs.Command.{Command, Format, Announces, IsReadAs, Blank, Ask, RefusePattern, Submit, Refuse, Unknown, Unfinished, AsksFor, IsTooLong, IsUnknown, IsBody, IsCommand, EndsInput, AreCommands, ops_of}
+use Rattle.covsession.specs.Command.{Command, Format, Announces, IsReadAs, Blank, Ask, RefusePattern, Submit, Refuse, Unknown, Unfinished, AsksFor, IsAskingLine, IsTooLong, IsUnknown, IsBody, IsCommand, EndsInput, AreCommands, ops_of}
 use Rattle.covsession.specs.Session.{answer_text, refused_text, refused_pattern_text, said, text_after}
 use Rattle.covsession.specs.Text.{asked_for, AnswersAs, IsTold, IsToldAnswer}
 use Rattle.covsession.specs.Run.{IsRun}
-use Rattle.covsession.proofs.SessionWords.{IsSingle, single_unique, not_text, one_format}
+use Rattle.covsession.proofs.SessionWords.{IsSingle, single_unique, not_text, not_rename, text_no_rename, one_format}
 
 -- what commands are answered, and then further ones
 pub text_more : (table : Table) (commands more : List Command)
@@ -72,16 +72,44 @@ pub record OpenText (those : List (List ℕ)) (d : Command) : Type 0 where
   pub no_last : IsBody body
   pub asked : d ≡ Unfinished
 
+pub record WholeRename (those : List (List ℕ)) (d : Command) : Type 0 where
+  pub first : List ℕ
+  pub second : List ℕ
+  pub third : List ℕ
+  pub is : those ≡ first ∷ second ∷ third ∷ []
+  pub word : line_of first ≡ codes "rename"
+  pub asked : d ≡ Ask (RenameOp (line_of second) (line_of third))
+
+pub record OpenRename (those : List (List ℕ)) (d : Command) : Type 0 where
+  pub first : List ℕ
+  pub behind : List (List ℕ)
+  pub is : those ≡ first ∷ behind
+  pub word : line_of first ≡ codes "rename"
+  pub few : length behind < 2
+  pub asked : d ≡ Unfinished
+
 pub data Shape (those : List (List ℕ)) (d : Command) : Type 0 where
   ASingle : Single those d → Shape those d
   AWhole : WholeText those d → Shape those d
   AnOpen : OpenText those d → Shape those d
+  ARename : WholeRename those d → Shape those d
+  AnOpenRename : OpenRename those d → Shape those d
+
+asked_shape : (those : List (List ℕ)) (op : OpData) → IsAskingLine those op → Shape those (Ask op)
+asked_shape those op (line, (piece, is, same), asks) =
+    let P : List ℕ → Type 0 = λ u. AsksFor op u in
+    ASingle (record { piece = piece; is = is; says = subst P (sym same) asks })
 
 pub shape : (those : List (List ℕ)) (d : Command) → IsCommand those d → Shape those d
 shape those Blank (piece, is, line) = ASingle (record { piece = piece; is = is; says = line })
-shape those (Ask op) (line, (piece, is, same), asks) =
-    let P : List ℕ → Type 0 = λ u. AsksFor op u in
-    ASingle (record { piece = piece; is = is; says = subst P (sym same) asks })
+shape those (Ask (RenameOp old new)) (first, second, third, is, word, one, two) =
+    ARename (record { first = first; second = second; third = third; is = is; word = word; asked = ap₂ (λ (x y : List ℕ). Ask (RenameOp x y)) (sym one) (sym two) })
+shape those (Ask (SubmitOp submission)) h = asked_shape those (SubmitOp submission) h
+shape those (Ask (DropTestOp test)) h = asked_shape those (DropTestOp test) h
+shape those (Ask ReportOp) h = asked_shape those ReportOp h
+shape those (Ask SummaryOp) h = asked_shape those SummaryOp h
+shape those (Ask (ExtractOp patterns)) h = asked_shape those (ExtractOp patterns) h
+shape those (Ask (RemoveOp patterns)) h = asked_shape those (RemoveOp patterns) h
 shape those RefusePattern (line, (piece, is, same), long) = ASingle (record { piece = piece; is = is; says = subst IsTooLong (sym same) long })
 shape those Unknown (line, (piece, is, same), unknown) = ASingle (record { piece = piece; is = is; says = subst IsUnknown (sym same) unknown })
 shape those (Submit submission) (format, text, (first, body, last, is, announces, no_last, dot, same), read) =
@@ -90,8 +118,35 @@ shape those (Submit submission) (format, text, (first, body, last, is, announces
 shape those (Refuse fault) (format, text, (first, body, last, is, announces, no_last, dot, same), read) =
     let P : List ℕ → Type 0 = λ u. IsReadAs format u (Err fault) in
     AWhole (record { format = format; first = first; body = body; last = last; outcome = Err fault; is = is; announces = announces; no_last = no_last; dot = dot; read = subst P same read; asked = refl })
-shape those Unfinished (format, first, body, is, announces, no_last) =
+shape those Unfinished (inl (format, first, body, is, announces, no_last)) =
     AnOpen (record { format = format; first = first; body = body; is = is; announces = announces; no_last = no_last; asked = refl })
+shape those Unfinished (inr (first, behind, is, word, few)) =
+    AnOpenRename (record { first = first; behind = behind; is = is; word = word; few = few; asked = refl })
+
+-- the first piece is a line `rename`
+abbrev BeginsRename : List (List ℕ) → Type 0
+BeginsRename those = (first : List ℕ) × (behind : List (List ℕ)) × (those ≡ first ∷ behind) × (line_of first ≡ codes "rename")
+
+rename_begins : (those : List (List ℕ)) (d : Command) → WholeRename those d → BeginsRename those
+rename_begins those d s = (s.first, s.second ∷ s.third ∷ [], s.is, s.word)
+
+open_begins : (those : List (List ℕ)) (d : Command) → OpenRename those d → BeginsRename those
+open_begins those d s = (s.first, s.behind, s.is, s.word)
+
+-- it is no command of its own, and no text follows it
+single_no_rename : (piece : List ℕ) (rest those further : List (List ℕ)) (c : Command) → IsSingle (line_of piece) c → piece ∷ rest ≡ those ++ further
+    → BeginsRename those → ⊥
+single_no_rename piece rest those further c h e (first, behind, is, word) =
+    let all : piece ∷ rest ≡ first ∷ (behind ++ further) = e ∙ ap (λ (u : List (List ℕ)). u ++ further) is in
+    let same : piece ≡ first = cc in
+    not_rename (line_of piece) c h (ap line_of same ∙ word)
+
+format_no_rename : (format : Format) (piece : List ℕ) (rest those further : List (List ℕ)) → Announces format (line_of piece) → piece ∷ rest ≡ those ++ further
+    → BeginsRename those → ⊥
+format_no_rename format piece rest those further h e (first, behind, is, word) =
+    let all : piece ∷ rest ≡ first ∷ (behind ++ further) = e ∙ ap (λ (u : List (List ℕ)). u ++ further) is in
+    let same : piece ≡ first = cc in
+    text_no_rename format (line_of piece) h (ap line_of same ∙ word)
 
 -- the first line `.` behind a line that a text follows has one place
 pub no_dot : (body before after : List (List ℕ)) (last : List ℕ) → IsBody body → line_of last ≡ codes "." → body ≡ before ++ last ∷ after → ⊥
@@ -134,6 +189,8 @@ single_by piece rest those further c d h e (AnOpen s) =
     let same : piece ≡ s.first = cc in
     let P : List ℕ → Type 0 = λ u. Announces s.format (line_of u) in
     absurd (not_text (line_of piece) c s.format h (subst P (sym same) s.announces))
+single_by piece rest those further c d h e (ARename s) = absurd (single_no_rename piece rest those further c h e (rename_begins those d s))
+single_by piece rest those further c d h e (AnOpenRename s) = absurd (single_no_rename piece rest those further c h e (open_begins those d s))
 
 pub single_determined : (piece : List ℕ) (rest : List (List ℕ)) (c : Command) → IsSingle (line_of piece) c → Determined (piece ∷ []) rest c
 single_determined piece rest c h = λ those further d e is ends. single_by piece rest those further c d h e (shape those d is)
@@ -184,6 +241,10 @@ whole_by format first body rest those further last outcome c d w asked e ends (A
     let flat : s.body ≡ body ++ last ∷ rest =
     sym (append-nil s.body) ∙ ap (λ (u : List (List ℕ)). s.body ++ u) (sym none) ∙ sym tails ∙ append_assoc body (last ∷ []) rest in
     absurd (no_dot s.body body rest last s.no_last w.dot flat)
+whole_by format first body rest those further last outcome c d w asked e ends (ARename s) =
+    absurd (format_no_rename format first ((body ++ last ∷ []) ++ rest) those further w.announces e (rename_begins those d s))
+whole_by format first body rest those further last outcome c d w asked e ends (AnOpenRename s) =
+    absurd (format_no_rename format first ((body ++ last ∷ []) ++ rest) those further w.announces e (open_begins those d s))
 
 pub whole_determined : (format : Format) (first : List ℕ) (body rest : List (List ℕ)) (last : List ℕ) (outcome : Result SubmissionData ReadFault) (c : Command)
     → IsWhole format first body last outcome → asked_for outcome ≡ c ∷ []
@@ -203,16 +264,81 @@ open_by format first body those further d announces no_last e ends (AWhole s) =
     let tails : body ≡ (s.body ++ s.last ∷ []) ++ further = cc in
     absurd (no_dot body s.body further s.last no_last s.dot (tails ∙ append_assoc s.body (s.last ∷ []) further))
 open_by format first body those further d announces no_last e ends (AnOpen s) = (s.asked, open_ends d further s.asked ends)
+open_by format first body those further d announces no_last e ends (ARename s) = absurd (format_no_rename format first body those further announces e (rename_begins those d s))
+open_by format first body those further d announces no_last e ends (AnOpenRename s) = absurd (format_no_rename format first body those further announces e (open_begins those d s))
 
 pub open_determined : (format : Format) (first : List ℕ) (body : List (List ℕ)) → Announces format (line_of first) → IsBody body → Determined (first ∷ body) [] Unfinished
 open_determined format first body announces no_last = λ those further d e is ends.
     open_by format first body those further d announces no_last (sym (append-nil (first ∷ body)) ∙ e) ends (shape those d is)
+
+-- pieces that begin with a line `rename` are no command of one line, and no text
+rename_no_single : (first : List ℕ) (rest those further : List (List ℕ)) (d : Command) → line_of first ≡ codes "rename" → first ∷ rest ≡ those ++ further → Single those d → ⊥
+rename_no_single first rest those further d word e s =
+    let all : first ∷ rest ≡ s.piece ∷ further = e ∙ ap (λ (u : List (List ℕ)). u ++ further) s.is in
+    let same : s.piece ≡ first = cc in
+    not_rename (line_of s.piece) d s.says (ap line_of same ∙ word)
+
+rename_no_whole : (first : List ℕ) (rest those further : List (List ℕ)) (d : Command) → line_of first ≡ codes "rename" → first ∷ rest ≡ those ++ further → WholeText those d → ⊥
+rename_no_whole first rest those further d word e s =
+    let all : first ∷ rest ≡ s.first ∷ ((s.body ++ s.last ∷ []) ++ further) = e ∙ ap (λ (u : List (List ℕ)). u ++ further) s.is in
+    let same : s.first ≡ first = cc in
+    text_no_rename s.format (line_of s.first) s.announces (ap line_of same ∙ word)
+
+rename_no_open : (first : List ℕ) (rest those further : List (List ℕ)) (d : Command) → line_of first ≡ codes "rename" → first ∷ rest ≡ those ++ further → OpenText those d → ⊥
+rename_no_open first rest those further d word e s =
+    let all : first ∷ rest ≡ s.first ∷ (s.body ++ further) = e ∙ ap (λ (u : List (List ℕ)). u ++ further) s.is in
+    let same : s.first ≡ first = cc in
+    text_no_rename s.format (line_of s.first) s.announces (ap line_of same ∙ word)
+
+rename_by : (first second third : List ℕ) (rest those further : List (List ℕ)) (d : Command) → line_of first ≡ codes "rename"
+    → first ∷ second ∷ third ∷ rest ≡ those ++ further → EndsInput d further → Shape those d
+    → (d ≡ Ask (RenameOp (line_of second) (line_of third))) × (further ≡ rest)
+rename_by first second third rest those further d word e ends (ASingle s) = absurd (rename_no_single first (second ∷ third ∷ rest) those further d word e s)
+rename_by first second third rest those further d word e ends (AWhole s) = absurd (rename_no_whole first (second ∷ third ∷ rest) those further d word e s)
+rename_by first second third rest those further d word e ends (AnOpen s) = absurd (rename_no_open first (second ∷ third ∷ rest) those further d word e s)
+rename_by first second third rest those further d word e ends (ARename s) =
+    let all : first ∷ second ∷ third ∷ rest ≡ s.first ∷ s.second ∷ s.third ∷ further = e ∙ ap (λ (u : List (List ℕ)). u ++ further) s.is in
+    let one : s.second ≡ second = cc in
+    let two : s.third ≡ third = cc in
+    (s.asked ∙ ap₂ (λ (x y : List ℕ). Ask (RenameOp (line_of x) (line_of y))) one two, cc)
+rename_by first second third rest those further d word e ends (AnOpenRename s) =
+    let none : further ≡ [] = open_ends d further s.asked ends in
+    let all : first ∷ second ∷ third ∷ rest ≡ s.first ∷ (s.behind ++ further) = e ∙ ap (λ (u : List (List ℕ)). u ++ further) s.is in
+    let tails : second ∷ third ∷ rest ≡ s.behind ++ further = cc in
+    let flat : second ∷ third ∷ rest ≡ s.behind = tails ∙ ap (λ (u : List (List ℕ)). s.behind ++ u) none ∙ append-nil s.behind in
+    let size : length (second ∷ third ∷ rest) ≡ length s.behind = ap length flat in
+    let few : length s.behind < 2 = s.few in
+    absurd (omega arith)
+
+pub rename_determined : (first second third : List ℕ) (rest : List (List ℕ)) → line_of first ≡ codes "rename"
+    → Determined (first ∷ second ∷ third ∷ []) rest (Ask (RenameOp (line_of second) (line_of third)))
+rename_determined first second third rest word = λ those further d e is ends.
+    rename_by first second third rest those further d word e ends (shape those d is)
+
+open_rename_by : (first : List ℕ) (behind those further : List (List ℕ)) (d : Command) → line_of first ≡ codes "rename" → length behind < 2
+    → first ∷ behind ≡ those ++ further → EndsInput d further → Shape those d → (d ≡ Unfinished) × (further ≡ [])
+open_rename_by first behind those further d word few e ends (ASingle s) = absurd (rename_no_single first behind those further d word e s)
+open_rename_by first behind those further d word few e ends (AWhole s) = absurd (rename_no_whole first behind those further d word e s)
+open_rename_by first behind those further d word few e ends (AnOpen s) = absurd (rename_no_open first behind those further d word e s)
+open_rename_by first behind those further d word few e ends (ARename s) =
+    let all : first ∷ behind ≡ s.first ∷ s.second ∷ s.third ∷ further = e ∙ ap (λ (u : List (List ℕ)). u ++ further) s.is in
+    let tails : behind ≡ s.second ∷ s.third ∷ further = cc in
+    let size : length behind ≡ length (s.second ∷ s.third ∷ further) = ap length tails in
+    absurd (omega arith)
+open_rename_by first behind those further d word few e ends (AnOpenRename s) = (s.asked, open_ends d further s.asked ends)
+
+pub open_rename_determined : (first : List ℕ) (behind : List (List ℕ)) → line_of first ≡ codes "rename" → length behind < 2
+    → Determined (first ∷ behind) [] Unfinished
+open_rename_determined first behind word few = λ those further d e is ends.
+    open_rename_by first behind those further d word few (sym (append-nil (first ∷ behind)) ∙ e) ends (shape those d is)
 
 -- a command has a piece
 not_none : (those : List (List ℕ)) (d : Command) → Shape those d → those ≢ []
 not_none those d (ASingle s) e = let bad : s.piece ∷ [] ≡ [] = sym s.is ∙ e in cc
 not_none those d (AWhole s) e = let bad : s.first ∷ (s.body ++ s.last ∷ []) ≡ [] = sym s.is ∙ e in cc
 not_none those d (AnOpen s) e = let bad : s.first ∷ s.body ≡ [] = sym s.is ∙ e in cc
+not_none those d (ARename s) e = let bad : s.first ∷ s.second ∷ s.third ∷ [] ≡ [] = sym s.is ∙ e in cc
+not_none those d (AnOpenRename s) e = let bad : s.first ∷ s.behind ≡ [] = sym s.is ∙ e in cc
 
 front_none : (xs ys : List (List ℕ)) → xs ++ ys ≡ [] → xs ≡ []
 front_none [] ys e = refl

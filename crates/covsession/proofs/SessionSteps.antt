@@ -7,7 +7,7 @@ use Rattle.std.specs.Option.{IfSome}
 use Rattle.std.specs.Io.KnownBytes.{Consumes, Appends, IsAtEnd, prepend_known, append_known}
 use Rattle.covline.specs.Row.{SubmissionData}
 use Rattle.covline.specs.Lines.{line_feed, before_feed, strip, line_of, pieces_of}
-use Rattle.covbook.specs.Op.{OpData, DropTestOp, ReportOp, ExtractOp, RemoveOp, SummaryOp}
+use Rattle.covbook.specs.Op.{OpData, SubmitOp, DropTestOp, RenameOp, ReportOp, ExtractOp, RemoveOp, SummaryOp}
 use Rattle.covreport.specs.Choice.{most_pattern_bytes}
 use Rattle.covstore.specs.Table.{Table}
 use Rattle.covbook.specs.Step.{table_of}
@@ -24,14 +24,14 @@ use Rattle.covsession.specs.declared.session.command.word.Word.{Word}
 use Rattle.covsession.specs.declared.session.command.word.Word.TheVariants as words
 use Rattle.covread.specs.Outcome.{IsOutcome, most_bytes}
 use Rattle.covread.specs.GcovOutcome as gcov
-use Rattle.covsession.specs.Command.{Command, Format, Tracefile, Annotated, Announces, IsReadAs, format_of, Blank, Ask, RefusePattern, Submit, Refuse, Unknown, Unfinished, AsksFor, IsNaming, IsTooLong, IsUnknown, AreCommands, ops_of, ops_asked, IsWord, IsWordWith, pick_name, pick_op, asked_by, chosen_by, IsListOf}
+use Rattle.covsession.specs.Command.{Command, Format, Tracefile, Annotated, Announces, IsReadAs, format_of, Blank, Ask, RefusePattern, Submit, Refuse, Unknown, Unfinished, AsksFor, IsAskingLine, IsAsked, IsNaming, IsTooLong, IsUnknown, AreCommands, ops_of, ops_asked, IsWord, IsWordWith, pick_name, pick_op, asked_by, chosen_by, IsListOf}
 use Rattle.covsession.specs.Session.{IsSession, IsWholeSession, text_after, Asks}
 use Rattle.covsession.specs.Streams.{InputData, OutputData, Moment, Takes, Says, Moves, TakesLine, TakesPieces, EndsAs, turns, unread, line_bytes, line_pieces}
 use Rattle.covsession.specs.Text.{IsTaken, asked_for, IsAnsweredAs}
-use Rattle.covsession.specs.Run.{IsRun, TakesText, TakesCommand, IsSoFar, IsDone}
+use Rattle.covsession.specs.Run.{IsRun, TakesBehind, TakesCommand, IsSoFar, IsDone}
 use Rattle.covsession.proofs.SessionMoves.{Says-trans, Moves-trans, Moves-none}
 use Rattle.covsession.proofs.SessionPieces.{cut_append, cut_ending, line_of_bytes}
-use Rattle.covsession.proofs.SessionRun.{text_more, run_none, run_one, run_one_input, run_more, single_determined, IsWhole, whole_determined, open_determined}
+use Rattle.covsession.proofs.SessionRun.{text_more, run_none, run_one, run_one_input, run_more, single_determined, IsWhole, whole_determined, open_determined, rename_determined, open_rename_determined}
 
 -- pieces were taken, and then something was said
 pub says_on : (m n : Moment) (p : OutputData) (pieces : List (List ℕ)) (ending : LineEnd) (text : List ℕ)
@@ -116,15 +116,24 @@ taken_run format taken.Unfinished pieces ending commands (no_last, ends) asked f
     let Q : LineEnd → Type 0 = λ u. IsRun u (first ∷ pieces) commands in
     let R : List Command → Type 0 = λ u. IsRun Input (first ∷ pieces) u in
     subst Q (sym ends) (subst R (sym asked)
-    (run_one_input (first ∷ pieces) Unfinished (format, first, pieces, refl, announces, no_last) refl (open_determined format first pieces announces no_last)))
+    (run_one_input (first ∷ pieces) Unfinished (inl (format, first, pieces, refl, announces, no_last)) refl (open_determined format first pieces announces no_last)))
 
 -- a command of one line
 pub blank_run : (ending : LineEnd) (piece : List ℕ) → line_of piece ≡ [] → IsRun ending (piece ∷ []) (Blank ∷ [])
 blank_run ending piece e = run_one ending (piece ∷ []) Blank (piece, refl, e) (λ rest. tt) (λ rest. single_determined piece rest Blank e)
 
+asking_line : (pieces : List (List ℕ)) (op : OpData) → IsAskingLine pieces op → IsAsked pieces op
+asking_line pieces (RenameOp old new) h = absurd h.2
+asking_line pieces (SubmitOp submission) h = h
+asking_line pieces (DropTestOp test) h = h
+asking_line pieces ReportOp h = h
+asking_line pieces SummaryOp h = h
+asking_line pieces (ExtractOp patterns) h = h
+asking_line pieces (RemoveOp patterns) h = h
+
 pub ask_run : (ending : LineEnd) (piece : List ℕ) (op : OpData) → AsksFor op (line_of piece) → IsRun ending (piece ∷ []) (Ask op ∷ [])
 ask_run ending piece op h =
-    run_one ending (piece ∷ []) (Ask op) (line_of piece, (piece, refl, refl), h) (λ rest. tt) (λ rest. single_determined piece rest (Ask op) h)
+    run_one ending (piece ∷ []) (Ask op) (asking_line (piece ∷ []) op (line_of piece, (piece, refl, refl), h)) (λ rest. tt) (λ rest. single_determined piece rest (Ask op) h)
 
 pub long_run : (ending : LineEnd) (piece : List ℕ) → IsTooLong (line_of piece) → IsRun ending (piece ∷ []) (RefusePattern ∷ [])
 long_run ending piece h =
@@ -133,6 +142,18 @@ long_run ending piece h =
 pub unknown_run : (ending : LineEnd) (piece : List ℕ) → IsUnknown (line_of piece) → IsRun ending (piece ∷ []) (Unknown ∷ [])
 unknown_run ending piece h =
     run_one ending (piece ∷ []) Unknown (line_of piece, (piece, refl, refl), h) (λ rest. tt) (λ rest. single_determined piece rest Unknown h)
+
+-- a rename with both of its names, and one without
+pub rename_run : (ending : LineEnd) (first second third : List ℕ) → line_of first ≡ codes "rename"
+    → IsRun ending (first ∷ second ∷ third ∷ []) (Ask (RenameOp (line_of second) (line_of third)) ∷ [])
+rename_run ending first second third word =
+    run_one ending (first ∷ second ∷ third ∷ []) (Ask (RenameOp (line_of second) (line_of third)))
+    (first, second, third, refl, word, refl, refl) (λ rest. tt) (λ rest. rename_determined first second third rest word)
+
+pub open_rename_run : (first : List ℕ) (behind : List (List ℕ)) → line_of first ≡ codes "rename" → length behind < 2
+    → IsRun Input (first ∷ behind) (Unfinished ∷ [])
+open_rename_run first behind word few =
+    run_one_input (first ∷ behind) Unfinished (inr (first, behind, refl, word, few)) refl (open_rename_determined first behind word few)
 
 -- a pattern that fits is asked with, and another one is refused
 fit_run : (ending : LineEnd) (piece pattern : List ℕ) (op : OpData) (fits : Bool) → leb (length pattern) most_pattern_bytes ≡ fits
@@ -151,11 +172,12 @@ choose_run ending piece picks.Remove None h = ask_run ending piece (RemoveOp [])
 choose_run ending piece picks.Remove (Some pattern) h =
     fit_run ending piece pattern (RemoveOp (pattern ∷ [])) (leb (length pattern) most_pattern_bytes) refl (λ fits. (h, fits)) (λ long. (pattern, long, inr h))
 
--- a word that a text follows stands at the end of the input
-abbrev pub IsLastText : LineEnd → Word → Type 0
-IsLastText ending word = (format : TextFormat) → word ≡ words.Text format → ending ≡ Input
+-- a word that a text or names follow stands at the end of the input
+pub record IsLast (ending : LineEnd) (word : Word) : Type 0 where
+  pub text : (format : TextFormat) → word ≡ words.Text format → ending ≡ Input
+  pub names : word ≡ words.Rename → ending ≡ Input
 
-word_run : (ending : LineEnd) (piece : List ℕ) (word : Word) → IsWord (line_of piece) word → IsLastText ending word
+word_run : (ending : LineEnd) (piece : List ℕ) (word : Word) → IsWord (line_of piece) word → IsLast ending word
     → IsRun ending (piece ∷ []) (asked_by word)
 word_run ending piece words.Blank h last = blank_run ending piece h
 word_run ending piece words.Report h last = ask_run ending piece ReportOp h
@@ -163,9 +185,12 @@ word_run ending piece words.Summary h last = ask_run ending piece SummaryOp h
 word_run ending piece (words.Choose pick pattern) h last = choose_run ending piece pick (option_map (λ p. p.now) pattern) h
 word_run ending piece (words.Drop test) h last = ask_run ending piece (DropTestOp test.now) h
 word_run ending piece words.Other h last = unknown_run ending piece h
+word_run ending piece words.Rename h last =
+    let Q : LineEnd → Type 0 = λ u. IsRun u (piece ∷ []) (Unfinished ∷ []) in
+    subst Q (sym (last.names refl)) (open_rename_run piece [] h (omega arith))
 word_run ending piece (words.Text format) h last =
     let Q : LineEnd → Type 0 = λ u. IsRun u (piece ∷ []) (Unfinished ∷ []) in
-    subst Q (sym (last format refl)) (run_one_input (piece ∷ []) Unfinished (format_of format, piece, [], refl, h, tt) refl (open_determined (format_of format) piece [] h tt))
+    subst Q (sym (last.text format refl)) (run_one_input (piece ∷ []) Unfinished (inl (format_of format, piece, [], refl, h, tt)) refl (open_determined (format_of format) piece [] h tt))
 
 -- what a line is asked for, and nothing behind the last line
 pub record LineRun (ending : LineEnd) (pieces : List (List ℕ)) (word : Word) : Type 0 where
@@ -195,13 +220,14 @@ nothing_run : (word : Word) → IsWord [] word → LineRun Input [] word
 nothing_run words.Blank h = record { commands = []; run = run_none Input; same_text = λ table. refl; same_ops = refl }
 nothing_run words.Report h = absurd (let nothing : ⊥ = cc in nothing)
 nothing_run words.Summary h = absurd (let nothing : ⊥ = cc in nothing)
+nothing_run words.Rename h = absurd (let nothing : ⊥ = cc in nothing)
 nothing_run (words.Choose picks.Extract pattern) h = absurd (no_choice (codes "extract") (option_map (λ p. p.now) pattern) (omega arith) h)
 nothing_run (words.Choose picks.Remove pattern) h = absurd (no_choice (codes "remove") (option_map (λ p. p.now) pattern) (omega arith) h)
 nothing_run (words.Drop test) h = absurd (no_name (codes "drop") test.now (omega arith) h)
 nothing_run (words.Text format) h = absurd (no_text (format_of format) h)
 nothing_run words.Other h = absurd (h.some refl)
 
-piece_line : (ending : LineEnd) (piece : List ℕ) (word : Word) → IsWord (line_of piece) word → IsLastText ending word → LineRun ending (piece ∷ []) word
+piece_line : (ending : LineEnd) (piece : List ℕ) (word : Word) → IsWord (line_of piece) word → IsLast ending word → LineRun ending (piece ∷ []) word
 piece_line ending piece word h last = record {
   commands = asked_by word;
   run = word_run ending piece word h last;
@@ -209,7 +235,7 @@ piece_line ending piece word h last = record {
   same_ops = refl;
 }
 
-pub line_run : (ending : LineEnd) (line : List ℕ) (word : Word) → before_feed line ≡ line → IsWord (strip line) word → IsLastText ending word
+pub line_run : (ending : LineEnd) (line : List ℕ) (word : Word) → before_feed line ≡ line → IsWord (strip line) word → IsLast ending word
     → LineRun ending (line_pieces ending line) word
 line_run Feed line word one h last =
     let P : List ℕ → Type 0 = λ u. IsWord u word in
@@ -221,7 +247,7 @@ line_run Input (b ∷ bs) word one h last =
 
 -- a line and its answer are a command
 pub line_command : (m n : Moment) (p : OutputData) (line : List ℕ) (ending : LineEnd) (word : Word) (before after : List OpData)
-    → TakesLine m n line ending → IsWord (strip line) word → IsLastText ending word
+    → TakesLine m n line ending → IsWord (strip line) word → IsLast ending word
     → Asks (asked_by word) before after → Says n.output p (text_after (table_of before) (asked_by word))
     → TakesCommand m (record n { output = p }) before after ending
 line_command m n p line ending word before after h is last asks says =
@@ -236,19 +262,18 @@ line_command m n p line ending word before after h is last asks says =
       run = r.run;
     }
 
--- a line with its text and the answer are a command
-pub text_command : (format : Format) (m n o : Moment) (line : List ℕ) (ending first : LineEnd) (before after : List OpData)
-    → TakesLine m n line first → first ≡ Feed → Announces format (strip line) → TakesText format n o before after ending → TakesCommand m o before after ending
-text_command format m n o line ending first before after h feed is t =
+-- such a line with what follows it and the answer are a command
+pub behind_command : (Such : List ℕ → Type 0) (m n o : Moment) (line : List ℕ) (ending first : LineEnd) (before after : List OpData)
+    → TakesLine m n line first → first ≡ Feed → Such (strip line) → TakesBehind Such n o before after ending → TakesCommand m o before after ending
+behind_command Such m n o line ending first before after h feed is t =
     let F : LineEnd → Type 0 = λ u. TakesLine m n line u in
     let taken : TakesLine m n line Feed = subst F feed h in
-    let A : List ℕ → Type 0 = λ u. Announces format u in
     record {
       pieces = (line ++ line_feed ∷ []) ∷ t.pieces;
       commands = t.commands;
       taken = pieces_trans m n o ((line ++ line_feed ∷ []) ∷ []) t.pieces ending [] (text_after (table_of before) t.commands) (line_taken m n line Feed taken) t.taken;
       asks = t.asks;
-      run = t.run (line ++ line_feed ∷ []) (subst A (sym (line_of_bytes Feed line h.one_line)) is);
+      run = t.run (line ++ line_feed ∷ []) (subst Such (sym (line_of_bytes Feed line h.one_line)) is);
     }
 
 -- the whole session

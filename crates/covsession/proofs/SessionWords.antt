@@ -1,10 +1,10 @@
--- What a line of its own asks for: it is read as one command, by its first and its sixth byte and what is behind the
+-- What a line of its own asks for: it is read as one command, by its first, third and sixth byte and what is behind the
 -- word.
 use Rattle.std.proofs.Common.{◌≡◌, ◌⊎◌, ℕ, zero, suc, ◌<◌, ◌≤◌, Bool, true, false, cond, eqb, leb, length, codes, get_or, take, drop, List, [], ◌∷◌, Option, None, Some, refl, sym, ◌∙◌, ap, subst, arith, inl, inr}
-use Rattle.std.proofs.lemmas.Bool.{le-leb, lt-leb}
+use Rattle.std.proofs.lemmas.Bool.{le-leb, lt-leb, false≢true}
 use Rattle.std.proofs.lemmas.List.{take_all}
 use Rattle.memchr.specs.Find.{IsFirstByte, is_byte}
-use Rattle.covbook.specs.Op.{OpData, SubmitOp, DropTestOp, ReportOp, ExtractOp, RemoveOp, SummaryOp}
+use Rattle.covbook.specs.Op.{OpData, SubmitOp, DropTestOp, RenameOp, ReportOp, ExtractOp, RemoveOp, SummaryOp}
 use Rattle.covreport.specs.Choice.{most_pattern_bytes}
 use Rattle.covsession.specs.Command.{Command, Format, Tracefile, Annotated, Announces, Blank, Ask, RefusePattern, Submit, Refuse, Unknown, Unfinished, AsksFor, IsNaming, IsTooLong, IsUnknown, before_space}
 use Rattle.covsession.proofs.SessionBytes.{not_true}
@@ -52,10 +52,12 @@ read_by false false false false line = Unfinished
 abbrev read_at : ℕ → List ℕ → Command
 read_at sixth line = read_by (eqb sixth 116) (eqb sixth 114) (eqb sixth 99) (eqb sixth 101) line
 
--- what a line is read as, whatever else it may be: one that is no command is read as some command too
+-- what a line is read as, whatever else it may be: one that is no command is read as some command too. The third byte of
+-- `rename` is in no other word
 abbrev read_line : List ℕ → Command
 read_line [] = Blank
-read_line (b ∷ bs) = cond (eqb b 103) Unfinished (cond (eqb b 100) (Ask (DropTestOp (drop 4 bs))) (read_at (get_or (b ∷ bs) 5 0) (b ∷ bs)))
+read_line (b ∷ bs) = cond (eqb b 103) Unfinished (cond (eqb b 100) (Ask (DropTestOp (drop 4 bs)))
+    (cond (eqb (get_or bs 1 0) 110) Unfinished (read_at (get_or (b ∷ bs) 5 0) (b ∷ bs))))
 
 short_read : (op : List (List ℕ) → OpData) (pattern : List ℕ) → length pattern ≤ most_pattern_bytes → choice_read op (Some pattern) ≡ Ask (op (pattern ∷ []))
 short_read op pattern h = rw (le-leb (length pattern) most_pattern_bytes h) refl
@@ -70,6 +72,7 @@ drop_read test line (inr h) = ap read_line h
 ask_read : (op : OpData) (line : List ℕ) → AsksFor op line → read_line line ≡ Ask op
 ask_read (SubmitOp submission) line h = absurd h
 ask_read (DropTestOp test) line h = drop_read test line h
+ask_read (RenameOp old new) line h = absurd h
 ask_read ReportOp line h = ap read_line h
 ask_read SummaryOp line h = ap read_line h
 ask_read (ExtractOp []) line h = ap read_line h
@@ -121,14 +124,30 @@ text_read Tracefile line h = ap read_line h
 text_read (Annotated test) line (inl h) = ap read_line h.0
 text_read (Annotated test) line (inr h) = ap read_line h
 
-single_text : (line : List ℕ) (d : Command) (format : Format) → IsSingle line d → IsRead line d → Announces format line → ⊥
-single_text line d format k (inl h) a = h.1.no_text format a
-single_text line d format k (inr h) a =
+no_single : (line : List ℕ) (d : Command) → IsSingle line d → IsRead line d → (IsUnknown line → ⊥) → read_line line ≡ Unfinished → ⊥
+no_single line d k (inl h) known is = known h.1
+no_single line d k (inr h) known is =
     let P : Command → Type 0 = λ u. IsSingle line u in
-    let same : d ≡ Unfinished = sym h.1 ∙ text_read format line a in subst P same k
+    let same : d ≡ Unfinished = sym h.1 ∙ is in subst P same k
 
 pub not_text : (line : List ℕ) (d : Command) (format : Format) → IsSingle line d → Announces format line → ⊥
-not_text line d format k a = single_text line d format k (single_read line d k) a
+not_text line d format k a = no_single line d k (single_read line d k) (λ u. u.no_text format a) (text_read format line a)
+
+-- nor is a line that two names follow such a line
+pub not_rename : (line : List ℕ) (d : Command) → IsSingle line d → line ≡ codes "rename" → ⊥
+not_rename line d k is = no_single line d k (single_read line d k) (λ u. u.no_rename is) (ap read_line is)
+
+-- no text follows it: by its third byte
+abbrev third_read : List ℕ → Bool
+third_read line = eqb (get_or line 2 0) 110
+
+text_third : (format : Format) (line : List ℕ) → Announces format line → third_read line ≡ false
+text_third Tracefile line h = ap third_read h
+text_third (Annotated test) line (inl h) = ap third_read h.0
+text_third (Annotated test) line (inr h) = ap third_read h
+
+pub text_no_rename : (format : Format) (line : List ℕ) → Announces format line → line ≡ codes "rename" → ⊥
+text_no_rename format line a is = false≢true (sym (text_third format line a) ∙ ap third_read is)
 
 -- a line announces one format: by its first byte and what stands behind the fifth
 abbrev format_read : List ℕ → Format

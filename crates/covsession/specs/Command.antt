@@ -1,7 +1,7 @@
 -- What a command line asks for, what the text behind a line is, and what the book is asked.
 use Rattle.std.specs.List.{concat, flat_map, AllByRecursion}
 use Rattle.std.specs.Prelude.{◌≡◌, ◌≢◌, ◌⊎◌, ◌<◌, ◌≤◌, ℕ, length, List, [], ◌∷◌, ◌++◌, codes, Ok, Err, ◌==◌, if◌then◌else◌, Result, Option, Some, None, option_map, nat_le}
-use Rattle.covbook.specs.Op.{OpData, SubmitOp, DropTestOp, ReportOp, ExtractOp, RemoveOp, SummaryOp}
+use Rattle.covbook.specs.Op.{OpData, SubmitOp, DropTestOp, RenameOp, ReportOp, ExtractOp, RemoveOp, SummaryOp}
 use Rattle.covline.specs.Lines.{line_of}
 use Rattle.covline.specs.Row.{SubmissionData}
 use Rattle.covread.specs.Outcome.{IsOutcome}
@@ -43,10 +43,11 @@ IsChoice word (pattern ∷ other ∷ more) line = ⊥
 abbrev pub IsNaming : List ℕ → List ℕ → List ℕ → Type 0
 IsNaming word test line = ((line ≡ word) × (test ≡ [])) ⊎ (line ≡ word ++ space ∷ test)
 
--- the line asks the book for a text, or to drop a test
+-- the line alone asks the book for a text, or to drop a test
 abbrev pub AsksFor : OpData → List ℕ → Type 0
 AsksFor (SubmitOp submission) line = ⊥
 AsksFor (DropTestOp test) line = IsNaming (codes "drop") test line
+AsksFor (RenameOp old new) line = ⊥
 AsksFor ReportOp line = line ≡ codes "report"
 AsksFor SummaryOp line = line ≡ codes "summary"
 AsksFor (ExtractOp patterns) line = IsChoice (codes "extract") patterns line
@@ -57,6 +58,26 @@ abbrev pub IsTooLong : List ℕ → Type 0
 IsTooLong line =
     (pattern : List ℕ) × (most_pattern_bytes < length pattern)
     × ((line ≡ codes "extract" ++ space ∷ pattern) ⊎ (line ≡ codes "remove" ++ space ∷ pattern))
+
+-- a line `rename`, and two lines behind it: whatever they hold, they are the old name and the new one
+abbrev pub IsRename : List (List ℕ) → List ℕ → List ℕ → Type 0
+IsRename pieces old new =
+    (first : List ℕ) × (second : List ℕ) × (third : List ℕ) × (pieces ≡ first ∷ second ∷ third ∷ [])
+    × (line_of first ≡ codes "rename") × (line_of second ≡ old) × (line_of third ≡ new)
+
+-- the pieces are one line that asks the book for this
+abbrev pub IsAskingLine : List (List ℕ) → OpData → Type 0
+IsAskingLine pieces op = (line : List ℕ) × IsLine pieces line × AsksFor op line
+
+-- the pieces ask the book for this
+abbrev pub IsAsked : List (List ℕ) → OpData → Type 0
+IsAsked pieces (RenameOp old new) = IsRename pieces old new
+IsAsked pieces (SubmitOp submission) = IsAskingLine pieces (SubmitOp submission)
+IsAsked pieces (DropTestOp test) = IsAskingLine pieces (DropTestOp test)
+IsAsked pieces ReportOp = IsAskingLine pieces ReportOp
+IsAsked pieces SummaryOp = IsAskingLine pieces SummaryOp
+IsAsked pieces (ExtractOp patterns) = IsAskingLine pieces (ExtractOp patterns)
+IsAsked pieces (RemoveOp patterns) = IsAskingLine pieces (RemoveOp patterns)
 
 -- the format of a text: a tracefile, or gcov's annotated source, whose counts are of this test
 pub data Format : Type 0 where
@@ -78,6 +99,7 @@ pub record IsUnknown (line : List ℕ) : Type 0 where
   pub some : line ≢ []
   pub no_text : (format : Format) → Announces format line → ⊥
   pub no_op : (op : OpData) → AsksFor op line → ⊥
+  pub no_rename : line ≢ codes "rename"
   pub short : IsTooLong line → ⊥
 
 -- no piece is the line that ends a text
@@ -91,15 +113,24 @@ IsText pieces format text =
     × Announces format (line_of first) × IsBody body × (line_of last ≡ codes ".") × (text ≡ concat body)
 
 -- a line that a text follows, and no line `.` after it
-abbrev pub IsUnfinished : List (List ℕ) → Type 0
-IsUnfinished pieces =
+abbrev pub IsOpenText : List (List ℕ) → Type 0
+IsOpenText pieces =
     (format : Format) × (first : List ℕ) × (body : List (List ℕ)) × (pieces ≡ first ∷ body)
     × Announces format (line_of first) × IsBody body
+
+-- a line `rename`, and fewer than two lines behind it
+abbrev pub IsOpenRename : List (List ℕ) → Type 0
+IsOpenRename pieces =
+    (first : List ℕ) × (rest : List (List ℕ)) × (pieces ≡ first ∷ rest) × (line_of first ≡ codes "rename") × (length rest < 2)
+
+-- a text without its end, or a rename without its names
+abbrev pub IsUnfinished : List (List ℕ) → Type 0
+IsUnfinished pieces = IsOpenText pieces ⊎ IsOpenRename pieces
 
 -- the pieces are this command
 abbrev pub IsCommand : List (List ℕ) → Command → Type 0
 IsCommand pieces Blank = IsLine pieces []
-IsCommand pieces (Ask op) = (line : List ℕ) × IsLine pieces line × AsksFor op line
+IsCommand pieces (Ask op) = IsAsked pieces op
 IsCommand pieces RefusePattern = (line : List ℕ) × IsLine pieces line × IsTooLong line
 IsCommand pieces (Submit submission) =
     (format : Format) × (text : List ℕ) × IsText pieces format text × IsReadAs format text (Ok submission)
@@ -108,7 +139,7 @@ IsCommand pieces (Refuse fault) =
 IsCommand pieces Unknown = (line : List ℕ) × IsLine pieces line × IsUnknown line
 IsCommand pieces Unfinished = IsUnfinished pieces
 
--- a text without its end goes to the end of the input
+-- what is unfinished goes to the end of the input
 abbrev pub EndsInput : Command → List (List ℕ) → Type 0
 EndsInput Unfinished rest = rest ≡ []
 EndsInput Blank rest = Unit {0}
@@ -169,6 +200,7 @@ IsWord line words.Report = line ≡ codes "report"
 IsWord line words.Summary = line ≡ codes "summary"
 IsWord line (words.Choose pick pattern) = IsWordWith line (pick_name pick) (option_map (λ p. p.now) pattern)
 IsWord line (words.Drop test) = IsNaming (codes "drop") test.now line
+IsWord line words.Rename = line ≡ codes "rename"
 IsWord line (words.Text format) = Announces (format_of format) line
 IsWord line words.Other = IsUnknown line
 
@@ -184,12 +216,13 @@ IsListOf None None = ⊥
 IsListOf (Some pattern) (Some patterns) = (patterns ≡ pattern ∷ []) × (length pattern ≤ most_pattern_bytes)
 IsListOf (Some pattern) None = most_pattern_bytes < length pattern
 
--- the command that a line of its own is; one that a text follows is such where the input ends behind it
+-- the command that a line of its own is; one that a text or names follow is such where the input ends behind it
 abbrev pub asked_by : Word → List Command
 asked_by words.Blank = Blank ∷ []
 asked_by words.Report = Ask ReportOp ∷ []
 asked_by words.Summary = Ask SummaryOp ∷ []
 asked_by (words.Choose pick pattern) = chosen_by (pick_op pick) (option_map (λ p. p.now) pattern)
 asked_by (words.Drop test) = Ask (DropTestOp test.now) ∷ []
+asked_by words.Rename = Unfinished ∷ []
 asked_by (words.Text format) = Unfinished ∷ []
 asked_by words.Other = Unknown ∷ []

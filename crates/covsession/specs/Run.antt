@@ -4,7 +4,7 @@ use Rattle.std.specs.Prelude.{◌≡◌, ◌≤◌, ℕ, List, [], ◌∷◌, �
 use Rattle.covbook.specs.Op.{OpData}
 use Rattle.covbook.specs.Step.{table_of}
 use Rattle.covline.specs.Lines.{pieces_of, line_of}
-use Rattle.covsession.specs.Command.{Command, Format, Announces, AreCommands, ops_of}
+use Rattle.covsession.specs.Command.{Command, AreCommands, ops_of}
 use Rattle.covsession.specs.Session.{text_after, Asks}
 use Rattle.covsession.specs.Streams.{Moment, unread, turns, Moves, AreCut, TakesPieces}
 use Rattle.covsession.specs.declared.session.text.LineEnd.{LineEnd}
@@ -25,13 +25,13 @@ pub record IsRun (ending : LineEnd) (pieces : List (List ℕ)) (commands : List 
   pub are : GoOn ending pieces commands
   pub only : GoOnOnly ending pieces commands
 
--- the text behind a line that announces this format was taken and answered
-pub record TakesText (format : Format) (m n : Moment) (before after : List OpData) (ending : LineEnd) : Type 0 where
+-- what follows a line of this kind was taken and answered
+pub record TakesBehind (IsSuch : List ℕ → Type 0) (m n : Moment) (before after : List OpData) (ending : LineEnd) : Type 0 where
   pub pieces : List (List ℕ)
   pub commands : List Command
   pub taken : TakesPieces m n pieces ending (text_after (table_of before) commands)
   pub asks : Asks commands before after
-  pub run : (first : List ℕ) → Announces format (line_of first) → IsRun ending (first ∷ pieces) commands
+  pub run : (first : List ℕ) → IsSuch (line_of first) → IsRun ending (first ∷ pieces) commands
 
 -- a command was taken and answered; none behind the last line
 pub record TakesCommand (m n : Moment) (before after : List OpData) (ending : LineEnd) : Type 0 where

@@ -1,7 +1,7 @@
 -- What a session reads and writes: commands, a line each, and the answers to them.
 use Rattle.std.specs.Io.KnownBytes.{Consumes, Appends, IsAtEnd}
 use Rattle.std.specs.Prelude.{◌≡◌, ℕ, List, [], ◌∷◌, ◌++◌, codes, decimal, Option}
-use Rattle.covbook.specs.Op.{OpData, AnswerData, AcceptedAnswer, ClashAnswer, DroppedAnswer, NoSuchTestAnswer, TextAnswer}
+use Rattle.covbook.specs.Op.{OpData, AnswerData, AcceptedAnswer, ClashAnswer, DroppedAnswer, RenamedAnswer, NoSuchTestAnswer, TextAnswer}
 use Rattle.covbook.specs.Step.{answers_to, answers_from}
 use Rattle.covline.specs.Lines.{line_feed, pieces_of}
 use Rattle.covline.specs.declared.trace_line.LineFault.{LineFault}
@@ -21,6 +21,7 @@ answer_text (AcceptedAnswer number items odd) =
 answer_text (ClashAnswer clash) =
     said (codes "clash " ++ clash.file ++ codes " " ++ decimal clash.line ++ codes " " ++ clash.held ++ codes " " ++ clash.given)
 answer_text (DroppedAnswer sections) = said (codes "dropped " ++ decimal sections)
+answer_text (RenamedAnswer sections) = said (codes "renamed " ++ decimal sections)
 answer_text NoSuchTestAnswer = said (codes "no such test")
 answer_text (TextAnswer text) = text ++ said (codes ".")
 

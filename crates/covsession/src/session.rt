@@ -1,6 +1,6 @@
 //! One session: commands in, answers out.
 
-ghost use Rattle.std.specs.Prelude.{◌≡◌, ℕ, ◌+◌, ◌^◌, ◌<◌, ◌≤◌, length, List, Err, IfOk, OnOk, IfSome, IfNone};
+ghost use Rattle.std.specs.Prelude.{◌≡◌, ◌↔◌, ℕ, ◌+◌, ◌^◌, ◌<◌, ◌≤◌, length, List, Err, IsTrue, IfOk, OnOk, IfSome, IfNone};
 ghost use Rattle.std.specs.Io.KnownBytes.{Appends};
 ghost use Rattle.covbook.specs.Step.{most_entries, ops_in};
 ghost use Rattle.covsession.specs.declared.session.command.word.Format.{Format as TextFormat};
@@ -15,12 +15,14 @@ mod fault;
 mod input;
 mod lines;
 pub(crate) mod output;
+mod rename;
 mod submit;
 mod text;
 
 use crate::session::command::{Format, Word, answer_word, word_of};
 use crate::session::input::Input;
 use crate::session::output::Output;
+use crate::session::rename::answer_rename;
 use crate::session::submit::{Given, answer_given, take_text};
 use crate::session::text::{LineEnd, Text};
 use crate::stream::{Sink, Source};
@@ -42,10 +44,30 @@ fn text_behind(word: Word<'_>, ending: LineEnd) -> Option<Format<'_>>
         | Word::Summary
         | Word::Choose(_, _)
         | Word::Drop(_)
+        | Word::Rename
         | Word::Other => None,
         Word::Text(format) => match ending {
             LineEnd::Feed => Some(format),
             LineEnd::Input => None,
+        },
+    }
+}
+
+// Whether two names follow a line.
+fn names_behind(word: Word<'_>, ending: LineEnd) -> bool
+    ensures { IsTrue result ↔ ((word.entry ≡ Word.Rename) × (ending ≡ LineEnd.Feed)) }
+{
+    match word {
+        Word::Blank
+        | Word::Report
+        | Word::Summary
+        | Word::Choose(_, _)
+        | Word::Drop(_)
+        | Word::Text(_)
+        | Word::Other => false,
+        Word::Rename => match ending {
+            LineEnd::Feed => true,
+            LineEnd::Input => false,
         },
     }
 }
@@ -70,6 +92,10 @@ fn answer_command<I: Source, O: Sink, A: Allocator + Copy>(
         let text_room = mem::replace(room, Vec::new(alloc));
         let (taken, ended) = take_text(text_room, input, output)?;
         answer_given(alloc, book, Given { format, taken }, room, output)?;
+        return Ok(ended);
+    }
+    if names_behind(word, ending) {
+        let ended = answer_rename(alloc, book, input, output)?;
         return Ok(ended);
     }
     answer_word(alloc, book, word, output)?;

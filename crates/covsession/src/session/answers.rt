@@ -1,7 +1,7 @@
 //! The lines that a session answers.
 
 ghost use Rattle.std.specs.Prelude.{◌≡◌, ◌≢◌, ◌^◌, ◌<◌, codes, decimal, IfOk, IfErr, OnOk, ◌++◌};
-ghost use Rattle.covbook.specs.Op.{AcceptedAnswer, ClashAnswer, DroppedAnswer};
+ghost use Rattle.covbook.specs.Op.{AcceptedAnswer, ClashAnswer, DroppedAnswer, RenamedAnswer};
 ghost use Rattle.covbook.specs.View.{answer_data};
 ghost use Rattle.covsession.specs.Session.{answer_text, line_fault_name, fault_text, refused_text};
 ghost use Rattle.covsession.specs.Streams.{Says};
@@ -97,6 +97,17 @@ fn dropped_line<A: Allocator>(alloc: A, sections: u64) -> Result<Vec<u8, A>, Ses
 {
     let mut line = Vec::new(alloc);
     add_number(&mut line, b"dropped ", sections)?;
+    line.extend_from_slice(b"\n")?;
+    Ok(line)
+}
+
+// The line that says in how many sections a test was renamed.
+fn renamed_line<A: Allocator>(alloc: A, sections: u64) -> Result<Vec<u8, A>, SessionFault>
+    ensures line { IfOk result (λ line. line.items ≡ answer_text (RenamedAnswer sections)) }
+    ensures fault { IfErr result (λ f. f ≡ session_faults.Memory) }
+{
+    let mut line = Vec::new(alloc);
+    add_number(&mut line, b"renamed ", sections)?;
     line.extend_from_slice(b"\n")?;
     Ok(line)
 }
@@ -199,6 +210,10 @@ pub fn say_answer<O: Sink, A: Allocator + Copy>(
         }
         Answer::Dropped { sections } => {
             let line = dropped_line(alloc, *sections)?;
+            output.say(line.as_slice())
+        }
+        Answer::Renamed { sections } => {
+            let line = renamed_line(alloc, *sections)?;
             output.say(line.as_slice())
         }
         Answer::NoSuchTest => output.say(b"no such test\n"),

@@ -105,6 +105,7 @@ pub fn answer_word<O: Sink, A: Allocator + Copy>(
             let op = drop_op(alloc, test)?;
             step(alloc, book, &op, output)
         }
+        Word::Rename => output.say(b"unfinished\n"),
         Word::Text(_) => output.say(b"unfinished\n"),
         Word::Other => output.say(b"unknown\n"),
     }

@@ -1,11 +1,12 @@
-use Rattle.std.proofs.Common.{◌≡◌, [], ◌∙◌, subst, List, ℕ}
+use Rattle.std.proofs.Common.{◌≡◌, [], ◌∙◌, subst, List, ℕ, codes}
 use Rattle.covline.specs.Lines.{strip}
 use Rattle.covbook.specs.Step.{ops_in}
-use Rattle.covsession.specs.Command.{IsWord, format_of}
-use Rattle.covsession.specs.Run.{TakesText}
+use Rattle.covsession.specs.Command.{Announces, IsWord, format_of}
+use Rattle.covsession.specs.Run.{TakesBehind}
 use Rattle.covsession.specs.Streams.{moment}
 use Rattle.covsession.specs.declared.session.command.word.Word.{Word}
-use Rattle.covsession.proofs.SessionSteps.{line_command, says_on, taken_run, text_command}
+use Rattle.covsession.proofs.SessionRename.{names_last}
+use Rattle.covsession.proofs.SessionSteps.{line_command, says_on, taken_run, behind_command}
 use Rattle.covsession.proofs.session.answer_command.Goals as goal
 
 pub returns-in-Some-clause-takes : goal.returns-in-Some-clause-takes
@@ -23,14 +24,14 @@ returns-in-Some-clause-takes g c =
     let format = format_of c.in-Some.format in
     let s = c.in_ok-taken.ensures.taken in
     let a = c.in_ok-answer_given.ensures.answered in
-    let text : TakesText format n p (ops_in c.args.book.now.entries) (ops_in c.answer_given.new.book.entries) c.in_ok-taken.ended = record {
+    let text : TakesBehind (λ line. Announces format line) n p (ops_in c.args.book.now.entries) (ops_in c.answer_given.new.book.entries) c.in_ok-taken.ended = record {
       pieces = s.0;
       commands = a.0;
       taken = says_on n o c.answer_given.new.output s.0 c.in_ok-taken.ended _ s.1 a.3;
       asks = a.2;
       run = taken_run format c.in_ok-taken.taken s.0 c.in_ok-taken.ended a.0 s.2 a.1;
     } in
-    text_command format m n p t.0 c.in_ok-taken.ended c.in_ok-ending.ending (ops_in c.args.book.now.entries) (ops_in c.answer_given.new.book.entries)
+    behind_command (λ line. Announces format line) m n p t.0 c.in_ok-taken.ended c.in_ok-ending.ending (ops_in c.args.book.now.entries) (ops_in c.answer_given.new.book.entries)
     t.1 follows.1 (subst Q follows.0 word) text
 
 pub returns-clause-takes : goal.returns-clause-takes
@@ -43,5 +44,19 @@ returns-clause-takes g c =
     let word : IsWord (strip t.0) c.word_of-word.result = subst P same c.word_of-word.ensures in
     line_command m n c.answer_word.new.output t.0 c.in_ok-ending.ending c.word_of-word.result
     (ops_in c.args.book.now.entries) (ops_in c.answer_word.new.book.entries)
-    t.1 word c.in_default.ensures.no_text
+    t.1 word (record { text = c.in_default.ensures.no_text; names = names_last _ _ _ c.names_behind.ensures c.if-names_behind.false })
     c.in_ok-answer_word.ensures.asks c.in_ok-answer_word.ensures.says
+
+pub returns-then-names_behind-clause-takes : goal.returns-then-names_behind-clause-takes
+returns-then-names_behind-clause-takes g c =
+    let m = moment c.args.input.now c.args.output.now in
+    let n = moment c.take_line.new.self c.take_line.new.output in
+    let o = moment c.answer_rename.new.input c.answer_rename.new.output in
+    let t = c.in_ok-ending.ensures.taken in
+    let same : c.whole.result.now ≡ t.0 = c.whole.ensures [] t.0 (c.in_ok-ending.ensures.limit ∙ c.new-line.ensures.limit) (t.2 [] [] c.new-line.ensures.empty) in
+    let P : List ℕ → Type 0 = λ u. IsWord (strip u) c.word_of-word.result in
+    let word : IsWord (strip t.0) c.word_of-word.result = subst P same c.word_of-word.ensures in
+    let follows = c.names_behind.ensures.0 c.if-names_behind.true in
+    let Q : Word → Type 0 = λ u. IsWord (strip t.0) u in
+    behind_command (λ line. line ≡ codes "rename") m n o t.0 c.in_ok-ended.ended c.in_ok-ending.ending (ops_in c.args.book.now.entries) (ops_in c.answer_rename.new.book.entries)
+    t.1 follows.1 (subst Q follows.0 word) c.in_ok-ended.ensures.takes

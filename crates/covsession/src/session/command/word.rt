@@ -38,6 +38,8 @@ pub enum Word<'a> {
     Choose(Pick, Option<&'a [u8]>),
     /// `drop`, the test with this name is dropped.
     Drop(&'a [u8]),
+    /// `rename`, two lines follow: a test's name, and the name that it is to have.
+    Rename,
     /// `trace` or `gcov`, a text of this format follows.
     Text(Format<'a>),
     /// Something unknown.
@@ -55,6 +57,8 @@ pub fn word_of(line: &[u8]) -> Word<'_>
         Word::Report
     } else if words == b"summary".as_slice() {
         Word::Summary
+    } else if words == b"rename".as_slice() {
+        Word::Rename
     } else if words == b"trace".as_slice() {
         Word::Text(Format::Tracefile)
     } else {
@@ -67,6 +71,7 @@ fn word_with_argument(words: &[u8]) -> Word<'_>
     requires some { words.now ≢ [] }
     requires no_report { words.now ≢ codes "report" }
     requires no_summary { words.now ≢ codes "summary" }
+    requires no_rename { words.now ≢ codes "rename" }
     requires no_trace { words.now ≢ codes "trace" }
     ensures { IsWord words.now result }
 {

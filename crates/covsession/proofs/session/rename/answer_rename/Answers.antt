@@ -1,0 +1,29 @@
+use Rattle.std.proofs.Common.{◌≡◌, [], ◌∷◌, ◌++◌, Option, refl, subst}
+use Rattle.covbook.specs.Op.{OpData}
+use Rattle.covbook.specs.Step.{answer_of, table_of, ops_in}
+use Rattle.covsession.specs.Rename.{TakesNames}
+use Rattle.covsession.specs.Session.{answer_text}
+use Rattle.covsession.specs.Streams.{Says, moment}
+use Rattle.covsession.specs.declared.session.rename.Names.{Names}
+use Rattle.covsession.proofs.SessionRename.{renamed_behind, unfinished_behind}
+use Rattle.covsession.proofs.session.rename.answer_rename.Goals as goal
+
+pub returns-in_default-clause-takes : goal.returns-in_default-clause-takes
+returns-in_default-clause-takes g c =
+    let m = moment c.args.input.now c.args.output.now in
+    let n = moment c.take_names.new.input c.take_names.new.output in
+    let P : Option (Names _) → Type 0 = λ u. TakesNames m n u in
+    unfinished_behind m n c.say.new.self (ops_in c.args.book.now.entries) (ops_in c.args.book.now.entries)
+    (subst P c.in_default.is c.in_ok-names.ensures.taken) refl c.in_ok-say.ensures.says
+
+pub returns-clause-takes : goal.returns-clause-takes
+returns-clause-takes g c =
+    let m = moment c.args.input.now c.args.output.now in
+    let n = moment c.take_names.new.input c.take_names.new.output in
+    let P : Option (Names _) → Type 0 = λ u. TakesNames m n u in
+    let before = ops_in c.args.book.now.entries in
+    let after = ops_in c.step.new.book.entries in
+    let A : OpData → Type 0 = λ u. after ≡ before ++ u ∷ [] in
+    let S : OpData → Type 0 = λ u. Says n.output c.step.new.output (answer_text (answer_of (table_of before) u)) in
+    renamed_behind m n c.step.new.output c.in-Some.names.old c.in-Some.names.new c.in-Some.names.ending before after
+    (subst P c.in-Some.is c.in_ok-names.ensures.taken) (subst A c.rename_op-op.ensures c.in_ok-step.ensures.asked) (subst S c.rename_op-op.ensures c.in_ok-step.ensures.said)

@@ -1,0 +1,25 @@
+use Rattle.std.proofs.Common.{ℕ, List, Option, subst}
+use Rattle.covsession.specs.Rename.{TakesName}
+use Rattle.covsession.specs.Streams.{moment}
+use Rattle.covsession.specs.declared.session.text.LineEnd.{LineEnd}
+use Rattle.covsession.proofs.SessionRename.{names_short, names_both}
+use Rattle.covsession.proofs.session.rename.take_names.Goals as goal
+
+pub returns-in_default-2-clause-taken : goal.returns-in_default-2-clause-taken
+returns-in_default-2-clause-taken g c =
+    let m = moment c.args.input.now c.args.output.now in
+    let n = moment c.take_name.new.input c.take_name.new.output in
+    let o = moment c.take_name-2.new.input c.take_name-2.new.output in
+    let P : Option (List ℕ × LineEnd) → Type 0 = λ u. TakesName m n u in
+    let Q : Option (List ℕ × LineEnd) → Type 0 = λ u. TakesName n o u in
+    names_short m n o c.in-Some.old c.in-Some.first (subst P c.in-Some.is c.in_ok-old.ensures.taken) c.in-Feed.is (subst Q c.in_default-2.is c.in_ok-new.ensures.taken)
+
+pub returns-clause-taken : goal.returns-clause-taken
+returns-clause-taken g c =
+    let m = moment c.args.input.now c.args.output.now in
+    let n = moment c.take_name.new.input c.take_name.new.output in
+    let o = moment c.take_name-2.new.input c.take_name-2.new.output in
+    let P : Option (List ℕ × LineEnd) → Type 0 = λ u. TakesName m n u in
+    let Q : Option (List ℕ × LineEnd) → Type 0 = λ u. TakesName n o u in
+    names_both m n o c.in-Some.old c.in-Some-2.new c.in-Some.first c.in-Some-2.ending (subst P c.in-Some.is c.in_ok-old.ensures.taken) c.in-Feed.is
+    (subst Q c.in-Some-2.is c.in_ok-new.ensures.taken)

@@ -1,0 +1,111 @@
+//! A rename: the two lines behind a line `rename` are taken as the old and the new name, and answered.
+
+ghost use Rattle.std.specs.Prelude.{◌≡◌, ◌≢◌, codes, length, Err, IfOk, IfErr};
+ghost use Rattle.covbook.specs.Op.{RenameOp};
+ghost use Rattle.covbook.specs.Step.{most_entries, ops_in};
+ghost use Rattle.covbook.specs.View.{op_data};
+ghost use Rattle.covsession.specs.Streams.{moment, CanCall};
+ghost use Rattle.covsession.specs.Rename.{IsThere, TakesName, TakesNames};
+ghost use Rattle.covsession.specs.Run.{TakesBehind};
+ghost use Rattle.covsession.specs.declared.session.fault.SessionFault.TheVariants as session_faults;
+
+use crate::session::command::step;
+use crate::session::fault::SessionFault;
+use crate::session::input::Input;
+use crate::session::output::Output;
+use crate::session::text::{LineEnd, Text};
+use crate::stream::{Sink, Source};
+use covbook::{Book, Op};
+use covline::{Bytes, without_returns};
+use std::alloc::Allocator;
+
+/// The names of a rename.
+#[derive(Drop)]
+pub struct Names<A: Allocator> {
+    /// The test's name.
+    pub old: Bytes<A>,
+    /// The name that it is to have.
+    pub new: Bytes<A>,
+    /// How the second line ended.
+    pub ending: LineEnd,
+}
+
+// Whether a line that ended so is there: where the input ends before its first byte it isn't.
+fn is_there(line: &[u8], ending: LineEnd) -> bool
+    ensures { IsThere result ending line.now }
+{
+    match ending {
+        LineEnd::Feed => true,
+        LineEnd::Input => !line.is_empty(),
+    }
+}
+
+// Takes the next line as a name, whatever it holds, and answers how it ended; none where the input ends before it.
+fn take_name<I: Source, O: Sink, A: Allocator + Copy>(
+    alloc: A,
+    input: &mut Input<'_, I, A>,
+    output: &mut Output<'_, O, A>,
+) -> Result<Option<(Bytes<A>, LineEnd)>, SessionFault>
+    requires { CanCall (moment input.old output.old) }
+    ensures taken { IfOk result (λ name. TakesName (moment input.old output.old) (moment input.new output.new) name) }
+    ensures fault { IfErr result (λ f. f ≢ session_faults.Full) }
+{
+    let mut line = Text::new(alloc, usize::MAX);
+    let ending = input.take_line(&mut line, output)?;
+    if !is_there(line.whole(), ending) {
+        return Ok(None);
+    }
+    let name = Bytes::of(alloc, without_returns(line.whole()))?;
+    Ok(Some((name, ending)))
+}
+
+// Takes two lines as the old and the new name; none where the input ends before both are there.
+fn take_names<I: Source, O: Sink, A: Allocator + Copy>(
+    alloc: A,
+    input: &mut Input<'_, I, A>,
+    output: &mut Output<'_, O, A>,
+) -> Result<Option<Names<A>>, SessionFault>
+    requires { CanCall (moment input.old output.old) }
+    ensures taken { IfOk result (λ names. TakesNames (moment input.old output.old) (moment input.new output.new) names) }
+    ensures fault { IfErr result (λ f. f ≢ session_faults.Full) }
+{
+    let Some((old, first)) = take_name(alloc, input, output)? else {
+        return Ok(None);
+    };
+    let LineEnd::Feed = first else {
+        return Ok(None);
+    };
+    let Some((new, ending)) = take_name(alloc, input, output)? else {
+        return Ok(None);
+    };
+    Ok(Some(Names { old, new, ending }))
+}
+
+// What renames a test.
+fn rename_op<A: Allocator>(old: Bytes<A>, new: Bytes<A>) -> Op<A>
+    ensures { op_data result ≡ RenameOp old new }
+{
+    Op::Rename { old, new }
+}
+
+/// Takes the names behind a line `rename`, and answers the rename.
+pub fn answer_rename<I: Source, O: Sink, A: Allocator + Copy>(
+    alloc: A,
+    book: &mut Book<A>,
+    input: &mut Input<'_, I, A>,
+    output: &mut Output<'_, O, A>,
+) -> Result<LineEnd, SessionFault>
+    requires { CanCall (moment input.old output.old) }
+    ensures takes { IfOk result (λ ending. TakesBehind (λ line. line ≡ codes "rename")
+        (moment input.old output.old) (moment input.new output.new) (ops_in book.old.entries) (ops_in book.new.entries) ending) }
+    ensures full { result ≡ Err session_faults.Full → length book.old.entries ≡ most_entries }
+{
+    let Some(names) = take_names(alloc, input, output)? else {
+        output.say(b"unfinished\n")?;
+        return Ok(LineEnd::Input);
+    };
+    let Names { old, new, ending } = names;
+    let op = rename_op(old, new);
+    step(alloc, book, &op, output)?;
+    Ok(ending)
+}
