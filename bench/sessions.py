@@ -10,9 +10,11 @@
     drop-one     so many tests of one file of 100 lines; then 2,000 times one of them is dropped and handed in again
     drop-all     so many files of three lines, all of them of two tests; then five times one of these is dropped and handed in
                  again
+    rename-one   so many files of three lines of one test, and one file of another test; then this other test is renamed 200 times
+    rename-all   so many files of three lines of one test; then 10 times the test is renamed
 
 A session hands in its tracefiles one after another and asks for a report at the end. Each tracefile is written to the folder
-too, named by its number; those that are handed in again after a drop are written once. The last line on standard output is
+too, named by its number; those that are handed in again after a drop are written once. Renames go there and back. The last line on standard output is
 the number of files in the folder and of bytes in all tracefiles of the session.
 """
 import sys
@@ -64,7 +66,26 @@ def drop_all(size):
         yield unit
 
 
-KINDS = {kind.__name__.replace("_", "-"): kind for kind in (adding, own_tests, ascending, shuffled, small_files, one_line, drop_one, drop_all)}
+def rename(old, new):
+    return f"rename\n{old}\n{new}"
+
+
+def rename_one(size):
+    yield "".join(tracefiles.small_files(size))
+    yield tracefiles.lines_of("/src/one.c", "one", [(line + 1, line % 3) for line in range(100)])
+    for _ in range(100):
+        yield rename("one", "other")
+        yield rename("other", "one")
+
+
+def rename_all(size):
+    yield "".join(tracefiles.small_files(size))
+    for _ in range(5):
+        yield rename("unit", "system")
+        yield rename("system", "unit")
+
+
+KINDS = {kind.__name__.replace("_", "-"): kind for kind in (adding, own_tests, ascending, shuffled, small_files, one_line, drop_one, drop_all, rename_one, rename_all)}
 
 
 def main():
@@ -75,7 +96,7 @@ def main():
     is_again = False
     with open(session, "w", encoding="ascii") as to:
         for text in KINDS[kind](size):
-            if text.startswith("drop "):
+            if text.startswith(("drop ", "rename\n")):
                 to.write(f"{text}\n")
                 is_again = True
                 continue
