@@ -60,6 +60,14 @@ fn answer_of(
     Ok(copied_answer(rt.alloc(), &answered.answer)?)
 }
 
+/// The place that a sign tells: a digit, or `^` for the largest number.
+fn place_of(sign: u8) -> u64 {
+    match sign {
+        b'^' => u64::MAX,
+        digit => u64::from(number_of(digit)),
+    }
+}
+
 /// The receipt that a word of three signs tells: its place, the entry whose operation it has, and that whose answer it has. In
 /// the place of the last, `!` is the operation's entry with another text.
 fn receipt_of(
@@ -73,7 +81,7 @@ fn receipt_of(
     let asked = entry_at(rt, entries, *op);
     let answer = answer_of(rt, entries, asked, *answer)?;
     Ok(Receipt {
-        place: u64::from(number_of(*place)),
+        place: place_of(*place),
         op: copied_op(rt.alloc(), &asked.op)?,
         answer,
     })
@@ -157,18 +165,28 @@ fn check_told(
     Ok(())
 }
 
-/// Checks examples, one behind the other: a line for each log, then what is to be told of the entries and these logs, in a line
-/// that begins with `> `, and one that begins with `= ` ends it and is its name.
+/// Checks examples over these entries.
 fn check_all(
     rt: &(impl Abort + AllocGlobal),
     entries: &[Entry],
+    examples: &[u8],
+) -> Result<(), Fail> {
+    check_history(rt, entries, entries, examples)
+}
+
+/// Checks examples, one behind the other: a line for each log, then what is to be told of the history and these logs, in a line
+/// that begins with `> `, and one that begins with `= ` ends it and is its name. Receipts are those of the entries.
+fn check_history(
+    rt: &(impl Abort + AllocGlobal),
+    entries: &[Entry],
+    history: &[Entry],
     examples: &[u8],
 ) -> Result<(), Fail> {
     let mut logs = Logs::new(rt.alloc());
     let mut wanted = b"".as_slice();
     for line in examples.split(|byte| *byte == b'\n') {
         if let Some(name) = line.strip_prefix(b"= ") {
-            check_told(rt, entries, logs.get(), name, wanted)?;
+            check_told(rt, history, logs.get(), name, wanted)?;
             logs = Logs::new(rt.alloc());
         } else if let Some(words) = line.strip_prefix(b"> ") {
             wanted = words;
@@ -185,8 +203,8 @@ const EXAMPLES: &[u8] = b"0 000 222 444
 > yes
 = all that they kept
 0 000 222 444
-2
 1 111 333 555
+9
 > yes
 = a third job that kept nothing
 0 000 222 444
@@ -205,10 +223,22 @@ const EXAMPLES: &[u8] = b"0 000 222 444
 1 111 333 555
 > Backwards 0 1
 = a receipt kept twice
+0 000 001 222 444
+1 111 333 555
+> Differs 0 1
+= a receipt kept twice, then with the answer of another entry
+0 111 333 555
+1 000 222 444
+> Stranger 0 0
+= the receipts of the two logs exchanged
 0 000 222 444
 1 111 555
 > Missing 3
 = a receipt left out
+0 000 222 444
+1 111 333
+> Missing 5
+= the last receipt left out
 0 444
 1 111
 > Missing 0
@@ -222,6 +252,10 @@ const EXAMPLES: &[u8] = b"0 000 222 444
 1 111 333 655
 > Stranger 1 2
 = a place behind the last entry
+0 000 222 444 ^44
+1 111 333 555
+> Stranger 0 3
+= the largest place
 0 100 222 444
 1 111 333 555
 > Stranger 0 0
@@ -229,7 +263,11 @@ const EXAMPLES: &[u8] = b"0 000 222 444
 0 000 222 444
 0 111 333 555
 > SameJob 1
-= two logs of one job
+= two logs of job 0
+1 000 222 444
+1 111 333 555
+> SameJob 1
+= two logs of job 1
 0 622
 1 100
 1
@@ -263,6 +301,10 @@ const EXAMPLES: &[u8] = b"0 000 222 444
 1 111 333
 > BadReading 0 0
 = a reading comes before a missing entry
+0 000 222 444 7=21
+1 111 333
+> BadReading 0 0
+= a reading of more entries than there are, too
 0 000 222 424 2=00
 1 111 333 555
 > Differs 0 2
@@ -331,6 +373,38 @@ fn what_two_jobs_kept(rt: HostRuntime) -> Result<(), Fail> {
     run(&rt, &mut book, SIX_CALLS)?;
     check_all(&rt, entries(&book), EXAMPLES)?;
     check_all(&rt, &[], b"> yes\n= nothing at all\n1\n> yes\n= no calls")
+}
+
+/// A history without its last entry, whose receipt is then a stranger, and one without any.
+#[test]
+fn a_shorter_history(rt: HostRuntime) -> Result<(), Fail> {
+    let mut book = Book::new(rt.alloc());
+    run(&rt, &mut book, SIX_CALLS)?;
+    let entries = entries(&book);
+    let Some((_last, others)) = entries.split_last() else {
+        panic!(rt; "no entry");
+    };
+    check_history(
+        &rt,
+        entries,
+        others,
+        b"0 000 222 444
+1 111 333 555
+> Stranger 1 2
+= the receipt of the entry that was taken out
+0 000 222 444
+1 111 333
+> yes
+= no receipt of it",
+    )?;
+    check_history(
+        &rt,
+        entries,
+        &[],
+        b"0 000
+> Stranger 0 0
+= a receipt of no entry",
+    )
 }
 
 /// Whether the operations that the words ask are the same.

@@ -9,13 +9,50 @@ use std::alloc::Global;
 use std::io::{self, Read, Write};
 use std::test::*;
 
-const INPUT: &[u8] =
-    b"trace\nTN:t\nSF:/a.c\nDA:1,2\nDA:2,0\nLF:2\nLH:1\nend_of_record\n.\nreport\n";
+/// The same tracefile twice, a report and a summary: 133 bytes. The commands end at the bytes 59, 118, 125 and 133.
+const INPUT: &[u8] = b"\
+trace
+TN:t
+SF:/a.c
+DA:1,2
+DA:2,0
+LF:2
+LH:1
+end_of_record
+.
+trace
+TN:t
+SF:/a.c
+DA:1,2
+DA:2,0
+LF:2
+LH:1
+end_of_record
+.
+report
+summary
+";
 
-const ANSWER: &[u8] =
-    b"accepted 1 items 2 odd 0\nTN:t\nSF:/a.c\nDA:1,2\nDA:2,0\nLF:2\nLH:1\nend_of_record\n.\n";
+/// What it is answered: 222 bytes. The answers end at the bytes 25, 50, 103 and 222.
+const ANSWER: &[u8] = b"\
+accepted 1 items 2 odd 0
+accepted 2 items 2 odd 0
+TN:t
+SF:/a.c
+DA:1,4
+DA:2,0
+LF:2
+LH:1
+end_of_record
+.
+Summary coverage rate:
+  lines......: 50.0% (1 of 2 lines)
+  functions..: no data found
+  branches...: no data found
+.
+";
 
-/// A reader that gives one byte at each call, and fails after some calls.
+/// A reader that gives one byte at each call. The call after so many good ones fails, and those behind it don't.
 #[derive(Drop)]
 struct Slow<'a> {
     input: &'a [u8],
@@ -33,11 +70,11 @@ impl<'a> Source for Slow<'a> {
 
     fn read(&mut self, buffer: &mut [u8]) -> Result<usize, Failed> {
         self.reads += 1;
-        if self.good_reads == 0 {
+        if self.good_reads == 0 && self.failed == 0 {
             self.failed += 1;
             return Err(Failed);
         }
-        self.good_reads -= 1;
+        self.good_reads = self.good_reads.saturating_sub(1);
         if buffer.is_empty() {
             return Ok(0);
         }
@@ -53,10 +90,12 @@ impl<'a> Source for Slow<'a> {
     }
 }
 
-/// A writer that takes one byte at each call, and fails after some calls.
+/// A writer that takes so many bytes at each call, or all that there are. The call after so many good ones fails, and those
+/// behind it don't.
 #[derive(Drop)]
 struct Narrow {
     output: Vec<u8>,
+    width: usize,
     good_writes: usize,
     failed: u64,
 }
@@ -70,12 +109,17 @@ impl Sink for Narrow {
         if bytes.is_empty() {
             return Ok(0);
         }
-        if self.good_writes == 0 || self.output.push(bytes[0]).is_err() {
+        let count = bytes.len().min(self.width.max(1));
+        if self.good_writes == 0 && self.failed == 0 {
             self.failed += 1;
             return Err(Failed);
         }
-        self.good_writes -= 1;
-        Ok(1)
+        if self.output.extend_from_slice(&bytes[..count]).is_err() {
+            self.failed += 1;
+            return Err(Failed);
+        }
+        self.good_writes = self.good_writes.saturating_sub(1);
+        Ok(count)
     }
 
     fn flush(&mut self) -> Result<(), Failed> {
@@ -83,10 +127,12 @@ impl Sink for Narrow {
     }
 }
 
-/// How a session on the small text ends after so many good reads and writes, and how much it wrote of its answer.
-fn by_bytes(
+/// How a session that is given a byte at each read ends after so many good reads, and so many good writes of at most this many
+/// bytes, and how much it wrote of its answer.
+fn by_pieces(
     alloc: Global,
     good_reads: usize,
+    width: usize,
     good_writes: usize,
 ) -> (Result<(), SessionFault>, usize, bool) {
     let mut source = Slow {
@@ -97,6 +143,7 @@ fn by_bytes(
     };
     let mut sink = Narrow {
         output: Vec::new(alloc),
+        width,
         good_writes,
         failed: 0,
     };
@@ -107,38 +154,59 @@ fn by_bytes(
 
 #[test]
 fn one_byte_at_a_time(rt: HostRuntime) {
-    let all = ANSWER.len();
-    assert_eq!(rt; by_bytes(rt.alloc(), 1000, 1000), (Ok(()), all, true));
+    assert_eq!(rt; (INPUT.len(), ANSWER.len()), (133, 222));
+    for width in [1, 2, 1_000] {
+        let ended = by_pieces(rt.alloc(), 1_000, width, 1_000);
+        assert_eq!(rt; ended, (Ok(()), 222, true), "{width} bytes at a time");
+    }
 }
 
+/// How many bytes are answered to the first bytes of the input, so many of them, before the next read.
+fn answered_to(bytes: usize) -> usize {
+    match bytes {
+        0..=58 => 0,
+        59..=117 => 25,
+        118..=124 => 50,
+        125..=132 => 103,
+        _ => 222,
+    }
+}
+
+/// Each read in turn fails, that at the end of the input too: the session ends there, and has answered what it read.
 #[test]
-fn failing_reads_and_writes(rt: HostRuntime) {
-    let read = Err(SessionFault::Read);
-    let write = Err(SessionFault::Write);
+fn each_read_fails(rt: HostRuntime) {
+    for good_reads in 0..=133 {
+        let ended = by_pieces(rt.alloc(), good_reads, 1, 1_000);
+        let wanted = (Err(SessionFault::Read), answered_to(good_reads), true);
+        assert_eq!(rt; ended, wanted, "after {good_reads} reads");
+    }
+    assert_eq!(rt; by_pieces(rt.alloc(), 134, 1, 1_000), (Ok(()), 222, true));
+}
+
+/// Each write of a byte in turn fails: the session ends there, and has written those before it.
+#[test]
+fn each_write_fails(rt: HostRuntime) {
+    for good_writes in 0..222 {
+        let ended = by_pieces(rt.alloc(), 1_000, 1, good_writes);
+        let wanted = (Err(SessionFault::Write), good_writes, true);
+        assert_eq!(rt; ended, wanted, "after {good_writes} writes");
+    }
+    assert_eq!(rt; by_pieces(rt.alloc(), 1_000, 1, 222), (Ok(()), 222, true));
+}
+
+/// So does each write of a whole answer, since all is written before the next read.
+#[test]
+fn each_answer_fails(rt: HostRuntime) {
+    let mut good_writes = 0;
+    for written in [0, 25, 50, 103] {
+        let ended = by_pieces(rt.alloc(), 1_000, 1_000, good_writes);
+        let wanted = (Err(SessionFault::Write), written, true);
+        assert_eq!(rt; ended, wanted, "after {good_writes} answers");
+        good_writes = good_writes.saturating_add(1);
+    }
     assert_eq!(rt;
-        by_bytes(rt.alloc(), 0, 1000),
-        (read, 0, true),
-        "the first read"
-    );
-    assert_eq!(rt;
-        by_bytes(rt.alloc(), 40, 1000),
-        (read, 0, true),
-        "a read in the text"
-    );
-    assert_eq!(rt;
-        by_bytes(rt.alloc(), 59, 1000),
-        (read, 25, true),
-        "a read behind the text"
-    );
-    assert_eq!(rt;
-        by_bytes(rt.alloc(), 1000, 0),
-        (write, 0, true),
-        "the first write"
-    );
-    assert_eq!(rt;
-        by_bytes(rt.alloc(), 1000, 30),
-        (write, 30, true),
-        "a later write"
+        by_pieces(rt.alloc(), 1_000, 1_000, good_writes),
+        (Ok(()), 222, true)
     );
 }
 
@@ -391,15 +459,31 @@ fn long_lines(rt: HostRuntime) {
     }
 }
 
+/// How a session ends over a writer of std with room for so many bytes, and whether it wrote the answer's first bytes into
+/// all of it.
+fn into_room(alloc: Global, bytes: usize) -> Result<(Result<(), SessionFault>, bool), Fail> {
+    let mut room = vec![in alloc; b'?'; bytes]?;
+    let ended = {
+        let mut source = FromRead::new(INPUT);
+        let mut sink = FromWrite::new(room.as_mut_slice());
+        session_end(alloc, &mut source, &mut sink)
+    };
+    Ok((ended, ANSWER.starts_with(room.as_slice())))
+}
+
+/// A writer that takes 0 bytes at its first call, or at a later one.
 #[test]
-fn a_writer_that_is_full(rt: HostRuntime) {
-    let mut room = [0; 10];
-    let mut source = FromRead::new(INPUT);
-    let mut sink = FromWrite::new(room.as_mut_slice());
-    assert_eq!(rt;
-        session_end(rt.alloc(), &mut source, &mut sink),
-        Err(SessionFault::Write)
-    );
+fn a_writer_that_is_full(rt: HostRuntime) -> Result<(), Fail> {
+    for bytes in 0..222 {
+        let ended = into_room(rt.alloc(), bytes)?;
+        assert_eq!(rt;
+            ended,
+            (Err(SessionFault::Write), true),
+            "room for {bytes} bytes"
+        );
+    }
+    assert_eq!(rt; into_room(rt.alloc(), 222)?, (Ok(()), true));
+    Ok(())
 }
 
 /// A reader of the same command over and over, made as it is read.
@@ -479,6 +563,7 @@ fn end_of(alloc: Global, good_reads: usize, good_writes: usize, words: &[u8]) ->
     };
     let mut sink = Narrow {
         output: Vec::new(alloc),
+        width: 1,
         good_writes,
         failed: 0,
     };

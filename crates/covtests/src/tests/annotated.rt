@@ -91,3 +91,12 @@ fn longest_text(rt: HostRuntime) -> Result<(), Fail> {
     check_counted(&rt, b"a\nb", &text, b"TooLong")?;
     check_counted(&rt, b"t", &text[1..], b"sections 0 items 0")
 }
+
+/// So many line feeds are as many blank lines.
+#[test]
+fn most_line_feeds(rt: HostRuntime) -> Result<(), Fail> {
+    let text = vec![in rt.alloc(); b'\n'; 67_108_865]?;
+    check_counted(&rt, b"t", &text, b"TooLong")?;
+    check_counted(&rt, b"a\nb", &text, b"TooLong")?;
+    check_counted(&rt, b"t", &text[1..], b"sections 0 items 0")
+}

@@ -1,7 +1,6 @@
 //! Limits, and what is large.
 
-use super::calls::{read, text_of};
-use covline::Bytes;
+use super::calls::read;
 use covread::ReadFault;
 use std::alloc::Global;
 use std::process::Abort;
@@ -31,32 +30,12 @@ fn longest_text(rt: HostRuntime) -> Result<(), Fail> {
     Ok(())
 }
 
-/// The text with a million zeros in the place of each star.
-fn filled(alloc: Global, text: &[u8]) -> Result<Vec<u8>, Fail> {
-    let zeros = vec![in alloc; b'0'; 1_000_000]?;
-    let mut filled = Vec::new(alloc);
-    for byte in text {
-        match *byte {
-            b'*' => filled.extend_from_slice(&zeros)?,
-            other => filled.push(other)?,
-        }
-    }
-    Ok(filled)
-}
-
-/// What is read of a text, as text.
-fn printed(alloc: Global, text: &[u8]) -> Result<Bytes, Fail> {
-    let submission = read(alloc, text)?;
-    Ok(text_of(alloc, submission.sects())?)
-}
-
-/// A path, a line number and a count of a million zeros each.
+/// So many line feeds are as many blank lines.
 #[test]
-fn long_lines(rt: HostRuntime) -> Result<(), Fail> {
-    let text = filled(rt.alloc(), b"SF:*\nDA:*1,*2\nend_of_record\n")?;
-    let printed = printed(rt.alloc(), &text)?;
-    let wanted = filled(rt.alloc(), b"TN:\nSF:*\nDA:1,2\nend_of_record\n")?;
-    assert!(rt; printed.get() == wanted.as_slice());
+fn most_line_feeds(rt: HostRuntime) -> Result<(), Fail> {
+    let text = vec![in rt.alloc(); b'\n'; 67_108_865]?;
+    check_counted(&rt, &text, Err(ReadFault::TooLong));
+    check_counted(&rt, &text[1..], Ok((0, 0)));
     Ok(())
 }
 
