@@ -46,15 +46,18 @@ fn first_bytes(rt: HostRuntime) -> Result<(), Fail> {
     Ok(())
 }
 
+/// A million times the digit.
+fn million(alloc: Global, digit: u8) -> Result<Vec<u8>, Fail> {
+    Ok(vec![in alloc; digit; 1_000_000]?)
+}
+
 /// The text with a million zeros in the place of each star, and a million nines in that of each plus.
 fn filled(alloc: Global, text: &[u8]) -> Result<Vec<u8>, Fail> {
-    let zeros = vec![in alloc; b'0'; 1_000_000]?;
-    let nines = vec![in alloc; b'9'; 1_000_000]?;
     let mut filled = Vec::new(alloc);
     for byte in text {
         match *byte {
-            b'*' => filled.extend_from_slice(&zeros)?,
-            b'+' => filled.extend_from_slice(&nines)?,
+            b'*' => filled.extend_from_slice(&million(alloc, b'0')?)?,
+            b'+' => filled.extend_from_slice(&million(alloc, b'9')?)?,
             other => filled.push(other)?,
         }
     }
