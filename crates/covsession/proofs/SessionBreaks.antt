@@ -1,14 +1,17 @@
 -- How a session that stops goes on from what was taken and said before: what of it was written, and which call failed.
-use Rattle.std.proofs.Common.{◌≡◌, ◌≢◌, ◌⊎◌, ℕ, ◌+◌, List, [], ◌∷◌, ◌++◌, Option, None, Some, refl, sym, ◌∙◌, ap, subst, arith, append_assoc, append-nil, take, drop, inl, inr}
+use Rattle.std.proofs.Common.{◌≡◌, ◌≢◌, ◌⊎◌, ℕ, ◌+◌, List, [], ◌∷◌, ◌++◌, Option, None, Some, refl, sym, ◌∙◌, ap, subst, arith, append_assoc, append-nil, take, drop, inl, inr, Result, Ok, Err, IfErr, OnErr, OnOk}
 use Rattle.std.specs.Io.KnownBytes.{Consumes, Appends, Keeps, append_known}
 use Rattle.std.proofs.lemmas.List.{take-append-drop}
+use Rattle.covbook.specs.declared.book.BookFault.{BookFault}
+use Rattle.covbook.specs.declared.book.BookFault.TheVariants as book_faults
 use Rattle.covsession.specs.Broken.{Breaks, CountsWrites, Fails, IsCausedBy, Stalls}
 use Rattle.covsession.specs.Fault.{HasBegun}
-use Rattle.covsession.specs.Streams.{InputData, OutputData, Moment, Grows, Moves, Says, said_so_far, unread}
+use Rattle.covsession.specs.SessionFaults.{of_book}
+use Rattle.covsession.specs.Streams.{InputData, OutputData, Moment, Grows, Moves, Says, moment, said_so_far, unread}
 use Rattle.covsession.specs.declared.session.fault.SessionFault.{SessionFault}
 use Rattle.covsession.specs.declared.session.fault.SessionFault.TheVariants.{Read, Write, Memory, Full}
 use Rattle.covsession.proofs.SessionBytes.{Consumes-trans, Appends-trans}
-use Rattle.covsession.proofs.SessionMoves.{Grows-trans, Grows-none, consumes_none, wait_known}
+use Rattle.covsession.proofs.SessionMoves.{Grows-trans, Grows-none, Says-trans, consumes_none, says_written, wait_known}
 
 -- ---- an output
 
@@ -66,7 +69,7 @@ breaks_text o p fault text none is begun failed sink =
     let P : List ℕ → Type 0 = λ u. HasBegun o.written p.written (u ++ text) in
     breaks_begun o p fault text is (subst P (sym none) begun) failed sink
 
--- all is written, and the sink couldn't send it on
+-- after something was said
 pub breaks_after : (o p q : OutputData) (fault : SessionFault) (x y : List ℕ) → Says o p x → Breaks p q fault y → Breaks o q fault (x ++ y)
 breaks_after o p q fault x y h k =
     let P : ℕ → Type 0 = λ n. CountsWrites fault n q.failed_writes in
@@ -88,10 +91,6 @@ breaks_more o p fault x y h = record {
   failed = h.failed;
   same_sink = h.same_sink;
 }
-
--- an output that stopped is no input that stopped
-pub no_read : (o p : OutputData) (text : List ℕ) → Breaks o p Read text → ⊥
-no_read o p text h = h.failed
 
 -- ---- both streams
 
@@ -169,14 +168,72 @@ fails_read m n fault is h k = let P : SessionFault → Type 0 = λ f. Fails m n 
 
 -- so many were written before the write that failed
 pub begun_to : (a b c : Option (List ℕ)) (bytes : List ℕ) (at : ℕ) → Appends a b (take at bytes) → Keeps b c → HasBegun a c bytes
-begun_to None b c bytes at h k = ([], tt, bytes, refl)
+begun_to None b c bytes at h k = ([], tt, (bytes, refl))
 begun_to (Some xs) None c bytes at h k = absurd h
 begun_to (Some xs) (Some ys) None bytes at h k = absurd k
-begun_to (Some xs) (Some ys) (Some zs) bytes at h k = (take at bytes, k ∙ h, drop at bytes, sym (take-append-drop at bytes))
+begun_to (Some xs) (Some ys) (Some zs) bytes at h k = (take at bytes, k ∙ h, (drop at bytes, sym (take-append-drop at bytes)))
 
 -- all of them were written
 pub begun_whole : (a b c : Option (List ℕ)) (bytes : List ℕ) → Appends a b bytes → Keeps b c → HasBegun a c bytes
-begun_whole None b c bytes h k = ([], tt, bytes, refl)
+begun_whole None b c bytes h k = ([], tt, (bytes, refl))
 begun_whole (Some xs) None c bytes h k = absurd h
 begun_whole (Some xs) (Some ys) None bytes h k = absurd k
-begun_whole (Some xs) (Some ys) (Some zs) bytes h k = (bytes, k ∙ h, [], sym (append-nil bytes))
+begun_whole (Some xs) (Some ys) (Some zs) bytes h k = (bytes, k ∙ h, ([], sym (append-nil bytes)))
+
+-- ---- by how a call ended
+
+-- a text that is too long to wait was written, or a beginning of it, after what waited
+module _ (o q p : OutputData) (bytes : List ℕ) (written : Option (List ℕ)) (failures : ℕ) (put : Says o q []) (none : q.waiting ≡ []) (sink : p.sink ≡ q.sink)
+    (its_written : q.written ≡ written) (its_failures : q.failed_writes ≡ failures) where
+  pub ok_written : (r : Result (Unit {0}) SessionFault) → p.waiting ≡ q.waiting → OnOk r (Appends written p.written bytes) → OnOk r (p.failed_writes ≡ failures)
+      → OnOk r (Says o p bytes)
+  ok_written (Ok x) same says failed =
+      let P : Option (List ℕ) → Type 0 = λ w. Appends w p.written bytes in
+      Says-trans o q p [] bytes put (says_written q p bytes none same (subst P (sym its_written) says) (failed ∙ sym its_failures) sink)
+  ok_written (Err e) same says failed = tt
+
+  pub err_written : (r : Result (Unit {0}) SessionFault) → IfErr r (λ f. f ≡ Write) → OnErr r (HasBegun written p.written bytes)
+      → OnErr r (p.failed_writes ≡ failures + 1) → IfErr r (λ f. Breaks o p f bytes)
+  err_written (Ok x) is begun failed = tt
+  err_written (Err f) is begun failed =
+      let P : Option (List ℕ) → Type 0 = λ w. HasBegun w p.written bytes in
+      let more = ap (λ (u : ℕ). u + 1) (sym its_failures) in
+      breaks_after o q p f [] bytes put (breaks_text q p f bytes none is (subst P (sym its_written) begun) (failed ∙ more) sink)
+
+-- what was to wait was written, or a beginning of it
+pub err_put : (o q p : OutputData) (bytes : List ℕ) (r : Result (Unit {0}) SessionFault) → Says o q bytes → IfErr r (λ f. Breaks q p f [])
+    → IfErr r (λ f. Breaks o p f bytes)
+err_put o q p bytes (Ok x) h k = tt
+err_put o q p bytes (Err f) h k =
+    let P : List ℕ → Type 0 = λ u. Breaks o p f u in
+    subst P (append-nil bytes) (breaks_after o q p f bytes [] h k)
+
+-- a second text was said after the first
+pub ok_after : (o q p : OutputData) (x y : List ℕ) (r : Result (Unit {0}) SessionFault) → Says o q x → OnOk r (Says q p y) → OnOk r (Says o p (x ++ y))
+ok_after o q p x y (Ok u) h k = Says-trans o q p x y h k
+ok_after o q p x y (Err f) h k = tt
+
+pub err_after : (o q p : OutputData) (x y : List ℕ) (r : Result (Unit {0}) SessionFault) → Says o q x → IfErr r (λ f. Breaks q p f y)
+    → IfErr r (λ f. Breaks o p f (x ++ y))
+err_after o q p x y (Ok u) h k = tt
+err_after o q p x y (Err f) h k = breaks_after o q p f x y h k
+
+-- a fault of the book: nothing was said of the answer
+pub breaks_book : (o p : OutputData) (fault : BookFault) (text : List ℕ) → p ≡ o → Breaks o p (of_book fault) text
+breaks_book o p fault text same =
+    let P : OutputData → Type 0 = λ q. Breaks o q (of_book fault) text in
+    subst P (sym same) (by_fault fault)
+  where
+    by_fault : (f : BookFault) → Breaks o o (of_book f) text
+    by_fault book_faults.Full = breaks_unsaid o o Full text refl refl refl
+    by_fault book_faults.Memory = breaks_unsaid o o Memory text refl refl refl
+
+-- memory ran out before anything was said
+pub memory_unsaid : (o : OutputData) (fault : SessionFault) → fault ≡ Memory → Breaks o o fault [] × (fault ≢ Full)
+memory_unsaid o fault is =
+    let P : SessionFault → Type 0 = λ f. Breaks o o f [] × (f ≢ Full) in
+    subst P (sym is) (breaks_unsaid o o Memory [] refl refl refl, λ e. (let no : ⊥ = cc in no))
+
+-- memory ran out where an input stays as it was
+pub fails_same : (m n : Moment) (i : InputData) (fault : SessionFault) → i ≡ n.input → Fails m n fault [] → Fails m (moment i n.output) fault []
+fails_same m n i fault same h = let P : InputData → Type 0 = λ j. Fails m (moment j n.output) fault [] in subst P (sym same) h

@@ -1,23 +1,27 @@
 -- How a fault in the middle of a command becomes one of the session: what was taken and answered before stays so.
-use Rattle.std.proofs.Common.{◌≡◌, ◌≢◌, ◌⊎◌, ℕ, ◌+◌, ◌<◌, List, [], ◌∷◌, ◌++◌, length, map, refl, sym, ◌∙◌, ap, ap₂, subst, arith, append-nil, length-append, codes, inl, inr}
+use Rattle.std.proofs.Common.{◌≡◌, ◌≢◌, ◌⊎◌, ℕ, ◌+◌, ◌<◌, List, [], ◌∷◌, ◌++◌, length, map, refl, sym, ◌∙◌, ap, ap₂, subst, arith, append-nil, length-append, codes, inl, inr, Bool, true, false, cond, leb, Option, None, Some, Result, Ok, Err, IfErr}
+use Rattle.std.proofs.lemmas.Bool.{leb-true}
 use Rattle.std.proofs.lemmas.List.Concat.{flat_map-append}
 use Rattle.std.specs.Io.KnownBytes.{Consumes, IsAtEnd}
 use Rattle.covline.specs.Lines.{line_feed, strip, line_of, pieces_of}
-use Rattle.covbook.specs.Op.{OpData, RenameOp}
+use Rattle.covbook.specs.Op.{OpData, RenameOp, SubmitOp}
+use Rattle.covline.specs.Row.{SubmissionData}
+use Rattle.covreport.specs.Choice.{most_pattern_bytes}
 use Rattle.covbook.specs.Step.{answer_of, most_entries, table_of}
 use Rattle.covsession.specs.Broken.{Breaks, Fails, FailsAnswering, FailsBehind, FailsGiven, FailsSaying, FailsTaking, IsBroken}
-use Rattle.covsession.specs.Command.{Command, Format, Announces, Ask, Unfinished, IsWord, asked_by, ops_asked, ops_of}
+use Rattle.covsession.specs.Command.{Command, Format, Announces, Ask, RefusePattern, Submit, Unfinished, IsListOf, IsWord, asked_by, chosen_by, ops_asked, ops_of}
 use Rattle.covsession.specs.Run.{IsDone, IsRun, IsSoFar}
 use Rattle.covsession.specs.Session.{answer_text, said, text_after}
 use Rattle.covsession.specs.Streams.{InputData, OutputData, EndsAs, Moment, Moves, Says, TakesLine, TakesPieces, line_bytes, line_pieces, unread}
-use Rattle.covsession.specs.Text.{IsTaken}
+use Rattle.covread.specs.declared.fault.ReadFault.{ReadFault}
+use Rattle.covsession.specs.Text.{IsAnsweredAs, IsTaken, IsToldAnswer, asked_for}
 use Rattle.covsession.specs.declared.session.command.word.Word.{Word}
 use Rattle.covsession.specs.declared.session.fault.SessionFault.{SessionFault}
-use Rattle.covsession.specs.declared.session.fault.SessionFault.TheVariants.{Full}
+use Rattle.covsession.specs.declared.session.fault.SessionFault.TheVariants.{Write, Memory, Full}
 use Rattle.covsession.specs.declared.session.text.LineEnd.{LineEnd}
 use Rattle.covsession.specs.declared.session.text.LineEnd.TheVariants.{Feed, Input}
 use Rattle.covsession.specs.declared.session.text.Taken.{Taken}
-use Rattle.covsession.proofs.SessionBreaks.{breaks_more, fails_after, fails_output}
+use Rattle.covsession.proofs.SessionBreaks.{breaks_memory, breaks_more, fails_after, fails_output}
 use Rattle.covsession.proofs.SessionBytes.{Consumes-trans}
 use Rattle.covsession.proofs.SessionMoves.{consumes_none}
 use Rattle.covsession.proofs.SessionPieces.{cut_append, line_of_bytes}
@@ -38,6 +42,61 @@ asking_fails o p before op fault h = record {
 pub saying_fails : (o p : OutputData) (before : List OpData) (commands : List Command) (fault : SessionFault)
     → fault ≢ Full → Breaks o p fault (text_after (table_of before) commands) → FailsSaying o p before commands fault
 saying_fails o p before commands fault other h = record { breaks = h; full = λ is. absurd (other is) }
+
+-- the answer to a submission
+pub submitting_fails : (o p : OutputData) (before : List OpData) (submission : SubmissionData) (fault : SessionFault)
+    → Breaks o p fault (answer_text (answer_of (table_of before) (SubmitOp submission))) → FailsSaying o p before (Submit submission ∷ []) fault
+submitting_fails o p before submission fault h = record {
+  breaks = breaks_more o p fault (answer_text (answer_of (table_of before) (SubmitOp submission))) [] h;
+  full = λ is. omega arith;
+}
+
+-- by how the call ended that says it
+module _ (o p : OutputData) (before : List OpData) where
+  pub err_asking : (op : OpData) (r : Result (Unit {0}) SessionFault) → IfErr r (λ f. Breaks o p f (answer_text (answer_of (table_of before) op)))
+      → IfErr r (λ f. FailsSaying o p before (Ask op ∷ []) f)
+  err_asking op (Ok x) h = tt
+  err_asking op (Err f) h = asking_fails o p before op f h
+
+  pub err_saying : (commands : List Command) (text : List ℕ) (r : Result (Unit {0}) SessionFault) → text_after (table_of before) commands ≡ text ++ []
+      → IfErr r (λ f. f ≢ Full) → IfErr r (λ f. Breaks o p f text) → IfErr r (λ f. FailsSaying o p before commands f)
+  err_saying commands text (Ok x) is other h = tt
+  err_saying commands text (Err f) is other h =
+      let P : List ℕ → Type 0 = λ u. Breaks o p f u in
+      saying_fails o p before commands f other (subst P (sym is) (breaks_more o p f text [] h))
+
+  pub err_read : (read : Result SubmissionData ReadFault) (given submission : SubmissionData) (r : Result (Unit {0}) SessionFault) → read ≡ Ok submission → given ≡ submission
+      → IfErr r (λ f. Breaks o p f (answer_text (answer_of (table_of before) (SubmitOp given))))
+      → IfErr r (λ f. (Breaks o p f [] × (f ≢ Full)) ⊎ (IsToldAnswer read × FailsSaying o p before (asked_for read) f))
+  err_read read given submission (Ok x) is same h = tt
+  err_read read given submission (Err f) is same h =
+      let P : SubmissionData → Type 0 = λ s. Breaks o p f (answer_text (answer_of (table_of before) (SubmitOp s))) in
+      let Q : Result SubmissionData ReadFault → Type 0 = λ u. IsToldAnswer u × FailsSaying o p before (asked_for u) f in
+      inr (subst Q (sym is) (tt, submitting_fails o p before submission f (subst P same h)))
+
+  -- memory ran out before the answer was said
+  pub memory_saying : (commands : List Command) (fault : SessionFault) → p ≡ o → fault ≡ Memory → FailsSaying o p before commands fault
+  memory_saying commands fault same is =
+      let P : OutputData → Type 0 = λ q. FailsSaying o q before commands fault in
+      let Q : SessionFault → Type 0 = λ f. FailsSaying o o before commands f in
+      let text = text_after (table_of before) commands in
+      subst P (sym same) (subst Q (sym is) (saying_fails o o before commands Memory (λ e. (let no : ⊥ = cc in no)) (breaks_memory o o Memory text refl refl refl refl)))
+
+-- what was taken of a text was answered, but for the fault in the answer
+pub err_given : {A : Type 0} (format : Format) (taken : Taken A) (o p : OutputData) (before : List OpData) (commands : List Command) (r : Result (Unit {0}) SessionFault)
+    → IsAnsweredAs format taken commands → IfErr r (λ f. FailsSaying o p before commands f) → IfErr r (λ f. FailsGiven format taken o p before f)
+err_given format taken o p before commands (Ok x) answered h = tt
+err_given format taken o p before commands (Err f) answered h = inr (commands, answered, h)
+
+-- a pattern that is too long is refused
+chosen_refused_at : (op : List (List ℕ) → OpData) (pattern : List ℕ) (fits : Bool) → leb (length pattern) most_pattern_bytes ≡ fits → most_pattern_bytes < length pattern
+    → cond fits (Ask (op (pattern ∷ [])) ∷ []) (RefusePattern ∷ []) ≡ RefusePattern ∷ []
+chosen_refused_at op pattern true e long = absurd (let few = leb-true (length pattern) most_pattern_bytes e in omega arith)
+chosen_refused_at op pattern false e long = refl
+
+pub chosen_refused : (op : List (List ℕ) → OpData) (pattern : Option (List ℕ)) → IsListOf pattern None → chosen_by op pattern ≡ RefusePattern ∷ []
+chosen_refused op None h = absurd h
+chosen_refused op (Some pattern) h = chosen_refused_at op pattern (leb (length pattern) most_pattern_bytes) refl h
 
 -- ---- one command
 
@@ -195,7 +254,7 @@ module _ (m n o : Moment) (history : List OpData) (fault : SessionFault) (s : Is
       let all = full is in
       let before : length history ≡ length (ops_of s.commands) = ap length s.asked in
       let joined : length (ops_of (s.commands ++ a.commands)) ≡ length (ops_of s.commands ++ ops_of a.commands) =
-          ap length (flat_map-append ops_asked s.commands a.commands) in
+      ap length (flat_map-append ops_asked s.commands a.commands) in
       let sum = length-append (ops_of s.commands) (ops_of a.commands) in
       omega arith
 
@@ -239,3 +298,9 @@ end_breaks m n o fault d same other h =
       ended = λ e. (refl, subst E (sym same) d.ended);
       full = λ is. absurd (other is);
     }
+
+-- by how the last call ended
+pub err_end : (m n o : Moment) (r : Result (Unit {0}) SessionFault) → IsDone m n → o.input ≡ n.input → IfErr r (λ f. f ≡ Write) → IfErr r (λ f. Breaks n.output o.output f [])
+    → IfErr r (λ f. IsBroken m o f)
+err_end m n o (Ok x) d same is h = tt
+err_end m n o (Err f) d same is h = end_breaks m n o f d same (λ full. (let e : Write ≡ Full = sym is ∙ full in let no : ⊥ = cc in no)) h

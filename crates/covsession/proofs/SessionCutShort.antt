@@ -1,5 +1,5 @@
 -- What a session that was cut short leaves, told of its source and its sink.
-use Rattle.std.proofs.Common.{◌≡◌, ◌⊎◌, ℕ, ◌+◌, ◌^◌, ◌<◌, ◌≤◌, List, [], ◌∷◌, ◌++◌, length, Option, None, Some, refl, sym, ◌∙◌, ap, subst, arith, append_assoc, append-nil, length-append, inl, inr}
+use Rattle.std.proofs.Common.{◌≡◌, ◌⊎◌, ℕ, ◌+◌, ◌^◌, ◌<◌, ◌≤◌, List, [], ◌∷◌, ◌++◌, length, Option, None, Some, refl, sym, ◌∙◌, ap, subst, arith, append_assoc, append-nil, length-append, inl, inr, Result, Ok, Err, IfErr, IfSome, OnOk}
 use Rattle.std.proofs.lemmas.List.{append_cancel_left}
 use Rattle.std.proofs.lemmas.List.Concat.{flat_map-append}
 use Rattle.std.specs.Io.KnownBytes.{Consumes, Appends, IsAtEnd, append_known, prepend_known}
@@ -8,14 +8,16 @@ use Rattle.covline.specs.Lines.{pieces_of}
 use Rattle.covsession.specs.Broken.{Fails, IsBroken, IsCausedBy}
 use Rattle.covsession.specs.Command.{Command, AreCommands, ops_asked, ops_of}
 use Rattle.covsession.specs.Fault.{CallsData, HasBegun, HasCause, IsBeginning, IsCutShort, MayFollow, calls}
-use Rattle.covsession.specs.Run.{GoOnOnly, IsRun}
-use Rattle.covsession.specs.Session.{IsSession, text_after}
+use Rattle.covsession.specs.Run.{GoOnOnly, IsRun, IsSentOn}
+use Rattle.covsession.specs.Session.{IsSession, IsWholeSession, text_after}
 use Rattle.covsession.specs.Streams.{AreCut, Grows, InputData, Moment, OutputData, unread}
 use Rattle.covsession.specs.declared.session.fault.SessionFault.{SessionFault}
 use Rattle.covsession.specs.declared.session.fault.SessionFault.TheVariants.{Read, Write, Memory, Full}
 use Rattle.covsession.specs.declared.session.text.LineEnd.{LineEnd}
 use Rattle.covsession.specs.declared.session.text.LineEnd.TheVariants.{Feed, Input}
+use Rattle.covsession.proofs.SessionMoves.{appends_none, consumes_none}
 use Rattle.covsession.proofs.SessionRun.{text_more}
+use Rattle.covsession.proofs.SessionSteps.{IsEnded, few_reads, ok_map, only_at, whole_at}
 
 -- ---- what was written
 
@@ -25,13 +27,13 @@ beginning_trans xs ys zs (some, e) (more, f) = (some ++ more, f ∙ ap (λ (u : 
 -- the text was begun, where nothing waited when it was
 pub text_begun : (old new : Option (List ℕ)) (waiting lost text : List ℕ) → waiting ≡ [] → Appends (append_known old waiting) (append_known new lost) text
     → Grows old new → HasBegun old new text
-text_begun None new waiting lost text none says grows = ([], tt, text, refl)
+text_begun None new waiting lost text none says grows = ([], tt, (text, refl))
 text_begun (Some xs) None waiting lost text none says grows = absurd says
 text_begun (Some xs) (Some ys) waiting lost text none says (part, e) =
     let whole : xs ++ (part ++ lost) ≡ xs ++ text =
-        sym (append_assoc xs part lost) ∙ ap (λ (u : List ℕ). u ++ lost) (sym e) ∙ says
-        ∙ ap (λ (u : List ℕ). u ++ text) (ap (λ (u : List ℕ). xs ++ u) none ∙ append-nil xs) in
-    (part, e, lost, sym (append_cancel_left xs (part ++ lost) text whole))
+    sym (append_assoc xs part lost) ∙ ap (λ (u : List ℕ). u ++ lost) (sym e) ∙ says
+    ∙ ap (λ (u : List ℕ). u ++ text) (ap (λ (u : List ℕ). xs ++ u) none ∙ append-nil xs) in
+    (part, e, (lost, sym (append_cancel_left xs (part ++ lost) text whole)))
 
 -- ---- what was read
 
@@ -77,7 +79,7 @@ module _ (ending : LineEnd) (whole behind : List ℕ) (pieces : List (List ℕ))
   ops_first others are many =
       let m = same_first others are in
       let all : length (ops_of others) ≡ length (ops_of commands ++ ops_of m.more) =
-          ap (λ (u : List Command). length (ops_of u)) m.is ∙ ap length (flat_map-append ops_asked commands m.more) in
+      ap (λ (u : List Command). length (ops_of u)) m.is ∙ ap length (flat_map-append ops_asked commands m.more) in
       let sum = length-append (ops_of commands) (ops_of m.more) in
       omega arith
 
@@ -176,3 +178,50 @@ session_cause Full m n fresh counted h = h
 pub cause_of : (fault : SessionFault) (m n : Moment) → m.input.reads_left ≡ 2 ^ 32 → IsBroken m n fault
     → HasCause fault (calls m.input.reads m.input.failed_reads m.output.failed_writes) (calls n.input.reads n.input.failed_reads n.output.failed_writes)
 cause_of fault m n fresh b = session_cause fault m n fresh b.fails.counted b.fails.cause
+
+-- ---- by how the session ended
+
+module _ {E : Type 0} (m n : Moment) (left written written_after : Option (List ℕ)) (r : Result (Unit {0}) E)
+    (fresh : m.input.pending ≡ []) (empty : m.output.waiting ≡ [])
+    (l : m.input.left ≡ left) (w : m.output.written ≡ written) (wa : written_after ≡ n.output.written) where
+  ended_of : (e : IsSentOn m n) → IsEnded m e.done_at n.output
+  ended_of e = record { done = e.done; fresh = fresh; empty = empty; says = e.says; emptied = e.emptied }
+
+  pub whole_sent : (left_after : Option (List ℕ)) → left_after ≡ n.input.left → OnOk r (IsSentOn m n) → OnOk r (IsWholeSession left left_after written written_after)
+  whole_sent left_after la h =
+      ok_map r (λ e. whole_at m e.done_at n.output left left_after written written_after (ended_of e) l (la ∙ ap (λ (i : InputData). i.left) e.same_input) w wa) h
+
+  pub only_sent : OnOk r (IsSentOn m n) → OnOk r (IfSome left (λ input. (output : List ℕ) → IsSession input output → Appends written written_after output))
+  only_sent h = ok_map r (λ e. only_at m e.done_at n.output left written written_after (ended_of e) l w wa) h
+
+pub few_sent : {E : Type 0} (m n : Moment) (most reads : ℕ) (r : Result (Unit {0}) E) → m.input.reads_left ≡ most → m.input.reads ≡ reads
+    → OnOk r (IsSentOn m n) → OnOk r (n.input.reads ≤ reads + most)
+few_sent m n most reads r fresh same h =
+    ok_map r (λ e.
+    let few = few_reads m.input e.done_at.input most e.done.bytes fresh e.done.moves.takes in
+    let last = ap (λ (i : InputData). i.reads) e.same_input in
+    omega arith) h
+
+-- the same of a session that was cut short, for a source and a sink that are at these moments
+pub short_at : (m n : Moment) (left left_after written written_after : Option (List ℕ)) (r : Result (Unit {0}) SessionFault)
+    → m.input.pending ≡ [] → m.output.waiting ≡ []
+    → m.input.left ≡ left → left_after ≡ n.input.left → m.output.written ≡ written → written_after ≡ n.output.written
+    → IfErr r (λ f. IsBroken m n f) → IfErr r (λ f. IsCutShort f left left_after written written_after)
+short_at m n left left_after written written_after (Ok x) fresh empty l la w wa h = tt
+short_at m n left left_after written written_after (Err f) fresh empty l la w wa h =
+    let P : Option (List ℕ) → Type 0 = λ u. IsCutShort f u left_after written written_after in
+    let Q : Option (List ℕ) → Type 0 = λ u. IsCutShort f m.input.left u written written_after in
+    let R : Option (List ℕ) → Type 0 = λ u. IsCutShort f m.input.left n.input.left u written_after in
+    let S : Option (List ℕ) → Type 0 = λ u. IsCutShort f m.input.left n.input.left m.output.written u in
+    subst P l (subst Q (sym la) (subst R w (subst S (sym wa) (cut_short f m n h fresh empty))))
+
+-- nothing was read or written
+pub short_none : (fault : SessionFault) (left written : Option (List ℕ)) → fault ≡ Memory → IsCutShort fault left left written written
+short_none fault left written is = record {
+  read = [];
+  output = [];
+  took = consumes_none left;
+  wrote = appends_none written;
+  begins = λ more whole follows session. (whole, refl);
+  full = λ full. absurd (let e : Memory ≡ Full = sym is ∙ full in let no : ⊥ = cc in no);
+}

@@ -1,10 +1,12 @@
 -- How the steps of a session join: what was taken, what was said, and what was collected.
 use Rattle.std.proofs.Common.{◌≡◌, ℕ, ◌+◌, ◌≤◌, List, [], ◌∷◌, ◌++◌, length, Bool, true, false, Option, None, Some, refl, sym, ◌∙◌, ap, subst, arith, append_assoc, append-nil, length-append}
-use Rattle.std.specs.Io.KnownBytes.{Consumes, Appends, append_known}
+use Rattle.std.specs.Io.KnownBytes.{Consumes, Appends, IsAtEnd, append_known}
+use Rattle.std.proofs.lemmas.Bool.{eqb-true}
+use Rattle.std.specs.Prelude.{◌==◌}
 use Rattle.covline.specs.Lines.{line_feed, before_feed}
 use Rattle.covsession.specs.Streams.{InputData, OutputData, Moment, Grows, Takes, Says, Moves, TakesLine, unread, turns, said_so_far, TakesPart}
 use Rattle.covsession.specs.Text.{HasCollected}
-use Rattle.covsession.specs.declared.session.text.LineEnd.TheVariants.{Feed}
+use Rattle.covsession.specs.declared.session.text.LineEnd.TheVariants.{Feed, Input}
 use Rattle.covsession.specs.declared.session.text.Text.{Text}
 use Rattle.covsession.proofs.SessionBytes.{Consumes-trans, Appends-trans, Consumes-part, before_feed-append}
 
@@ -81,6 +83,18 @@ says_waiting o new bytes e = record {
   failed = refl;
   same_sink = refl;
 }
+
+pub says_waiting_at : (o q : OutputData) (bytes : List ℕ) → q.waiting ≡ o.waiting ++ bytes → q.written ≡ o.written → q.failed_writes ≡ o.failed_writes → q.sink ≡ o.sink
+    → Says o q bytes
+says_waiting_at o q bytes e same failed sink =
+    let P : Option (List ℕ) → Type 0 = λ w. Appends (said_so_far o) (append_known w q.waiting) bytes in
+    let G : Option (List ℕ) → Type 0 = λ w. Grows o.written w in
+    record {
+      says = subst P (sym same) (wait_known o.written o.waiting q.waiting bytes e);
+      grows = subst G (sym same) (Grows-none o.written);
+      failed = failed;
+      same_sink = sink;
+    }
 
 -- nothing waits, and bytes were written
 written_known : (old new : Option (List ℕ)) (waiting bytes : List ℕ) → waiting ≡ [] → Appends old new bytes
@@ -160,3 +174,18 @@ taken_whole false old part new e h = absurd (let no : ⊥ = cc in no)
 pub taken_all : (b : Bool) (old part new : List ℕ) → b ≡ false → TakesPart b old part new → (old ≡ part) × (new ≡ [])
 taken_all false old part new e h = h
 taken_all true old part new e h = absurd (let no : ⊥ = cc in no)
+
+-- a line that the end of the input ends
+pub line_last : (m n o : Moment) (line : List ℕ) → before_feed line ≡ line → Moves m n line [] → Moves n o [] [] → IsAtEnd (unread o.input) → TakesLine m o line Input
+line_last m n o line one h k ended =
+    let P : List ℕ → Type 0 = λ u. Moves m o u [] in
+    record {
+      one_line = one;
+      moves = subst P (append-nil line) (Moves-trans m n o line [] [] [] h k);
+      ended = ended;
+    }
+
+-- nothing is pending where the pending bytes are seen to be none
+pub nothing_at : (pending bytes : List ℕ) (b : Bool) → bytes ≡ pending → b ≡ (length bytes == 0) → b ≡ true → pending ≡ []
+nothing_at pending [] b same is empty = sym same
+nothing_at pending (x ∷ xs) b same is empty = let none : length (x ∷ xs) ≡ 0 = eqb-true (length (x ∷ xs)) 0 (sym is ∙ empty) in absurd (omega (arith, none))

@@ -1,35 +1,28 @@
-use Rattle.std.proofs.Common.{rules, arith, ◌^◌}
+use Rattle.std.proofs.Common.{rules, arith, ◌≡◌, ◌^◌, ◌∙◌, refl}
+use Rattle.std.proofs.lemmas.Result.{err_from_is_err_and}
 use Rattle.covsession.specs.Streams.{moment}
-use Rattle.covsession.proofs.SessionSteps.{whole_at, only_at, few_reads}
+use Rattle.covsession.proofs.SessionCutShort.{few_sent, only_sent, short_at, short_none, whole_sent}
 use Rattle.covsession.proofs.session.session.Goals as goal
 
 pub returns-clause-whole : goal.returns-clause-whole
 returns-clause-whole g c =
-    whole_at (moment c.in_ok-input.input c.new-output.result) (moment c.answer_all.new.input c.answer_all.new.output) c.finish.new.self
-    (g.I.Source.left c.args.source.now) _ (g.O.Sink.written c.args.sink.now) _
-    (record {
-      done = c.in_ok-answer_all.ensures;
-      fresh = c.in_ok-input.ensures.empty;
-      empty = c.new-output.ensures.empty;
-      says = c.in_ok-finish.ensures.says;
-      emptied = c.in_ok-finish.ensures.emptied;
-    })
-    c.in_ok-input.ensures.left (search rules) c.new-output.ensures.written (search rules)
+    whole_sent (moment c.new-input.result c.new-output.result) (moment c.answer_to_the_end-ended.new.input c.answer_to_the_end-ended.new.output)
+    (g.I.Source.left c.args.source.now) (g.O.Sink.written c.args.sink.now) _ c.answer_to_the_end-ended.result c.new-input.ensures.empty c.new-output.ensures.empty
+    c.new-input.ensures.left c.new-output.ensures.written (search rules) _ (search rules) c.answer_to_the_end-ended.ensures.ended
 
 pub returns-clause-only : goal.returns-clause-only
 returns-clause-only g c =
-    only_at (moment c.in_ok-input.input c.new-output.result) (moment c.answer_all.new.input c.answer_all.new.output) c.finish.new.self
-    (g.I.Source.left c.args.source.now) (g.O.Sink.written c.args.sink.now) _
-    (record {
-      done = c.in_ok-answer_all.ensures;
-      fresh = c.in_ok-input.ensures.empty;
-      empty = c.new-output.ensures.empty;
-      says = c.in_ok-finish.ensures.says;
-      emptied = c.in_ok-finish.ensures.emptied;
-    })
-    c.in_ok-input.ensures.left c.new-output.ensures.written (search rules)
+    only_sent (moment c.new-input.result c.new-output.result) (moment c.answer_to_the_end-ended.new.input c.answer_to_the_end-ended.new.output)
+    (g.I.Source.left c.args.source.now) (g.O.Sink.written c.args.sink.now) _ c.answer_to_the_end-ended.result c.new-input.ensures.empty c.new-output.ensures.empty
+    c.new-input.ensures.left c.new-output.ensures.written (search rules) c.answer_to_the_end-ended.ensures.ended
 
-pub returns-clause-few_reads : goal.returns-clause-few_reads
-returns-clause-few_reads g c =
-    let few = few_reads c.in_ok-input.input c.answer_all.new.input (2 ^ 32) _ c.in_ok-input.ensures.fresh c.in_ok-answer_all.ensures.moves.takes in
-    search (rules, arith)
+pub returns-clause-short : goal.returns-clause-short
+returns-clause-short g c =
+    short_at (moment c.new-input.result c.new-output.result) (moment c.answer_to_the_end-ended.new.input c.answer_to_the_end-ended.new.output)
+    (g.I.Source.left c.args.source.now) _ (g.O.Sink.written c.args.sink.now) _ c.answer_to_the_end-ended.result c.new-input.ensures.empty c.new-output.ensures.empty
+    c.new-input.ensures.left (search rules) c.new-output.ensures.written (search rules) c.answer_to_the_end-ended.ensures.broken
+
+pub returns-in_err-block-clause-short : goal.returns-in_err-block-clause-short
+returns-in_err-block-clause-short g c =
+    let p = err_from_is_err_and c.from_residual.result c.from_residual.ensures.1 in
+    rw (p.1, p.2) (short_none c.in_err-block.field-0.0 _ _ c.in_err-block.ensures.fault)

@@ -6,6 +6,9 @@ use Rattle.covbook.specs.View.{op_data}
 use Rattle.covsession.specs.Session.{answer_text}
 use Rattle.covsession.specs.Streams.{Says}
 use Rattle.covsession.proofs.SessionSteps.{ok_map}
+use Rattle.std.proofs.lemmas.Result.{err_from_is_err_and}
+use Rattle.std.proofs.Common.{refl}
+use Rattle.covsession.proofs.SessionBreaks.{breaks_book}
 use Rattle.covsession.proofs.session.command.step.Goals as goal
 
 pub returns-clause-said : goal.returns-clause-said
@@ -20,3 +23,8 @@ returns-clause-asked g c =
 
 pub returns-clause-entry : goal.returns-clause-entry
 returns-clause-entry g c = ok_map c.say_answer.result (λ _. c.in_ok-receipt.ensures.entry) c.say_answer.ensures.says
+
+pub returns-in_err-receipt-clause-breaks : goal.returns-in_err-receipt-clause-breaks
+returns-in_err-receipt-clause-breaks g c =
+    let p = err_from_is_err_and c.from_residual.result c.from_residual.ensures.1 in
+    rw (p.1, p.2) (breaks_book c.args.output.now _ c.in_err-receipt.field-0.0 _ refl)

@@ -9,6 +9,9 @@ use Rattle.covsession.specs.declared.session.text.LineEnd.{LineEnd}
 use Rattle.covsession.specs.declared.session.text.LineEnd.TheVariants.{Feed, Input}
 use Rattle.covsession.proofs.SessionLines.{begun_more}
 use Rattle.covsession.proofs.SessionPieces.{takes_more, text_done, text_rest, is_taken, body_more, not_last, more_cut, more_moves, more_turns, more_collected, same_line}
+use Rattle.std.proofs.lemmas.Result.{err_from_is_err_and}
+use Rattle.covsession.proofs.SessionBreaks.{fails_after, fails_taken}
+use Rattle.covsession.proofs.SessionMoves.{Moves-trans}
 use Rattle.covsession.proofs.session.submit.take_text.Goals as goal
 
 pub loop-text-init : goal.loop-text-init
@@ -69,3 +72,27 @@ loop-text-preserved g c =
       more_collected c.next_line.new.self i.0 t.0 (c.in_ok-next_line-in-Feed.ensures.collected (concat i.0) t.0 col),
       c.in_ok-next_line-in-Feed.ensures.limit ∙ c.in_ok-ending.ensures.limit ∙ i.6,
     )
+
+pub returns-in_err-ending-clause-fails : goal.returns-in_err-ending-clause-fails
+returns-in_err-ending-clause-fails g c =
+    let m = moment c.args.input.now c.args.output.now in
+    let n = moment c.take_lines.new.self c.loop-text.output in
+    let o = moment c.take_line.new.self c.take_line.new.output in
+    let lines = c.in_ok-take_lines.ensures in
+    let i = begun_more m (moment c.loop-text.input c.loop-text.output) c.take_lines.new.self c.loop-text.text c.take_lines.new.text lines.taken.0 c.loop-text.invariant
+    lines.taken.1 lines.taken.2 lines.kept lines.fewer lines.taken.3 lines.limit in
+    let p = err_from_is_err_and c.from_residual-in_err-ending.result c.from_residual-in_err-ending.ensures.1 in
+    rw (p.1, p.2) (fails_after m n o c.in_err-ending.field-0.0 (concat i.0) [] [] i.3 c.in_err-ending.ensures.fails)
+
+pub returns-in_err-next_line-in-Feed-clause-fails : goal.returns-in_err-next_line-in-Feed-clause-fails
+returns-in_err-next_line-in-Feed-clause-fails g c =
+    let m = moment c.args.input.now c.args.output.now in
+    let n = moment c.take_lines.new.self c.loop-text.output in
+    let o = moment c.take_line.new.self c.take_line.new.output in
+    let lines = c.in_ok-take_lines.ensures in
+    let i = begun_more m (moment c.loop-text.input c.loop-text.output) c.take_lines.new.self c.loop-text.text c.take_lines.new.text lines.taken.0 c.loop-text.invariant
+    lines.taken.1 lines.taken.2 lines.kept lines.fewer lines.taken.3 lines.limit in
+    let t = c.in_ok-ending.ensures.taken in
+    let p = err_from_is_err_and c.from_residual-in_err-next_line-in-Feed.result c.from_residual-in_err-next_line-in-Feed.ensures.1 in
+    rw (p.1, p.2) (fails_taken m o c.in_err-next_line-in-Feed.field-0.0 _ c.in_err-next_line-in-Feed.ensures.fault
+    (Moves-trans m n o (concat i.0) (line_bytes c.in_ok-ending.ending t.0) [] [] i.3 t.1.moves))
