@@ -1,4 +1,4 @@
--- A section with items has a row, and so have all sections of which one has.
+-- Sections that have a row: one with items, and several of which one has a row.
 use Rattle.std.proofs.Common.{◌≡◌, ◌≢◌, Bool, false, List, [], ◌∷◌, ◌++◌, map, length, sym, ap, ◌∙◌, arith}
 use Rattle.std.specs.List.{flat_map}
 use Rattle.std.specs.Prelude.{◌==◌}
@@ -7,7 +7,7 @@ use Rattle.std.proofs.lemmas.List.{length-append, length-map, nil_from_length}
 use Rattle.std.proofs.lemmas.List.Concat.{flat_map-append}
 use Rattle.covline.specs.Row.{ItemData, Row, SectData, rows_of_sect}
 
--- the items that were seen to be some are those of the section
+-- a section has a row where the test whether its items are none was false
 pub some_rows : {X : Type 0} (f : X → ItemData) (items : List X) (sect : SectData) (none : Bool) → map f items ≡ sect.items → none ≡ (length items == 0) → none ≡ false → rows_of_sect sect ≢ []
 some_rows f [] sect none is empty some rows = both_ways none some empty
 some_rows f (x ∷ xs) sect none is empty some rows =
@@ -15,7 +15,7 @@ some_rows f (x ∷ xs) sect none is empty some rows =
     let no_items = length-map sect.items row_of in
     omega (arith, no_items, ap length rows, ap length is)
 
--- a section with a row stands between others
+-- one section with a row is enough, whatever stands before and after it
 pub some_of_them : (before : List SectData) (sect : SectData) (after : List SectData) → rows_of_sect sect ≢ [] → flat_map rows_of_sect (before ++ sect ∷ after) ≢ []
 some_of_them before sect after some none =
     let front = flat_map rows_of_sect before in

@@ -81,12 +81,12 @@ returns-clause-clash g c =
 
 pub returns-in_err-open-clause-some : goal.returns-in_err-open-clause-some
 returns-in_err-open-clause-some g c =
-    on_err c.from_residual.result (some_rows item_data c.get-items.result.now (sect_data c.args.sect.now) c.is_empty.result c.get-items.ensures.items c.is_empty.ensures c.if-is_empty.false)
+    on_err _ (some_rows item_data c.get-items.result.now (sect_data c.args.sect.now) c.is_empty.result c.get-items.ensures.items c.is_empty.ensures c.if-is_empty.false)
 
 pub returns-in_err-open_test-clause-some : goal.returns-in_err-open_test-clause-some
 returns-in_err-open_test-clause-some g c =
-    on_err c.from_residual-in_err-open_test.result (some_rows item_data c.get-items.result.now (sect_data c.args.sect.now) c.is_empty.result c.get-items.ensures.items c.is_empty.ensures c.if-is_empty.false)
+    on_err _ (some_rows item_data c.get-items.result.now (sect_data c.args.sect.now) c.is_empty.result c.get-items.ensures.items c.is_empty.ensures c.if-is_empty.false)
 
 pub returns-clause-some : goal.returns-clause-some
 returns-clause-some g c =
-    on_err c.add_items.result (some_rows item_data c.get-items.result.now (sect_data c.args.sect.now) c.is_empty.result c.get-items.ensures.items c.is_empty.ensures c.if-is_empty.false)
+    on_err _ (some_rows item_data c.get-items.result.now (sect_data c.args.sect.now) c.is_empty.result c.get-items.ensures.items c.is_empty.ensures c.if-is_empty.false)
