@@ -1,0 +1,73 @@
+//! What one thread alone is answered.
+
+use covbook::{Answer, Book, Entry, JobLog, Op, SubRef};
+use covread::read_trace;
+use covstore::Totals;
+use std::alloc::Global;
+
+/// One thread that takes the steps of the history in order is answered the same, and prints the report that job 0 was told last.
+/// Read back, this report gives the totals and the report.
+pub(crate) fn check_alone(alloc: Global, entries: &[Entry], logs: &[JobLog]) -> anyhow::Result<()> {
+    let mut book = Book::new(alloc);
+    for entry in entries {
+        check_step(alloc, &mut book, entry)?;
+    }
+    match last_text(logs) {
+        Some(report) => check_report(alloc, &mut book, report),
+        None => Err(anyhow::Error::msg("the last call wasn't answered by a report")),
+    }
+}
+
+/// The book is answered what the entry says, with its totals.
+fn check_step(alloc: Global, book: &mut Book, entry: &Entry) -> anyhow::Result<()> {
+    let receipt = book.step(alloc, entry.job, &entry.op)?;
+    let place = receipt.place;
+    if !receipt.answer.is_same(&entry.answer) {
+        return Err(anyhow::anyhow!("one thread is answered otherwise at place {place}"));
+    }
+    if book.totals() != entry.after {
+        return Err(anyhow::anyhow!("one thread has other totals at place {place}"));
+    }
+    Ok(())
+}
+
+/// The text that the first job was told last.
+fn last_text(logs: &[JobLog]) -> Option<&[u8]> {
+    let receipt = logs.first()?.receipts.get().last()?;
+    text_of(&receipt.answer)
+}
+
+/// The answer's text.
+fn text_of(answer: &Answer) -> Option<&[u8]> {
+    match answer {
+        Answer::Text(text) => Some(text.get().get()),
+        _ => None,
+    }
+}
+
+/// The book prints this report, and so does an empty book that it is submitted to, which has the same totals.
+fn check_report(alloc: Global, book: &mut Book, report: &[u8]) -> anyhow::Result<()> {
+    let totals = book.totals();
+    check_printed(alloc, book, report, totals)?;
+    let mut back = Book::new(alloc);
+    let submission = SubRef::of(alloc, read_trace(alloc, report)?)?;
+    back.step(alloc, 0, &Op::Submit(submission))?;
+    check_printed(alloc, &mut back, report, totals)
+}
+
+/// The book prints this report and has these totals.
+fn check_printed(
+    alloc: Global,
+    book: &mut Book,
+    report: &[u8],
+    totals: Totals,
+) -> anyhow::Result<()> {
+    let printed = book.step(alloc, 0, &Op::Report)?;
+    if text_of(&printed.answer) != Some(report) {
+        return Err(anyhow::Error::msg("another report"));
+    }
+    if book.totals() != totals {
+        return Err(anyhow::Error::msg("other totals of a report"));
+    }
+    Ok(())
+}

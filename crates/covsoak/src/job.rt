@@ -1,0 +1,112 @@
+//! A job of the shared book.
+
+use crate::asked::random_op;
+use crate::random::Random;
+use covbook::{JobLog, Op, Readings, Receipts};
+use covjobs::{Live, Name, News, Seat, Shared};
+use std::alloc::Global;
+use std::sync::Wait;
+
+/// A job: its seat, its reader, its random numbers, and what it keeps.
+#[derive(Drop)]
+pub(crate) struct Job<L: Name> {
+    seat: Seat<L>,
+    live: Live<L>,
+    random: Random,
+    log: JobLog,
+    /// How many entries it read or learned of. No reading may have fewer.
+    known: u64,
+    /// How its work ended.
+    ended: anyhow::Result<()>,
+}
+
+impl<L: Name> Job<L> {
+    /// The job of the seat, which has done nothing yet.
+    pub(crate) fn new(alloc: Global, seat: Seat<L>, live: Live<L>, seed: u64) -> Job<L> {
+        let job = seat.job();
+        Job {
+            seat,
+            live,
+            random: Random::of(seed, job),
+            log: JobLog {
+                job,
+                receipts: Receipts::new(alloc),
+                readings: Readings::new(alloc),
+            },
+            known: 0,
+            ended: Err(anyhow::Error::msg("a thread wasn't started")),
+        }
+    }
+
+    /// Makes so many random calls, or ends at the first fault.
+    pub(crate) fn work<R: Wait>(&mut self, rt: &R, alloc: Global, book: &Shared<L>, calls: u64) {
+        self.ended = self.call_often(rt, alloc, book, calls);
+    }
+
+    /// Makes so many random calls, and keeps the receipts. Behind a call it may learn the news and may read.
+    fn call_often<R: Wait>(
+        &mut self,
+        rt: &R,
+        alloc: Global,
+        book: &Shared<L>,
+        calls: u64,
+    ) -> anyhow::Result<()> {
+        for _call in 0..calls {
+            let op = random_op(alloc, &mut self.random)?;
+            let news = self.ask(rt, alloc, book, &op)?;
+            if !self.random.one_in(3) {
+                self.learn(&news);
+            }
+            if !self.random.one_in(3) {
+                self.read()?;
+            }
+        }
+        Ok(())
+    }
+
+    /// Makes a call, and keeps its receipt.
+    pub(crate) fn ask<R: Wait>(
+        &mut self,
+        rt: &R,
+        alloc: Global,
+        book: &Shared<L>,
+        op: &Op,
+    ) -> anyhow::Result<News<L>> {
+        let done = book.perform(rt, alloc, &mut self.seat, op)?;
+        self.log.receipts.push(done.receipt)?;
+        Ok(done.news)
+    }
+
+    /// Learns the news.
+    fn learn(&mut self, news: &News<L>) {
+        self.live.learn(news);
+        self.known = self.known.max(news.reading().upto);
+    }
+
+    /// Keeps a reading, which may not be behind what was read or learned.
+    fn read(&mut self) -> anyhow::Result<()> {
+        let reading = self.live.totals();
+        if reading.upto < self.known {
+            return Err(anyhow::Error::msg("a reading went back"));
+        }
+        self.known = reading.upto;
+        self.log.readings.push(reading)?;
+        Ok(())
+    }
+
+    /// Its seat, what it keeps, and its reader, where its work ended well.
+    pub(crate) fn into_parts(self) -> anyhow::Result<(Seat<L>, JobLog, Live<L>)> {
+        let Job {
+            seat,
+            live,
+            random: _,
+            log,
+            known: _,
+            ended,
+        } = self;
+        match ended {
+            Ok(()) => Ok((seat, log, live)),
+            Err(fault) => Err(fault),
+        }
+    }
+}

@@ -1,0 +1,143 @@
+//! One round: a shared book from its opening to its history.
+
+ghost use Rattle.std.specs.Prelude.{◌≡◌};
+
+use crate::alone::check_alone;
+use crate::job::Job;
+use covbook::{Entries, JobLog, Logs, Op, gather};
+use covjobs::{Live, Name, News, Seat, Seats, Shared, Start, open_book};
+use std::alloc::Global;
+use std::sync::Wait;
+use std::thread;
+use std::thread::Threads;
+
+/// What the jobs hand in when all have ended.
+#[derive(Drop)]
+struct HandedIn<L: Name> {
+    seats: Seats<L>,
+    logs: Logs,
+    lives: Vec<Live<L>>,
+}
+
+/// Makes a round of a seed, in which each job makes so many random calls and the first job then asks for the report. Answers how
+/// many calls there were.
+pub(crate) fn soaked<L: Name + Send + Sync, R: Threads + Wait + Sync>(
+    rt: &R,
+    alloc: Global,
+    start: Start,
+    calls: u64,
+    seed: u64,
+) -> anyhow::Result<u64>
+    requires name { start.name ≡ L.name }
+    requires jobs { start.jobs ≡ L.parts }
+    requires book { start.book ≡ L.book }
+{
+    let (book, seats) = open_book::<L, _>(alloc, start)?;
+    let handed = worked(rt, alloc, &book, seats, calls, seed)?;
+    let wanted = (handed.logs.get().len() as u64)
+        .saturating_mul(calls)
+        .saturating_add(1);
+    let made = calls_of(handed.seats.get());
+    if made != wanted {
+        return Err(anyhow::Error::msg("another number of calls"));
+    }
+    let (entries, news) = closed(rt, book, handed.seats)?;
+    check_news(&entries, &news, handed.lives, made)?;
+    if let Err(fault) = gather(entries.get(), handed.logs.get()) {
+        return Err(anyhow::anyhow!("not gathered: {fault:?}"));
+    }
+    check_alone(alloc, entries.get(), handed.logs.get())?;
+    Ok(made)
+}
+
+/// The jobs do their work at once, and then hand in what they have.
+fn worked<L: Name + Send + Sync, R: Threads + Wait + Sync>(
+    rt: &R,
+    alloc: Global,
+    book: &Shared<L>,
+    seats: Seats<L>,
+    calls: u64,
+    seed: u64,
+) -> anyhow::Result<HandedIn<L>> {
+    let mut jobs = Vec::new(alloc);
+    for seat in seats.into_vec() {
+        let live = book.reader(rt)?;
+        jobs.push(Job::new(alloc, seat, live, seed))?;
+    }
+    work_at_once(rt, alloc, book, jobs.as_mut_slice(), calls);
+    if let Some(first) = jobs.first_mut() {
+        first.ask(rt, alloc, book, &Op::Report)?;
+    }
+    hand_in(alloc, jobs)
+}
+
+/// Each job does its work in a thread of its own.
+fn work_at_once<L: Name + Send + Sync, R: Threads + Wait + Sync>(
+    rt: &R,
+    alloc: Global,
+    book: &Shared<L>,
+    jobs: &mut [Job<L>],
+    calls: u64,
+) {
+    thread::scope(thread::scope_env(), rt, |scope| {
+        for job in jobs.iter_mut() {
+            // A job whose thread isn't started says so itself.
+            let _ = scope.spawn(move || job.work(rt, alloc, book, calls));
+        }
+    });
+}
+
+/// What the jobs have, where all of them ended well.
+fn hand_in<L: Name>(alloc: Global, jobs: Vec<Job<L>>) -> anyhow::Result<HandedIn<L>> {
+    let mut seats = Seats::new(alloc);
+    let mut logs = Logs::new(alloc);
+    let mut lives = Vec::new(alloc);
+    for job in jobs {
+        let (seat, log, live) = job.into_parts()?;
+        seats.push(seat)?;
+        logs.push(log)?;
+        lives.push(live)?;
+    }
+    Ok(HandedIn { seats, logs, lives })
+}
+
+/// How many calls of these seats succeeded.
+fn calls_of<L: Name>(seats: &[Seat<L>]) -> u64 {
+    let mut calls: u64 = 0;
+    for seat in seats {
+        calls = calls.saturating_add(seat.calls());
+    }
+    calls
+}
+
+/// The history of the book, and news of it.
+fn closed<L: Name, R: Wait>(
+    rt: &R,
+    book: Shared<L>,
+    seats: Seats<L>,
+) -> anyhow::Result<(Entries, News<L>)> {
+    match book.close(rt, seats) {
+        Ok(closed) => Ok(closed),
+        Err((_book, _seats, fault)) => Err(fault.into()),
+    }
+}
+
+/// There is an entry for each call, the news tell of them, and each reader that learns these answers them.
+fn check_news<L: Name>(
+    entries: &Entries,
+    news: &News<L>,
+    lives: Vec<Live<L>>,
+    made: u64,
+) -> anyhow::Result<()> {
+    let last = news.reading();
+    if entries.get().len() as u64 != made || last.upto != made {
+        return Err(anyhow::Error::msg("another number of entries than of calls"));
+    }
+    for mut live in lives {
+        live.learn(news);
+        if live.totals() != last {
+            return Err(anyhow::Error::msg("a reading behind the end differs"));
+        }
+    }
+    Ok(())
+}
