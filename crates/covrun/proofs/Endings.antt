@@ -49,8 +49,8 @@ told_work work asked ending status before after old new unread is ends told =
 -- a command without work is a session
 pub told_session : (asked : Option WorkData) (status : ℕ) (before after : SourceData) (old new : SinksData) → None ≡ asked
     → TellsSession status before.left after.left old.output new.output old.faults new.faults
-        (calls before.reads before.failed_reads old.failed_output) (calls after.reads after.failed_reads new.failed_output)
-        old.failed_faults new.failed_faults
+    (calls before.reads before.failed_reads old.failed_output) (calls after.reads after.failed_reads new.failed_output)
+    old.failed_faults new.failed_faults
     → WorkTold asked status before after old new
 told_session asked status before after old new is told = subst (λ (w : Option WorkData). WorkTold w status before after old new) is told
 
