@@ -194,13 +194,14 @@ module _ {E : Type 0} (m n : Moment) (left written written_after : Option (List 
   pub only_sent : OnOk r (IsSentOn m n) → OnOk r (IfSome left (λ input. (output : List ℕ) → IsSession input output → Appends written written_after output))
   only_sent h = ok_map r (λ e. only_at m e.done_at n.output left written written_after (ended_of e) l w wa) h
 
-pub few_sent : {E : Type 0} (m n : Moment) (most reads : ℕ) (r : Result (Unit {0}) E) → m.input.reads_left ≡ most → m.input.reads ≡ reads
-    → OnOk r (IsSentOn m n) → OnOk r (n.input.reads ≤ reads + most)
-few_sent m n most reads r fresh same h =
-    ok_map r (λ e.
+-- however it ended, it made no more reads than it had left
+pub few_at : (m n : Moment) (most : ℕ) (r : Result (Unit {0}) SessionFault) → m.input.reads_left ≡ most
+    → OnOk r (IsSentOn m n) → IfErr r (λ f. IsBroken m n f) → n.input.reads ≤ m.input.reads + most
+few_at m n most (Ok x) fresh e b =
     let few = few_reads m.input e.done_at.input most e.done.bytes fresh e.done.moves.takes in
     let last = ap (λ (i : InputData). i.reads) e.same_input in
-    omega arith) h
+    omega arith
+few_at m n most (Err f) fresh e b = let counted = b.fails.counted in omega arith
 
 -- the same of a session that was cut short, for a source and a sink that are at these moments
 pub short_at : (m n : Moment) (left left_after written written_after : Option (List ℕ)) (r : Result (Unit {0}) SessionFault)

@@ -1,4 +1,4 @@
--- What a session leaves that ends in a fault: which beginning of its session text was written, and which call failed.
+-- What a session leaves that ends in a fault: that a beginning of its session text was written, and which call failed.
 use Rattle.std.specs.Io.KnownBytes.{Consumes, Appends}
 use Rattle.std.specs.Prelude.{◌≡◌, ◌⊎◌, ◌<◌, ℕ, ◌+◌, ◌^◌, List, [], ◌++◌, length, Option, Some}
 use Rattle.covbook.specs.Step.{most_entries}
@@ -21,7 +21,7 @@ abbrev pub MayFollow : Option (List ℕ) → List ℕ → Type 0
 MayFollow left more = (more ≡ []) ⊎ (left ≡ Some more)
 
 -- a session that ended in this fault: what it has written is a beginning of the session text of what it has read, and of the
--- whole input. The history is full only where these ask the book more than it has room for
+-- whole input. `Full` comes only where both inputs ask the book more than its history has room for
 pub record IsCutShort (fault : SessionFault) (left left_after written written_after : Option (List ℕ)) : Type 0 where
   pub read : List ℕ
   pub output : List ℕ
@@ -40,7 +40,8 @@ pub record CallsData : Type 0 where
 abbrev pub calls : (reads failed_reads failed_writes : ℕ) → CallsData
 calls reads failed_reads failed_writes = record { reads = reads; failed_reads = failed_reads; failed_writes = failed_writes }
 
--- which call failed where a session ended in this fault: a read, unless it had made 4,294,967,296 of them; a write; or none
+-- which call failed. `Read`: one read, or none and 4,294,967,296 were made. `Write`: one write or flush. `Memory` and `Full`:
+-- none
 abbrev pub HasCause : SessionFault → CallsData → CallsData → Type 0
 HasCause Read old new =
     (new.failed_writes ≡ old.failed_writes)

@@ -146,8 +146,8 @@ fn answer_to_the_end<I: Source, O: Sink, A: Allocator + Copy>(
 ///
 /// # Errors
 ///
-/// `Read` where a read failed, or 4,294,967,296 reads were made. `Write` where a write failed. `Memory` where a growth was
-/// refused. `Full` where the commands ask the book more than its history has room for. What the sink took till then is a
+/// `Read` where a read failed, or 4,294,967,296 reads were made. `Write` where a write or flush failed. `Memory` where a growth
+/// was refused. `Full` where the commands ask the book more than its history has room for. What the sink took till then is a
 /// beginning of the session text of the bytes that were read, and of the whole input.
 pub fn session<I: Source, O: Sink, A: Allocator + Copy>(
     alloc: A,
@@ -162,11 +162,12 @@ pub fn session<I: Source, O: Sink, A: Allocator + Copy>(
     // No other output was possible.
     ensures only { OnOk result (IfSome (I.left source.old) (λ input. (output : List ℕ) → IsSession input output
         → Appends (O.written sink.old) (O.written sink.new) output)) }
-    // No call of it failed, and it made at most 4,294,967,296 reads.
+    // None of its calls failed.
     ensures no_failed_read { OnOk result (I.failed_reads source.new ≡ I.failed_reads source.old) }
     ensures no_failed_write { OnOk result (O.failed_writes sink.new ≡ O.failed_writes sink.old) }
-    ensures few_reads { OnOk result (I.reads source.new ≤ I.reads source.old + 2 ^ 32) }
-    // After a fault a beginning of the session text was written, and the fault's own call failed, or none.
+    // However it ended, it made at most 4,294,967,296 reads.
+    ensures few_reads { I.reads source.new ≤ I.reads source.old + 2 ^ 32 }
+    // After a fault a beginning of the session text was written, and the counts show the fault's cause.
     ensures short { IfErr result (λ f. IsCutShort f (I.left source.old) (I.left source.new) (O.written sink.old) (O.written sink.new)) }
     ensures cause { IfErr result (λ f. HasCause f (calls (I.reads source.old) (I.failed_reads source.old) (O.failed_writes sink.old))
         (calls (I.reads source.new) (I.failed_reads source.new) (O.failed_writes sink.new))) }

@@ -9,7 +9,7 @@ use std::alloc::AllocError;
 pub enum SessionFault {
     /// A read failed, or more than 2^32 reads were needed.
     Read = 1,
-    /// A write failed, or took none of some bytes.
+    /// A write or a flush failed, or a write took none of some bytes.
     Write = 2,
     /// A growth was refused.
     Memory = 3,

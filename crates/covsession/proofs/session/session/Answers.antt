@@ -1,7 +1,7 @@
 use Rattle.std.proofs.Common.{rules, arith, ◌≡◌, ◌^◌, ◌∙◌, refl}
 use Rattle.std.proofs.lemmas.Result.{err_from_is_err_and}
 use Rattle.covsession.specs.Streams.{moment}
-use Rattle.covsession.proofs.SessionCutShort.{few_sent, only_sent, short_at, short_none, whole_sent}
+use Rattle.covsession.proofs.SessionCutShort.{few_at, only_sent, short_at, short_none, whole_sent}
 use Rattle.covsession.proofs.session.session.Goals as goal
 
 pub returns-clause-whole : goal.returns-clause-whole
@@ -26,3 +26,9 @@ pub returns-in_err-block-clause-short : goal.returns-in_err-block-clause-short
 returns-in_err-block-clause-short g c =
     let p = err_from_is_err_and c.from_residual.result c.from_residual.ensures.1 in
     rw (p.1, p.2) (short_none c.in_err-block.field-0.0 _ _ c.in_err-block.ensures.fault)
+
+pub returns-clause-few_reads : goal.returns-clause-few_reads
+returns-clause-few_reads g c =
+    let few = few_at (moment c.new-input.result c.new-output.result) (moment c.answer_to_the_end-ended.new.input c.answer_to_the_end-ended.new.output) (2 ^ 32)
+    c.answer_to_the_end-ended.result c.new-input.ensures.fresh c.answer_to_the_end-ended.ensures.ended c.answer_to_the_end-ended.ensures.broken in
+    search (rules, arith)
