@@ -34,8 +34,10 @@ pub record HasRoom (book : BookData) : Type 0 where
 abbrev pub IsNextOf : BookData → EntryData → Type 0
 IsNextOf book entry = ComesNext book.entries entry
 
--- a plan is the store's own for the rows that the operation adds to the table; a test is dropped where the operation takes its
--- rows out of the table; a renaming is the store's own for the names of the operation; where nothing is done the table stays
+-- the change does to the store what the operation does to the table. No change is made for an operation that leaves the table as
+-- it is. A plan is one of this store, for a submission whose rows the operation adds to the table. A test is dropped for an
+-- operation that takes its rows out of the table. A renaming is one of this store, for two names, where the operation gives the
+-- rows of the first name the second
 abbrev pub IsPlanned : StoreData → Table → OpData → ChangeData → Type 0
 IsPlanned store table op NoChange = table_after table op ≡ table
 IsPlanned store table op (HoldChange plan) = (s : SubmissionData) × IsPlanOf store s plan × (table_after table op ≡ table ++ rows_of s ∷ [])

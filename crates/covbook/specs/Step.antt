@@ -27,7 +27,7 @@ table_after_submit table submission None = table ++ rows_of submission ∷ []
 abbrev pub has_test : Table → List ℕ → Bool
 has_test table test = list_any (is_of_test test) (all_rows table)
 
--- a test without a row is no such test; the rows of another one go, and the members of the table stay
+-- a test without a row can't be dropped: there is no such test. Else its rows go out of the members of the table, which all stay
 abbrev pub answer_to_drop : Table → List ℕ → Bool → AnswerData
 answer_to_drop table test true = DroppedAnswer (sections_of_test test table)
 answer_to_drop table test false = NoSuchTestAnswer
@@ -36,7 +36,7 @@ abbrev pub table_after_drop : Table → List ℕ → Bool → Table
 table_after_drop table test true = without_test test table
 table_after_drop table test false = table
 
--- nor can such a test be renamed; the rows of another one have the new name, and rows that had it stay
+-- a test without a row can't be renamed: there is no such test. Else its rows get the new name, beside those that have it already
 abbrev pub answer_to_rename : Table → List ℕ → Bool → AnswerData
 answer_to_rename table old true = RenamedAnswer (sections_of_test old table)
 answer_to_rename table old false = NoSuchTestAnswer

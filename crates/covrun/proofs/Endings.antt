@@ -14,6 +14,7 @@ use Rattle.covrun.specs.WorkFault.{IsRefusal, of_work}
 use Rattle.covrun.specs.declared.work.WorkFault.{WorkFault}
 use Rattle.covrun.specs.declared.work.WorkFault.TheVariants.{Words, Memory}
 use Rattle.covcommand.specs.declared.fault.CommandFault.{CommandFault}
+use Rattle.covsession.specs.Fault.{calls}
 use Rattle.covsession.specs.Program.{TellsSession}
 use Rattle.covrun.specs.Call.{StopsEarly, AreTexts, WorkEnds, WorkTold, SourceData, SinksData, sinks, IsTold, of_line}
 use Rattle.covrun.specs.Ending.{EndingData, Unreadable, of_collect, of_collected}
@@ -47,7 +48,9 @@ told_work work asked ending status before after old new unread is ends told =
 
 -- a command without work is a session
 pub told_session : (asked : Option WorkData) (status : ℕ) (before after : SourceData) (old new : SinksData) → None ≡ asked
-    → TellsSession status before.left after.left old.output new.output old.faults new.faults old.failed_faults new.failed_faults
+    → TellsSession status before.left after.left old.output new.output old.faults new.faults
+        (calls before.reads before.failed_reads old.failed_output) (calls after.reads after.failed_reads new.failed_output)
+        old.failed_faults new.failed_faults
     → WorkTold asked status before after old new
 told_session asked status before after old new is told = subst (λ (w : Option WorkData). WorkTold w status before after old new) is told
 

@@ -18,6 +18,7 @@ use Rattle.covcommand.specs.Fault.{IsToldOf}
 use Rattle.covcommand.specs.declared.asked.Command.{Command}
 use Rattle.covcommand.specs.declared.fault.CommandFault.{CommandFault}
 use Rattle.covcommand.specs.declared.fault.CommandFault.TheVariants as line
+use Rattle.covsession.specs.Fault.{HasBegun, calls}
 use Rattle.covsession.specs.Program.{fault_status, words_of_fault, TellsSession}
 use Rattle.covsession.specs.Session.{said}
 use Rattle.covsession.specs.declared.session.fault.SessionFault.TheVariants as faults
@@ -70,13 +71,14 @@ of_line (line.Version text) = Prints (string_bytes text)
 of_line (line.Line text) = BadLine (string_bytes text)
 of_line line.Memory = Stopped faults.Memory
 
--- the stream that a call reads: what it has left, where it tells that, and how often it was read
+-- the stream that a call reads: what it has left, where it tells that, how often it was read, and how often in vain
 pub record SourceData : Type 0 where
   pub left : Option (List ℕ)
   pub reads : ℕ
+  pub failed_reads : ℕ
 
-abbrev pub source : Option (List ℕ) → ℕ → SourceData
-source left reads = record { left = left; reads = reads }
+abbrev pub source : Option (List ℕ) → (reads failed_reads : ℕ) → SourceData
+source left reads failed_reads = record { left = left; reads = reads; failed_reads = failed_reads }
 
 -- the two streams that a call writes to: what each has taken, where it tells that, and how many of its writes failed
 pub record SinksData : Type 0 where
@@ -107,11 +109,13 @@ Delivers text old new =
     Appends old.output new.output text × (new.failed_output ≡ old.failed_output)
     × (new.faults ≡ old.faults) × (new.failed_faults ≡ old.failed_faults)
 
--- a text is delivered, or a write of it failed and that is told; any other ending is told by its status and its words
+-- a text is delivered, or a write of it failed behind a beginning of it, and that is told; any other ending is told by its status
+-- and its words
 abbrev pub IsTold : EndingData → (status : ℕ) → SinksData → SinksData → Type 0
 IsTold (Prints text) status old new =
     ((status ≡ status_of (Prints text)) × Delivers text old new)
-    ⊎ ((status ≡ fault_status faults.Write) × (new.failed_output ≡ suc old.failed_output) × Complains (said (words_of_fault faults.Write)) old new)
+    ⊎ ((status ≡ fault_status faults.Write) × (new.failed_output ≡ suc old.failed_output) × HasBegun old.output new.output text
+    × Complains (said (words_of_fault faults.Write)) old new)
 IsTold ending status old new = (status ≡ status_of ending) × Withholds old new × Complains (complaint ending) old new
 
 -- the words give this command, or this fault in its place, as covcommand says
@@ -127,7 +131,9 @@ abbrev pub WorkTold : Option WorkData → (status : ℕ) → (before after : Sou
 WorkTold (Some work) status before after old new =
     (after ≡ before) × (ending : EndingData) × WorkEnds work ending × IsTold ending status old new
 WorkTold None status before after old new =
-    TellsSession status before.left after.left old.output new.output old.faults new.faults old.failed_faults new.failed_faults
+    TellsSession status before.left after.left old.output new.output old.faults new.faults
+    (calls before.reads before.failed_reads old.failed_output) (calls after.reads after.failed_reads new.failed_output)
+    old.failed_faults new.failed_faults
 
 -- a command's words are refused, and the input isn't read; or they are taken and then the command is done
 abbrev pub CommandTold : Command → (status : ℕ) → (before after : SourceData) → SinksData → SinksData → Type 0

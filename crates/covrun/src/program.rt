@@ -20,8 +20,8 @@ use std::thread::Threads;
 /// Its tests stand in this order: the command line (2); the patterns, or the test's name of `gcov` (2); the files, of which the
 /// first that can't be read is told (1); a fault of collecting (3); want of memory for one of the texts (3); texts that are
 /// refused, and clashes (4); the output (1). `out of memory` (3) may be told at any moment. Nothing but the text of a call that
-/// succeeds, or help, goes to the output, where no write of it fails. A session alone reads the input. The output is flushed,
-/// and `faults` isn't.
+/// succeeds, or help, goes to the output, and a beginning of that text where a write fails. A session alone reads the input. The
+/// output is flushed, and `faults` isn't.
 /// Without a subcommand this is a session over the input and the output. Waits for the jobs.
 pub fn run<R: Files + AllocGlobal + Threads + Wait + Sync, I: Source, O: Sink, E: Sink>(
     rt: &R,
@@ -34,7 +34,7 @@ pub fn run<R: Files + AllocGlobal + Threads + Wait + Sync, I: Source, O: Sink, E
     requires failed_reads { I.failed_reads input.old < 2 ^ 62 }
     requires failed_writes { O.failed_writes output.old < 2 ^ 62 }
     requires failed_words { E.failed_writes faults.old < 2 ^ 62 }
-    ensures { IsCall (map string_bytes words.now) result (source (I.left input.old) (I.reads input.old)) (source (I.left input.new) (I.reads input.new))
+    ensures { IsCall (map string_bytes words.now) result (source (I.left input.old) (I.reads input.old) (I.failed_reads input.old)) (source (I.left input.new) (I.reads input.new) (I.failed_reads input.new))
         (sinks (O.written output.old) (O.failed_writes output.old) (E.written faults.old) (E.failed_writes faults.old))
         (sinks (O.written output.new) (O.failed_writes output.new) (E.written faults.new) (E.failed_writes faults.new)) }
 {
@@ -58,7 +58,7 @@ fn run_command<R: Files + Threads + Wait + Sync, I: Source, O: Sink, E: Sink>(
     requires failed_reads { I.failed_reads input.old < 2 ^ 62 }
     requires failed_writes { O.failed_writes output.old < 2 ^ 62 }
     requires failed_words { E.failed_writes faults.old < 2 ^ 62 }
-    ensures { CommandTold asked result (source (I.left input.old) (I.reads input.old)) (source (I.left input.new) (I.reads input.new))
+    ensures { CommandTold asked result (source (I.left input.old) (I.reads input.old) (I.failed_reads input.old)) (source (I.left input.new) (I.reads input.new) (I.failed_reads input.new))
         (sinks (O.written output.old) (O.failed_writes output.old) (E.written faults.old) (E.failed_writes faults.old))
         (sinks (O.written output.new) (O.failed_writes output.new) (E.written faults.new) (E.failed_writes faults.new)) }
 {

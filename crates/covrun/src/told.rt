@@ -2,6 +2,7 @@
 
 ghost use Rattle.std.specs.Prelude.{◌≡◌, ◌<◌, ◌^◌, ◌++◌, IfErr, OnOk, OnErr, suc};
 ghost use Rattle.std.specs.Io.KnownBytes.{Appends};
+ghost use Rattle.covsession.specs.Fault.{HasBegun};
 ghost use Rattle.covrun.specs.Call.{sinks, IsTold};
 ghost use Rattle.covrun.specs.Ending.{Prints};
 ghost use Rattle.covrun.specs.View.{ending_data};
@@ -50,6 +51,7 @@ fn put_out<O: Sink>(text: &[u8], output: &mut O) -> Result<(), SessionFault>
     ensures written { OnOk result (Appends (O.written output.old) (O.written output.new) text.now) }
     ensures good { OnOk result (O.failed_writes output.new ≡ O.failed_writes output.old) }
     ensures failed { OnErr result (O.failed_writes output.new ≡ suc (O.failed_writes output.old)) }
+    ensures begun { OnErr result (HasBegun (O.written output.old) (O.written output.new) text.now) }
     ensures fault { IfErr result (λ fault. fault ≡ session_faults.Write) }
 {
     put_bytes(text, output)?;

@@ -1,9 +1,12 @@
 pub mod SessionBytes
 pub mod SessionLines
 pub mod SessionMoves
+pub mod SessionBreaks
 pub mod SessionPieces
 pub mod SessionRun
 pub mod SessionSteps
+pub mod SessionBroken
+pub mod SessionCutShort
 pub mod SessionRename
 pub mod SessionWords
 pub mod SessionLaw

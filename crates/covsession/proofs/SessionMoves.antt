@@ -2,7 +2,7 @@
 use Rattle.std.proofs.Common.{◌≡◌, ℕ, ◌+◌, ◌≤◌, List, [], ◌∷◌, ◌++◌, length, Bool, true, false, Option, None, Some, refl, sym, ◌∙◌, ap, subst, arith, append_assoc, append-nil, length-append}
 use Rattle.std.specs.Io.KnownBytes.{Consumes, Appends, append_known}
 use Rattle.covline.specs.Lines.{line_feed, before_feed}
-use Rattle.covsession.specs.Streams.{InputData, OutputData, Moment, Takes, Says, Moves, TakesLine, unread, turns, said_so_far, TakesPart}
+use Rattle.covsession.specs.Streams.{InputData, OutputData, Moment, Grows, Takes, Says, Moves, TakesLine, unread, turns, said_so_far, TakesPart}
 use Rattle.covsession.specs.Text.{HasCollected}
 use Rattle.covsession.specs.declared.session.text.LineEnd.TheVariants.{Feed}
 use Rattle.covsession.specs.declared.session.text.Text.{Text}
@@ -16,9 +16,13 @@ Takes-trans i j k b c h l = record {
   same_source = l.same_source ∙ h.same_source;
 }
 
+pub Grows-trans : (a b c : Option (List ℕ)) → Grows a b → Grows b c → Grows a c
+Grows-trans a b c h k = (h.0 ++ k.0, Appends-trans a b c h.0 k.0 h.1 k.1)
+
 pub Says-trans : (o p q : OutputData) (x y : List ℕ) → Says o p x → Says p q y → Says o q (x ++ y)
 Says-trans o p q x y h k = record {
   says = Appends-trans (said_so_far o) (said_so_far p) (said_so_far q) x y h.says k.says;
+  grows = Grows-trans o.written p.written q.written h.grows k.grows;
   failed = k.failed ∙ h.failed;
   same_sink = k.same_sink ∙ h.same_sink;
 }
@@ -40,8 +44,11 @@ appends_none (Some xs) = sym (append-nil xs)
 pub Takes-none : (i : InputData) → Takes i i []
 Takes-none i = record { took = consumes_none (unread i); counted = refl; failed = refl; same_source = refl }
 
+pub Grows-none : (a : Option (List ℕ)) → Grows a a
+Grows-none a = ([], appends_none a)
+
 pub Says-none : (o : OutputData) → Says o o []
-Says-none o = record { says = appends_none (said_so_far o); failed = refl; same_sink = refl }
+Says-none o = record { says = appends_none (said_so_far o); grows = Grows-none o.written; failed = refl; same_sink = refl }
 
 pub Moves-none : (m : Moment) → Moves m m [] []
 Moves-none m = record { takes = Takes-none m.input; says = Says-none m.output }
@@ -57,18 +64,20 @@ put_known (Some xs) (Some ys) waiting rest e h =
 pub says_put : (o p : OutputData) → Appends o.written p.written o.waiting → p.waiting ≡ [] → p.failed_writes ≡ o.failed_writes → p.sink ≡ o.sink → Says o p []
 says_put o p h e f s = record {
   says = put_known o.written p.written o.waiting p.waiting e h;
+  grows = (o.waiting, h);
   failed = f;
   same_sink = s;
 }
 
 -- bytes wait behind those that wait
-wait_known : (written : Option (List ℕ)) (waiting new bytes : List ℕ) → new ≡ waiting ++ bytes → Appends (append_known written waiting) (append_known written new) bytes
+pub wait_known : (written : Option (List ℕ)) (waiting new bytes : List ℕ) → new ≡ waiting ++ bytes → Appends (append_known written waiting) (append_known written new) bytes
 wait_known None waiting new bytes e = tt
 wait_known (Some xs) waiting new bytes e = ap (λ (u : List ℕ). xs ++ u) e ∙ sym (append_assoc xs waiting bytes)
 
 pub says_waiting : (o : OutputData) (new bytes : List ℕ) → new ≡ o.waiting ++ bytes → Says o (record o { waiting = new }) bytes
 says_waiting o new bytes e = record {
   says = wait_known o.written o.waiting new bytes e;
+  grows = Grows-none o.written;
   failed = refl;
   same_sink = refl;
 }
@@ -87,6 +96,7 @@ says_written o p bytes e same h f s =
     let P : List ℕ → Type 0 = λ u. Appends (said_so_far o) (append_known p.written u) bytes in
     record {
       says = subst P (sym same) (written_known o.written p.written o.waiting bytes e h);
+      grows = (bytes, h);
       failed = f;
       same_sink = s;
     }

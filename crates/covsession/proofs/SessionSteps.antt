@@ -292,7 +292,7 @@ so_far_none m history e = record {
 both_asked : (history before : List OpData) (cs ds : List Command) → before ≡ ops_of cs → history ≡ before ++ ops_of ds → history ≡ ops_of (cs ++ ds)
 both_asked history before cs ds e h = h ∙ ap (λ (u : List OpData). u ++ ops_of ds) e ∙ sym (flat_map-append ops_asked cs ds)
 
-more_text : (before : List OpData) (cs ds : List Command) → before ≡ ops_of cs
+pub more_text : (before : List OpData) (cs ds : List Command) → before ≡ ops_of cs
     → text_after [] cs ++ text_after (table_of before) ds ≡ text_after [] (cs ++ ds)
 more_text before cs ds e =
     ap (λ (u : List OpData). text_after [] cs ++ text_after (table_of u) ds) e ∙ sym (text_more [] cs ds)
@@ -332,7 +332,7 @@ so_far_done m n o before after s t =
     }
 
 -- the last writes
-start_took : (left other : Option (List ℕ)) (bytes : List ℕ) → Consumes (prepend_known [] left) other bytes → Consumes left other bytes
+pub start_took : (left other : Option (List ℕ)) (bytes : List ℕ) → Consumes (prepend_known [] left) other bytes → Consumes left other bytes
 start_took None other bytes h = tt
 start_took (Some xs) other bytes h = h
 
@@ -344,7 +344,7 @@ end_left : (pending : List ℕ) (left : Option (List ℕ)) → IsAtEnd (prepend_
 end_left pending None h = tt
 end_left pending (Some xs) h = none_front pending xs h
 
-end_took : (first : Option (List ℕ)) (pending bytes : List ℕ) (left : Option (List ℕ)) → Consumes first (prepend_known pending left) bytes
+pub end_took : (first : Option (List ℕ)) (pending bytes : List ℕ) (left : Option (List ℕ)) → Consumes first (prepend_known pending left) bytes
     → IsAtEnd (prepend_known pending left) → Consumes first left bytes
 end_took None pending bytes left h e = tt
 end_took (Some xs) pending bytes None h e = absurd h

@@ -6,3 +6,5 @@ pub mod Rename
 pub mod Run
 pub mod Program
 pub mod SessionFaults
+pub mod Fault
+pub mod Broken

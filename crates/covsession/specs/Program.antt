@@ -1,6 +1,7 @@
 -- What the program tells of a session's end: an exit status, and words where it ended in a fault.
 use Rattle.std.specs.Io.KnownBytes.{Appends}
-use Rattle.std.specs.Prelude.{◌≡◌, ℕ, List, [], Option, Result, Ok, Err, OnOk, codes}
+use Rattle.std.specs.Prelude.{◌≡◌, ℕ, List, [], Option, Result, Ok, Err, IfErr, OnOk, codes}
+use Rattle.covsession.specs.Fault.{CallsData, HasCause, IsCutShort}
 use Rattle.covsession.specs.Session.{said, IsWholeSession}
 use Rattle.covsession.specs.declared.session.fault.SessionFault.{SessionFault}
 use Rattle.covsession.specs.declared.session.fault.SessionFault.TheVariants.{Read, Write, Memory, Full}
@@ -29,10 +30,11 @@ end_words (Ok done) = []
 end_words (Err fault) = said (words_of_fault fault)
 
 -- a status of 0 tells that a session ran over an input and an output and ended well; another one tells a fault, with its words
--- on the stream for faults unless a write there failed too
+-- on the stream for faults unless a write there failed too, and then the session was cut short for the cause of that fault
 abbrev pub TellsSession : (status : ℕ) → (left left_after written written_after told told_after : Option (List ℕ))
-    → (failures failures_after : ℕ) → Type 0
-TellsSession status left left_after written written_after told told_after failures failures_after =
+    → (before after : CallsData) → (failures failures_after : ℕ) → Type 0
+TellsSession status left left_after written written_after told told_after before after failures failures_after =
     (ended : Result (Unit {0}) SessionFault) × (status ≡ end_status ended)
     × OnOk ended (IsWholeSession left left_after written written_after)
+    × IfErr ended (λ fault. IsCutShort fault left left_after written written_after × HasCause fault before after)
     × (failures_after ≡ failures → Appends told told_after (end_words ended))

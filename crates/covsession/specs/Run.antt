@@ -6,7 +6,7 @@ use Rattle.covbook.specs.Step.{table_of}
 use Rattle.covline.specs.Lines.{pieces_of, line_of}
 use Rattle.covsession.specs.Command.{Command, AreCommands, ops_of}
 use Rattle.covsession.specs.Session.{text_after, Asks}
-use Rattle.covsession.specs.Streams.{Moment, unread, turns, Moves, AreCut, TakesPieces}
+use Rattle.covsession.specs.Streams.{Moment, unread, turns, Says, Moves, AreCut, TakesPieces}
 use Rattle.covsession.specs.declared.session.text.LineEnd.{LineEnd}
 use Rattle.covsession.specs.declared.session.text.LineEnd.TheVariants.{Feed, Input}
 
@@ -59,3 +59,11 @@ pub record IsDone (m n : Moment) : Type 0 where
   pub moves : Moves m n bytes (text_after [] commands)
   pub run : IsRun Input (pieces_of bytes) commands
   pub ended : IsAtEnd (unread n.input)
+
+-- all commands were answered, and nothing waits to be written
+pub record IsSentOn (m n : Moment) : Type 0 where
+  pub done_at : Moment
+  pub done : IsDone m done_at
+  pub same_input : n.input ≡ done_at.input
+  pub says : Says done_at.output n.output []
+  pub emptied : n.output.waiting ≡ []

@@ -61,9 +61,14 @@ pub record Takes (i j : InputData) (bytes : List ℕ) : Type 0 where
   pub failed : j.failed_reads ≡ i.failed_reads
   pub same_source : j.source ≡ i.source
 
+-- a sink took some bytes more, or none
+abbrev pub Grows : Option (List ℕ) → Option (List ℕ) → Type 0
+Grows old new = (part : List ℕ) × Appends old new part
+
 -- between two moments this was said, and no write failed
 pub record Says (o p : OutputData) (text : List ℕ) : Type 0 where
   pub says : Appends (said_so_far o) (said_so_far p) text
+  pub grows : Grows o.written p.written
   pub failed : p.failed_writes ≡ o.failed_writes
   pub same_sink : p.sink ≡ o.sink
 

@@ -1,6 +1,7 @@
 //! The program over streams: a session, the exit status that tells how it ended, and the words of its fault.
 
 ghost use Rattle.std.specs.Prelude.{◌≡◌, ◌^◌, ◌<◌};
+ghost use Rattle.covsession.specs.Fault.{calls};
 ghost use Rattle.covsession.specs.Program.{fault_status, words_of_fault, TellsSession};
 ghost use Rattle.covsession.specs.Session.{said};
 
@@ -45,7 +46,10 @@ pub fn run_session<I: Source, O: Sink, E: Sink, A: Allocator + Copy>(
     requires failed_writes { O.failed_writes sink.old < 2 ^ 62 }
     requires failed_words { E.failed_writes faults.old < 2 ^ 62 }
     ensures { TellsSession result (I.left source.old) (I.left source.new) (O.written sink.old) (O.written sink.new)
-        (E.written faults.old) (E.written faults.new) (E.failed_writes faults.old) (E.failed_writes faults.new) }
+        (E.written faults.old) (E.written faults.new)
+        (calls (I.reads source.old) (I.failed_reads source.old) (O.failed_writes sink.old))
+        (calls (I.reads source.new) (I.failed_reads source.new) (O.failed_writes sink.new))
+        (E.failed_writes faults.old) (E.failed_writes faults.new) }
 {
     match session(alloc, source, sink) {
         Ok(()) => 0,

@@ -1,12 +1,14 @@
 //! One session: commands in, answers out.
 
-ghost use Rattle.std.specs.Prelude.{◌≡◌, ◌↔◌, ℕ, ◌+◌, ◌^◌, ◌<◌, ◌≤◌, length, List, Err, IsTrue, IfOk, OnOk, IfSome, IfNone};
+ghost use Rattle.std.specs.Prelude.{◌≡◌, ◌↔◌, ◌⊎◌, ℕ, ◌+◌, ◌^◌, ◌<◌, ◌≤◌, length, List, Err, IsTrue, IfOk, IfErr, OnOk, IfSome, IfNone};
 ghost use Rattle.std.specs.Io.KnownBytes.{Appends};
 ghost use Rattle.covbook.specs.Step.{most_entries, ops_in};
 ghost use Rattle.covsession.specs.declared.session.command.word.Format.{Format as TextFormat};
+ghost use Rattle.covsession.specs.Broken.{FailsAnswering, FailsTaking, IsBroken};
+ghost use Rattle.covsession.specs.Fault.{calls, HasCause, IsCutShort};
 ghost use Rattle.covsession.specs.Session.{IsSession, IsWholeSession};
 ghost use Rattle.covsession.specs.Streams.{moment, CanCall};
-ghost use Rattle.covsession.specs.Run.{TakesCommand, IsDone};
+ghost use Rattle.covsession.specs.Run.{TakesCommand, IsDone, IsSentOn};
 ghost use Rattle.covsession.specs.declared.session.fault.SessionFault.TheVariants as faults;
 
 mod answers;
@@ -20,7 +22,7 @@ mod submit;
 mod text;
 
 use crate::session::command::{Format, Word, answer_word, word_of};
-use crate::session::input::Input;
+use crate::session::input::{Input, block};
 use crate::session::output::Output;
 use crate::session::rename::answer_rename;
 use crate::session::submit::{Given, answer_given, take_text};
@@ -84,6 +86,8 @@ fn answer_command<I: Source, O: Sink, A: Allocator + Copy>(
     ensures takes { IfOk result (λ ending. TakesCommand (moment input.old output.old) (moment input.new output.new)
         (ops_in book.old.entries) (ops_in book.new.entries) ending) }
     ensures full { result ≡ Err faults.Full → length book.old.entries ≡ most_entries }
+    ensures fails { IfErr result (λ f. FailsTaking (moment input.old output.old) (moment input.new output.new) f
+        ⊎ FailsAnswering (moment input.old output.old) (moment input.new output.new) (ops_in book.old.entries) f) }
 {
     let mut line = Text::new(alloc, usize::MAX);
     let ending = input.take_line(&mut line, output)?;
@@ -109,7 +113,8 @@ fn answer_all<I: Source, O: Sink, A: Allocator + Copy>(
     output: &mut Output<'_, O, A>,
 ) -> Result<(), SessionFault>
     requires { CanCall (moment input.old output.old) }
-    ensures { OnOk result (IsDone (moment input.old output.old) (moment input.new output.new)) }
+    ensures done { OnOk result (IsDone (moment input.old output.old) (moment input.new output.new)) }
+    ensures broken { IfErr result (λ f. IsBroken (moment input.old output.old) (moment input.new output.new) f) }
 {
     let mut room = Vec::new(alloc);
     let mut book = Book::new(alloc);
@@ -121,9 +126,29 @@ fn answer_all<I: Source, O: Sink, A: Allocator + Copy>(
     }
 }
 
+// Answers all commands, and has the answers sent on.
+fn answer_to_the_end<I: Source, O: Sink, A: Allocator + Copy>(
+    alloc: A,
+    input: &mut Input<'_, I, A>,
+    output: &mut Output<'_, O, A>,
+) -> Result<(), SessionFault>
+    requires { CanCall (moment input.old output.old) }
+    ensures ended { OnOk result (IsSentOn (moment input.old output.old) (moment input.new output.new)) }
+    ensures broken { IfErr result (λ f. IsBroken (moment input.old output.old) (moment input.new output.new) f) }
+{
+    answer_all(alloc, input, output)?;
+    output.finish()
+}
+
 /// Runs one book, with job 0, on the commands of the source, and writes the answers to the sink. A text of more than
 /// 67,108,864 bytes isn't kept. At most 65,536 bytes of output wait: more is written at once, and all of it before each
 /// read and at the end.
+///
+/// # Errors
+///
+/// `Read` where a read failed, or 4,294,967,296 reads were made. `Write` where a write failed. `Memory` where a growth was
+/// refused. `Full` where the commands ask the book more than its history has room for. What the sink took till then is a
+/// beginning of the session text of the bytes that were read, and of the whole input.
 pub fn session<I: Source, O: Sink, A: Allocator + Copy>(
     alloc: A,
     source: &mut I,
@@ -141,12 +166,16 @@ pub fn session<I: Source, O: Sink, A: Allocator + Copy>(
     ensures no_failed_read { OnOk result (I.failed_reads source.new ≡ I.failed_reads source.old) }
     ensures no_failed_write { OnOk result (O.failed_writes sink.new ≡ O.failed_writes sink.old) }
     ensures few_reads { OnOk result (I.reads source.new ≤ I.reads source.old + 2 ^ 32) }
+    // After a fault a beginning of the session text was written, and the fault's own call failed, or none.
+    ensures short { IfErr result (λ f. IsCutShort f (I.left source.old) (I.left source.new) (O.written sink.old) (O.written sink.new)) }
+    ensures cause { IfErr result (λ f. HasCause f (calls (I.reads source.old) (I.failed_reads source.old) (O.failed_writes sink.old))
+        (calls (I.reads source.new) (I.failed_reads source.new) (O.failed_writes sink.new))) }
 {
-    let mut input = Input::new(alloc, source)?;
+    let block = block(alloc)?;
+    let mut input = Input::new(block, source);
     let mut output = Output::new(alloc, sink);
-    answer_all(alloc, &mut input, &mut output)?;
-    output.finish()?;
+    let ended = answer_to_the_end(alloc, &mut input, &mut output);
     input.into_source();
     output.into_sink();
-    Ok(())
+    ended
 }

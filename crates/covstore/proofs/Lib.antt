@@ -57,6 +57,7 @@ pub mod AddsRoom
 pub mod AddsSection
 pub mod AddsSettled
 pub mod AddsStore
+pub mod AddsSome
 pub mod AddsMaps
 pub mod AddsReady
 pub mod AddsWritten

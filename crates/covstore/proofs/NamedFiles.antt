@@ -1,33 +1,19 @@
 -- The names of the files in which a test has points, one after the other.
-use Rattle.std.proofs.Common.{◌≡◌, ℕ, Bool, true, false, cond, List, [], ◌∷◌, ◌++◌, map, filter, sym, ap, ◌∙◌, append_assoc}
-use Rattle.std.proofs.lemmas.List.{map-append}
+use Rattle.std.proofs.Common.{◌≡◌, ℕ, Bool, false, cond, List, ◌∷◌, ◌++◌, map, filter, sym, ap, ◌∙◌}
 use Rattle.covstore.specs.Renaming.{names_with}
 use Rattle.covstore.specs.State.{FileData, has_points_of}
 
--- ---- the names of the files
-
+-- a file in which the test has no points adds no name
 module _ (test : List ℕ) (pair : List ℕ × FileData) (files : List (List ℕ × FileData)) where
   names_at : (b : Bool) → List (List ℕ)
   names_at b = map (λ p. p.0) (cond b (pair ∷ filter (λ p. has_points_of test p.1) files) (filter (λ p. has_points_of test p.1) files))
 
-  pub unnamed : has_points_of test pair.1 ≡ false → names_with test (pair ∷ files) ≡ names_with test files
+  unnamed : has_points_of test pair.1 ≡ false → names_with test (pair ∷ files) ≡ names_with test files
   unfolding names_at
   unnamed e = ap names_at e
 
-  pub named : has_points_of test pair.1 ≡ true → names_with test (pair ∷ files) ≡ pair.0 ∷ names_with test files
-  unfolding names_at
-  named e = ap names_at e
-
--- the names so far with those of the files that are left are all of them
+-- the names so far with those of the files that are left are all of them, also behind such a file
 module _ {X : Type 0} (name : X → List ℕ) (test : List ℕ) (all left : List (List ℕ × FileData)) (pair : List ℕ × FileData) (files : List (List ℕ × FileData)) (steps : left ≡ pair ∷ files)
     (names : List X) (so_far : map name names ++ names_with test left ≡ names_with test all) where
   pub none_named : has_points_of test pair.1 ≡ false → map name names ++ names_with test files ≡ names_with test all
   none_named e = ap (λ (more : List (List ℕ)). map name names ++ more) (sym (unnamed test pair files e)) ∙ ap (λ (more : List (List ℕ × FileData)). map name names ++ names_with test more) (sym steps) ∙ so_far
-
-  pub one_named : (last : X) → name last ≡ pair.0 → has_points_of test pair.1 ≡ true → map name (names ++ last ∷ []) ++ names_with test files ≡ names_with test all
-  one_named last is e =
-      ap (λ (some : List (List ℕ)). some ++ names_with test files) (map-append name names (last ∷ []))
-      ∙ append_assoc (map name names) (name last ∷ []) (names_with test files)
-      ∙ ap (λ (n : List ℕ). map name names ++ n ∷ names_with test files) is
-      ∙ ap (λ (more : List (List ℕ)). map name names ++ more) (sym (named test pair files e))
-      ∙ ap (λ (more : List (List ℕ × FileData)). map name names ++ names_with test more) (sym steps) ∙ so_far

@@ -48,7 +48,8 @@ pub fn the_first_clash_is_told()
 {}
 
 /// No table comes to have two different checksums of one line of a file: the empty one has none, and the rows of a
-/// submission that doesn't clash bring none, nor does a test that is dropped.
+/// submission that doesn't clash bring none, nor does a test that is dropped. A rename brings none either:
+/// `renaming_keeps_totals`.
 pub fn accepted_rows_agree()
     ensures empty { Agree (checksums_in (all_rows [])) }
     ensures accepted { (table : Table) (s : SubmissionData) → clash_at table s ≡ None → Agree (checksums_in (all_rows table)) → Agree (checksums_in (all_rows (table ++ rows_of s ∷ []))) }
@@ -87,7 +88,8 @@ pub fn order_of_submissions_does_not_matter()
     ensures agree { (table others : Table) → IsPermutation table others → Agree (checksums_in (all_rows table)) → Agree (checksums_in (all_rows others)) }
 {}
 
-/// A rename changes neither the totals nor the checksums: points are counted once for all tests of their file.
+/// A rename doesn't change the totals, since points are counted once for all tests of their file. Checksums that agree still
+/// do after it. A rename to the same name leaves the table as it is.
 pub fn renaming_keeps_totals()
     ensures totals { (old new : List ℕ) (table : Table) → totals_of (content_at (renamed old new table)) ≡ totals_of (content_at table) }
     ensures agree { (old new : List ℕ) (table : Table) → Agree (checksums_in (all_rows table)) → Agree (checksums_in (all_rows (renamed old new table))) }

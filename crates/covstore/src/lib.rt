@@ -4,7 +4,8 @@
 //!
 //! A submission is held in two steps. `prepare` tells whether it clashes, makes all growths and gives a plan; `commit`
 //! holds it, and needs no memory. Between the two the caller can make its own growths, and drop the plan where one is
-//! refused.
+//! refused. A test is renamed in two such steps, `prepare_rename` and `commit_rename`; it is dropped in one, which needs no
+//! memory.
 //!
 //! A store is nested ordered maps: for each file its tests, for each test its points, and for each point of a file how
 //! many tests have it and how many have it above 0; totals run along. `prepare` puts what is to come beside what is held,

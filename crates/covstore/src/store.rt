@@ -26,7 +26,7 @@ impl<A: Allocator + Copy> Touched<A> {
     ghost use Rattle.std.specs.Prelude.{◌≡◌, ◌++◌, [], ◌∷◌, OnErr, OnOk};
     ghost use Rattle.covstore.specs.MapsView.{touched_data};
 
-    /// Something is to come of this test too.
+    /// Adds a test to those of which something is to come.
     fn push(
         touched: &mut Vec<Touched<A>, A>,
         alloc: A,
@@ -45,7 +45,7 @@ impl<A: Allocator + Copy> Touched<A> {
     }
 }
 
-/// What was to come of these tests is there.
+/// Of each of these tests, what was to come is held now. The list of them is empty then.
 fn take_coming<A: Allocator + Copy>(
     files: &mut BTreeMap<Vec<u8, A>, File<A>, A>,
     touched: &mut Vec<Touched<A>, A>,
@@ -63,9 +63,10 @@ fn take_coming<A: Allocator + Copy>(
     }
 }
 
-/// The value of every line, function and branch at its file and test, over the rows that are left of all submissions that
-/// are held, of which there are at most 1,048,576; rows go where their test is dropped. Contracts see these values as
-/// sections, how many submissions there are, and what the store keeps of the files, as they are and as they are to be.
+/// What the held submissions say: for each file and each test in it, the value of every line, function and branch. There are
+/// at most 1,048,576 submissions. Where a test is dropped or renamed, its rows are dropped or renamed in all of them.
+/// Contracts see the values as sections, the number of submissions, and what the store keeps of its files, once as it is
+/// and once as it is to be after the next commit.
 #[derive(Drop)]
 pub struct Store<A: Allocator = Global> {
     files: BTreeMap<Vec<u8, A>, File<A>, A>,
@@ -88,7 +89,7 @@ impl<A: Allocator> Model for Store<A> {
 }
 
 impl<A: Allocator + Copy> Store<A> {
-    ghost use Rattle.std.specs.Prelude.{◌≡◌, ◌≢◌, ◌<◌, ℕ, List, ◌++◌, [], ◌∷◌, map, true, IfOk, IfErr, None, OnOk};
+    ghost use Rattle.std.specs.Prelude.{◌≡◌, ◌≢◌, ◌<◌, ℕ, List, ◌++◌, [], ◌∷◌, map, true, IfOk, IfErr, None, OnOk, OnErr};
     ghost use Rattle.std.specs.Cmp.Lexicographic.{slice_cmp};
     ghost use Rattle.std.specs.Option.{is_some};
     ghost use Rattle.std.specs.Ordering.{nat_cmp};
@@ -132,10 +133,15 @@ impl<A: Allocator + Copy> Store<A> {
         }
     }
 
-    /// Makes all ready to hold the submission too, or says why it can't be held: it clashes with what is held, or a growth
-    /// was refused. The content stays as it is. What a plan holds is the store's own business: callers know of it that the
-    /// submission clashes with no table that the store stands for, and the totals behind it, and that it is a plan of this
-    /// store as it is left here, which `commit` asks for.
+    /// Makes the store ready to hold the submission too. The content stays as it is. What a plan is made of is private.
+    /// Callers know three things of it: the submission clashes with no table that the store stands for; the plan has the
+    /// totals after the submission; and it is a plan of the store as it is left here, which `commit` asks for.
+    ///
+    /// # Errors
+    ///
+    /// `Clash` with the first checksum that differs from a held one. `Memory` where a growth was refused: no contract can say
+    /// that memory suffices, so a submission that clashes may be answered `Memory` too. A submission without a row is never
+    /// refused, since nothing grows for it.
     pub fn prepare(&mut self, alloc: A, submission: &Submission<A>) -> Result<Plan, Refuse<A>>
         requires { self.old.members < most_members }
         ensures content { SameContent self.old self.new }
@@ -143,10 +149,11 @@ impl<A: Allocator + Copy> Store<A> {
         ensures after { IfOk result (λ plan. (table : Table) → StandsFor self.old table → plan.after ≡ totals_of (content_at (table ++ rows_of submission.now ∷ []))) }
         ensures agrees { IfOk result (λ _. (table : Table) → StandsFor self.old table → clash_at table submission.now ≡ None) }
         ensures refused { IfErr result (λ e. (table : Table) → StandsFor self.old table → IsRefusedAt table submission.now (refuse_data e)) }
+        ensures some { OnErr result (rows_of submission.now ≢ []) }
     {
-        // Tells that few enough rows are held.
+        // The contract of this call tells that few enough rows are held.
         self.kept();
-        // What a plan left that was dropped.
+        // A plan that was dropped may have left something to come.
         self.forget();
         let added = self.add_all(alloc, submission.sects());
         match added {
@@ -169,11 +176,11 @@ impl<A: Allocator + Copy> Store<A> {
         self.members += 1;
     }
 
-    /// Makes all ready to give the rows of one test the name of another. The content stays as it is. What a renaming holds is
-    /// the store's own business: callers know of it in how many sections the old test stands, and that it is a renaming of
-    /// this store as it is left here, which `commit_rename` asks for. Any new name is taken. Where no row is of the old test, or
-    /// both names are the same, the renaming does nothing. The time is that of one look-up in each file, and of the points
-    /// that the old test has.
+    /// Makes the store ready to give the rows of one test another name, which can be any. The content stays as it is. What a
+    /// renaming is made of is private. Callers know two things of it: in how many sections the old test stands; and that it
+    /// is a renaming of the store as it is left here, which `commit_rename` asks for. Where no row is of the old test, or both
+    /// names are the same, it does nothing. The call takes a few look-ups in each file, and time for each point of the old
+    /// test.
     ///
     /// # Errors
     ///
@@ -188,7 +195,7 @@ impl<A: Allocator + Copy> Store<A> {
         ensures planned { IfOk result (λ renaming. IsRenamingOf self.new old.now new.now renaming) }
         ensures sections { IfOk result (λ renaming. (table : Table) → StandsFor self.old table → renaming.sections ≡ sections_of_test old.now table) }
     {
-        // What a plan left that was dropped.
+        // A plan that was dropped may have left something to come.
         self.forget();
         let (sections, _) = self.after_drop(old);
         if sections == 0 || old == new {
@@ -204,8 +211,8 @@ impl<A: Allocator + Copy> Store<A> {
         }
     }
 
-    /// Gives the rows of the old test their new name, where the store is as `prepare_rename` left it. Values that meet under
-    /// the new name are those of all rows. The totals stay. Takes no memory.
+    /// Gives the rows of the old test their new name, where the store is as `prepare_rename` left it. Where a point has rows
+    /// of both names, its value is that of all these rows together. The totals stay. Takes no memory.
     pub fn commit_rename(&mut self, renaming: Renaming<A>)
         requires { (old new : List ℕ) × IsRenamingOf self.old old new renaming }
         ensures stands { (old new : List ℕ) (table : Table) → IsRenamingOf self.old old new renaming → StandsFor self.old table → StandsFor self.new (renamed old new table) }
@@ -216,21 +223,21 @@ impl<A: Allocator + Copy> Store<A> {
         }
     }
 
-    /// The totals of what is held, which is the state of the rows of a table.
+    /// The totals of what is held. The contract tells that what is held is the state of the rows of some table.
     fn kept(&self) -> Totals
         ensures { IsKept self.now result }
     {
         self.held
     }
 
-    /// The totals as they are to be.
+    /// The totals as they are to be after the next commit.
     fn after(&self) -> Totals
         ensures { result ≡ self.now.after }
     {
         self.coming
     }
 
-    /// Nothing is to come.
+    /// Forgets what was to come.
     fn forget(&mut self)
         ensures sections { self.new.sections ≡ self.old.sections }
         ensures members { self.new.members ≡ self.old.members }
@@ -246,12 +253,13 @@ impl<A: Allocator + Copy> Store<A> {
         self.coming = self.held;
     }
 
-    /// Takes the sections into what is to come, in order, up to the first that clashes.
+    /// Adds the sections to what is to come, in order, up to the first that is refused.
     fn add_all(&mut self, alloc: A, sects: &[Sect<A>]) -> Result<(), Refuse<A>>
         requires { HasRoomForRows (flat_map rows_of_sect (map sect_data sects.now)) self.old }
         ensures held { SameHeld self.old self.new }
         ensures ok { OnOk result (AddsRows (flat_map rows_of_sect (map sect_data sects.now)) self.old self.new) }
         ensures clash { IfErr result (λ e. ClashesWith (flat_map rows_of_sect (map sect_data sects.now)) self.old (refuse_data e)) }
+        ensures some { OnErr result (flat_map rows_of_sect (map sect_data sects.now) ≢ []) }
     {
         for sect in sects {
             self.add_section(alloc, sect)?;
@@ -259,12 +267,13 @@ impl<A: Allocator + Copy> Store<A> {
         Ok(())
     }
 
-    /// Takes the items of a section.
+    /// Adds the items of a section to what is to come. For a section without items nothing grows.
     fn add_section(&mut self, alloc: A, sect: &Sect<A>) -> Result<(), Refuse<A>>
         requires { HasRoomForRows (rows_of_sect (sect_data sect.now)) self.old }
         ensures held { SameHeld self.old self.new }
         ensures ok { OnOk result (AddsRows (rows_of_sect (sect_data sect.now)) self.old self.new) }
         ensures clash { IfErr result (λ e. ClashesWith (rows_of_sect (sect_data sect.now)) self.old (refuse_data e)) }
+        ensures some { OnErr result (rows_of_sect (sect_data sect.now) ≢ []) }
     {
         let items = sect.items.get();
         if items.is_empty() {
@@ -277,7 +286,7 @@ impl<A: Allocator + Copy> Store<A> {
         self.add_items(alloc, file, test, items)
     }
 
-    /// Sees to it that the file is there.
+    /// Makes the file, unless it is there.
     fn open(&mut self, alloc: A, file: &[u8]) -> Result<(), Memory>
         ensures held { SameHeld self.old self.new }
         ensures coming { OnOk result (self.new.coming ≡ with_file file.now self.old.coming) }
@@ -291,7 +300,7 @@ impl<A: Allocator + Copy> Store<A> {
         Ok(())
     }
 
-    /// Sees to it that the test of a file is there.
+    /// Makes the test of a file, unless it is there.
     fn open_test(&mut self, alloc: A, file: &[u8], test: &[u8]) -> Result<(), Memory>
         requires { is_some (value_of (slice_cmp nat_cmp) file.now self.old.coming) ≡ true }
         ensures held { SameHeld self.old self.new }
@@ -305,7 +314,7 @@ impl<A: Allocator + Copy> Store<A> {
         }
     }
 
-    /// Takes the items of a test that is there. Of this test something is to come then.
+    /// Adds the items to what is to come of a test that is there, and notes that something is to come of it.
     fn add_items(
         &mut self,
         alloc: A,
@@ -328,14 +337,14 @@ impl<A: Allocator + Copy> Store<A> {
         Ok(())
     }
 
-    /// Takes the values of the old test into what is to come of the new one, file by file.
+    /// Adds the values of the old test to what is to come of the new one, file by file.
     fn copy_all(&mut self, alloc: A, old: &[u8], new: &[u8]) -> Result<(), Memory>
         requires apart { old.now ≢ new.now }
         requires still { self.old.coming ≡ self.old.held }
         ensures held { SameHeld self.old self.new }
         ensures ok { OnOk result (IsMoving self.new old.now new.now old.now) }
     {
-        // Tells that few enough rows are held.
+        // The contract of this call tells that few enough rows are held.
         self.kept();
         let names = names_with(&self.files, alloc, old)?;
         for name in names.as_slice() {
@@ -344,7 +353,7 @@ impl<A: Allocator + Copy> Store<A> {
         Ok(())
     }
 
-    /// Takes the values of the old test of a file, which has some.
+    /// The same in one file, in which the old test has values.
     fn copy_file(&mut self, alloc: A, file: &[u8], old: &[u8], new: &[u8]) -> Result<(), Memory>
         requires apart { old.now ≢ new.now }
         requires room { HasRoomToCopy file.now old.now self.old }
@@ -355,7 +364,7 @@ impl<A: Allocator + Copy> Store<A> {
         self.copy_values(alloc, file, old, new)
     }
 
-    /// Takes the values of the old test of a file where both tests are there. Of the new one something is to come then.
+    /// The same in one file, in which both tests are there. Notes that something is to come of the new one.
     fn copy_values(&mut self, alloc: A, file: &[u8], old: &[u8], new: &[u8]) -> Result<(), Memory>
         requires apart { old.now ≢ new.now }
         requires room { HasRoomToCopy file.now old.now self.old }
@@ -370,7 +379,8 @@ impl<A: Allocator + Copy> Store<A> {
         }
     }
 
-    /// Whether some section is of this test, and so some row: found by one look-up in each file. Takes no memory.
+    /// Whether some section, and so some row, is of this test. Looks the test up in one file after the other, up to the
+    /// first that has it. Takes no memory.
     pub fn has_test(&self, test: &[u8]) -> bool
         ensures value { result ≡ list_any (λ s. bytes_eq s.key.test test.now) self.now.sections }
         ensures rows { (table : Table) → StandsFor self.now table → result ≡ list_any (λ row. bytes_eq row.test test.now) (all_rows table) }
@@ -393,7 +403,7 @@ impl<A: Allocator + Copy> Store<A> {
         ensures sections { (table : Table) → StandsFor self.old table → result ≡ sections_of_test test.now table }
         ensures stands { (table : Table) → StandsFor self.old table → StandsFor self.new (without_test test.now table) }
     {
-        // What a plan left that was dropped.
+        // A plan that was dropped may have left something to come.
         self.forget();
         let (sections, totals) = count_without(&self.files, test);
         drop_from_files(&mut self.files, test);

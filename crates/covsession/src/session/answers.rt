@@ -4,6 +4,7 @@ ghost use Rattle.std.specs.Prelude.{◌≡◌, ◌≢◌, ◌^◌, ◌<◌, code
 ghost use Rattle.covbook.specs.Op.{AcceptedAnswer, ClashAnswer, DroppedAnswer, RenamedAnswer};
 ghost use Rattle.covbook.specs.View.{answer_data};
 ghost use Rattle.covsession.specs.Session.{answer_text, line_fault_name, fault_text, refused_text};
+ghost use Rattle.covsession.specs.Broken.{Breaks};
 ghost use Rattle.covsession.specs.Streams.{Says};
 ghost use Rattle.covsession.specs.declared.session.fault.SessionFault.TheVariants as session_faults;
 
@@ -187,6 +188,7 @@ pub fn say_answer<O: Sink, A: Allocator + Copy>(
     requires { output.old.failed_writes < 2 ^ 63 }
     ensures says { OnOk result (Says output.old output.new (answer_text (answer_data answer.now))) }
     ensures fault { IfErr result (λ f. f ≢ session_faults.Full) }
+    ensures breaks { IfErr result (λ f. Breaks output.old output.new f (answer_text (answer_data answer.now))) }
 {
     match answer {
         Answer::Accepted { number, items, odd } => {

@@ -7,6 +7,7 @@ ghost use Rattle.covbook.specs.View.{op_data};
 ghost use Rattle.covreport.specs.Choice.{most_pattern_bytes};
 ghost use Rattle.covsession.specs.Command.{asked_by, pick_op, IsListOf};
 ghost use Rattle.covsession.specs.Session.{answer_text, text_after, Asks};
+ghost use Rattle.covsession.specs.Broken.{Breaks, FailsSaying};
 ghost use Rattle.covsession.specs.Streams.{Says};
 ghost use Rattle.covsession.specs.declared.session.fault.SessionFault.TheVariants as session_faults;
 
@@ -37,6 +38,7 @@ pub fn step<O: Sink, A: Allocator + Copy>(
     ensures asked { OnOk result (ops_in book.new.entries ≡ ops_in book.old.entries ++ op_data op.now ∷ []) }
     ensures entry { OnOk result (book.new.entries ≡ book.old.entries ++ next_entry book.old.entries 0 (op_data op.now) ∷ []) }
     ensures full { (result ≡ Err session_faults.Full) ↔ (length book.old.entries ≡ most_entries) }
+    ensures breaks { IfErr result (λ f. Breaks output.old output.new f (answer_text (answer_of (table_of (ops_in book.old.entries)) (op_data op.now)))) }
 {
     let receipt = book.step(alloc, SESSION_JOB, op)?;
     say_answer(alloc, &receipt.answer, output)
@@ -92,6 +94,7 @@ pub fn answer_word<O: Sink, A: Allocator + Copy>(
     ensures asks { OnOk result (Asks (asked_by word.entry) (ops_in book.old.entries) (ops_in book.new.entries)) }
     ensures says { OnOk result (Says output.old output.new (text_after (table_of (ops_in book.old.entries)) (asked_by word.entry))) }
     ensures full { result ≡ Err session_faults.Full → length book.old.entries ≡ most_entries }
+    ensures fails { IfErr result (λ f. FailsSaying output.old output.new (ops_in book.old.entries) (asked_by word.entry) f) }
 {
     match word {
         Word::Blank => output.say(b""),

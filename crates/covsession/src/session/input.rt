@@ -1,8 +1,9 @@
 //! The input of a session: a block of bytes that was read, and the source of further ones.
 
-ghost use Rattle.std.specs.Prelude.{◌≡◌, ◌≢◌, ◌⊎◌, ℕ, ◌-◌, ◌+◌, ◌^◌, ◌<◌, ◌≤◌, List, [], ◌∷◌, ◌++◌, length, take, drop, IfOk, IfErr, OnOk, OnErr};
+ghost use Rattle.std.specs.Prelude.{◌≡◌, ◌≢◌, ℕ, ◌-◌, ◌+◌, ◌^◌, ◌<◌, ◌≤◌, List, [], ◌∷◌, ◌++◌, length, take, drop, IfOk, IfErr, OnOk, OnErr};
 ghost use Rattle.std.specs.Io.KnownBytes.{IsAtEnd};
 ghost use Rattle.covline.specs.Lines.{before_feed, line_feed};
+ghost use Rattle.covsession.specs.Broken.{Fails, Stalls};
 ghost use Rattle.covsession.specs.Streams.{unread, turns, moment, CanRead, CanCall, Takes, Moves, TakesPart, TakesLine};
 ghost use Rattle.covsession.specs.Text.{AreLines, HasCollected};
 ghost use Rattle.covsession.specs.declared.session.fault.SessionFault.TheVariants as session_faults;
@@ -21,6 +22,14 @@ const BLOCK_BYTES: usize = 65_536;
 
 /// How many reads a session makes at the most.
 const MOST_READS: u64 = 4_294_967_296;
+
+/// The room of a block that is read.
+pub fn block<A: Allocator>(alloc: A) -> Result<Vec<u8, A>, SessionFault>
+    ensures room { IfOk result (λ block. length block.items ≡ 65536) }
+    ensures fault { IfErr result (λ f. f ≡ session_faults.Memory) }
+{
+    Ok(vec![in alloc; 0; BLOCK_BYTES]?)
+}
 
 /// Bytes that were read and are still to be taken, and the source that is read when there are none. Contracts see
 /// both, and how many reads were made and may follow.
@@ -52,23 +61,23 @@ impl<'s, I: Source, A: Allocator> Model for Input<'s, I, A> {
 }
 
 impl<'s, I: Source, A: Allocator> Input<'s, I, A> {
-    /// The input from this source, before the first read.
-    pub fn new(alloc: A, source: &'s mut I) -> Result<Input<'s, I, A>, SessionFault>
-        ensures empty { IfOk result (λ i. i.pending ≡ []) }
-        ensures fresh { IfOk result (λ i. i.reads_left ≡ 2 ^ 32) }
-        ensures left { IfOk result (λ i. i.left ≡ I.left source.old) }
-        ensures reads { IfOk result (λ i. i.reads ≡ I.reads source.old) }
-        ensures failed { IfOk result (λ i. i.failed_reads ≡ I.failed_reads source.old) }
-        ensures same { IfOk result (λ i. i.source ≡ source.entry.ghost_name) }
-        ensures fault { IfErr result (λ f. f ≡ session_faults.Memory) }
+    /// The input from this source, before the first read, which is into this block.
+    pub fn new(block: Vec<u8, A>, source: &'s mut I) -> Input<'s, I, A>
+        requires { length block.items ≡ 65536 }
+        ensures empty { result.pending ≡ [] }
+        ensures fresh { result.reads_left ≡ 2 ^ 32 }
+        ensures left { result.left ≡ I.left source.old }
+        ensures reads { result.reads ≡ I.reads source.old }
+        ensures failed { result.failed_reads ≡ I.failed_reads source.old }
+        ensures same { result.source ≡ source.entry.ghost_name }
     {
-        Ok(Input {
-            bytes: vec![in alloc; 0; BLOCK_BYTES]?,
+        Input {
+            bytes: block,
             from: 0,
             to: 0,
             reads_left: MOST_READS,
             source,
-        })
+        }
     }
 
     /// Gives the source back.
@@ -121,17 +130,18 @@ impl<'s, I: Source, A: Allocator> Input<'s, I, A> {
         ensures ended { OnOk result (self.new.pending ≡ [] → IsAtEnd self.new.left) }
         ensures fewer { OnOk result (turns self.new < turns self.old) }
         ensures fault { IfErr result (λ f. f ≡ session_faults.Read) }
-        // It fails only where no read is left, or one failed.
-        ensures cause { OnErr result ((self.old.reads_left ≡ 0) ⊎ (self.new.failed_reads ≡ self.old.failed_reads + 1)) }
+        // It fails only where no read is left, or one failed, and takes nothing then.
+        ensures stalls { OnErr result (Stalls self.old self.new) }
     {
         if self.reads_left == 0 {
             return Err(SessionFault::Read);
         }
+        self.reads_left -= 1;
+        self.from = 0;
+        self.to = 0;
         let Ok(count) = self.source.read(self.bytes.as_mut_slice()) else {
             return Err(SessionFault::Read);
         };
-        self.reads_left -= 1;
-        self.from = 0;
         self.to = count;
         Ok(())
     }
@@ -145,6 +155,7 @@ impl<'s, I: Source, A: Allocator> Input<'s, I, A> {
         ensures fewer { OnOk result (turns self.new ≤ turns self.old) }
         ensures shown { OnOk result (self.old.pending ≡ [] → output.new.waiting ≡ []) }
         ensures fault { IfErr result (λ f. f ≢ session_faults.Full) }
+        ensures fails { IfErr result (λ f. Fails (moment self.old output.old) (moment self.new output.new) f []) }
     {
         if !self.pending().is_empty() {
             return Ok(());
@@ -161,6 +172,7 @@ impl<'s, I: Source, A: Allocator> Input<'s, I, A> {
         ensures limit { OnOk result (text.new.limit ≡ text.old.limit) }
         ensures kept { OnOk result (self.new ≡ record self.old { pending = self.new.pending }) }
         ensures fault { IfErr result (λ f. f ≡ session_faults.Memory) }
+        ensures same { OnErr result (self.new ≡ self.old) }
     {
         let count = self.feed_at();
         let pending = self.pending();
@@ -182,6 +194,7 @@ impl<'s, I: Source, A: Allocator> Input<'s, I, A> {
         ensures kept { OnOk result (self.new ≡ record self.old { pending = self.new.pending }) }
         ensures fewer { OnOk result (turns self.new ≤ turns self.old) }
         ensures fault { IfErr result (λ f. f ≡ session_faults.Memory) }
+        ensures same { OnErr result (self.new ≡ self.old) }
     {
         let pending = self.pending();
         let count = whole_lines(pending);
@@ -202,6 +215,7 @@ impl<'s, I: Source, A: Allocator> Input<'s, I, A> {
             × ((before : List ℕ) → (now : List ℕ) → HasCollected text.old before now → HasCollected text.new before (now ++ line))) }
         ensures limit { OnOk result (text.new.limit ≡ text.old.limit) }
         ensures fault { IfErr result (λ f. f ≢ session_faults.Full) }
+        ensures fails { IfErr result (λ f. Fails (moment self.old output.old) (moment self.new output.new) f []) }
     {
         loop {
             self.fill(output)?;

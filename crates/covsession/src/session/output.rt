@@ -2,6 +2,8 @@
 
 ghost use Rattle.std.specs.Prelude.{◌≡◌, ◌≢◌, ◌^◌, ◌+◌, ◌<◌, ◌≤◌, [], length, IfErr, OnOk, OnErr};
 ghost use Rattle.std.specs.Io.KnownBytes.{Appends};
+ghost use Rattle.covsession.specs.Broken.{Breaks};
+ghost use Rattle.covsession.specs.Fault.{HasBegun};
 ghost use Rattle.covsession.specs.Streams.{Says};
 ghost use Rattle.covsession.specs.declared.session.fault.SessionFault.TheVariants as session_faults;
 
@@ -65,6 +67,7 @@ impl<'s, O: Sink, A: Allocator> Output<'s, O, A> {
         ensures says { OnOk result (Says self.old self.new []) }
         ensures emptied { OnOk result (self.new.waiting ≡ []) }
         ensures fault { IfErr result (λ f. f ≡ session_faults.Write) }
+        ensures breaks { IfErr result (λ f. Breaks self.old self.new f []) }
     {
         put_bytes(self.waiting.as_slice(), self.sink)?;
         self.waiting.clear();
@@ -77,6 +80,7 @@ impl<'s, O: Sink, A: Allocator> Output<'s, O, A> {
         ensures says { OnOk result (Says self.old self.new bytes.now) }
         ensures few { OnOk result (length self.new.waiting ≤ 65536) }
         ensures fault { IfErr result (λ f. f ≢ session_faults.Full) }
+        ensures breaks { IfErr result (λ f. Breaks self.old self.new f bytes.now) }
     {
         if bytes.len() >= MOST_WAITING {
             self.put_out()?;
@@ -95,6 +99,7 @@ impl<'s, O: Sink, A: Allocator> Output<'s, O, A> {
         ensures says { OnOk result (Says self.old self.new []) }
         ensures emptied { OnOk result (self.new.waiting ≡ []) }
         ensures fault { IfErr result (λ f. f ≡ session_faults.Write) }
+        ensures breaks { IfErr result (λ f. Breaks self.old self.new f []) }
     {
         self.put_out()?;
         match self.sink.flush() {
@@ -104,12 +109,13 @@ impl<'s, O: Sink, A: Allocator> Output<'s, O, A> {
     }
 }
 
-/// Writes the bytes, by as many calls as it takes.
+/// Writes the bytes, by as many calls as it takes. After a failed write the sink has a beginning of them.
 pub fn put_bytes<O: Sink>(bytes: &[u8], sink: &mut O) -> Result<(), SessionFault>
     requires { O.failed_writes sink.old < 2 ^ 63 }
     ensures written { OnOk result (Appends (O.written sink.old) (O.written sink.new) bytes.now) }
     ensures failed { OnOk result (O.failed_writes sink.new ≡ O.failed_writes sink.old) }
     ensures one { OnErr result (O.failed_writes sink.new ≡ O.failed_writes sink.old + 1) }
+    ensures begun { OnErr result (HasBegun (O.written sink.old) (O.written sink.new) bytes.now) }
     ensures fault { IfErr result (λ f. f ≡ session_faults.Write) }
 {
     let mut at = 0;

@@ -1,6 +1,6 @@
 //! A text behind a line `trace` or `gcov`: it is taken, read and submitted, or refused.
 
-ghost use Rattle.std.specs.Prelude.{◌≡◌, ◌≢◌, ℕ, ◌^◌, ◌<◌, length, List, [], Result, Err, IfOk, IfErr, OnOk};
+ghost use Rattle.std.specs.Prelude.{◌≡◌, ◌≢◌, ◌⊎◌, ℕ, ◌^◌, ◌<◌, length, List, [], Result, Err, IfOk, IfErr, OnOk};
 ghost use Rattle.covline.specs.Row.{SubmissionData};
 ghost use Rattle.covbook.specs.Step.{most_entries, table_of, ops_in};
 ghost use Rattle.covread.specs.declared.fault.ReadFault.{ReadFault as Fault};
@@ -8,6 +8,7 @@ ghost use Rattle.covread.specs.declared.fault.ReadFault.TheVariants as read_faul
 ghost use Rattle.covread.specs.Outcome.{IsOrMemory};
 ghost use Rattle.covsession.specs.Command.{Command, format_of, IsReadAs};
 ghost use Rattle.covsession.specs.Session.{refused_text, text_after, Asks};
+ghost use Rattle.covsession.specs.Broken.{Breaks, Fails, FailsGiven, FailsSaying};
 ghost use Rattle.covsession.specs.Streams.{moment, CanCall, Says, TakesPieces};
 ghost use Rattle.covsession.specs.Text.{asked_for, AnswersAs, IsAnsweredAs, IsTaken, IsTold, IsToldAnswer};
 ghost use Rattle.covsession.specs.declared.session.fault.SessionFault.TheVariants as session_faults;
@@ -38,6 +39,7 @@ pub fn take_text<I: Source, O: Sink, A: Allocator>(
         × TakesPieces (moment input.old output.old) (moment input.new output.new) pieces r.1 []
         × IsTaken pieces r.1 r.0) }
     ensures fault { IfErr result (λ f. f ≢ session_faults.Full) }
+    ensures fails { IfErr result (λ f. Fails (moment input.old output.old) (moment input.new output.new) f []) }
 {
     let mut text = Text::in_room(room, MOST_BYTES);
     loop {
@@ -84,6 +86,7 @@ fn refuse<O: Sink, A: Allocator + Copy>(
     requires { output.old.failed_writes < 2 ^ 63 }
     ensures says { OnOk result (Says output.old output.new (refused_text fault)) }
     ensures fault { IfErr result (λ f. f ≢ session_faults.Full) }
+    ensures breaks { IfErr result (λ f. Breaks output.old output.new f (refused_text fault)) }
 {
     let line = refused_line(alloc, fault)?;
     output.say(line.as_slice())
@@ -116,6 +119,8 @@ fn submit<O: Sink, A: Allocator + Copy>(
     ensures asks { OnOk result (Asks (asked_for read) (ops_in book.old.entries) (ops_in book.new.entries)) }
     ensures says { OnOk result (Says output.old output.new (text_after (table_of (ops_in book.old.entries)) (asked_for read))) }
     ensures full { result ≡ Err session_faults.Full → length book.old.entries ≡ most_entries }
+    ensures fails { IfErr result (λ f. (Breaks output.old output.new f [] × (f ≢ session_faults.Full))
+        ⊎ (IsToldAnswer read × FailsSaying output.old output.new (ops_in book.old.entries) (asked_for read) f)) }
 {
     match read {
         Ok(submission) => {
@@ -159,6 +164,7 @@ pub fn answer_given<O: Sink, A: Allocator + Copy>(
         × Asks commands (ops_in book.old.entries) (ops_in book.new.entries)
         × Says output.old output.new (text_after (table_of (ops_in book.old.entries)) commands)) }
     ensures full { result ≡ Err session_faults.Full → length book.old.entries ≡ most_entries }
+    ensures fails { IfErr result (λ f. FailsGiven (format_of given.entry.format) given.entry.taken output.old output.new (ops_in book.old.entries) f) }
 {
     let Given { format, taken } = given;
     match taken {

@@ -1,4 +1,4 @@
-use Rattle.std.proofs.Common.{◌+◌, List, drop, map, take, sym, ap, subst}
+use Rattle.std.proofs.Common.{◌≢◌, ◌+◌, List, [], drop, map, take, sym, ap, subst}
 use Rattle.std.specs.List.{flat_map}
 use Rattle.std.proofs.lemmas.List.{take_all}
 use Rattle.std.proofs.lemmas.Result.{err_from_is_err_and}
@@ -7,7 +7,9 @@ use Rattle.covline.specs.SectView.{sect_data}
 use Rattle.covstore.specs.Stored.{AddsRows, ClashesWith}
 use Rattle.covstore.specs.RefuseView.{refuse_data}
 use Rattle.covstore.proofs.AddsLoop.{all_at, left_at, taken_at}
+use Rattle.covstore.proofs.AddsSome.{some_of_them}
 use Rattle.covstore.proofs.AddsStore.{HasTakenSects, held_by_both, next_room, no_sects, one_sect, sect_clashes}
+use Rattle.covstore.proofs.SlotWrites.{on_err}
 use Rattle.covstore.proofs.store.Store.add_all.Goals as goal
 
 pub loop-sect-init : goal.loop-sect-init
@@ -39,6 +41,15 @@ returns-in_err-add_section-clause-clash g c =
     (sect_clashes taken (sect_data c.sect-item.result) rest c.args.self.now l.self
     (subst (λ (more : List SectData). HasTakenSects taken more c.args.self.now l.self) left l.invariant)
     (refuse_data c.in_err-add_section.field-0.0) c.in_err-add_section.ensures.clash))
+
+pub returns-in_err-add_section-clause-some : goal.returns-in_err-add_section-clause-some
+returns-in_err-add_section-clause-some g c =
+    let l = c.loop-sect in
+    let sects = c.args.sects.now in
+    let all = all_at sect_data sects l.sect-index c.sect-item.result c.loop-sect-test.true c.sect-item.is in
+    on_err c.from_residual.result
+    (subst (λ (xs : List SectData). flat_map rows_of_sect xs ≢ []) (sym all)
+    (some_of_them (map sect_data (take l.sect-index sects)) (sect_data c.sect-item.result) (map sect_data (drop (l.sect-index + 1) sects)) c.in_err-add_section.ensures.some))
 
 pub loop-sect-preserved : goal.loop-sect-preserved
 loop-sect-preserved g c =

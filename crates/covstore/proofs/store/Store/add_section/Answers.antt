@@ -11,7 +11,9 @@ use Rattle.covstore.specs.RefuseView.{refuse_data}
 use Rattle.covstore.specs.SectionAdds.{rows_of_items}
 use Rattle.covstore.proofs.AddsMaps.{file_ready}
 use Rattle.covstore.proofs.AddsReady.{adds_kept, both_keep, clash_kept, file_opened_keeps, no_items, nothing_added, room_kept, same_rows}
+use Rattle.covstore.proofs.AddsSome.{some_rows}
 use Rattle.covstore.proofs.AddsStore.{held_by_both}
+use Rattle.covstore.proofs.SlotWrites.{on_err}
 use Rattle.covstore.proofs.store.Store.add_section.Goals as goal
 
 pub returns-then-is_empty-clause-ok : goal.returns-then-is_empty-clause-ok
@@ -76,3 +78,15 @@ returns-clause-clash g c =
     let after = c.in_ok-open_test.ensures.after ∙ c.in_ok-open.ensures.after in
     IfErr-weaker c.add_items.result (λ e. ClashesWith (rows_of_items file test items) ready (refuse_data e)) (λ e. ClashesWith rows now (refuse_data e))
     (λ e clash. clash_kept rows now ready keeps after (refuse_data e) (subst (λ (added : List Row). ClashesWith added ready (refuse_data e)) same clash)) c.add_items.ensures.clash
+
+pub returns-in_err-open-clause-some : goal.returns-in_err-open-clause-some
+returns-in_err-open-clause-some g c =
+    on_err c.from_residual.result (some_rows item_data c.get-items.result.now (sect_data c.args.sect.now) c.is_empty.result c.get-items.ensures.items c.is_empty.ensures c.if-is_empty.false)
+
+pub returns-in_err-open_test-clause-some : goal.returns-in_err-open_test-clause-some
+returns-in_err-open_test-clause-some g c =
+    on_err c.from_residual-in_err-open_test.result (some_rows item_data c.get-items.result.now (sect_data c.args.sect.now) c.is_empty.result c.get-items.ensures.items c.is_empty.ensures c.if-is_empty.false)
+
+pub returns-clause-some : goal.returns-clause-some
+returns-clause-some g c =
+    on_err c.add_items.result (some_rows item_data c.get-items.result.now (sect_data c.args.sect.now) c.is_empty.result c.get-items.ensures.items c.is_empty.ensures c.if-is_empty.false)

@@ -1,4 +1,4 @@
-use Rattle.std.proofs.Common.{List, sym, ◌∙◌, subst}
+use Rattle.std.proofs.Common.{◌≢◌, List, [], sym, ◌∙◌, subst}
 use Rattle.std.specs.List.{flat_map}
 use Rattle.covline.specs.Row.{SectData, rows_of_sect}
 use Rattle.covstore.specs.Stored.{AddsRows, ClashesWith, HasRoomForRows}
@@ -53,3 +53,6 @@ returns-in-Err-clause-refused g c = λ table stands.
     let clash = subst (λ (sects : List SectData). ClashesWith (flat_map rows_of_sect sects) c.forget.new.self (refuse_data c.in-Err.refusal)) c.sects.ensures.sects c.in-Err.ensures.clash in
     refused_too c.args.self.now c.kept.result c.kept.ensures c.requires c.args.submission.now c.sects.ensures.lawful c.forget.new.self settled.sections settled.members settled.held settled.coming settled.after later c.add_all-added.ensures.held
     (refuse_data c.in-Err.refusal) clash table stands
+
+pub returns-in-Err-clause-some : goal.returns-in-Err-clause-some
+returns-in-Err-clause-some g c = subst (λ (sects : List SectData). flat_map rows_of_sect sects ≢ []) c.sects.ensures.sects c.in-Err.ensures.some

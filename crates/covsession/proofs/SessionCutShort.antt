@@ -1,0 +1,178 @@
+-- What a session that was cut short leaves, told of its source and its sink.
+use Rattle.std.proofs.Common.{◌≡◌, ◌⊎◌, ℕ, ◌+◌, ◌^◌, ◌<◌, ◌≤◌, List, [], ◌∷◌, ◌++◌, length, Option, None, Some, refl, sym, ◌∙◌, ap, subst, arith, append_assoc, append-nil, length-append, inl, inr}
+use Rattle.std.proofs.lemmas.List.{append_cancel_left}
+use Rattle.std.proofs.lemmas.List.Concat.{flat_map-append}
+use Rattle.std.specs.Io.KnownBytes.{Consumes, Appends, IsAtEnd, append_known, prepend_known}
+use Rattle.covbook.specs.Step.{most_entries, table_of}
+use Rattle.covline.specs.Lines.{pieces_of}
+use Rattle.covsession.specs.Broken.{Fails, IsBroken, IsCausedBy}
+use Rattle.covsession.specs.Command.{Command, AreCommands, ops_asked, ops_of}
+use Rattle.covsession.specs.Fault.{CallsData, HasBegun, HasCause, IsBeginning, IsCutShort, MayFollow, calls}
+use Rattle.covsession.specs.Run.{GoOnOnly, IsRun}
+use Rattle.covsession.specs.Session.{IsSession, text_after}
+use Rattle.covsession.specs.Streams.{AreCut, Grows, InputData, Moment, OutputData, unread}
+use Rattle.covsession.specs.declared.session.fault.SessionFault.{SessionFault}
+use Rattle.covsession.specs.declared.session.fault.SessionFault.TheVariants.{Read, Write, Memory, Full}
+use Rattle.covsession.specs.declared.session.text.LineEnd.{LineEnd}
+use Rattle.covsession.specs.declared.session.text.LineEnd.TheVariants.{Feed, Input}
+use Rattle.covsession.proofs.SessionRun.{text_more}
+
+-- ---- what was written
+
+beginning_trans : (xs ys zs : List ℕ) → IsBeginning xs ys → IsBeginning ys zs → IsBeginning xs zs
+beginning_trans xs ys zs (some, e) (more, f) = (some ++ more, f ∙ ap (λ (u : List ℕ). u ++ more) e ∙ append_assoc xs some more)
+
+-- the text was begun, where nothing waited when it was
+pub text_begun : (old new : Option (List ℕ)) (waiting lost text : List ℕ) → waiting ≡ [] → Appends (append_known old waiting) (append_known new lost) text
+    → Grows old new → HasBegun old new text
+text_begun None new waiting lost text none says grows = ([], tt, text, refl)
+text_begun (Some xs) None waiting lost text none says grows = absurd says
+text_begun (Some xs) (Some ys) waiting lost text none says (part, e) =
+    let whole : xs ++ (part ++ lost) ≡ xs ++ text =
+        sym (append_assoc xs part lost) ∙ ap (λ (u : List ℕ). u ++ lost) (sym e) ∙ says
+        ∙ ap (λ (u : List ℕ). u ++ text) (ap (λ (u : List ℕ). xs ++ u) none ∙ append-nil xs) in
+    (part, e, lost, sym (append_cancel_left xs (part ++ lost) text whole))
+
+-- ---- what was read
+
+-- the commands that were taken are the first ones, whatever follows
+module _ (pieces : List (List ℕ)) (commands : List Command) (rest : List (List ℕ)) where
+  -- further commands, and those that were taken before them
+  pub record HasMore (others : List Command) : Type 0 where
+    pub more : List Command
+    pub is : others ≡ commands ++ more
+
+  pub first_ones : (ending : LineEnd) → (ending ≡ Input → rest ≡ []) → GoOnOnly ending pieces commands → (others : List Command)
+      → AreCommands (pieces ++ rest) others → HasMore others
+  first_ones Feed ends only others are = let m = only rest others are in record { more = m.0; is = m.1 }
+  first_ones Input ends only others are =
+      let P : List (List ℕ) → Type 0 = λ u. AreCommands u others in
+      let same = ap (λ (u : List (List ℕ)). pieces ++ u) (ends refl) ∙ append-nil pieces in
+      record { more = []; is = only others (subst P same are) ∙ sym (append-nil commands) }
+
+-- the bytes of these commands and what stands behind them, cut into pieces
+cut_whole : (ending : LineEnd) (whole behind : List ℕ) (pieces : List (List ℕ)) → (ending ≡ Input → behind ≡ []) → AreCut ending whole pieces
+    → pieces_of (whole ++ behind) ≡ pieces ++ pieces_of behind
+cut_whole Feed whole behind pieces ends cut = cut behind
+cut_whole Input whole behind pieces ends cut =
+    let none = ends refl in
+    ap (λ (u : List ℕ). pieces_of (whole ++ u)) none ∙ ap pieces_of (append-nil whole) ∙ cut ∙ sym (append-nil pieces)
+    ∙ ap (λ (u : List ℕ). pieces ++ pieces_of u) (sym none)
+
+module _ (ending : LineEnd) (whole behind : List ℕ) (pieces : List (List ℕ)) (commands : List Command)
+    (ends : ending ≡ Input → behind ≡ []) (cut : AreCut ending whole pieces) (run : IsRun ending pieces commands) where
+  pub same_first : (others : List Command) → AreCommands (pieces_of (whole ++ behind)) others → HasMore pieces commands (pieces_of behind) others
+  same_first others are =
+      let P : List (List ℕ) → Type 0 = λ u. AreCommands u others in
+      first_ones pieces commands (pieces_of behind) ending (λ e. ap pieces_of (ends e)) run.only others
+      (subst P (cut_whole ending whole behind pieces ends cut) are)
+
+  pub text_first : (text : List ℕ) → IsSession (whole ++ behind) text → IsBeginning (text_after [] commands) text
+  text_first text (others, are, is) =
+      let m = same_first others are in
+      (text_after (table_of (ops_of commands)) m.more, is ∙ ap (λ (u : List Command). text_after [] u) m.is ∙ text_more [] commands m.more)
+
+  pub ops_first : (others : List Command) → AreCommands (pieces_of (whole ++ behind)) others → most_entries < length (ops_of commands)
+      → most_entries < length (ops_of others)
+  ops_first others are many =
+      let m = same_first others are in
+      let all : length (ops_of others) ≡ length (ops_of commands ++ ops_of m.more) =
+          ap (λ (u : List Command). length (ops_of u)) m.is ∙ ap length (flat_map-append ops_asked commands m.more) in
+      let sum = length-append (ops_of commands) (ops_of m.more) in
+      omega arith
+
+-- ---- the source
+
+-- the bytes that were read of a source: those that were taken, and those that are still to be
+read_all : (first : Option (List ℕ)) (fresh pending bytes : List ℕ) (left : Option (List ℕ)) → fresh ≡ []
+    → Consumes (prepend_known fresh first) (prepend_known pending left) bytes → Consumes first left (bytes ++ pending)
+read_all None fresh pending bytes left none h = tt
+read_all (Some xs) fresh pending bytes None none h = absurd h
+read_all (Some xs) fresh pending bytes (Some ys) none h =
+    ap (λ (u : List ℕ). u ++ xs) (sym none) ∙ h ∙ sym (append_assoc bytes pending ys)
+
+-- where the input has ended nothing is pending, and nothing follows
+none_pending : (pending ys : List ℕ) → pending ++ ys ≡ [] → (pending ≡ []) × (ys ≡ [])
+none_pending [] ys e = (refl, e)
+none_pending (x ∷ xs) ys e = absurd (let nothing : ⊥ = cc in nothing)
+
+some_same : (xs ys : List ℕ) → Some xs ≡ Some ys → ys ≡ xs
+some_same xs ys e = cc
+
+nothing_follows : (ys more : List ℕ) → ys ≡ [] → MayFollow (Some ys) more → more ≡ []
+nothing_follows ys more none (inl e) = e
+nothing_follows ys more none (inr e) = some_same ys more e ∙ none
+
+-- the record of what was read: the pending bytes too, unless the source doesn't tell its bytes
+module _ (fault : SessionFault) (m n : Moment) (b : IsBroken m n fault) (fresh : m.input.pending ≡ []) (empty : m.output.waiting ≡ []) where
+  written : HasBegun m.output.written n.output.written (text_after [] b.commands)
+  written = text_begun m.output.written n.output.written m.output.waiting b.fails.lost (text_after [] b.commands) empty b.fails.says b.fails.grows
+
+  -- these bytes stand behind the commands that were taken
+  module _ (pending : List ℕ) (left : Option (List ℕ)) (took : Consumes m.input.left left ((b.whole ++ b.more) ++ pending))
+      (ends : (more : List ℕ) → MayFollow left more → b.ending ≡ Input → b.more ++ (pending ++ more) ≡ []) where
+    behind_whole : (more : List ℕ) → ((b.whole ++ b.more) ++ pending) ++ more ≡ b.whole ++ (b.more ++ (pending ++ more))
+    behind_whole more = append_assoc (b.whole ++ b.more) pending more ∙ append_assoc b.whole b.more (pending ++ more)
+
+    short_of : IsCutShort fault m.input.left left m.output.written n.output.written
+    short_of = record {
+      read = (b.whole ++ b.more) ++ pending;
+      output = written.0;
+      took = took;
+      wrote = written.1;
+      begins = λ more text follows is.
+          let P : List ℕ → Type 0 = λ u. IsSession u text in
+          beginning_trans written.0 (text_after [] b.commands) text written.2
+          (text_first b.ending b.whole (b.more ++ (pending ++ more)) b.pieces b.commands (ends more follows) b.cut b.run text (subst P (behind_whole more) is));
+      full = λ is more others follows are.
+          let P : List ℕ → Type 0 = λ u. AreCommands (pieces_of u) others in
+          ops_first b.ending b.whole (b.more ++ (pending ++ more)) b.pieces b.commands (ends more follows) b.cut b.run others
+          (subst P (behind_whole more) are) (b.full is);
+    }
+
+  -- by whether the source tells its bytes
+  short_known : (pending : List ℕ) (left : Option (List ℕ)) → n.input.pending ≡ pending → n.input.left ≡ left
+      → IsCutShort fault m.input.left left m.output.written n.output.written
+  short_known pending None p l =
+      let K : Option (List ℕ) → Type 0 = λ u. Consumes (unread m.input) (prepend_known n.input.pending u) (b.whole ++ b.more) in
+      short_of [] None (took_untold m.input.pending m.input.left n.input.pending (b.whole ++ b.more) (subst K l b.took))
+      (λ more follows e. no_more (b.ended e).0 more follows)
+    where
+      took_untold : (fresh : List ℕ) (first : Option (List ℕ)) (pending bytes : List ℕ) → Consumes (prepend_known fresh first) (prepend_known pending None) bytes
+          → Consumes first None (bytes ++ [])
+      took_untold fresh None pending bytes h = tt
+      took_untold fresh (Some xs) pending bytes h = absurd h
+
+      no_more : b.more ≡ [] → (more : List ℕ) → MayFollow None more → b.more ++ ([] ++ more) ≡ []
+      no_more none more (inl e) = ap (λ (u : List ℕ). u ++ more) none ∙ e
+      no_more none more (inr e) = absurd (let no : ⊥ = cc in no)
+  short_known pending (Some ys) p l =
+      let K : Option (List ℕ) → Type 0 = λ u. Consumes (unread m.input) (prepend_known n.input.pending u) (b.whole ++ b.more) in
+      let J : List ℕ → Type 0 = λ u. Consumes (unread m.input) (prepend_known u (Some ys)) (b.whole ++ b.more) in
+      short_of pending (Some ys) (read_all m.input.left m.input.pending pending (b.whole ++ b.more) (Some ys) fresh (subst J p (subst K l b.took)))
+      (λ more follows e. at_end more follows (b.ended e))
+    where
+      at_end : (more : List ℕ) → MayFollow (Some ys) more → (b.more ≡ []) × IsAtEnd (unread n.input) → b.more ++ (pending ++ more) ≡ []
+      at_end more follows (none, ended) =
+          let P : Option (List ℕ) → Type 0 = λ u. IsAtEnd (prepend_known n.input.pending u) in
+          let Q : List ℕ → Type 0 = λ u. IsAtEnd (prepend_known u (Some ys)) in
+          let both = none_pending pending ys (subst Q p (subst P l ended)) in
+          ap (λ (u : List ℕ). u ++ (pending ++ more)) none ∙ ap (λ (u : List ℕ). u ++ more) both.0 ∙ nothing_follows ys more both.1 follows
+
+  pub cut_short : IsCutShort fault m.input.left n.input.left m.output.written n.output.written
+  cut_short = short_known n.input.pending n.input.left refl refl
+
+-- ---- the counts
+
+session_cause : (fault : SessionFault) (m n : Moment) → m.input.reads_left ≡ 2 ^ 32 → n.input.reads + n.input.reads_left ≡ m.input.reads + m.input.reads_left
+    → IsCausedBy fault m n
+    → HasCause fault (calls m.input.reads m.input.failed_reads m.output.failed_writes) (calls n.input.reads n.input.failed_reads n.output.failed_writes)
+session_cause Read m n fresh counted (h, inl k) = (h, inl k)
+session_cause Read m n fresh counted (h, inr k) = (h, inr (k.0, (let none = k.1 in omega arith)))
+session_cause Write m n fresh counted h = h
+session_cause Memory m n fresh counted h = h
+session_cause Full m n fresh counted h = h
+
+pub cause_of : (fault : SessionFault) (m n : Moment) → m.input.reads_left ≡ 2 ^ 32 → IsBroken m n fault
+    → HasCause fault (calls m.input.reads m.input.failed_reads m.output.failed_writes) (calls n.input.reads n.input.failed_reads n.output.failed_writes)
+cause_of fault m n fresh b = session_cause fault m n fresh b.fails.counted b.fails.cause

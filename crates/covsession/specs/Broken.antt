@@ -1,0 +1,112 @@
+-- What stands after a fault in the middle of a session.
+use Rattle.std.specs.Io.KnownBytes.{Consumes, Appends, IsAtEnd, append_known}
+use Rattle.std.specs.Prelude.{◌≡◌, ◌≢◌, ◌⊎◌, ◌<◌, ℕ, ◌+◌, List, [], ◌∷◌, ◌++◌, length}
+use Rattle.covbook.specs.Op.{OpData}
+use Rattle.covbook.specs.Step.{most_entries, table_of}
+use Rattle.covline.specs.Lines.{line_of}
+use Rattle.covsession.specs.Command.{Command, ops_of}
+use Rattle.covsession.specs.Run.{IsRun}
+use Rattle.covsession.specs.Session.{text_after}
+use Rattle.covsession.specs.Streams.{InputData, OutputData, Moment, AreCut, Grows, TakesPieces, unread, said_so_far}
+use Rattle.covsession.specs.Text.{IsAnsweredAs}
+use Rattle.covsession.specs.Command.{Format}
+use Rattle.covsession.specs.declared.session.fault.SessionFault.{SessionFault}
+use Rattle.covsession.specs.declared.session.fault.SessionFault.TheVariants.{Read, Write, Memory, Full}
+use Rattle.covsession.specs.declared.session.text.LineEnd.{LineEnd}
+use Rattle.covsession.specs.declared.session.text.LineEnd.TheVariants.{Input}
+use Rattle.covsession.specs.declared.session.text.Taken.{Taken}
+
+-- how many writes have failed after an output stopped so
+abbrev pub CountsWrites : SessionFault → (before after : ℕ) → Type 0
+CountsWrites Read before after = ⊥
+CountsWrites Write before after = after ≡ before + 1
+CountsWrites Memory before after = after ≡ before
+CountsWrites Full before after = after ≡ before
+
+-- an output stopped while this was said: a beginning of all that was said is written, and the rest is lost
+pub record Breaks (o p : OutputData) (fault : SessionFault) (text : List ℕ) : Type 0 where
+  pub lost : List ℕ
+  pub says : Appends (said_so_far o) (append_known p.written lost) text
+  pub grows : Grows o.written p.written
+  pub failed : CountsWrites fault o.failed_writes p.failed_writes
+  pub same_sink : p.sink ≡ o.sink
+
+-- an input stopped, since a read failed or none was left: no byte was taken
+pub record Stalls (i j : InputData) : Type 0 where
+  pub took : Consumes (unread i) (unread j) []
+  pub counted : j.reads + j.reads_left ≡ i.reads + i.reads_left
+  pub failed : (j.failed_reads ≡ i.failed_reads + 1) ⊎ ((j.failed_reads ≡ i.failed_reads) × (j.reads_left ≡ 0))
+  pub same_source : j.source ≡ i.source
+
+-- which call failed between two moments
+abbrev pub IsCausedBy : SessionFault → Moment → Moment → Type 0
+IsCausedBy Read m n =
+    (n.output.failed_writes ≡ m.output.failed_writes)
+    × ((n.input.failed_reads ≡ m.input.failed_reads + 1) ⊎ ((n.input.failed_reads ≡ m.input.failed_reads) × (n.input.reads_left ≡ 0)))
+IsCausedBy Write m n = (n.input.failed_reads ≡ m.input.failed_reads) × (n.output.failed_writes ≡ m.output.failed_writes + 1)
+IsCausedBy Memory m n = (n.input.failed_reads ≡ m.input.failed_reads) × (n.output.failed_writes ≡ m.output.failed_writes)
+IsCausedBy Full m n = (n.input.failed_reads ≡ m.input.failed_reads) × (n.output.failed_writes ≡ m.output.failed_writes)
+
+-- a fault came between two moments, while some bytes were taken and this was said
+pub record Fails (m n : Moment) (fault : SessionFault) (text : List ℕ) : Type 0 where
+  pub bytes : List ℕ
+  pub took : Consumes (unread m.input) (unread n.input) bytes
+  pub counted : n.input.reads + n.input.reads_left ≡ m.input.reads + m.input.reads_left
+  pub same_source : n.input.source ≡ m.input.source
+  pub lost : List ℕ
+  pub says : Appends (said_so_far m.output) (append_known n.output.written lost) text
+  pub grows : Grows m.output.written n.output.written
+  pub same_sink : n.output.sink ≡ m.output.sink
+  pub cause : IsCausedBy fault m n
+
+-- a fault came before a command was wholly taken, or before it was known what it asks
+pub record FailsTaking (m n : Moment) (fault : SessionFault) : Type 0 where
+  pub fails : Fails m n fault []
+  pub not_full : fault ≢ Full
+
+-- the answer to these commands was cut short; the history is full only where they ask the book something
+pub record FailsSaying (o p : OutputData) (before : List OpData) (commands : List Command) (fault : SessionFault) : Type 0 where
+  pub breaks : Breaks o p fault (text_after (table_of before) commands)
+  pub full : fault ≡ Full → 0 < length (ops_of commands)
+
+-- what was taken of a text of this format was answered in part, or not at all
+abbrev pub FailsGiven : {A : Type 0} → Format → Taken A → (o p : OutputData) → (before : List OpData) → SessionFault → Type 0
+FailsGiven format taken o p before fault =
+    (Breaks o p fault [] × (fault ≢ Full))
+    ⊎ ((commands : List Command) × IsAnsweredAs format taken commands × FailsSaying o p before commands fault)
+
+-- what follows a line of this kind was taken, and the answer was cut short
+pub record FailsBehind (IsSuch : List ℕ → Type 0) (m n : Moment) (before : List OpData) (fault : SessionFault) : Type 0 where
+  pub pieces : List (List ℕ)
+  pub commands : List Command
+  pub ending : LineEnd
+  pub taken_at : Moment
+  pub taken : TakesPieces m taken_at pieces ending []
+  pub same_input : n.input ≡ taken_at.input
+  pub says : FailsSaying taken_at.output n.output before commands fault
+  pub run : (first : List ℕ) → IsSuch (line_of first) → IsRun ending (first ∷ pieces) commands
+
+-- a command was taken, and the answer was cut short
+pub record FailsAnswering (m n : Moment) (before : List OpData) (fault : SessionFault) : Type 0 where
+  pub pieces : List (List ℕ)
+  pub commands : List Command
+  pub ending : LineEnd
+  pub taken_at : Moment
+  pub taken : TakesPieces m taken_at pieces ending []
+  pub same_input : n.input ≡ taken_at.input
+  pub says : FailsSaying taken_at.output n.output before commands fault
+  pub run : IsRun ending pieces commands
+
+-- all that was taken are these commands, and perhaps a part of a further one; the answers to them were written in part
+pub record IsBroken (m n : Moment) (fault : SessionFault) : Type 0 where
+  pub pieces : List (List ℕ)
+  pub commands : List Command
+  pub ending : LineEnd
+  pub whole : List ℕ
+  pub more : List ℕ
+  pub took : Consumes (unread m.input) (unread n.input) (whole ++ more)
+  pub fails : Fails m n fault (text_after [] commands)
+  pub cut : AreCut ending whole pieces
+  pub run : IsRun ending pieces commands
+  pub ended : ending ≡ Input → (more ≡ []) × IsAtEnd (unread n.input)
+  pub full : fault ≡ Full → most_entries < length (ops_of commands)

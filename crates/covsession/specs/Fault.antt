@@ -1,0 +1,50 @@
+-- What a session leaves that ends in a fault: which beginning of its session text was written, and which call failed.
+use Rattle.std.specs.Io.KnownBytes.{Consumes, Appends}
+use Rattle.std.specs.Prelude.{◌≡◌, ◌⊎◌, ◌<◌, ℕ, ◌+◌, ◌^◌, List, [], ◌++◌, length, Option, Some}
+use Rattle.covbook.specs.Step.{most_entries}
+use Rattle.covline.specs.Lines.{pieces_of}
+use Rattle.covsession.specs.Command.{Command, AreCommands, ops_of}
+use Rattle.covsession.specs.Session.{IsSession}
+use Rattle.covsession.specs.declared.session.fault.SessionFault.{SessionFault}
+use Rattle.covsession.specs.declared.session.fault.SessionFault.TheVariants.{Read, Write, Memory, Full}
+
+-- the whole begins with the part
+abbrev pub IsBeginning : List ℕ → List ℕ → Type 0
+IsBeginning part whole = (rest : List ℕ) × (whole ≡ part ++ rest)
+
+-- a sink took a beginning of the text, and nothing else
+abbrev pub HasBegun : (written written_after : Option (List ℕ)) → (text : List ℕ) → Type 0
+HasBegun written written_after text = (part : List ℕ) × Appends written written_after part × IsBeginning part text
+
+-- what follows the bytes that were read: nothing, where the input is taken to end with them; or what the source still has
+abbrev pub MayFollow : Option (List ℕ) → List ℕ → Type 0
+MayFollow left more = (more ≡ []) ⊎ (left ≡ Some more)
+
+-- a session that ended in this fault: what it has written is a beginning of the session text of what it has read, and of the
+-- whole input. The history is full only where these ask the book more than it has room for
+pub record IsCutShort (fault : SessionFault) (left left_after written written_after : Option (List ℕ)) : Type 0 where
+  pub read : List ℕ
+  pub output : List ℕ
+  pub took : Consumes left left_after read
+  pub wrote : Appends written written_after output
+  pub begins : (more whole : List ℕ) → MayFollow left_after more → IsSession (read ++ more) whole → IsBeginning output whole
+  pub full : fault ≡ Full → (more : List ℕ) (commands : List Command) → MayFollow left_after more
+      → AreCommands (pieces_of (read ++ more)) commands → most_entries < length (ops_of commands)
+
+-- how many reads were made of a source and how many of them failed, and how many calls of a sink failed
+pub record CallsData : Type 0 where
+  pub reads : ℕ
+  pub failed_reads : ℕ
+  pub failed_writes : ℕ
+
+abbrev pub calls : (reads failed_reads failed_writes : ℕ) → CallsData
+calls reads failed_reads failed_writes = record { reads = reads; failed_reads = failed_reads; failed_writes = failed_writes }
+
+-- which call failed where a session ended in this fault: a read, unless it had made 4,294,967,296 of them; a write; or none
+abbrev pub HasCause : SessionFault → CallsData → CallsData → Type 0
+HasCause Read old new =
+    (new.failed_writes ≡ old.failed_writes)
+    × ((new.failed_reads ≡ old.failed_reads + 1) ⊎ ((new.failed_reads ≡ old.failed_reads) × (new.reads ≡ old.reads + 2 ^ 32)))
+HasCause Write old new = (new.failed_reads ≡ old.failed_reads) × (new.failed_writes ≡ old.failed_writes + 1)
+HasCause Memory old new = (new.failed_reads ≡ old.failed_reads) × (new.failed_writes ≡ old.failed_writes)
+HasCause Full old new = (new.failed_reads ≡ old.failed_reads) × (new.failed_writes ≡ old.failed_writes)
