@@ -223,7 +223,7 @@ fn performs_anew<R: Wait + Abort + AllocGlobal>(
 fn shared_steps(rt: HostRuntime) {
     for row in STEPS.split(|byte| *byte == b'\n') {
         let row = step_of(&rt, row);
-        check_rising(&rt, |heap, room| performs_anew(&rt, heap, room, row));
+        check_rising_by(&rt, 1, 8, |heap, room| performs_anew(&rt, heap, room, row));
     }
 }
 
