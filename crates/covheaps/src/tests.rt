@@ -11,7 +11,6 @@ mod lists;
 mod prints;
 mod readers;
 mod said;
-mod sessions;
 mod shared;
 mod steps;
 mod stores;

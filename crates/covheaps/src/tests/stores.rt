@@ -1,13 +1,14 @@
 //! A store that is made ready to hold a submission or to rename a test. A refusal leaves its sections and totals.
 
-ghost use Rattle.std.specs.Prelude.{◌≡◌, ◌<◌};
+ghost use Rattle.std.specs.Prelude.{◌<◌, OnErr};
+ghost use Rattle.covstore.specs.Stored.{most_members};
 
 use super::calls::{printed, read};
 use super::heap::{check_rising, check_rising_by, narrow, widen};
 use super::texts::{APART, DOUBLED, JOINED, RENAMED, SMALL};
 use super::{check_bytes, made};
 use bumpalo::Bump;
-use covline::Submission;
+use covline::{Memory, Submission};
 use covreport::Choice;
 use covstore::{Refuse, Store, Totals};
 use std::alloc::Allocator;
@@ -67,59 +68,73 @@ fn check_store<A: Allocator + Copy>(
     check_bytes(rt, report.get(), text);
 }
 
-/// It was memory that was refused.
-fn check_memory<A: Allocator>(rt: &impl Abort, refuse: &Refuse<A>) {
-    assert!(rt; matches!(refuse, Refuse::Memory));
+/// The submission is held too, or refused. Between the two halves nothing is refused.
+fn hold<A: Allocator + Copy>(
+    alloc: A,
+    store: &mut Store<A>,
+    given: &Submission<A>,
+) -> Result<(), Refuse<A>>
+    requires { store.old.members < most_members }
+    ensures { OnErr result (store.new.members < most_members) }
+{
+    match store.prepare(alloc, given) {
+        Ok(plan) => {
+            store.commit(plan);
+            Ok(())
+        }
+        Err(refuse) => Err(refuse),
+    }
+}
+
+/// The submission is held too, after which the store prints this. What a refusal has to leave is what the store printed before.
+fn holds<'h>(
+    rt: &impl Abort,
+    room: usize,
+    heap: &'h Bump,
+    mut store: Store<&'h Bump>,
+    texts: (&[u8], &[u8]),
+) -> bool
+    requires { store.members < most_members }
+{
+    let given = made(rt, read(heap, SMALL));
+    let totals = store.totals();
+    narrow(rt, heap, room);
+    let first = hold(heap, &mut store, &given);
+    widen(heap);
+    let is_refused = first.is_err();
+    if let Err(refuse) = first {
+        assert!(rt; matches!(refuse, Refuse::Memory));
+        check_store(rt, heap, &store, texts.0, totals);
+        made(rt, hold(heap, &mut store, &given));
+    }
+    check_store(rt, heap, &store, texts.1, OF_SMALL);
+    is_refused
 }
 
 /// The text is held by a store that held nothing.
 fn first_text(rt: &impl Abort, heap: &Bump, room: usize) -> bool {
-    let given = made(rt, read(heap, SMALL));
-    let mut store = Store::new(heap);
-    narrow(rt, heap, room);
-    let first = store.prepare(heap, &given);
-    widen(heap);
-    let is_refused = first.is_err();
-    match first {
+    let store = Store::new(heap);
+    check_store(rt, heap, &store, b"", NONE);
+    holds(rt, room, heap, store, (b"", SMALL))
+}
+
+/// A store that holds the text once.
+fn begun<A: Allocator + Copy>(rt: &impl Abort, alloc: A, given: &Submission<A>) -> Store<A>
+    ensures { result.members < most_members }
+{
+    let mut store = Store::new(alloc);
+    match store.prepare(alloc, given) {
         Ok(plan) => store.commit(plan),
-        Err(refuse) => {
-            check_memory(rt, &refuse);
-            check_store(rt, heap, &store, b"", NONE);
-            match store.prepare(heap, &given) {
-                Ok(plan) => store.commit(plan),
-                Err(_refused) => panic!(rt; "refused with ample memory"),
-            }
-        }
+        Err(_refused) => panic!(rt; "refused with ample memory"),
     }
-    check_store(rt, heap, &store, SMALL, OF_SMALL);
-    is_refused
+    store
 }
 
 /// The text is held once more.
 fn second_text(rt: &impl Abort, heap: &Bump, room: usize) -> bool {
-    let given = made(rt, read(heap, SMALL));
-    let mut store = Store::new(heap);
-    match store.prepare(heap, &given) {
-        Ok(plan) => store.commit(plan),
-        Err(_refused) => panic!(rt; "refused with ample memory"),
-    }
-    narrow(rt, heap, room);
-    let first = store.prepare(heap, &given);
-    widen(heap);
-    let is_refused = first.is_err();
-    match first {
-        Ok(plan) => store.commit(plan),
-        Err(refuse) => {
-            check_memory(rt, &refuse);
-            check_store(rt, heap, &store, SMALL, OF_SMALL);
-            match store.prepare(heap, &given) {
-                Ok(plan) => store.commit(plan),
-                Err(_refused) => panic!(rt; "refused with ample memory"),
-            }
-        }
-    }
-    check_store(rt, heap, &store, DOUBLED, OF_SMALL);
-    is_refused
+    let store = begun(rt, heap, &made(rt, read(heap, SMALL)));
+    check_store(rt, heap, &store, SMALL, OF_SMALL);
+    holds(rt, room, heap, store, (SMALL, DOUBLED))
 }
 
 #[test]
@@ -138,26 +153,38 @@ const OF_ONE: Totals = Totals {
     bh: 0,
 };
 
+/// The test gets a new name, in so many sections, or is refused it. Between the two halves nothing is refused.
+fn rename<A: Allocator + Copy>(
+    alloc: A,
+    store: &mut Store<A>,
+    old: &[u8],
+    new: &[u8],
+) -> Result<u64, Memory> {
+    match store.prepare_rename(alloc, old, new) {
+        Ok(renaming) => {
+            let sections = renaming.sections();
+            store.commit_rename(renaming);
+            Ok(sections)
+        }
+        Err(refused) => Err(refused),
+    }
+}
+
 /// The test `t` gets a new name.
 fn renames(rt: &impl Abort, heap: &Bump, room: usize, held: &[u8], row: Renamed<'_>) -> bool {
     let mut store = holding(rt, heap, held);
     narrow(rt, heap, room);
-    let first = store.prepare_rename(heap, b"t", row.new);
+    let first = rename(heap, &mut store, b"t", row.new);
     widen(heap);
     let is_refused = first.is_err();
-    match first {
-        Ok(renaming) => {
-            assert_eq!(rt; renaming.sections(), 1);
-            store.commit_rename(renaming);
-        }
+    let sections = match first {
+        Ok(sections) => sections,
         Err(_refused) => {
             check_store(rt, heap, &store, held, row.totals);
-            match store.prepare_rename(heap, b"t", row.new) {
-                Ok(renaming) => store.commit_rename(renaming),
-                Err(_refused) => panic!(rt; "refused with ample memory"),
-            }
+            made(rt, rename(heap, &mut store, b"t", row.new))
         }
-    }
+    };
+    assert_eq!(rt; sections, 1);
     check_store(rt, heap, &store, row.wanted, row.totals);
     is_refused
 }
