@@ -1,0 +1,152 @@
+//! What is printed, and the patterns that choose what.
+
+ghost use Rattle.covstore.specs.Totals.{AreTotals};
+
+use super::calls::{add, bytes, list_of, printed, put};
+use super::heap::{check_rising, narrow, widen};
+use super::stores::holding;
+use super::texts::{SMALL, TRACED};
+use super::{check_bytes, made};
+use bumpalo::Bump;
+use covline::{lines, read_line};
+use covreport::{Choice, PatternFault, Patterns, summary_text};
+use std::alloc::Allocator;
+use std::process::Abort;
+use std::test::*;
+
+/// A line that is printed behind another. The text that is lent keeps what it has, and no more.
+fn puts_line(rt: &impl Abort, heap: &Bump, room: usize, line: &[u8]) -> bool {
+    let mut text = made(rt, bytes(heap, b"TN:t\n"));
+    let record = made(rt, read_line(line));
+    narrow(rt, heap, room);
+    let first = put(&record, &mut text);
+    widen(heap);
+    let is_refused = first.is_err();
+    if is_refused {
+        check_bytes(rt, text.get(), b"TN:t\n");
+        made(rt, put(&record, &mut text));
+    }
+    check_line(rt, text.get(), line);
+    is_refused
+}
+
+/// The text is the first line and then this one.
+fn check_line(rt: &impl Abort, text: &[u8], line: &[u8]) {
+    let behind = text
+        .strip_prefix(b"TN:t\n")
+        .and_then(|rest| rest.strip_suffix(b"\n"));
+    assert_eq!(rt; behind, Some(line));
+}
+
+/// Lines of all kinds, as they are printed.
+const LINES: &[u8] = b"\
+TN:another test
+SF:/src/a.c
+FN:18446744073709551615,a_function
+FNDA:340282366920938463463374607431768211455,a_function
+FNF:1
+FNH:1
+BRDA:18446744073709551615,18446744073709551614,18446744073709551613,-
+BRDA:1,0,1,340282366920938463463374607431768211455
+BRF:2
+BRH:1
+DA:1,2
+DA:1,2,abc
+LF:2
+LH:1
+end_of_record
+";
+
+#[test]
+fn lines_of_all_kinds(rt: HostRuntime) {
+    for line in lines(LINES) {
+        check_rising(&rt, |heap, room| puts_line(&rt, heap, room, line));
+    }
+}
+
+/// A pattern is added to a list of so many. A refusal leaves the list as it was.
+fn adds_pattern(rt: &impl Abort, heap: &Bump, room: usize, held: usize) -> bool {
+    let mut list = Patterns::new(heap);
+    for _pattern in 0..held {
+        made(rt, add(heap, &mut list, b"/b/*"));
+    }
+    narrow(rt, heap, room);
+    let first = add(heap, &mut list, b"/a/?.c");
+    widen(heap);
+    if let Err(fault) = first {
+        assert!(rt; fault == PatternFault::Memory);
+        assert!(rt; list.get().len() == held && !list.any_matches(b"/a/x.c"));
+        made(rt, add(heap, &mut list, b"/a/?.c"));
+    }
+    assert!(rt; list.get().len() > held && list.any_matches(b"/a/x.c"));
+    first.is_err()
+}
+
+#[test]
+fn patterns(rt: HostRuntime) {
+    for held in 0..10 {
+        check_rising(&rt, |heap, room| adds_pattern(&rt, heap, room, held));
+    }
+}
+
+/// What is held is printed, as it was given.
+fn prints_all(rt: &impl Abort, heap: &Bump, room: usize, text: &[u8]) -> bool {
+    let store = holding(rt, heap, text);
+    narrow(rt, heap, room);
+    let first = printed(heap, &store, &Choice::All);
+    widen(heap);
+    let (report, is_refused) = match first {
+        Ok(report) => (report, false),
+        Err(_refused) => (made(rt, printed(heap, &store, &Choice::All)), true),
+    };
+    check_bytes(rt, report.get(), text);
+    is_refused
+}
+
+/// The files that match are printed.
+fn prints_chosen(rt: &impl Abort, heap: &Bump, room: usize) -> bool {
+    let store = holding(rt, heap, SMALL);
+    let choice = Choice::Extract(list_of(rt, heap, b"*.c"));
+    narrow(rt, heap, room);
+    let first = printed(heap, &store, &choice);
+    widen(heap);
+    let (report, is_refused) = match first {
+        Ok(report) => (report, false),
+        Err(_refused) => (made(rt, printed(heap, &store, &choice)), true),
+    };
+    check_bytes(rt, report.get(), SMALL);
+    is_refused
+}
+
+#[test]
+fn tracefiles(rt: HostRuntime) {
+    check_rising(&rt, |heap, room| prints_all(&rt, heap, room, SMALL));
+    check_rising(&rt, |heap, room| prints_all(&rt, heap, room, TRACED));
+    check_rising(&rt, |heap, room| prints_chosen(&rt, heap, room));
+}
+
+const SUMMARY: &[u8] = b"\
+Summary coverage rate:
+  lines......: 50.0% (2 of 4 lines)
+  functions..: 100.0% (1 of 1 function)
+  branches...: 66.7% (2 of 3 branches)
+";
+
+/// The summary of what the annotated source counts.
+fn prints_summary(rt: &impl Abort, heap: &Bump, room: usize) -> bool {
+    let totals = holding(rt, heap, TRACED).totals();
+    narrow(rt, heap, room);
+    let first = summary_text(heap, &totals);
+    widen(heap);
+    let (summary, is_refused) = match first {
+        Ok(summary) => (summary, false),
+        Err(_refused) => (made(rt, summary_text(heap, &totals)), true),
+    };
+    check_bytes(rt, summary.get(), SUMMARY);
+    is_refused
+}
+
+#[test]
+fn summaries(rt: HostRuntime) {
+    check_rising(&rt, |heap, room| prints_summary(&rt, heap, room));
+}

@@ -1,0 +1,75 @@
+//! Texts that are read. What was read is printed, and so looked at whole.
+
+use super::calls::{printed, read, read_annotated};
+use super::heap::{check_rising_by, narrow, widen};
+use super::stores::stored;
+use super::texts::{ANNOTATED, CHECKED, SMALL, TRACED};
+use super::{check_bytes, made};
+use bumpalo::Bump;
+use covline::Submission;
+use covread::ReadFault;
+use covreport::Choice;
+use std::process::Abort;
+use std::test::*;
+
+/// The submission has so many items, and is printed like this.
+fn check_read<'h>(
+    rt: &impl Abort,
+    heap: &'h Bump,
+    given: &Submission<&'h Bump>,
+    items: u64,
+    wanted: &[u8],
+) {
+    assert_eq!(rt; (given.items(), given.odd()), (items, 0));
+    let store = stored(rt, heap, given);
+    let report = made(rt, printed(heap, &store, &Choice::All));
+    check_bytes(rt, report.get(), wanted);
+}
+
+/// A tracefile that is printed as it is.
+fn reads_trace(rt: &impl Abort, heap: &Bump, room: usize, text: &[u8]) -> bool {
+    narrow(rt, heap, room);
+    let first = read(heap, text);
+    widen(heap);
+    let (given, is_refused) = match first {
+        Ok(given) => (given, false),
+        Err(fault) => {
+            assert_eq!(rt; fault, ReadFault::Memory);
+            (made(rt, read(heap, text)), true)
+        }
+    };
+    check_read(rt, heap, &given, 2, text);
+    is_refused
+}
+
+#[test]
+fn tracefiles(rt: HostRuntime) {
+    check_rising_by(&rt, 1, 16, |heap, room| reads_trace(&rt, heap, room, SMALL));
+    check_rising_by(
+        &rt,
+        1,
+        16,
+        |heap, room| reads_trace(&rt, heap, room, CHECKED),
+    );
+}
+
+/// gcov's annotated source, as counts of a test.
+fn reads_annotated(rt: &impl Abort, heap: &Bump, room: usize) -> bool {
+    narrow(rt, heap, room);
+    let first = read_annotated(heap, b"t", ANNOTATED);
+    widen(heap);
+    let (given, is_refused) = match first {
+        Ok(given) => (given, false),
+        Err(fault) => {
+            assert_eq!(rt; fault, ReadFault::Memory);
+            (made(rt, read_annotated(heap, b"t", ANNOTATED)), true)
+        }
+    };
+    check_read(rt, heap, &given, 8, TRACED);
+    is_refused
+}
+
+#[test]
+fn annotated_source(rt: HostRuntime) {
+    check_rising_by(&rt, 1, 16, |heap, room| reads_annotated(&rt, heap, room));
+}

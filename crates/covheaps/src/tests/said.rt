@@ -1,0 +1,179 @@
+//! What was asked, answered and counted, in bytes.
+
+use super::{check_bytes, made};
+use covbook::{Answer, Entry, Op};
+use covstore::Totals;
+use std::alloc::{AllocError, Allocator, Global};
+use std::process::Abort;
+use std::test::*;
+
+/// Appends a space and a number.
+fn put_number(text: &mut Vec<u8>, number: u64) -> Result<(), AllocError> {
+    let decimal: String = format!(in *text.allocator(); " {number}")?;
+    text.extend_from_slice(decimal.as_bytes())
+}
+
+/// Appends a space and a word.
+fn put_word(text: &mut Vec<u8>, word: &[u8]) -> Result<(), AllocError> {
+    text.push(b' ')?;
+    text.extend_from_slice(word)
+}
+
+/// Appends the numbers of an accepted submission.
+fn put_accepted(text: &mut Vec<u8>, number: u64, items: u64, odd: u64) -> Result<(), AllocError> {
+    put_word(text, b"accepted")?;
+    put_number(text, number)?;
+    put_number(text, items)?;
+    put_number(text, odd)
+}
+
+/// Appends a word and a number of sections.
+fn put_sections(text: &mut Vec<u8>, word: &[u8], sections: u64) -> Result<(), AllocError> {
+    put_word(text, word)?;
+    put_number(text, sections)
+}
+
+/// Appends where a clash is, and the two checksums.
+fn put_clash(
+    text: &mut Vec<u8>,
+    file: &[u8],
+    line: u64,
+    checksums: (&[u8], &[u8]),
+) -> Result<(), AllocError> {
+    put_word(text, b"clash")?;
+    put_word(text, file)?;
+    put_number(text, line)?;
+    put_word(text, checksums.0)?;
+    put_word(text, checksums.1)
+}
+
+/// Appends a space and a text, with a semicolon for each line feed.
+fn put_lines(text: &mut Vec<u8>, printed: &[u8]) -> Result<(), AllocError> {
+    text.push(b' ')?;
+    for byte in printed {
+        text.push(if *byte == b'\n' { b';' } else { *byte })?;
+    }
+    Ok(())
+}
+
+/// Appends a space and an answer.
+fn put_answer<A: Allocator>(text: &mut Vec<u8>, answer: &Answer<A>) -> Result<(), AllocError> {
+    match answer {
+        Answer::Accepted { number, items, odd } => put_accepted(text, *number, *items, *odd),
+        Answer::Clash {
+            file,
+            line,
+            held,
+            given,
+        } => put_clash(text, file.get(), *line, (held.get(), given.get())),
+        Answer::Dropped { sections } => put_sections(text, b"dropped", *sections),
+        Answer::Renamed { sections } => put_sections(text, b"renamed", *sections),
+        Answer::NoSuchTest => put_word(text, b"no such test"),
+        Answer::Text(printed) => put_lines(text, printed.get().get()),
+    }
+}
+
+/// The word of an operation.
+fn word_of<A: Allocator>(op: &Op<A>) -> &'static [u8] {
+    match op {
+        Op::Submit(_) => b"submit",
+        Op::DropTest(_) => b"drop",
+        Op::Rename { .. } => b"rename",
+        Op::Report => b"report",
+        Op::Extract(_) => b"extract",
+        Op::Remove(_) => b"remove",
+        Op::Summary => b"summary",
+    }
+}
+
+/// Appends how many lines are found and hit.
+fn put_totals(text: &mut Vec<u8>, totals: &Totals) -> Result<(), AllocError> {
+    put_word(text, b"|")?;
+    put_number(text, totals.lf)?;
+    put_number(text, totals.lh)
+}
+
+/// What was asked and answered, and how many lines are found and hit then.
+fn told<A: Allocator>(
+    alloc: Global,
+    op: &Op<A>,
+    answer: &Answer<A>,
+    totals: &Totals,
+) -> Result<Vec<u8>, AllocError> {
+    let mut text = Vec::from_slice(alloc, word_of(op))?;
+    put_answer(&mut text, answer)?;
+    put_totals(&mut text, totals)?;
+    Ok(text)
+}
+
+/// What was asked and answered, and how many lines are found and hit then, is told like this.
+pub(super) fn check_told<A: Allocator>(
+    rt: &(impl Abort + AllocGlobal),
+    op: &Op<A>,
+    answer: &Answer<A>,
+    totals: &Totals,
+    wanted: &[u8],
+) {
+    check_bytes(
+        rt,
+        made(rt, told(rt.alloc(), op, answer, totals)).as_slice(),
+        wanted,
+    );
+}
+
+/// The entry is this job's, and is told like this.
+pub(super) fn check_entry<A: Allocator>(
+    rt: &(impl Abort + AllocGlobal),
+    entry: Option<&Entry<A>>,
+    job: u32,
+    wanted: &[u8],
+) {
+    let Some(entry) = entry else {
+        panic!(rt; "no entry");
+    };
+    assert_eq!(rt; entry.job, job);
+    check_told(rt, &entry.op, &entry.answer, &entry.after, wanted);
+}
+
+/// An answer that is told alone.
+pub(super) fn check_answer<A: Allocator>(
+    rt: &(impl Abort + AllocGlobal),
+    answer: &Answer<A>,
+    wanted: &[u8],
+) {
+    let mut text = Vec::new(rt.alloc());
+    made(rt, put_answer(&mut text, answer));
+    check_bytes(rt, text.as_slice(), wanted);
+}
+
+/// What a book was asked and answered before a call is tried in it: a text was submitted, two lines of which are found and one is hit.
+pub(super) const BEGUN: &[u8] = b"submit accepted 1 2 0 | 2 1";
+
+/// What is asked of it then, and behind the sign, what is told of that.
+pub(super) const STEPS: &[u8] = b"\
+submit>submit accepted 2 2 0 | 2 1
+clash>submit clash /a.c 1 abc abd | 2 1
+drop t>drop dropped 1 | 0 0
+drop x>drop no such test | 2 1
+rename t v>rename renamed 1 | 2 1
+rename x v>rename no such test | 2 1
+report>report TN:t;SF:/a.c;DA:1,2,abc;DA:2,0;LF:2;LH:1;end_of_record; | 2 1
+extract *.c>extract TN:t;SF:/a.c;DA:1,2,abc;DA:2,0;LF:2;LH:1;end_of_record; | 2 1
+remove *.c>remove  | 2 1
+summary>summary Summary coverage rate:;  lines......: 50.0% (1 of 2 lines);  functions..: no data found;  branches...: no data found; | 2 1";
+
+/// A row of what is asked and told.
+#[derive(Clone, Copy)]
+pub(super) struct Step<'a> {
+    pub(super) asked: &'a [u8],
+    pub(super) wanted: &'a [u8],
+}
+
+/// The row in these bytes.
+pub(super) fn step_of<'a>(rt: &impl Abort, row: &'a [u8]) -> Step<'a> {
+    let mut parts = row.split(|byte| *byte == b'>');
+    let (Some(asked), Some(wanted)) = (parts.next(), parts.next()) else {
+        panic!(rt; "no row {row:?}");
+    };
+    Step { asked, wanted }
+}

@@ -1,0 +1,310 @@
+//! A book that threads share, in one thread. A refusal leaves its history, what readers are shown, and the seat.
+
+ghost use Rattle.std.specs.Prelude.{◌≡◌};
+
+use super::calls::op_of;
+use super::heap::{check_none, check_rising, check_rising_by, narrow, widen};
+use super::made;
+use super::said::{BEGUN, STEPS, Step, check_entry, check_told, step_of};
+use bumpalo::Bump;
+use covbook::{BookFault, Entries, Op};
+use covjobs::{Done, Live, Name, OpenFault, ReaderFault, Seat, Seats, Shared, Start, open_book};
+use covline::Memory;
+use covstore::Totals;
+use std::alloc::Allocator;
+use std::marker::Brand;
+use std::process::Abort;
+use std::sync::Wait;
+use std::test::*;
+
+fn start<A: Allocator + Copy>(alloc: A, jobs: u32) -> Result<Start<A>, OpenFault> {
+    Start::new(alloc, jobs)
+}
+
+fn open<L: Name, A: Allocator + Copy>(
+    alloc: A,
+    start: Start<A>,
+) -> Result<(Shared<L, A>, Seats<L, A>), Memory>
+    requires name { start.name ≡ L.name }
+    requires jobs { start.jobs ≡ L.parts }
+    requires book { start.book ≡ L.book }
+{
+    open_book::<L, A>(alloc, start)
+}
+
+fn perform<L: Name, A: Allocator + Copy, R: Wait>(
+    rt: &R,
+    alloc: A,
+    book: &Shared<L, A>,
+    seat: &mut Seat<L>,
+    op: &Op<A>,
+) -> Result<Done<L, A>, BookFault> {
+    book.perform(rt, alloc, seat, op)
+}
+
+fn reader<L: Name, A: Allocator, R: Wait>(
+    rt: &R,
+    book: &Shared<L, A>,
+) -> Result<Live<L, A>, ReaderFault> {
+    book.reader(rt)
+}
+
+/// The history of the book, whose seats are all here.
+fn history_of<L: Name, A: Allocator, R: Wait + Abort>(
+    rt: &R,
+    book: Shared<L, A>,
+    seats: Vec<Seat<L>, A>,
+) -> Entries<A> {
+    match book.close(rt, Seats::of(seats)) {
+        Ok((entries, _news)) => entries,
+        Err(_back) => panic!(rt; "a seat is missing"),
+    }
+}
+
+/// The reader tells of so many entries, and of these totals.
+fn check_live<L: Name, A: Allocator>(
+    rt: &impl Abort,
+    live: &mut Live<L, A>,
+    upto: u64,
+    totals: Totals,
+) {
+    let reading = live.totals();
+    assert_eq!(rt; reading.upto, upto);
+    assert_eq!(rt; reading.totals, totals);
+}
+
+/// So many of the seat's calls succeeded, and no other seat's.
+fn check_seat<L: Name>(rt: &impl Abort, seat: &Seat<L>, calls: u64) {
+    assert_eq!(rt; (seat.calls(), seat.seen()), (calls, calls));
+}
+
+/// Whether a book is opened. It has three seats, no entry, and a reader that tells of none.
+fn opens<L: Name, A: Allocator + Copy, R: Wait + Abort>(rt: &R, alloc: A, start: Start<A>) -> bool
+    requires name { start.name ≡ L.name }
+    requires jobs { start.jobs ≡ L.parts }
+    requires book { start.book ≡ L.book }
+{
+    let Ok((book, seats)) = open::<L, A>(alloc, start) else {
+        return false;
+    };
+    assert_eq!(rt; seats.get().len(), 3);
+    check_live(rt, &mut made(rt, reader(rt, &book)), 0, Totals::default());
+    let entries = history_of(rt, book, seats.into_vec());
+    assert_eq!(rt; entries.get().len(), 0);
+    true
+}
+
+/// Whether a book for three jobs is opened. What it is made of takes no memory.
+fn opens_anew<A: Allocator + Copy>(rt: &(impl Wait + Abort), alloc: A) -> bool {
+    opens::<Brand, A, _>(rt, alloc, made(rt, start(alloc, 3)))
+}
+
+/// A book is opened. A refusal gives up what it is made of.
+fn is_not_opened(rt: &(impl Wait + Abort), heap: &Bump, room: usize) -> bool {
+    narrow(rt, heap, room);
+    let is_opened = opens_anew(rt, heap);
+    widen(heap);
+    assert!(rt; is_opened || opens_anew(rt, heap));
+    !is_opened
+}
+
+#[test]
+fn books_are_opened(rt: HostRuntime) {
+    check_rising_by(&rt, 1, 64, |heap, room| is_not_opened(&rt, heap, room));
+}
+
+/// What a book is made of takes no memory.
+fn starts(rt: &impl Abort, heap: &Bump, room: usize) -> bool {
+    narrow(rt, heap, room);
+    let first = start(heap, 64);
+    first.is_err()
+}
+
+#[test]
+fn starts_take_no_memory(rt: HostRuntime) {
+    check_none(&rt, |heap, room| starts(&rt, heap, room));
+}
+
+/// The operation in a book of which a text is held and a reader was made.
+fn performs<L: Name, A: Allocator + Copy, R: Wait + Abort + AllocGlobal>(
+    rt: &R,
+    alloc: A,
+    start: Start<A>,
+    tried: Narrow<'_>,
+) -> bool
+    requires name { start.name ≡ L.name }
+    requires jobs { start.jobs ≡ L.parts }
+    requires book { start.book ≡ L.book }
+{
+    let (book, seats) = made(rt, open::<L, A>(alloc, start));
+    let mut seats = seats.into_vec();
+    let is_refused = match seats.first_mut() {
+        Some(seat) => asks(rt, alloc, &book, seat, tried),
+        None => panic!(rt; "no seat"),
+    };
+    let entries = history_of(rt, book, seats);
+    assert_eq!(rt; entries.get().len(), 2);
+    check_entry(rt, entries.get().first(), 0, BEGUN);
+    check_entry(rt, entries.get().last(), 0, tried.row.wanted);
+    is_refused
+}
+
+/// The heap that is made narrow for what is asked.
+#[derive(Clone, Copy)]
+struct Narrow<'a> {
+    heap: &'a Bump,
+    room: usize,
+    row: Step<'a>,
+}
+
+/// The seat submits a text, and then asks in the narrow heap.
+fn asks<L: Name, A: Allocator + Copy, R: Wait + Abort + AllocGlobal>(
+    rt: &R,
+    alloc: A,
+    book: &Shared<L, A>,
+    seat: &mut Seat<L>,
+    tried: Narrow<'_>,
+) -> bool {
+    let begun = made(
+        rt,
+        perform(rt, alloc, book, seat, &op_of(rt, alloc, b"begin")),
+    );
+    let totals = begun.news.reading().totals;
+    let mut live = made(rt, reader(rt, book));
+    let op = op_of(rt, alloc, tried.row.asked);
+    narrow(rt, tried.heap, tried.room);
+    let first = perform(rt, alloc, book, seat, &op);
+    widen(tried.heap);
+    let (done, is_refused) = match first {
+        Ok(done) => (done, false),
+        Err(fault) => {
+            assert_eq!(rt; fault, BookFault::Memory);
+            check_seat(rt, seat, 1);
+            check_live(rt, &mut live, 1, totals);
+            (made(rt, perform(rt, alloc, book, seat, &op)), true)
+        }
+    };
+    check_seat(rt, seat, 2);
+    check_done(rt, &done, &mut live, tried.row.wanted);
+    is_refused
+}
+
+/// The second call's receipt is told like this, and its totals are published.
+fn check_done<L: Name, A: Allocator + Copy>(
+    rt: &(impl Abort + AllocGlobal),
+    done: &Done<L, A>,
+    live: &mut Live<L, A>,
+    wanted: &[u8],
+) {
+    let reading = done.news.reading();
+    assert_eq!(rt; (done.receipt.place, reading.upto), (1, 2));
+    check_told(
+        rt,
+        &done.receipt.op,
+        &done.receipt.answer,
+        &reading.totals,
+        wanted,
+    );
+    check_live(rt, live, 2, reading.totals);
+}
+
+/// The operation in a book that is opened for it.
+fn performs_anew<R: Wait + Abort + AllocGlobal>(
+    rt: &R,
+    heap: &Bump,
+    room: usize,
+    row: Step<'_>,
+) -> bool {
+    let tried = Narrow { heap, room, row };
+    performs::<Brand, &Bump, R>(rt, heap, made(rt, start(heap, 1)), tried)
+}
+
+#[test]
+fn shared_steps(rt: HostRuntime) {
+    for row in STEPS.split(|byte| *byte == b'\n') {
+        let row = step_of(&rt, row);
+        check_rising_by(&rt, 1, 8, |heap, room| performs_anew(&rt, heap, room, row));
+    }
+}
+
+/// A reader is made without room.
+fn reads<L: Name, A: Allocator + Copy, R: Wait + Abort>(
+    rt: &R,
+    alloc: A,
+    start: Start<A>,
+    heap: &Bump,
+    room: usize,
+) -> bool
+    requires name { start.name ≡ L.name }
+    requires jobs { start.jobs ≡ L.parts }
+    requires book { start.book ≡ L.book }
+{
+    let (book, _seats) = made(rt, open::<L, A>(alloc, start));
+    narrow(rt, heap, room);
+    let first = reader(rt, &book);
+    widen(heap);
+    match first {
+        Ok(mut live) => {
+            check_live(rt, &mut live, 0, Totals::default());
+            false
+        }
+        Err(_fault) => true,
+    }
+}
+
+/// A reader of a book that is opened for it.
+fn reads_anew(rt: &(impl Wait + Abort), heap: &Bump, room: usize) -> bool {
+    reads::<Brand, &Bump, _>(rt, heap, made(rt, start(heap, 1)), heap, room)
+}
+
+#[test]
+fn readers_take_no_memory(rt: HostRuntime) {
+    check_none(&rt, |heap, room| reads_anew(&rt, heap, room));
+}
+
+/// The seats of nine jobs are put into a list. One that is refused is given up, and the list is left as it was.
+fn hands_in<L: Name, A: Allocator + Copy, R: Wait + Abort>(
+    rt: &R,
+    alloc: A,
+    start: Start<A>,
+    heap: &Bump,
+    room: usize,
+) -> bool
+    requires name { start.name ≡ L.name }
+    requires jobs { start.jobs ≡ L.parts }
+    requires book { start.book ≡ L.book }
+{
+    let (_book, seats) = made(rt, open::<L, A>(alloc, start));
+    let mut list = Seats::new(alloc);
+    let mut refused = None;
+    narrow(rt, heap, room);
+    for seat in seats.into_vec() {
+        let job = seat.job();
+        if list.push(seat).is_err() {
+            widen(heap);
+            assert_eq!(rt; (refused, list.get().len()), (None, job as usize));
+            refused = Some(job);
+        }
+    }
+    check_jobs(rt, list.get(), refused);
+    refused.is_some()
+}
+
+/// The seats are those of nine jobs, but for the one that is given up.
+fn check_jobs<L: Name>(rt: &impl Abort, seats: &[Seat<L>], given_up: Option<u32>) {
+    let mut jobs = (0..9u32).filter(|job| given_up != Some(*job));
+    for seat in seats {
+        assert_eq!(rt; jobs.next(), Some(seat.job()));
+    }
+    assert_eq!(rt; jobs.next(), None);
+}
+
+/// The seats of a book that is opened for it.
+fn hands_in_anew(rt: &(impl Wait + Abort), heap: &Bump, room: usize) -> bool {
+    hands_in::<Brand, &Bump, _>(rt, heap, made(rt, start(heap, 9)), heap, room)
+}
+
+#[test]
+fn seats(rt: HostRuntime) {
+    check_rising(&rt, |heap, room| hands_in_anew(&rt, heap, room));
+}

@@ -1,0 +1,74 @@
+//! Texts that are read, and what is printed of them.
+
+/// Two lines of one file, one of them hit. It is printed as it is.
+pub(super) const SMALL: &[u8] = b"TN:t\nSF:/a.c\nDA:1,2\nDA:2,0\nLF:2\nLH:1\nend_of_record\n";
+
+/// The same twice.
+pub(super) const DOUBLED: &[u8] = b"TN:t\nSF:/a.c\nDA:1,4\nDA:2,0\nLF:2\nLH:1\nend_of_record\n";
+
+/// The same under another name.
+pub(super) const RENAMED: &[u8] = b"TN:v\nSF:/a.c\nDA:1,2\nDA:2,0\nLF:2\nLH:1\nend_of_record\n";
+
+/// Two tests of one line.
+pub(super) const APART: &[u8] = b"\
+TN:t
+SF:/a.c
+DA:1,2
+LF:1
+LH:1
+end_of_record
+TN:u
+SF:/a.c
+DA:1,3
+LF:1
+LH:1
+end_of_record
+";
+
+/// The two tests as one.
+pub(super) const JOINED: &[u8] = b"TN:u\nSF:/a.c\nDA:1,5\nLF:1\nLH:1\nend_of_record\n";
+
+/// The small tracefile with a checksum.
+pub(super) const CHECKED: &[u8] = b"TN:t\nSF:/a.c\nDA:1,2,abc\nDA:2,0\nLF:2\nLH:1\nend_of_record\n";
+
+/// Another version of its first line, by another test.
+pub(super) const CLASHING: &[u8] = b"TN:u\nSF:/a.c\nDA:1,1,abd\nend_of_record\n";
+
+/// gcov's annotated source, with functions, branches and blocks.
+pub(super) const ANNOTATED: &[u8] = b"\
+        -:    0:Source:tmp.c
+        -:    0:Runs:1
+        -:    1:#include <stdio.h>
+function main called 1 returned 100% blocks executed 80%
+        1:    2:int main(void)
+       3*:    3:  if (x)
+        3:    3-block  2
+branch  0 taken 2 (fallthrough)
+branch  1 taken 1
+call    2 returned 3
+    #####:    4:  f();
+branch  0 never executed
+    =====:    5:  g();
+";
+
+/// What is printed of the annotated source, as counts of the test `t`.
+pub(super) const TRACED: &[u8] = b"\
+TN:t
+SF:tmp.c
+FN:2,main
+FNDA:1,main
+FNF:1
+FNH:1
+BRDA:3,2,0,2
+BRDA:3,2,1,1
+BRDA:4,0,0,-
+BRF:3
+BRH:2
+DA:2,1
+DA:3,3
+DA:4,0
+DA:5,0
+LF:4
+LH:2
+end_of_record
+";

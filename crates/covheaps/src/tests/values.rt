@@ -1,0 +1,59 @@
+//! Values that are made of others: texts, and what is shared.
+
+use super::calls::{bytes, read, shared, shared_text};
+use super::heap::{check_rising, narrow, widen};
+use super::texts::SMALL;
+use super::{check_bytes, made};
+use bumpalo::Bump;
+use std::process::Abort;
+use std::test::*;
+
+/// A text of the bytes.
+fn text_of(rt: &impl Abort, heap: &Bump, room: usize) -> bool {
+    narrow(rt, heap, room);
+    let first = bytes(heap, SMALL);
+    widen(heap);
+    let (text, is_refused) = match first {
+        Ok(text) => (text, false),
+        Err(_refused) => (made(rt, bytes(heap, SMALL)), true),
+    };
+    check_bytes(rt, text.get(), SMALL);
+    is_refused
+}
+
+/// A text that is shared. A refusal gives it up.
+fn text_shared(rt: &impl Abort, heap: &Bump, room: usize) -> bool {
+    let text = made(rt, bytes(heap, SMALL));
+    let again = made(rt, bytes(heap, SMALL));
+    narrow(rt, heap, room);
+    let first = shared_text(heap, text);
+    widen(heap);
+    let (text, is_refused) = match first {
+        Ok(text) => (text, false),
+        Err(_refused) => (made(rt, shared_text(heap, again)), true),
+    };
+    check_bytes(rt, text.get().get(), SMALL);
+    is_refused
+}
+
+/// A submission that is shared. A refusal gives it up.
+fn submission_shared(rt: &impl Abort, heap: &Bump, room: usize) -> bool {
+    let given = made(rt, read(heap, SMALL));
+    let again = made(rt, read(heap, SMALL));
+    narrow(rt, heap, room);
+    let first = shared(heap, given);
+    widen(heap);
+    let (given, is_refused) = match first {
+        Ok(given) => (given, false),
+        Err(_refused) => (made(rt, shared(heap, again)), true),
+    };
+    assert_eq!(rt; (given.get().items(), given.get().odd()), (2, 0));
+    is_refused
+}
+
+#[test]
+fn texts_and_what_is_shared(rt: HostRuntime) {
+    check_rising(&rt, |heap, room| text_of(&rt, heap, room));
+    check_rising(&rt, |heap, room| text_shared(&rt, heap, room));
+    check_rising(&rt, |heap, room| submission_shared(&rt, heap, room));
+}
