@@ -11,6 +11,7 @@ mod lists;
 mod prints;
 mod readers;
 mod said;
+mod sessions;
 mod shared;
 mod steps;
 mod stores;

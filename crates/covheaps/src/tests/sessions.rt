@@ -1,0 +1,264 @@
+//! Sessions. One that is refused memory has written a beginning of what it would have written.
+
+ghost use Rattle.std.specs.Prelude.{◌<◌, ◌^◌, None};
+
+use super::heap::{check_rising_by, narrow, widen};
+use super::texts::{ANNOTATED, TRACED};
+use super::{check_bytes, made};
+use bumpalo::Bump;
+use covsession::session::{SessionFault, session};
+use covsession::{Failed, FromWrite, Sink, Source};
+use std::alloc::{AllocError, Allocator, Global};
+use std::process::Abort;
+use std::test::*;
+
+/// A reader that gives a byte at each call, so that all answers are written before the next command is read.
+#[derive(Drop)]
+struct Slow<'a> {
+    input: &'a [u8],
+    reads: u64,
+}
+
+impl<'a> Source for Slow<'a> {
+    ghost left = { λ s. None };
+
+    ghost reads = { λ s. s.reads };
+
+    ghost failed_reads = { λ s. 0 };
+
+    fn read(&mut self, buffer: &mut [u8]) -> Result<usize, Failed> {
+        self.reads += 1;
+        if buffer.is_empty() {
+            return Ok(0);
+        }
+        let input = self.input;
+        match input.split_first() {
+            Some((first, rest)) => {
+                buffer[0] = *first;
+                self.input = rest;
+                Ok(1)
+            }
+            None => Ok(0),
+        }
+    }
+}
+
+/// How a session ends, without what it promises.
+fn session_end<I: Source, O: Sink, A: Allocator + Copy>(
+    alloc: A,
+    source: &mut I,
+    sink: &mut O,
+) -> Result<(), SessionFault>
+    requires reads { I.reads source.old < 2 ^ 62 }
+    requires failed_reads { I.failed_reads source.old < 2 ^ 62 }
+    requires failed_writes { O.failed_writes sink.old < 2 ^ 62 }
+{
+    session(alloc, source, sink)
+}
+
+/// How a session on these bytes ends, and what it writes.
+fn run<A: Allocator + Copy>(
+    global: Global,
+    alloc: A,
+    input: &[u8],
+) -> (Result<(), SessionFault>, Vec<u8>) {
+    let mut output: Vec<u8> = Vec::new(global);
+    let ended = {
+        let mut source = Slow { input, reads: 0 };
+        let mut sink = FromWrite::new(&mut output);
+        session_end(alloc, &mut source, &mut sink)
+    };
+    (ended, output)
+}
+
+/// A session on these bytes, which writes this.
+fn is_refused(
+    rt: &(impl Abort + AllocGlobal),
+    heap: &Bump,
+    room: usize,
+    input: &[u8],
+    wanted: &[u8],
+) -> bool {
+    narrow(rt, heap, room);
+    let (ended, output) = run(rt.alloc(), heap, input);
+    widen(heap);
+    if let Err(fault) = ended {
+        assert_eq!(rt; fault, SessionFault::Memory);
+        assert!(rt; wanted.starts_with(output.as_slice()), "no beginning");
+        return true;
+    }
+    check_bytes(rt, output.as_slice(), wanted);
+    false
+}
+
+/// What a session reads and writes.
+#[derive(Drop)]
+struct Streams {
+    input: Vec<u8>,
+    wanted: Vec<u8>,
+}
+
+/// Cuts an example: its lines are read, but those that begin with `> ` are written.
+fn cut(alloc: Global, example: &[u8]) -> Result<Streams, AllocError> {
+    let mut streams = Streams {
+        input: Vec::new(alloc),
+        wanted: Vec::new(alloc),
+    };
+    for line in example.split(|byte| *byte == b'\n') {
+        if let Some(answer) = line.strip_prefix(b"> ") {
+            push_line(&mut streams.wanted, answer)?;
+        } else {
+            push_line(&mut streams.input, line)?;
+        }
+    }
+    Ok(streams)
+}
+
+/// Appends a line.
+fn push_line(text: &mut Vec<u8>, line: &[u8]) -> Result<(), AllocError> {
+    text.extend_from_slice(line)?;
+    text.push(b'\n')?;
+    Ok(())
+}
+
+/// What a session reads at first asks for this much room.
+const BLOCK: usize = 65_536;
+
+/// The session of this example.
+fn check(rt: &(impl Abort + AllocGlobal), streams: &Streams) {
+    let input = streams.input.as_slice();
+    let wanted = streams.wanted.as_slice();
+    check_rising_by(rt, BLOCK, 64, |heap, room| {
+        is_refused(rt, heap, room, input, wanted)
+    });
+}
+
+/// The session of this example.
+fn check_example(rt: &(impl Abort + AllocGlobal), example: &[u8]) {
+    check(rt, &made(rt, cut(rt.alloc(), example)));
+}
+
+#[test]
+fn a_report(rt: HostRuntime) {
+    check_example(
+        &rt,
+        b"\
+trace
+TN:t
+SF:/a.c
+DA:1,2
+DA:2,0
+LF:2
+LH:1
+end_of_record
+.
+report
+> accepted 1 items 2 odd 0
+> TN:t
+> SF:/a.c
+> DA:1,2
+> DA:2,0
+> LF:2
+> LH:1
+> end_of_record
+> .",
+    );
+}
+
+#[test]
+fn a_clash(rt: HostRuntime) {
+    check_example(
+        &rt,
+        b"\
+trace
+TN:t
+SF:/a.c
+DA:1,1,abc
+end_of_record
+.
+trace
+TN:u
+SF:/a.c
+DA:1,1,abd
+end_of_record
+.
+report
+drop t
+trace
+TN:u
+SF:/a.c
+DA:1,1,abd
+end_of_record
+.
+report
+> accepted 1 items 1 odd 0
+> clash /a.c 1 abc abd
+> TN:t
+> SF:/a.c
+> DA:1,1,abc
+> LF:1
+> LH:1
+> end_of_record
+> .
+> dropped 1
+> accepted 2 items 1 odd 0
+> TN:u
+> SF:/a.c
+> DA:1,1,abd
+> LF:1
+> LH:1
+> end_of_record
+> .",
+    );
+}
+
+#[test]
+fn a_rename(rt: HostRuntime) {
+    check_example(
+        &rt,
+        b"\
+trace
+TN:t
+SF:/a.c
+DA:1,2
+end_of_record
+TN:u
+SF:/a.c
+DA:1,3
+end_of_record
+.
+rename
+t
+u
+report
+drop u
+> accepted 1 items 2 odd 0
+> renamed 1
+> TN:u
+> SF:/a.c
+> DA:1,5
+> LF:1
+> LH:1
+> end_of_record
+> .
+> dropped 1",
+    );
+}
+
+/// Annotated source, and its report.
+fn of_annotated(alloc: Global) -> Result<Streams, AllocError> {
+    let mut streams = Streams {
+        input: Vec::from_slice(alloc, b"gcov t\n")?,
+        wanted: Vec::from_slice(alloc, b"accepted 1 items 8 odd 0\n")?,
+    };
+    streams.input.extend_from_slice(ANNOTATED)?;
+    streams.input.extend_from_slice(b".\nreport\n")?;
+    streams.wanted.extend_from_slice(TRACED)?;
+    streams.wanted.extend_from_slice(b".\n")?;
+    Ok(streams)
+}
+
+#[test]
+fn annotated_source(rt: HostRuntime) {
+    check(&rt, &made(&rt, of_annotated(rt.alloc())));
+}
