@@ -7,24 +7,24 @@ use std::sync::Arc;
 
 /// A value that several owners share. Contracts see the value.
 #[derive(Drop)]
-struct Shared<T: Drop, A: Allocator> {
+struct SharedValue<T: Drop, A: Allocator> {
     value: Arc<T, A>,
 }
 
-impl<T: Drop, A: Allocator> Model for Shared<T, A> {
+impl<T: Drop, A: Allocator> Model for SharedValue<T, A> {
     ghost Value = { T };
 
     ghost view = { λ a. a.value.value };
 }
 
-impl<T: Drop, A: Allocator> Shared<T, A> {
+impl<T: Drop, A: Allocator> SharedValue<T, A> {
     ghost use Rattle.std.specs.Prelude.{◌≡◌, IfOk};
 
     /// The value, to be shared. A refusal gives it up.
-    fn of(alloc: A, value: T) -> Result<Shared<T, A>, Memory>
+    fn of(alloc: A, value: T) -> Result<SharedValue<T, A>, Memory>
         ensures { IfOk result (λ s. s ≡ value) }
     {
-        Ok(Shared {
+        Ok(SharedValue {
             value: Arc::new(alloc, value)?,
         })
     }
@@ -37,10 +37,10 @@ impl<T: Drop, A: Allocator> Shared<T, A> {
     }
 
     /// One more owner of the same value.
-    fn copy(&self) -> Result<Shared<T, A>, Memory>
+    fn copy(&self) -> Result<SharedValue<T, A>, Memory>
         ensures { IfOk result (λ s. s ≡ self.now) }
     {
-        Ok(Shared {
+        Ok(SharedValue {
             value: self.value.clone()?,
         })
     }
@@ -49,7 +49,7 @@ impl<T: Drop, A: Allocator> Shared<T, A> {
 /// A submission that operations, entries and receipts share.
 #[derive(Drop)]
 pub struct SubRef<A: Allocator = Global> {
-    shared: Shared<Submission<A>, A>,
+    shared: SharedValue<Submission<A>, A>,
 }
 
 impl<A: Allocator> Model for SubRef<A> {
@@ -68,7 +68,7 @@ impl<A: Allocator> SubRef<A> {
         ensures { IfOk result (λ s. s ≡ submission) }
     {
         Ok(SubRef {
-            shared: Shared::of(alloc, submission)?,
+            shared: SharedValue::of(alloc, submission)?,
         })
     }
 
@@ -99,7 +99,7 @@ impl<A: Allocator> SubRef<A> {
 /// A text that entries and receipts share.
 #[derive(Drop)]
 pub struct TextRef<A: Allocator = Global> {
-    shared: Shared<Bytes<A>, A>,
+    shared: SharedValue<Bytes<A>, A>,
 }
 
 impl<A: Allocator> Model for TextRef<A> {
@@ -118,7 +118,7 @@ impl<A: Allocator> TextRef<A> {
         ensures { IfOk result (λ t. t ≡ text) }
     {
         Ok(TextRef {
-            shared: Shared::of(alloc, text)?,
+            shared: SharedValue::of(alloc, text)?,
         })
     }
 

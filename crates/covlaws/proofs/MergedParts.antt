@@ -25,7 +25,7 @@ use Rattle.covreport.specs.Summary.{summary_of}
 use Rattle.covstore.specs.Table.{Table}
 use Rattle.covbook.specs.Texts.{IsText}
 use Rattle.covstore.specs.Totals.{totals_of}
-use Rattle.covstore.proofs.Leads.{all_back, all_front}
+use Rattle.covmap.proofs.Leads.{all_back, all_front}
 use Rattle.covlaws.proofs.LawfulRun.{lawful_rows}
 use Rattle.covlaws.proofs.PrintableContent.{checksums_shown, printable_content}
 use Rattle.covlaws.proofs.ReadBack.{shown_is_lawful}

@@ -17,7 +17,7 @@ use Rattle.covstore.specs.Value.{is_taken}
 use Rattle.covstore.specs.Content.{FunctionValueData, SectionData}
 use Rattle.covreport.specs.Report.{by_start, start_record, call_record, functions_hit, branch_record, branches_hit, line_record, lines_hit, section_records, section_text}
 use Rattle.covlaws.specs.Printable.{start_item, call_item, branch_item, line_item, items_shown, IsPrintableSection}
-use Rattle.covstore.proofs.Leads.{all_append, all_front, all_back}
+use Rattle.covmap.proofs.Leads.{all_append, all_front, all_back}
 use Rattle.covlaws.proofs.Apart.{all_zip, all_more, all_mapped, all_unmapped}
 use Rattle.covlaws.proofs.ShownParts.{function_totals, branch_totals, line_totals}
 use Rattle.covlaws.proofs.ShownTotals.{all_if_any, all_inside}

@@ -12,7 +12,7 @@ use Rattle.covread.specs.Outcome.{most_bytes}
 use Rattle.covstore.specs.Content.{SectionData}
 use Rattle.covreport.specs.Report.{by_start, function_cmp, start_record, call_record, branch_record, line_record, section_records, section_text}
 use Rattle.covlaws.specs.Printable.{start_item, call_item, branch_item, line_item, items_shown, sect_shown}
-use Rattle.covstore.proofs.Leads.{all_append}
+use Rattle.covmap.proofs.Leads.{all_append}
 use Rattle.covlaws.proofs.Apart.{all_mapped, always, length-sorted}
 use Rattle.covlaws.proofs.ShownParts.{inside_of, function_totals, branch_totals, line_totals}
 use Rattle.covlaws.proofs.ShownTotals.{all_if_any, all_inside}

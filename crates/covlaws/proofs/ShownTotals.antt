@@ -17,7 +17,7 @@ use Rattle.covread.specs.Reads.{items_of, distinct, branch_eq, own_total, is_odd
 use Rattle.covstore.specs.Content.{FunctionValueData, BranchValueData, LineValueData, SectionData}
 use Rattle.covreport.specs.Report.{totals, totals_if_any, by_start, function_cmp, start_record, call_record, functions_hit, branch_record, branches_hit, line_record, lines_hit}
 use Rattle.covlaws.specs.Printable.{start_item, call_item, branch_item, line_item, items_shown}
-use Rattle.covstore.proofs.Leads.{all_append}
+use Rattle.covmap.proofs.Leads.{all_append}
 use Rattle.covlaws.proofs.Apart.{AreApart, all_more, all_mapped, always, distinct_apart, distinct_again, apart_kept, apart_mapped, length-sorted, count_by-sorted}
 use Rattle.covlaws.proofs.MappedParts.{joined, none_in, each_in, kept_in, none_kept_in, dropped_in}
 use Rattle.covlaws.proofs.ShownOrders.{HasPointsApart}

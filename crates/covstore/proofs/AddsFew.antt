@@ -13,11 +13,11 @@ use Rattle.covline.specs.Points.{BranchPoint, line_point, func_point, branch_poi
 use Rattle.covline.specs.Row.{ItemData, Row}
 use Rattle.covstore.specs.declared.sums.FunctionSum.{FunctionSum}
 use Rattle.covstore.specs.declared.sums.LineSum.{LineSum}
-use Rattle.covstore.specs.declared.sums.Taken.{Taken}
+use Rattle.covstore.specs.declared.sums.BranchSum.{BranchSum}
 use Rattle.covstore.specs.declared.sums.Tests.{Tests}
 use Rattle.covstore.specs.Ascending.{ascending}
 use Rattle.covstore.specs.Counts.{AreCounts}
-use Rattle.covstore.specs.Puts.{value_of}
+use Rattle.covmap.specs.Puts.{value_of}
 use Rattle.covstore.specs.State.{FileData, IsStateOf, IsWholeFile, points_in, tests_in}
 use Rattle.covstore.specs.Sums.{TestData, branch_sum, function_sum, line_sum, test_of}
 use Rattle.covstore.specs.Value.{Key, branches_in, has_key, items_at, lines_in, names_in}
@@ -127,9 +127,9 @@ function_spoken items name i =
 
 branch_spoken : (items : List ItemData) (point : BranchPoint) → In point (points_of (test_of items).branches) → In point (flat_map branch_point items)
 branch_spoken items point i =
-    let pair = In-unmap (λ (pair : BranchPoint × Taken). pair.0) (test_of items).branches point i in
+    let pair = In-unmap (λ (pair : BranchPoint × BranchSum). pair.0) (test_of items).branches point i in
     let own = In-unmap (branch_sum items) (branches_in items) pair.0 pair.1 in
-    In-ascending branches_order.exact point (flat_map branch_point items) (subst (λ (p : BranchPoint). In p (branches_in items)) (ap (λ (p : BranchPoint × Taken). p.0) own.2 ∙ pair.2) own.1)
+    In-ascending branches_order.exact point (flat_map branch_point items) (subst (λ (p : BranchPoint). In p (branches_in items)) (ap (λ (p : BranchPoint × BranchSum). p.0) own.2 ∙ pair.2) own.1)
 
 -- a file of a state has no more points of a kind than there are rows
 pub kept_few : (rows : List Row) (files : List (List ℕ × FileData)) → IsStateOf rows files → (name : List ℕ) (file : FileData) → value_of (slice_cmp nat_cmp) name files ≡ Some file

@@ -12,8 +12,8 @@ use Rattle.covstore.specs.declared.stop.Stop.{Stop}
 use Rattle.covstore.specs.declared.stop.Stop.TheVariants.{Clash, Memory}
 use Rattle.covstore.specs.Adds.{Adds, Clashes, HasRoomFor, IsIn}
 use Rattle.covstore.specs.FileAdds.{AddsItems, ClashesIn, HasFile, HasRoomIn}
-use Rattle.covstore.specs.Marks.{MarksData, file_with}
-use Rattle.covstore.specs.Puts.{put, value_of}
+use Rattle.covstore.specs.FileIndex.{FileIndexData, file_with}
+use Rattle.covmap.specs.Puts.{put, value_of}
 use Rattle.covstore.specs.State.{FileData}
 use Rattle.covstore.specs.Sums.{TestData}
 use Rattle.covstore.proofs.AddsLists.{put_there}
@@ -22,11 +22,11 @@ use Rattle.covstore.proofs.Orders.{names_order}
 
 -- ---- a test of a file
 
-module _ (items : List ItemData) (test : List ℕ) (tests : List (List ℕ × TestData)) (points : TestData) (marks : MarksData) (found : value_of (slice_cmp nat_cmp) test tests ≡ Some points) where
-  its_place : (rows : List Row) (files : List (List ℕ × FileData)) (name : List ℕ) → HasFile rows files name (file_with tests marks) → IsIn rows files name test tests points marks
+module _ (items : List ItemData) (test : List ℕ) (tests : List (List ℕ × TestData)) (points : TestData) (index : FileIndexData) (found : value_of (slice_cmp nat_cmp) test tests ≡ Some points) where
+  its_place : (rows : List Row) (files : List (List ℕ × FileData)) (name : List ℕ) → HasFile rows files name (file_with tests index) → IsIn rows files name test tests points index
   its_place rows files name has = record { state = has.state; agree = has.agree; its_file = has.there; its_test = found }
 
-  pub room_for : HasRoomIn items test (file_with tests marks) → length tests < 2 ^ 63 → HasRoomFor items points marks
+  pub room_for : HasRoomIn items test (file_with tests index) → length tests < 2 ^ 63 → HasRoomFor items points index
   room_for room few = record {
     rows = room.rows;
     files = room.files;
@@ -38,15 +38,15 @@ module _ (items : List ItemData) (test : List ℕ) (tests : List (List ℕ × Te
     few_tests = few;
   }
 
-  pub adds_in : (points_after : TestData) (marks_after : MarksData) → Adds items points marks points_after marks_after
-      → AddsItems items test (file_with tests marks) (file_with (put (slice_cmp nat_cmp) test points_after tests) marks_after)
-  adds_in points_after marks_after adds rows files name has =
+  pub adds_in : (points_after : TestData) (index_after : FileIndexData) → Adds items points index points_after index_after
+      → AddsItems items test (file_with tests index) (file_with (put (slice_cmp nat_cmp) test points_after tests) index_after)
+  adds_in points_after index_after adds rows files name has =
       let added = adds rows files name test tests (its_place rows files name has) in
       (added.0, record { state = added.1.state; agree = added.1.agree; there = added.1.its_file })
 
-  pub clashes_in : {A : Type 0} (stop : Stop A) → Clashes items points marks stop → ClashesIn items test (file_with tests marks) stop
+  pub clashes_in : {A : Type 0} (stop : Stop A) → Clashes items points index stop → ClashesIn items test (file_with tests index) stop
   clashes_in Memory clash = tt
-  clashes_in (Clash line held given) clash = λ rows files name has. clash rows files name test tests (its_place rows files name has)
+  clashes_in (Clash line committed given) clash = λ rows files name has. clash rows files name test tests (its_place rows files name has)
 
 -- ---- the entries of a map
 

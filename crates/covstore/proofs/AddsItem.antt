@@ -1,4 +1,4 @@
--- What one item does where its test and the marks of its file stand.
+-- What one item does where its test and the index of its file stand.
 use Rattle.std.proofs.Common.{◌≡◌, ℕ, Some, None, List, [], ◌∷◌, ◌++◌, sym, ap, ◌∙◌, subst, inl, inr, ⊎_elim}
 use Rattle.std.specs.Prelude.{Contains}
 use Rattle.std.specs.Cmp.Lexicographic.{slice_cmp}
@@ -7,8 +7,8 @@ use Rattle.std.proofs.lemmas.List.Concat.{flat_map-append}
 use Rattle.covline.specs.Row.{ItemData, LineItem, FuncItem, BranchItem, Row}
 use Rattle.covstore.specs.Adds.{Adds, IsIn}
 use Rattle.covstore.specs.Clash.{Agree, Checksum, checksum_of, checksum_of_row, checksums_in, first_clash}
-use Rattle.covstore.specs.Marks.{MarksData, file_with}
-use Rattle.covstore.specs.Puts.{put, value_of}
+use Rattle.covstore.specs.FileIndex.{FileIndexData, file_with}
+use Rattle.covmap.specs.Puts.{put, value_of}
 use Rattle.covstore.specs.State.{FileData, IsStateOf}
 use Rattle.covstore.specs.Steps.{IsTextOf, KeepsCounts, KeepsTextsOf}
 use Rattle.covstore.specs.Sums.{TestData, with_item}
@@ -22,41 +22,41 @@ use Rattle.covstore.proofs.StateRows.{row_more}
 use Rattle.covstore.proofs.SumsMore.{sums_more}
 
 -- the item's own checksum is the text of its line
-own_text : (file : List ℕ) (item : ItemData) (marks : MarksData) (c : Checksum) → IsTextOf item marks → In c (checksum_of file item) → value_of nat_cmp c.line marks.texts ≡ Some c.checksum
-own_text file (LineItem line count (Some checksum)) marks c own (inl same) = subst (λ (d : Checksum). value_of nat_cmp d.line marks.texts ≡ Some d.checksum) same own.is_kept
-own_text file (LineItem line count (Some checksum)) marks c own (inr none) = absurd none
-own_text file (LineItem line count None) marks c own i = absurd i
-own_text file (FuncItem name line count) marks c own i = absurd i
-own_text file (BranchItem line block branch taken) marks c own i = absurd i
+own_text : (file : List ℕ) (item : ItemData) (index : FileIndexData) (c : Checksum) → IsTextOf item index → In c (checksum_of file item) → value_of nat_cmp c.line index.texts ≡ Some c.checksum
+own_text file (LineItem line count (Some checksum)) index c own (inl same) = subst (λ (d : Checksum). value_of nat_cmp d.line index.texts ≡ Some d.checksum) same own.is_kept
+own_text file (LineItem line count (Some checksum)) index c own (inr none) = absurd none
+own_text file (LineItem line count None) index c own i = absurd i
+own_text file (FuncItem name line count) index c own i = absurd i
+own_text file (BranchItem line block branch taken) index c own i = absurd i
 
-module _ (item : ItemData) (test test_after : TestData) (marks marks_after : MarksData) (more : test_after ≡ with_item item test) (counts : KeepsCounts test test_after marks marks_after)
-    (own : IsTextOf item marks_after) (texts : KeepsTextsOf marks marks_after) (rows : List Row) (files : List (List ℕ × FileData)) (file name : List ℕ) (tests : List (List ℕ × TestData))
-    (is : IsIn rows files file name tests test marks) where
+module _ (item : ItemData) (test test_after : TestData) (index index_after : FileIndexData) (more : test_after ≡ with_item item test) (counts : KeepsCounts test test_after index index_after)
+    (own : IsTextOf item index_after) (texts : KeepsTextsOf index index_after) (rows : List Row) (files : List (List ℕ × FileData)) (file name : List ℕ) (tests : List (List ℕ × TestData))
+    (is : IsIn rows files file name tests test index) where
   abbrev its_row : Row
   its_row = record { test = name; file = file; item = item }
 
   abbrev file_after : FileData
-  file_after = file_with (put (slice_cmp nat_cmp) name test_after tests) marks_after
+  file_after = file_with (put (slice_cmp nat_cmp) name test_after tests) index_after
 
-  texts_after : (c : Checksum) → Contains (checksums_in (rows ++ its_row ∷ [])) c → c.file ≡ file → value_of nat_cmp c.line marks_after.texts ≡ Some c.checksum
+  texts_after : (c : Checksum) → Contains (checksums_in (rows ++ its_row ∷ [])) c → c.file ≡ file → value_of nat_cmp c.line index_after.texts ≡ Some c.checksum
   texts_after c i same =
-      ⊎_elim {C = value_of nat_cmp c.line marks_after.texts ≡ Some c.checksum}
+      ⊎_elim {C = value_of nat_cmp c.line index_after.texts ≡ Some c.checksum}
       (λ (before : In c (checksums_in rows)). texts.texts_stay c.line (checksum_held is c before (sym same)) ∙ text_kept is c before (sym same))
       (λ (now : In c (checksums_in (its_row ∷ []))). let from = In-unflat checksum_of_row (its_row ∷ []) c now in by from.0 from.1 from.2)
       (In-parts (checksums_in rows) (checksums_in (its_row ∷ [])) c
       (subst (In c) (flat_map-append checksum_of_row rows (its_row ∷ [])) (In-from (checksums_in (rows ++ its_row ∷ [])) c i)))
     where
-      by : (row : Row) → In row (its_row ∷ []) → In c (checksum_of_row row) → value_of nat_cmp c.line marks_after.texts ≡ Some c.checksum
-      by row (inl is_it) j = own_text file item marks_after c own (subst (λ (r : Row). In c (checksum_of_row r)) (sym is_it) j)
+      by : (row : Row) → In row (its_row ∷ []) → In c (checksum_of_row row) → value_of nat_cmp c.line index_after.texts ≡ Some c.checksum
+      by row (inl is_it) j = own_text file item index_after c own (subst (λ (r : Row). In c (checksum_of_row r)) (sym is_it) j)
       by row (inr none) j = absurd none
 
   state_after : IsStateOf (rows ++ its_row ∷ []) (put (slice_cmp nat_cmp) file file_after files)
   state_after =
-      row_more sums_more rows its_row files (file_with tests marks) file_after test is.state is.its_file is.its_test
-      (ap (λ (t : TestData). put (slice_cmp nat_cmp) name t tests) more) (whole_after is test_after marks_after counts) texts_after
+      row_more sums_more rows its_row files (file_with tests index) file_after test is.state is.its_file is.its_test
+      (ap (λ (t : TestData). put (slice_cmp nat_cmp) name t tests) more) (whole_after is test_after index_after counts) texts_after
 
   item_adds_at : (first_clash (checksums_in rows) (checksums_in (its_row ∷ [])) ≡ None)
-      × IsIn (rows ++ its_row ∷ []) (put (slice_cmp nat_cmp) file file_after files) file name (put (slice_cmp nat_cmp) name test_after tests) test_after marks_after
+      × IsIn (rows ++ its_row ∷ []) (put (slice_cmp nat_cmp) file file_after files) file name (put (slice_cmp nat_cmp) name test_after tests) test_after index_after
   item_adds_at =
       let agree = state_agrees (rows ++ its_row ∷ []) (put (slice_cmp nat_cmp) file file_after files) state_after in (
         agree_none (checksums_in rows) (checksums_in (its_row ∷ [])) is.agree (subst Agree (flat_map-append checksum_of_row rows (its_row ∷ [])) agree),
@@ -69,7 +69,7 @@ module _ (item : ItemData) (test test_after : TestData) (marks marks_after : Mar
       )
 
 -- where the numbers of the file count the test with the item, and the texts have its checksum, the item is added
-pub item_adds : (item : ItemData) (test test_after : TestData) (marks marks_after : MarksData) → test_after ≡ with_item item test → KeepsCounts test test_after marks marks_after → IsTextOf item marks_after
-    → KeepsTextsOf marks marks_after → Adds (item ∷ []) test marks test_after marks_after
-item_adds item test test_after marks marks_after more counts own texts rows files file name tests is =
-    item_adds_at item test test_after marks marks_after more counts own texts rows files file name tests is
+pub item_adds : (item : ItemData) (test test_after : TestData) (index index_after : FileIndexData) → test_after ≡ with_item item test → KeepsCounts test test_after index index_after → IsTextOf item index_after
+    → KeepsTextsOf index index_after → Adds (item ∷ []) test index test_after index_after
+item_adds item test test_after index index_after more counts own texts rows files file name tests is =
+    item_adds_at item test test_after index index_after more counts own texts rows files file name tests is

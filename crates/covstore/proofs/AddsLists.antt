@@ -10,7 +10,7 @@ use Rattle.std.proofs.lemmas.List.{append-nil}
 use Rattle.std.proofs.lemmas.Option.{none-some, same_Some}
 use Rattle.covstore.specs.Clash.{Checksum, ClashData, clash_with, differs, first_clash, or_later}
 use Rattle.covstore.specs.Counts.{is_new, one_if}
-use Rattle.covstore.specs.Puts.{ArePairs, put, value_of}
+use Rattle.covmap.specs.Puts.{ArePairs, put, value_of}
 use Rattle.covstore.proofs.Ascend.{IsExactOrder, All-weaker, flips}
 use Rattle.covstore.proofs.Puts.{length-put, value_of_before}
 
@@ -23,7 +23,7 @@ pub record IsPlaceOf {K V : Type 0} (key : K) (value : V) (pairs : List (K × V)
   pub place : pairs ≡ front ++ (key, value) ∷ back
   pub after : (other : V) → pairs_with other ≡ front ++ (key, other) ∷ back
 
-same_pair : {K V : Type 0} {key other : K} {value held : V} → key ≡ other → value ≡ held → ◌≡◌ {A = K × V} (key, value) (other, held)
+same_pair : {K V : Type 0} {key other : K} {value committed : V} → key ≡ other → value ≡ committed → ◌≡◌ {A = K × V} (key, value) (other, committed)
 same_pair keys values = λ i. (keys i, values i)
 
 module _ {K V : Type 0} {cmp : K → K → Ordering} (o : IsExactOrder cmp) where
@@ -56,7 +56,7 @@ module _ {K V : Type 0} {cmp : K → K → Ordering} (o : IsExactOrder cmp) wher
 
   pub length-put_there : (key : K) (value other : V) (pairs : List (K × V)) → ArePairs cmp pairs → value_of cmp key pairs ≡ Some value → length (put cmp key other pairs) ≡ length pairs
   length-put_there key value other pairs sorted h =
-      let none : one_if (is_new (value_of cmp key pairs)) ≡ 0 = ap (λ (held : Option V). one_if (is_new held)) h in
+      let none : one_if (is_new (value_of cmp key pairs)) ≡ 0 = ap (λ (committed : Option V). one_if (is_new committed)) h in
       omega (arith, length-put o key other pairs sorted, none)
 
   -- ---- a value put in after another one of the same key
@@ -85,11 +85,11 @@ joined_at x (Some other) front whole back rest none = absurd (none-some (clash_w
 joined_at x None front whole back rest none = rest none
 
 -- where the first list doesn't clash, it counts as held
-pub clash_behind : (held xs ys : List Checksum) → first_clash held xs ≡ None → first_clash held (xs ++ ys) ≡ first_clash (held ++ xs) ys
-clash_behind held [] ys none = ap (λ (all : List Checksum). first_clash all ys) (sym (append-nil held))
-clash_behind held (x ∷ xs) ys none =
-    joined_at x (find (differs x) held) (first_clash (held ++ x ∷ []) xs) (first_clash (held ++ x ∷ []) (xs ++ ys)) (first_clash (held ++ x ∷ xs) ys)
-    (λ later. clash_behind (held ++ x ∷ []) xs ys later ∙ ap (λ (all : List Checksum). first_clash all ys) (append_assoc held (x ∷ []) xs)) none
+pub clash_behind : (committed xs ys : List Checksum) → first_clash committed xs ≡ None → first_clash committed (xs ++ ys) ≡ first_clash (committed ++ xs) ys
+clash_behind committed [] ys none = ap (λ (all : List Checksum). first_clash all ys) (sym (append-nil committed))
+clash_behind committed (x ∷ xs) ys none =
+    joined_at x (find (differs x) committed) (first_clash (committed ++ x ∷ []) xs) (first_clash (committed ++ x ∷ []) (xs ++ ys)) (first_clash (committed ++ x ∷ xs) ys)
+    (λ later. clash_behind (committed ++ x ∷ []) xs ys later ∙ ap (λ (all : List Checksum). first_clash all ys) (append_assoc committed (x ∷ []) xs)) none
 
 front_at : (x : Checksum) (found : Option Checksum) (front whole : Option ClashData) (clash : ClashData) → (front ≡ Some clash → whole ≡ Some clash) → or_later x found front ≡ Some clash
     → or_later x found whole ≡ Some clash
@@ -97,7 +97,7 @@ front_at x (Some other) front whole clash rest h = h
 front_at x None front whole clash rest h = rest h
 
 -- and where it clashes, that is the clash of both
-pub clash_before : (held xs ys : List Checksum) (clash : ClashData) → first_clash held xs ≡ Some clash → first_clash held (xs ++ ys) ≡ Some clash
-clash_before held [] ys clash h = absurd (none-some clash h)
-clash_before held (x ∷ xs) ys clash h =
-    front_at x (find (differs x) held) (first_clash (held ++ x ∷ []) xs) (first_clash (held ++ x ∷ []) (xs ++ ys)) clash (λ later. clash_before (held ++ x ∷ []) xs ys clash later) h
+pub clash_before : (committed xs ys : List Checksum) (clash : ClashData) → first_clash committed xs ≡ Some clash → first_clash committed (xs ++ ys) ≡ Some clash
+clash_before committed [] ys clash h = absurd (none-some clash h)
+clash_before committed (x ∷ xs) ys clash h =
+    front_at x (find (differs x) committed) (first_clash (committed ++ x ∷ []) xs) (first_clash (committed ++ x ∷ []) (xs ++ ys)) clash (λ later. clash_before (committed ++ x ∷ []) xs ys clash later) h

@@ -2,57 +2,57 @@
 use Rattle.std.proofs.Common.{◌≡◌, ℕ, ◌+◌, ◌<◌, List, [], ◌∷◌, ◌++◌, get_or, length, take, drop, map, refl, sym, ap, ◌∙◌}
 use Rattle.std.proofs.lemmas.List.{drop_more, map-append, map_more, take-append-drop}
 use Rattle.covline.specs.Row.{ItemData}
-use Rattle.covstore.specs.declared.marks.Marks.{Marks}
+use Rattle.covstore.specs.declared.index.FileIndex.{FileIndex}
 use Rattle.covstore.specs.declared.stop.Stop.{Stop}
 use Rattle.covstore.specs.declared.stop.Stop.TheVariants.{Clash, Memory}
 use Rattle.covstore.specs.declared.test.Test.{Test}
 use Rattle.covstore.specs.Adds.{Adds, Clashes, HasRoomFor}
-use Rattle.covstore.specs.MarksView.{KeepsHeld, marks_coming}
+use Rattle.covstore.specs.FileIndexView.{KeepsCommitted, index_staged}
 use Rattle.covstore.specs.Steps.{HasRoom, IsClashOf, IsTextOf, KeepsCounts, KeepsTextsOf}
 use Rattle.covstore.specs.Sums.{with_item}
-use Rattle.covstore.specs.TestView.{test_coming, test_held}
+use Rattle.covstore.specs.TestView.{test_staged, test_committed}
 use Rattle.covstore.proofs.AddsItem.{item_adds}
 use Rattle.covstore.proofs.AddsMore.{adds_more, adds_none, clash_front, clash_later, item_clashes}
 use Rattle.covstore.proofs.AddsRoom.{has_room, room_later}
 use Rattle.covstore.proofs.StepsMore.{held_both}
 
 -- these items are taken, and there is room for those that are left
-pub record HasTaken {A : Type 0} (taken left : List ItemData) (test : Test A) (marks : Marks A) (test_now : Test A) (marks_now : Marks A) : Type 0 where
-  pub adds : Adds taken (test_coming test) (marks_coming marks) (test_coming test_now) (marks_coming marks_now)
-  pub room : HasRoomFor left (test_coming test_now) (marks_coming marks_now)
-  pub same_test : test_held test_now ≡ test_held test
-  pub same_marks : KeepsHeld marks marks_now
+pub record HasTaken {A : Type 0} (taken left : List ItemData) (test : Test A) (index : FileIndex A) (test_now : Test A) (index_now : FileIndex A) : Type 0 where
+  pub adds : Adds taken (test_staged test) (index_staged index) (test_staged test_now) (index_staged index_now)
+  pub room : HasRoomFor left (test_staged test_now) (index_staged index_now)
+  pub same_test : test_committed test_now ≡ test_committed test
+  pub same_index : KeepsCommitted index index_now
 
-pub none_taken : {A : Type 0} (left : List ItemData) (test : Test A) (marks : Marks A) → HasRoomFor left (test_coming test) (marks_coming marks) → HasTaken [] left test marks test marks
-none_taken left test marks room = record {
-  adds = adds_none (test_coming test) (marks_coming marks);
+pub none_taken : {A : Type 0} (left : List ItemData) (test : Test A) (index : FileIndex A) → HasRoomFor left (test_staged test) (index_staged index) → HasTaken [] left test index test index
+none_taken left test index room = record {
+  adds = adds_none (test_staged test) (index_staged index);
   room = room;
   same_test = refl;
-  same_marks = record { lines = refl; functions = refl; branches = refl; holders = refl; texts = λ line held. refl };
+  same_index = record { lines = refl; functions = refl; branches = refl; holders = refl; texts = λ line committed. refl };
 }
 
-module _ {A : Type 0} (taken : List ItemData) (item : ItemData) (left : List ItemData) (test : Test A) (marks : Marks A) (test_now : Test A) (marks_now : Marks A)
-    (so_far : HasTaken taken (item ∷ left) test marks test_now marks_now) where
-  pub next_has_room : HasRoom (test_coming test_now) (marks_coming marks_now)
-  next_has_room = has_room (item ∷ left) (test_coming test_now) (marks_coming marks_now) so_far.room
+module _ {A : Type 0} (taken : List ItemData) (item : ItemData) (left : List ItemData) (test : Test A) (index : FileIndex A) (test_now : Test A) (index_now : FileIndex A)
+    (so_far : HasTaken taken (item ∷ left) test index test_now index_now) where
+  pub next_has_room : HasRoom (test_staged test_now) (index_staged index_now)
+  next_has_room = has_room (item ∷ left) (test_staged test_now) (index_staged index_now) so_far.room
 
-  pub one_taken : (test_later : Test A) (marks_later : Marks A) → test_held test_later ≡ test_held test_now → KeepsHeld marks_now marks_later → test_coming test_later ≡ with_item item (test_coming test_now)
-      → KeepsCounts (test_coming test_now) (test_coming test_later) (marks_coming marks_now) (marks_coming marks_later) → IsTextOf item (marks_coming marks_later)
-      → KeepsTextsOf (marks_coming marks_now) (marks_coming marks_later) → HasTaken (taken ++ item ∷ []) left test marks test_later marks_later
-  one_taken test_later marks_later same keeps more counts own texts =
-      let one = item_adds item (test_coming test_now) (test_coming test_later) (marks_coming marks_now) (marks_coming marks_later) more counts own texts in
+  pub one_taken : (test_later : Test A) (index_later : FileIndex A) → test_committed test_later ≡ test_committed test_now → KeepsCommitted index_now index_later → test_staged test_later ≡ with_item item (test_staged test_now)
+      → KeepsCounts (test_staged test_now) (test_staged test_later) (index_staged index_now) (index_staged index_later) → IsTextOf item (index_staged index_later)
+      → KeepsTextsOf (index_staged index_now) (index_staged index_later) → HasTaken (taken ++ item ∷ []) left test index test_later index_later
+  one_taken test_later index_later same keeps more counts own texts =
+      let one = item_adds item (test_staged test_now) (test_staged test_later) (index_staged index_now) (index_staged index_later) more counts own texts in
       record {
-        adds = adds_more taken (item ∷ []) (test_coming test) (test_coming test_now) (test_coming test_later) (marks_coming marks) (marks_coming marks_now) (marks_coming marks_later) so_far.adds one;
-        room = room_later item left (test_coming test_now) (test_coming test_later) (marks_coming marks_now) (marks_coming marks_later) so_far.room one;
+        adds = adds_more taken (item ∷ []) (test_staged test) (test_staged test_now) (test_staged test_later) (index_staged index) (index_staged index_now) (index_staged index_later) so_far.adds one;
+        room = room_later item left (test_staged test_now) (test_staged test_later) (index_staged index_now) (index_staged index_later) so_far.room one;
         same_test = same ∙ so_far.same_test;
-        same_marks = held_both marks marks_now marks_later so_far.same_marks keeps;
+        same_index = held_both index index_now index_later so_far.same_index keeps;
       }
 
-  pub next_clashes : (stop : Stop A) → IsClashOf item (marks_coming marks_now) stop → Clashes (taken ++ item ∷ left) (test_coming test) (marks_coming marks) stop
+  pub next_clashes : (stop : Stop A) → IsClashOf item (index_staged index_now) stop → Clashes (taken ++ item ∷ left) (test_staged test) (index_staged index) stop
   next_clashes Memory clash = tt
-  next_clashes (Clash line held given) clash =
-      clash_later taken (item ∷ left) (test_coming test) (test_coming test_now) (marks_coming marks) (marks_coming marks_now) line held given so_far.adds
-      (clash_front (item ∷ []) left (test_coming test_now) (marks_coming marks_now) line held given (item_clashes item (test_coming test_now) (marks_coming marks_now) line held given clash))
+  next_clashes (Clash line committed given) clash =
+      clash_later taken (item ∷ left) (test_staged test) (test_staged test_now) (index_staged index) (index_staged index_now) line committed given so_far.adds
+      (clash_front (item ∷ []) left (test_staged test_now) (index_staged index_now) line committed given (item_clashes item (test_staged test_now) (index_staged index_now) line committed given clash))
 
 -- ---- by places in a list
 

@@ -15,7 +15,7 @@ use Rattle.covstore.specs.declared.file.File.{File}
 use Rattle.covstore.specs.FileView.{KeepsFile, no_file, with_file, with_test}
 use Rattle.covstore.specs.Stored.{KeepsState}
 use Rattle.covstore.specs.MapsView.{AreSettledBut, IsSettledBut, tests_of}
-use Rattle.covstore.specs.Puts.{ArePairs, put, value_of}
+use Rattle.covmap.specs.Puts.{ArePairs, put, value_of}
 use Rattle.covstore.specs.SectionAdds.{HasPlace}
 use Rattle.covstore.specs.State.{FileData}
 use Rattle.covstore.specs.Sums.{TestData, test_of}
@@ -99,7 +99,7 @@ module _ {K V : Type 0} (name : K → List ℕ) (file : List ℕ) (pairs : List 
     kept_written test points there keeps =
         subst (KeepsState (seen names_order name f pairs)) (sym file_written) (file_keeps file test (f v) (f w) points there keeps (seen names_order name f pairs) ascend (file_value f))
 
--- ---- but for the test that was touched last nothing is to come
+-- ---- but for the test that was touched last nothing is staged
 
 pub written_settled : {A : Type 0} (touched more : List (List ℕ × List ℕ)) (file test : List ℕ) (v w : File A) (before after : List (Vec ℕ A × File A)) → more ≡ touched ++ (file, test) ∷ []
     → lookup (is_at (λ (other : Vec ℕ A). slice_cmp nat_cmp file other.items)) before ≡ Some v → after ≡ set_value (is_at (λ (other : Vec ℕ A). slice_cmp nat_cmp file other.items)) before w

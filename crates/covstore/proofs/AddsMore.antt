@@ -11,8 +11,8 @@ use Rattle.std.proofs.lemmas.Slice.Eq.{bytes_eq-Decides}
 use Rattle.covline.specs.Row.{ItemData, LineItem, FuncItem, BranchItem, Row, rows_of_sect}
 use Rattle.covstore.specs.Adds.{Adds, ClashesAt, IsIn, clash_told, files_with, section_of_items}
 use Rattle.covstore.specs.Clash.{Agree, Checksum, checksum_of_row, checksums_in, clash_of, differs, first_clash}
-use Rattle.covstore.specs.Marks.{MarksData, file_with}
-use Rattle.covstore.specs.Puts.{put}
+use Rattle.covstore.specs.FileIndex.{FileIndexData, file_with}
+use Rattle.covmap.specs.Puts.{put}
 use Rattle.covstore.specs.State.{FileData}
 use Rattle.covstore.specs.Steps.{IsClashAt, IsOtherText}
 use Rattle.covstore.specs.Sums.{TestData}
@@ -25,18 +25,18 @@ use Rattle.covstore.proofs.Orders.{names_order}
 -- ---- no items
 
 -- what stands still stands where the rows, the files and the tests are told in another way
-moved : (rows others : List Row) (files list : List (List ℕ × FileData)) (file name : List ℕ) (tests : List (List ℕ × TestData)) (test : TestData) (marks : MarksData) → rows ≡ others → files ≡ list
-    → IsIn rows files file name tests test marks → IsIn others list file name tests test marks
-moved rows others files list file name tests test marks same_rows same_files is =
-    subst (λ (fs : List (List ℕ × FileData)). IsIn others fs file name tests test marks) same_files (subst (λ (rs : List Row). IsIn rs files file name tests test marks) same_rows is)
+moved : (rows others : List Row) (files list : List (List ℕ × FileData)) (file name : List ℕ) (tests : List (List ℕ × TestData)) (test : TestData) (index : FileIndexData) → rows ≡ others → files ≡ list
+    → IsIn rows files file name tests test index → IsIn others list file name tests test index
+moved rows others files list file name tests test index same_rows same_files is =
+    subst (λ (fs : List (List ℕ × FileData)). IsIn others fs file name tests test index) same_files (subst (λ (rs : List Row). IsIn rs files file name tests test index) same_rows is)
 
-pub adds_none : (test : TestData) (marks : MarksData) → Adds [] test marks test marks
-adds_none test marks rows files file name tests is =
+pub adds_none : (test : TestData) (index : FileIndexData) → Adds [] test index test index
+adds_none test index rows files file name tests is =
     let same_tests : put (slice_cmp nat_cmp) name test tests ≡ tests = put_there names_order name test tests (its_whole is).ascending is.its_test in
-    let same_files : put (slice_cmp nat_cmp) file (file_with tests marks) files ≡ files = put_there names_order file (file_with tests marks) files is.state.ascending is.its_file in
-    let there : IsIn (rows ++ []) (put (slice_cmp nat_cmp) file (file_with tests marks) files) file name tests test marks =
-    moved rows (rows ++ []) files (put (slice_cmp nat_cmp) file (file_with tests marks) files) file name tests test marks (sym (append-nil rows)) (sym same_files) is in
-    (refl, subst (λ (list : List (List ℕ × TestData)). IsIn (rows ++ []) (put (slice_cmp nat_cmp) file (file_with list marks) files) file name list test marks) (sym same_tests) there)
+    let same_files : put (slice_cmp nat_cmp) file (file_with tests index) files ≡ files = put_there names_order file (file_with tests index) files is.state.ascending is.its_file in
+    let there : IsIn (rows ++ []) (put (slice_cmp nat_cmp) file (file_with tests index) files) file name tests test index =
+    moved rows (rows ++ []) files (put (slice_cmp nat_cmp) file (file_with tests index) files) file name tests test index (sym (append-nil rows)) (sym same_files) is in
+    (refl, subst (λ (list : List (List ℕ × TestData)). IsIn (rows ++ []) (put (slice_cmp nat_cmp) file (file_with list index) files) file name list test index) (sym same_tests) there)
 
 -- ---- items and then others
 
@@ -60,9 +60,9 @@ clash_joined rows file name xs ys none =
     let front = checksums_in (rows_of_sect (section_of_items file name xs)) in
     let back = checksums_in (rows_of_sect (section_of_items file name ys)) in
     ap (first_clash (checksums_in rows)) (checksums_joined file name xs ys) ∙ clash_behind (checksums_in rows) front back none
-    ∙ ap (λ (held : List Checksum). first_clash held back) (sym (flat_map-append checksum_of_row rows (rows_of_sect (section_of_items file name xs))))
+    ∙ ap (λ (committed : List Checksum). first_clash committed back) (sym (flat_map-append checksum_of_row rows (rows_of_sect (section_of_items file name xs))))
 
-pub adds_more : (xs ys : List ItemData) (a b c : TestData) (m n o : MarksData) → Adds xs a m b n → Adds ys b n c o → Adds (xs ++ ys) a m c o
+pub adds_more : (xs ys : List ItemData) (a b c : TestData) (m n o : FileIndexData) → Adds xs a m b n → Adds ys b n c o → Adds (xs ++ ys) a m c o
 adds_more xs ys a b c m n o first second rows files file name tests is =
     let front = rows_of_sect (section_of_items file name xs) in
     let back = rows_of_sect (section_of_items file name ys) in
@@ -85,17 +85,17 @@ adds_more xs ys a b c m n o first second rows files file name tests is =
 -- ---- clashes
 
 -- the items behind clash where the ones before don't
-pub clash_later : (xs ys : List ItemData) (a b : TestData) (m n : MarksData) (line : ℕ) (held given : List ℕ) → Adds xs a m b n → ClashesAt ys b n line held given → ClashesAt (xs ++ ys) a m line held given
-clash_later xs ys a b m n line held given first later rows files file name tests is =
+pub clash_later : (xs ys : List ItemData) (a b : TestData) (m n : FileIndexData) (line : ℕ) (committed given : List ℕ) → Adds xs a m b n → ClashesAt ys b n line committed given → ClashesAt (xs ++ ys) a m line committed given
+clash_later xs ys a b m n line committed given first later rows files file name tests is =
     let one = first rows files file name tests is in
     clash_joined rows file name xs ys one.0
     ∙ later (rows ++ rows_of_sect (section_of_items file name xs)) (files_with file name tests b n files) file name (put (slice_cmp nat_cmp) name b tests) one.1
 
 -- a clash of the ones before is that of all
-pub clash_front : (xs ys : List ItemData) (a : TestData) (m : MarksData) (line : ℕ) (held given : List ℕ) → ClashesAt xs a m line held given → ClashesAt (xs ++ ys) a m line held given
-clash_front xs ys a m line held given front rows files file name tests is =
+pub clash_front : (xs ys : List ItemData) (a : TestData) (m : FileIndexData) (line : ℕ) (committed given : List ℕ) → ClashesAt xs a m line committed given → ClashesAt (xs ++ ys) a m line committed given
+clash_front xs ys a m line committed given front rows files file name tests is =
     ap (first_clash (checksums_in rows)) (checksums_joined file name xs ys)
-    ∙ clash_before (checksums_in rows) (checksums_in (rows_of_sect (section_of_items file name xs))) (checksums_in (rows_of_sect (section_of_items file name ys))) (clash_told file line held given)
+    ∙ clash_before (checksums_in rows) (checksums_in (rows_of_sect (section_of_items file name xs))) (checksums_in (rows_of_sect (section_of_items file name ys))) (clash_told file line committed given)
     (front rows files file name tests is)
 
 -- ---- one item that clashes
@@ -107,32 +107,32 @@ all_hold true false z first second other = second
 all_hold false y z first second other = first
 
 -- two different checksums of one line
-two_checksums : (file : List ℕ) (line : ℕ) (given held : List ℕ) → (held ≡ given → ⊥) → differs (record { file = file; line = line; checksum = given }) (record { file = file; line = line; checksum = held }) ≡ true
-two_checksums file line given held other =
-    all_hold (bytes_eq file file) (line == line) (bytes_eq given held) ((bytes_eq-Decides file file).1 refl) (eq-eqb line line refl) (λ same. other (sym ((bytes_eq-Decides given held).0 same)))
+two_checksums : (file : List ℕ) (line : ℕ) (given committed : List ℕ) → (committed ≡ given → ⊥) → differs (record { file = file; line = line; checksum = given }) (record { file = file; line = line; checksum = committed }) ≡ true
+two_checksums file line given committed other =
+    all_hold (bytes_eq file file) (line == line) (bytes_eq given committed) ((bytes_eq-Decides file file).1 refl) (eq-eqb line line refl) (λ same. other (sym ((bytes_eq-Decides given committed).0 same)))
 
-line_clashes : (line count : ℕ) (checksum : List ℕ) (test : TestData) (marks : MarksData) (held : List ℕ) → IsOtherText marks line held checksum
-    → ClashesAt (LineItem line count (Some checksum) ∷ []) test marks line held checksum
-line_clashes line count checksum test marks held other rows files file name tests is =
+line_clashes : (line count : ℕ) (checksum : List ℕ) (test : TestData) (index : FileIndexData) (committed : List ℕ) → IsOtherText index line committed checksum
+    → ClashesAt (LineItem line count (Some checksum) ∷ []) test index line committed checksum
+line_clashes line count checksum test index committed other rows files file name tests is =
     let own : Checksum = record { file = file; line = line; checksum = checksum } in
-    let before : Checksum = record { file = file; line = line; checksum = held } in
+    let before : Checksum = record { file = file; line = line; checksum = committed } in
     let all : checksums_in rows ≡ checksums_in rows ++ [] = sym (append-nil (checksums_in rows)) in
-    told_first (checksums_in rows) (own ∷ []) (clash_told file line held checksum) (record {
+    told_first (checksums_in rows) (own ∷ []) (clash_told file line committed checksum) (record {
       before = [];
       first = own;
       after = [];
       other = before;
       place = refl;
-      among = subst (λ (cs : List Checksum). Contains cs before) all (Contains-from (checksums_in rows) before (held_text is line held other.is_held other.is_kept));
-      differ = two_checksums file line checksum held other.other;
+      among = subst (λ (cs : List Checksum). Contains cs before) all (Contains-from (checksums_in rows) before (held_text is line committed other.is_held other.is_kept));
+      differ = two_checksums file line checksum committed other.other;
       none_before = subst Agree all is.agree;
       told = refl;
     })
 
-pub item_clashes : (item : ItemData) (test : TestData) (marks : MarksData) (told : ℕ) (held given : List ℕ) → IsClashAt item marks told held given → ClashesAt (item ∷ []) test marks told held given
-item_clashes (LineItem line count (Some checksum)) test marks told held given clash rows files file name tests is =
-    line_clashes line count checksum test marks held clash.2 rows files file name tests is
-    ∙ ap (λ (n : ℕ). Some (clash_told file n held checksum)) (sym clash.0) ∙ ap (λ (text : List ℕ). Some (clash_told file told held text)) (sym clash.1)
-item_clashes (LineItem line count None) test marks told held given clash rows files file name tests is = absurd clash
-item_clashes (FuncItem function line count) test marks told held given clash rows files file name tests is = absurd clash
-item_clashes (BranchItem line block branch taken) test marks told held given clash rows files file name tests is = absurd clash
+pub item_clashes : (item : ItemData) (test : TestData) (index : FileIndexData) (told : ℕ) (committed given : List ℕ) → IsClashAt item index told committed given → ClashesAt (item ∷ []) test index told committed given
+item_clashes (LineItem line count (Some checksum)) test index told committed given clash rows files file name tests is =
+    line_clashes line count checksum test index committed clash.2 rows files file name tests is
+    ∙ ap (λ (n : ℕ). Some (clash_told file n committed checksum)) (sym clash.0) ∙ ap (λ (text : List ℕ). Some (clash_told file told committed text)) (sym clash.1)
+item_clashes (LineItem line count None) test index told committed given clash rows files file name tests is = absurd clash
+item_clashes (FuncItem function line count) test index told committed given clash rows files file name tests is = absurd clash
+item_clashes (BranchItem line block branch taken) test index told committed given clash rows files file name tests is = absurd clash

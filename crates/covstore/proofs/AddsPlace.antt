@@ -1,4 +1,4 @@
--- What stands where a test and the marks of its file stand: the file is whole, its tests are what their items add up to, and
+-- What stands where a test and the index of its file stand: the file is whole, its tests are what their items add up to, and
 -- each checksum of the file is held, with its text.
 use Rattle.std.proofs.Common.{◌≡◌, ℕ, Bool, true, false, ◌&&◌, not, eqb, if◌then◌else◌, nat_lt, Option, Some, None, List, [], ◌∷◌, ◌++◌, length, filter, map, refl, sym, ap, ◌∙◌, subst, inl}
 use Rattle.std.specs.Prelude.{Contains}
@@ -17,8 +17,8 @@ use Rattle.covstore.specs.declared.sums.LineSum.{LineSum}
 use Rattle.covstore.specs.Adds.{IsIn}
 use Rattle.covstore.specs.Clash.{Agree, Checksum, checksum_of_row, checksums_in}
 use Rattle.covstore.specs.Counts.{is_above_at}
-use Rattle.covstore.specs.Marks.{MarksData, file_with}
-use Rattle.covstore.specs.Puts.{put, value_of}
+use Rattle.covstore.specs.FileIndex.{FileIndexData, file_with}
+use Rattle.covmap.specs.Puts.{put, value_of}
 use Rattle.covstore.specs.State.{AreKept, FileData, IsStateOf, IsWholeFile, has_checksum, holders_at, holding, points_in, tests_in, text_in}
 use Rattle.covstore.specs.Steps.{KeepsCounts}
 use Rattle.covstore.specs.Sums.{TestData, line_sum, test_of}
@@ -46,8 +46,8 @@ no_difference true false z same = refl
 no_difference false y z same = refl
 
 -- each has the one text of its line
-pub agree_by_text : (text : List ℕ → ℕ → Option (List ℕ)) (held : List Checksum) → ((c : Checksum) → Contains held c → text c.file c.line ≡ Some c.checksum) → Agree held
-agree_by_text text held own a b i j =
+pub agree_by_text : (text : List ℕ → ℕ → Option (List ℕ)) (committed : List Checksum) → ((c : Checksum) → Contains committed c → text c.file c.line ≡ Some c.checksum) → Agree committed
+agree_by_text text committed own a b i j =
     no_difference (bytes_eq a.file b.file) (eqb a.line b.line) (bytes_eq a.checksum b.checksum)
     (λ file line.
     let same_file : a.file ≡ b.file = (bytes_eq-Decides a.file b.file).0 file in
@@ -118,17 +118,17 @@ holder_of line tests e =
 
 -- ---- the numbers of a file, beside whatever list of tests they stand
 
-pub kept_beside : (list others : List (List ℕ × TestData)) (tests : List TestData) (marks : MarksData) → AreKept tests (file_with list marks) → AreKept tests (file_with others marks)
-kept_beside list others tests marks kept = record { lines = kept.lines; functions = kept.functions; branches = kept.branches; holders = kept.holders }
+pub kept_beside : (list others : List (List ℕ × TestData)) (tests : List TestData) (index : FileIndexData) → AreKept tests (file_with list index) → AreKept tests (file_with others index)
+kept_beside list others tests index kept = record { lines = kept.lines; functions = kept.functions; branches = kept.branches; holders = kept.holders }
 
-module _ {rows : List Row} {files : List (List ℕ × FileData)} {file name : List ℕ} {tests : List (List ℕ × TestData)} {test : TestData} {marks : MarksData} (is : IsIn rows files file name tests test marks) where
-  pub its_whole : IsWholeFile (file_with tests marks)
-  its_whole = All-in (λ (pair : List ℕ × FileData). IsWholeFile pair.1) files (file, file_with tests marks) is.state.whole (pair_in names_order file (file_with tests marks) files is.its_file)
+module _ {rows : List Row} {files : List (List ℕ × FileData)} {file name : List ℕ} {tests : List (List ℕ × TestData)} {test : TestData} {index : FileIndexData} (is : IsIn rows files file name tests test index) where
+  pub its_whole : IsWholeFile (file_with tests index)
+  its_whole = All-in (λ (pair : List ℕ × FileData). IsWholeFile pair.1) files (file, file_with tests index) is.state.whole (pair_in names_order file (file_with tests index) files is.its_file)
 
   -- each of its tests is what the items of that test add up to
   pub test_at : (other : List ℕ) (found : TestData) → value_of (slice_cmp nat_cmp) other tests ≡ Some found → found ≡ test_of (items_at (record { file = file; test = other }) rows)
   test_at other found e =
-      sym (points_there (file_with tests marks) other found e) ∙ ap (λ (kept : Option FileData). points_in kept other) (sym is.its_file) ∙ is.state.points (record { file = file; test = other })
+      sym (points_there (file_with tests index) other found e) ∙ ap (λ (kept : Option FileData). points_in kept other) (sym is.its_file) ∙ is.state.points (record { file = file; test = other })
 
   -- ---- the test among the others
 
@@ -151,10 +151,10 @@ module _ {rows : List Row} {files : List (List ℕ × FileData)} {file name : Li
   tests_after : (other : TestData) → map (λ (pair : List ℕ × TestData). pair.1) (put (slice_cmp nat_cmp) name other tests) ≡ its_front ++ other ∷ its_back
   tests_after other = ap (λ (list : List (List ℕ × TestData)). map (λ (pair : List ℕ × TestData). pair.1) list) (its_place.after other) ∙ tests_around other
 
-  pub its_kept : AreKept (its_front ++ test ∷ its_back) (file_with [] marks)
-  its_kept = kept_beside tests [] (its_front ++ test ∷ its_back) marks (subst (λ (list : List TestData). AreKept list (file_with tests marks)) tests_before its_whole.kept)
+  pub its_kept : AreKept (its_front ++ test ∷ its_back) (file_with [] index)
+  its_kept = kept_beside tests [] (its_front ++ test ∷ its_back) index (subst (λ (list : List TestData). AreKept list (file_with tests index)) tests_before its_whole.kept)
 
-  pub whole_after : (other : TestData) (more : MarksData) → KeepsCounts test other marks more → IsWholeFile (file_with (put (slice_cmp nat_cmp) name other tests) more)
+  pub whole_after : (other : TestData) (more : FileIndexData) → KeepsCounts test other index more → IsWholeFile (file_with (put (slice_cmp nat_cmp) name other tests) more)
   whole_after other more keeps =
       let list = put (slice_cmp nat_cmp) name other tests in
       record {
@@ -168,24 +168,24 @@ module _ {rows : List Row} {files : List (List ℕ × FileData)} {file name : Li
   -- ---- the checksums of the file
 
   -- a checksum of the rows is the text of its line
-  pub text_kept : (c : Checksum) → In c (checksums_in rows) → file ≡ c.file → value_of nat_cmp c.line marks.texts ≡ Some c.checksum
+  pub text_kept : (c : Checksum) → In c (checksums_in rows) → file ≡ c.file → value_of nat_cmp c.line index.texts ≡ Some c.checksum
   text_kept c i same =
       ap (λ (found : Option FileData). text_in found c.line) (sym is.its_file) ∙ ap (λ (of : List ℕ). text_in (value_of (slice_cmp nat_cmp) of files) c.line) same
       ∙ is.state.texts c (Contains-from (checksums_in rows) c i)
 
   sum_there : (other : List ℕ) (line : ℕ) (found : Option TestData) → value_of (slice_cmp nat_cmp) other tests ≡ found → HasSum (test_of (items_at (record { file = file; test = other }) rows)) line
-      → is_some (value_of nat_cmp line marks.holders) ≡ true
+      → is_some (value_of nat_cmp line index.holders) ≡ true
   sum_there other line None e sum =
       let none : test_of [] ≡ test_of (items_at (record { file = file; test = other }) rows) =
-      sym (points_none (file_with tests marks) other e) ∙ ap (λ (kept : Option FileData). points_in kept other) (sym is.its_file) ∙ is.state.points (record { file = file; test = other }) in
+      sym (points_none (file_with tests index) other e) ∙ ap (λ (kept : Option FileData). points_in kept other) (sym is.its_file) ∙ is.state.points (record { file = file; test = other }) in
       absurd (none-some sum.0 (ap (λ (t : TestData). value_of nat_cmp line t.lines) none ∙ sum.1))
   sum_there other line (Some found) e sum =
       let own : HasSum found line = subst (λ (t : TestData). HasSum t line) (sym (test_at other found e)) sum in
       ap is_some (its_whole.kept.holders line)
-      ∙ held_of line (tests_in (file_with tests marks)) found (In-map (λ (pair : List ℕ × TestData). pair.1) tests (other, found) (pair_in names_order other found tests e)) own
+      ∙ held_of line (tests_in (file_with tests index)) found (In-map (λ (pair : List ℕ × TestData). pair.1) tests (other, found) (pair_in names_order other found tests e)) own
 
   -- and some test holds one of its line
-  pub checksum_held : (c : Checksum) → In c (checksums_in rows) → file ≡ c.file → is_some (value_of nat_cmp c.line marks.holders) ≡ true
+  pub checksum_held : (c : Checksum) → In c (checksums_in rows) → file ≡ c.file → is_some (value_of nat_cmp c.line index.holders) ≡ true
   checksum_held c i same =
       let row = In-unflat checksum_of_row rows c i in
       let says = line_of_said row.0.file c row.0.item row.2 in
@@ -195,18 +195,18 @@ module _ {rows : List Row} {files : List (List ℕ × FileData)} {file name : Li
       sum_there row.0.test c.line (value_of (slice_cmp nat_cmp) row.0.test tests) refl
       (subst (λ (of : List ℕ). HasSum (test_of (items_at (record { file = of; test = row.0.test }) rows)) c.line) (says.0 ∙ sym same) sum)
 
-  is_text : (line : ℕ) (said text : List ℕ) → In (checksum_with file line said) (checksums_in rows) → value_of nat_cmp line marks.texts ≡ Some text → In (checksum_with file line text) (checksums_in rows)
+  is_text : (line : ℕ) (said text : List ℕ) → In (checksum_with file line said) (checksums_in rows) → value_of nat_cmp line index.texts ≡ Some text → In (checksum_with file line text) (checksums_in rows)
   unfolding checksum_with
   is_text line said text there kept =
-      let own : value_of nat_cmp line marks.texts ≡ Some said = text_kept (checksum_with file line said) there refl in
+      let own : value_of nat_cmp line index.texts ≡ Some said = text_kept (checksum_with file line said) there refl in
       subst (λ (t : List ℕ). In (checksum_with file line t) (checksums_in rows)) (same_Some said text (sym own ∙ kept)) there
 
   -- the other way: the text of a line of which a test holds a checksum is one of the rows'
-  pub held_text : (line : ℕ) (text : List ℕ) → is_some (value_of nat_cmp line marks.holders) ≡ true → value_of nat_cmp line marks.texts ≡ Some text
+  pub held_text : (line : ℕ) (text : List ℕ) → is_some (value_of nat_cmp line index.holders) ≡ true → value_of nat_cmp line index.texts ≡ Some text
       → In (record { file = file; line = line; checksum = text }) (checksums_in rows)
   unfolding checksum_with
-  held_text line text held kept =
-      let holder = holder_of line (tests_in (file_with tests marks)) (sym (ap is_some (its_whole.kept.holders line)) ∙ held) in
+  held_text line text committed kept =
+      let holder = holder_of line (tests_in (file_with tests index)) (sym (ap is_some (its_whole.kept.holders line)) ∙ committed) in
       let pair = In-unmap (λ (pair : List ℕ × TestData). pair.1) tests holder.0 holder.1 in
       let key : Key = record { file = file; test = pair.0.0 } in
       let sums : holder.0 ≡ test_of (items_at key rows) =

@@ -1,4 +1,4 @@
--- The items of a section in a store that was made ready for them: what is held stays, and what is to come is more.
+-- The items of a section in a store that was made ready for them: what is committed stays, and what is staged is more.
 use Rattle.std.proofs.Common.{◌≡◌, ℕ, Bool, true, Some, List, [], ◌∷◌, length, refl, sym, ap, ◌∙◌, subst, arith}
 use Rattle.std.specs.Cmp.Lexicographic.{slice_cmp}
 use Rattle.std.specs.Ordering.{nat_cmp}
@@ -10,9 +10,9 @@ use Rattle.covstore.specs.declared.totals.Totals.{Totals}
 use Rattle.covstore.specs.Exchanged.{FitTogether, IsAmong, exchanged}
 use Rattle.covstore.specs.FileAdds.{AddsItems, HasRoomIn}
 use Rattle.covstore.specs.FileView.{with_file}
-use Rattle.covstore.specs.Stored.{AddsRows, AddsTo, ClashesWith, HasRoomForRows, KeepsState, SameHeld, StoreData, RefuseData, ClashRefuse, MemoryRefuse}
+use Rattle.covstore.specs.Stored.{AddsRows, AddsTo, ClashesWith, HasRoomForRows, KeepsState, SameCommitted, StoreData, RefuseData, ClashRefuse, MemoryRefuse}
 use Rattle.covstore.specs.MapsView.{IsStore}
-use Rattle.covstore.specs.Puts.{put, value_of}
+use Rattle.covmap.specs.Puts.{put, value_of}
 use Rattle.covstore.specs.SectionAdds.{HasPlace, RefusedIn, rows_of_items}
 use Rattle.covstore.specs.State.{FileData, file_totals, totals_in}
 use Rattle.covstore.specs.Table.{all_rows}
@@ -23,26 +23,26 @@ use Rattle.covstore.proofs.Keeps.{with_file_keeps}
 use Rattle.covstore.proofs.StateSections.{sections_are}
 use Rattle.covstore.proofs.Stores.{store_of}
 
--- ---- what is held
+-- ---- what is committed
 
-pub held_kept : (members : ℕ) (totals : Totals) (files files_after coming coming_after : List (List ℕ × FileData)) (after later : Totals) (before : StoreData) → IsStore members totals files → KeepsState files files_after
-    → store_of members files coming after ≡ before → SameHeld before (store_of members files_after coming_after later)
-held_kept members totals files files_after coming coming_after after later before is keeps view =
-    subst (λ (old : StoreData). SameHeld old (store_of members files_after coming_after later)) view (record {
+pub held_kept : (members : ℕ) (totals : Totals) (files files_after staged staged_after : List (List ℕ × FileData)) (after later : Totals) (before : StoreData) → IsStore members totals files → KeepsState files files_after
+    → store_of members files staged after ≡ before → SameCommitted before (store_of members files_after staged_after later)
+held_kept members totals files files_after staged staged_after after later before is keeps view =
+    subst (λ (old : StoreData). SameCommitted old (store_of members files_after staged_after later)) view (record {
       sections = sections_are (all_rows is.own) files_after (keeps.states (all_rows is.own) is.state) is.agree ∙ sym (sections_are (all_rows is.own) files is.state is.agree);
       members = refl;
-      held = keeps;
+      committed = keeps;
     })
 
--- ---- what is to come, where the store was made ready first
+-- ---- what is staged, where the store was made ready first
 
 pub both_keep : (a b c : List (List ℕ × FileData)) → KeepsState a b → KeepsState b c → KeepsState a c
 both_keep a b c first second = record { states = λ rows state. second.states rows (first.states rows state); totals = second.totals ∙ first.totals }
 
-pub file_opened_keeps : (file : List ℕ) (added : List Row) (before : StoreData) (coming : List (List ℕ × FileData)) → HasRoomForRows added before → coming ≡ with_file file before.coming → KeepsState before.coming coming
-file_opened_keeps file added before coming room is = subst (KeepsState before.coming) (sym is) (with_file_keeps file before.coming room.state.ascending)
+pub file_opened_keeps : (file : List ℕ) (added : List Row) (before : StoreData) (staged : List (List ℕ × FileData)) → HasRoomForRows added before → staged ≡ with_file file before.staged → KeepsState before.staged staged
+file_opened_keeps file added before staged room is = subst (KeepsState before.staged) (sym is) (with_file_keeps file before.staged room.state.ascending)
 
-module _ (added : List Row) (before now : StoreData) (keeps : KeepsState before.coming now.coming) (same : now.after ≡ before.after) where
+module _ (added : List Row) (before now : StoreData) (keeps : KeepsState before.staged now.staged) (same : now.after ≡ before.after) where
   pub room_kept : HasRoomForRows added before → HasRoomForRows added now
   room_kept room = record {
     rows = room.rows;
@@ -77,33 +77,33 @@ nothing_added file test items store none = subst (λ (all : List ItemData). Adds
 
 -- ---- the file and its test are there
 
-module _ (name test : List ℕ) (items : List ItemData) (store : StoreData) (room : HasRoomForRows (rows_of_items name test items) store) (place : HasPlace name test store.coming)
-    (file : FileData) (there : value_of (slice_cmp nat_cmp) name store.coming ≡ Some file) where
+module _ (name test : List ℕ) (items : List ItemData) (store : StoreData) (room : HasRoomForRows (rows_of_items name test items) store) (place : HasPlace name test store.staged)
+    (file : FileData) (there : value_of (slice_cmp nat_cmp) name store.staged ≡ Some file) where
   pub its_test : value_of (slice_cmp nat_cmp) test file.tests ≡ Some place.points
   its_test = subst (λ (f : FileData). value_of (slice_cmp nat_cmp) test f.tests ≡ Some place.points) (same_Some place.file file (sym place.its_file ∙ there)) place.its_test
 
   pub file_room : HasRoomIn items test file
-  file_room = room_in items name test file store.coming there room.rows place.points its_test room.state room.agree room.few
+  file_room = room_in items name test file store.staged there room.rows place.points its_test room.state room.agree room.few
 
   pub refused : (refusal : RefuseData) → RefusedIn items name test file refusal → ClashesWith (rows_of_items name test items) store refusal
   refused MemoryRefuse is = tt
-  refused (ClashRefuse clash) is = λ rows state agree. is rows store.coming (record { state = state; agree = agree; there = there })
+  refused (ClashRefuse clash) is = λ rows state agree. is rows store.staged (record { state = state; agree = agree; there = there })
 
   pub part : (before : Totals) → before ≡ file_totals file → IsAmong before store.after
   part before is =
-      subst (λ (t : Totals). IsAmong t store.after) (sym is) (subst (IsAmong (file_totals file)) (sym room.totals) (file_among name file store.coming there))
+      subst (λ (t : Totals). IsAmong t store.after) (sym is) (subst (IsAmong (file_totals file)) (sym room.totals) (file_among name file store.staged there))
 
   module _ (after : FileData) (adds : AddsItems items test file after) where
     pub fits : (totals : Totals) → totals ≡ file_totals after → FitTogether totals store.after
     fits totals is =
         subst (λ (t : Totals). FitTogether t store.after) (sym is)
-        (subst (FitTogether (file_totals after)) (sym room.totals) (section_fits items name test file store.coming there after adds room.rows room.state room.agree room.few))
+        (subst (FitTogether (file_totals after)) (sym room.totals) (section_fits items name test file store.staged there after adds room.rows room.state room.agree room.few))
 
     pub rows_added : (before totals result : Totals) → before ≡ file_totals file → totals ≡ file_totals after → result ≡ exchanged store.after before totals
-        → (later : StoreData) → later.coming ≡ put (slice_cmp nat_cmp) name after store.coming → later.after ≡ result → AddsRows (rows_of_items name test items) store later
-    rows_added before totals result was now is later coming last = record {
-      adds = subst (AddsTo (rows_of_items name test items) store.coming) (sym coming) (section_adds items name test file store.coming there after adds);
+        → (later : StoreData) → later.staged ≡ put (slice_cmp nat_cmp) name after store.staged → later.after ≡ result → AddsRows (rows_of_items name test items) store later
+    rows_added before totals result was now is later staged last = record {
+      adds = subst (AddsTo (rows_of_items name test items) store.staged) (sym staged) (section_adds items name test file store.staged there after adds);
       totals = λ same.
           last ∙ is ∙ ap (λ (t : Totals). exchanged store.after t totals) was ∙ ap (exchanged store.after (file_totals file)) now
-          ∙ section_totals items name test file store.coming there after adds room.rows room.state store.after same ∙ ap totals_in (sym coming);
+          ∙ section_totals items name test file store.staged there after adds room.rows room.state store.after same ∙ ap totals_in (sym staged);
     }

@@ -1,12 +1,12 @@
 -- Where there is room for items, there is room for the first, and for the others afterwards.
-use Rattle.std.proofs.Common.{◌+◌, List, [], ◌∷◌, ◌++◌, arith}
+use Rattle.std.proofs.Common.{List, [], ◌∷◌, ◌++◌, arith}
 use Rattle.std.specs.Cmp.Lexicographic.{slice_cmp}
 use Rattle.std.specs.Ordering.{nat_cmp}
 use Rattle.std.proofs.lemmas.List.{length-append}
 use Rattle.covline.specs.Row.{ItemData, Row}
 use Rattle.covstore.specs.Adds.{Adds, HasRoomFor, files_with}
-use Rattle.covstore.specs.Marks.{MarksData, file_with}
-use Rattle.covstore.specs.Puts.{put}
+use Rattle.covstore.specs.FileIndex.{FileIndexData, file_with}
+use Rattle.covmap.specs.Puts.{put}
 use Rattle.covstore.specs.Steps.{HasRoom}
 use Rattle.covstore.specs.Sums.{TestData}
 use Rattle.covstore.proofs.AddsFew.{kept_few}
@@ -14,9 +14,9 @@ use Rattle.covstore.proofs.AddsLists.{length-put_there}
 use Rattle.covstore.proofs.AddsPlace.{as_many, its_back, its_front, its_kept, its_whole}
 use Rattle.covstore.proofs.Orders.{names_order}
 
-pub has_room : (items : List ItemData) (test : TestData) (marks : MarksData) → HasRoomFor items test marks → HasRoom test marks
-has_room items test marks room =
-    let kept = kept_few room.rows room.files room.stands.state room.file (file_with room.tests marks) room.stands.its_file in
+pub has_room : (items : List ItemData) (test : TestData) (index : FileIndexData) → HasRoomFor items test index → HasRoom test index
+has_room items test index room =
+    let kept = kept_few room.rows room.files room.stands.state room.file (file_with room.tests index) room.stands.its_file in
     record {
       front = its_front room.stands;
       back = its_back room.stands;
@@ -27,14 +27,14 @@ has_room items test marks room =
       branches = omega (arith, kept.2, room.few);
     }
 
-pub room_later : (item : ItemData) (items : List ItemData) (test test_after : TestData) (marks marks_after : MarksData) → HasRoomFor (item ∷ items) test marks → Adds (item ∷ []) test marks test_after marks_after
-    → HasRoomFor items test_after marks_after
-room_later item items test test_after marks marks_after room adds =
+pub room_later : (item : ItemData) (items : List ItemData) (test test_after : TestData) (index index_after : FileIndexData) → HasRoomFor (item ∷ items) test index → Adds (item ∷ []) test index test_after index_after
+    → HasRoomFor items test_after index_after
+room_later item items test test_after index index_after room adds =
     let row : Row = record { test = room.name; file = room.file; item = item } in
     let there = adds room.rows room.files room.file room.name room.tests room.stands in
     record {
       rows = room.rows ++ row ∷ [];
-      files = files_with room.file room.name room.tests test_after marks_after room.files;
+      files = files_with room.file room.name room.tests test_after index_after room.files;
       file = room.file;
       name = room.name;
       tests = put (slice_cmp nat_cmp) room.name test_after room.tests;

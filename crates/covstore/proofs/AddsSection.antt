@@ -11,7 +11,7 @@ use Rattle.covstore.specs.Clash.{Agree, checksums_in}
 use Rattle.covstore.specs.Exchanged.{FitTogether, exchanged}
 use Rattle.covstore.specs.FileAdds.{AddsItems, ClashesIn, HasFile, HasRoomIn}
 use Rattle.covstore.specs.Stored.{AddsTo, ClashesWith, StoreData, ClashRefuse}
-use Rattle.covstore.specs.Puts.{put, value_of}
+use Rattle.covmap.specs.Puts.{put, value_of}
 use Rattle.covstore.specs.State.{FileData, IsStateOf, file_totals, totals_in}
 use Rattle.covstore.specs.Sums.{TestData}
 use Rattle.covstore.proofs.ExchangedFiles.{exchanged_fits, files_exchanged}
@@ -32,9 +32,9 @@ module _ (items : List ItemData) (name test : List ℕ) (file : FileData) (files
     few = omega (arith, few, length-map {B = Row} items (λ item. record { test = test; file = name; item = item }));
   }
 
-  pub section_clashes : (A : Type 0) (line : ℕ) (held given : List ℕ) → ClashesIn {A = A} items test file (Clash line held given) → (store : StoreData) → store.coming ≡ files
-      → ClashesWith (rows_of_sect (section_of_items name test items)) store (ClashRefuse (clash_told name line held given))
-  section_clashes A line held given clash store same = λ rows state agree. clash rows files name (its_file rows (subst (IsStateOf rows) same state) agree)
+  pub section_clashes : (A : Type 0) (line : ℕ) (committed given : List ℕ) → ClashesIn {A = A} items test file (Clash line committed given) → (store : StoreData) → store.staged ≡ files
+      → ClashesWith (rows_of_sect (section_of_items name test items)) store (ClashRefuse (clash_told name line committed given))
+  section_clashes A line committed given clash store same = λ rows state agree. clash rows files name (its_file rows (subst (IsStateOf rows) same state) agree)
 
   module _ (after : FileData) (adds : AddsItems items test file after) where
     pub section_adds : AddsTo (rows_of_sect (section_of_items name test items)) files (put (slice_cmp nat_cmp) name after files)

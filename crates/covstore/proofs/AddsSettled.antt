@@ -1,4 +1,4 @@
--- Nothing is to come of a file but for some tests, also after items of one of these came in, and after a test was made ready.
+-- Nothing is staged of a file but for some tests, also after items of one of these came in, and after a test was made ready.
 use Rattle.std.proofs.Common.{◌≡◌, ℕ, Bool, true, false, cond, ◌||◌, Some, List, [], ◌∷◌, ◌++◌, Vec, filter, map, refl, sym, ap, ◌∙◌, subst}
 use Rattle.std.specs.BTreeMap.{insert_entry, is_at}
 use Rattle.std.specs.Cmp.Lexicographic.{slice_cmp}
@@ -14,8 +14,8 @@ use Rattle.std.proofs.lemmas.Slice.Eq.{bytes_eq-Decides}
 use Rattle.covstore.specs.declared.file.File.{File}
 use Rattle.covstore.specs.declared.test.Test.{Test}
 use Rattle.covstore.specs.MapsView.{AreSettledBut, IsSettledBut, tests_of}
-use Rattle.covstore.specs.MarksView.{marks_coming, marks_held}
-use Rattle.covstore.specs.TestView.{test_coming, test_held}
+use Rattle.covstore.specs.FileIndexView.{index_staged, index_committed}
+use Rattle.covstore.specs.TestView.{test_staged, test_committed}
 use Rattle.covstore.proofs.Orders.{names_order}
 use Rattle.covstore.proofs.StoreKept.{All-inserted}
 
@@ -28,24 +28,24 @@ All-set {K} {V} P here w (pair ∷ pairs) new all = at (here pair.0) refl (All-s
     at true e rest = (new pair.0 e, all.1)
     at false e rest = (all.0, rest)
 
--- nothing is to come of a test, if its name isn't among these
+-- nothing is staged of a test, if its name isn't among these
 abbrev IsSettledTest : {A : Type 0} → List (List ℕ) → Vec ℕ A × Test A → Type 0
-IsSettledTest tests pair = list_any (λ test. bytes_eq test pair.0.items) tests ≡ false → test_coming pair.1 ≡ test_held pair.1
+IsSettledTest tests pair = list_any (λ test. bytes_eq test pair.0.items) tests ≡ false → test_staged pair.1 ≡ test_committed pair.1
 
 pub test_settled : {A : Type 0} (tests : List (List ℕ)) (test : List ℕ) → list_any (λ name. bytes_eq name test) tests ≡ true → (before after : File A) (w : Test A)
     → after.tests.entries ≡ set_value (is_at (λ (other : Vec ℕ A). slice_cmp nat_cmp test other.items)) before.tests.entries w → IsSettledBut tests before → IsSettledBut tests after
 test_settled {A} tests test among before after w written settled = record {
-  marks = λ e. absurd (false≢true (sym (ap (list_any (λ (name : List ℕ). bytes_eq name test)) e) ∙ among));
+  index = λ e. absurd (false≢true (sym (ap (list_any (λ (name : List ℕ). bytes_eq name test)) e) ∙ among));
   points = subst (AllByRecursion (IsSettledTest tests)) (sym written)
       (All-set (IsSettledTest tests) (is_at (λ (other : Vec ℕ A). slice_cmp nat_cmp test other.items)) w before.tests.entries
       (λ k e other. absurd (false≢true (sym other ∙ sym (ap (λ (own : List ℕ). list_any (λ (name : List ℕ). bytes_eq name own) tests) (tells_apart names_order.exact test k.items e)) ∙ among)))
       settled.points);
 }
 
-pub test_inserted : {A : Type 0} (tests : List (List ℕ)) (cmp : Vec ℕ A → Vec ℕ A → Ordering) (before after : File A) (key : Vec ℕ A) (w : Test A) → test_coming w ≡ test_held w → after.marks ≡ before.marks
+pub test_inserted : {A : Type 0} (tests : List (List ℕ)) (cmp : Vec ℕ A → Vec ℕ A → Ordering) (before after : File A) (key : Vec ℕ A) (w : Test A) → test_staged w ≡ test_committed w → after.index ≡ before.index
     → after.tests.entries ≡ insert_entry cmp before.tests.entries key w → IsSettledBut tests before → IsSettledBut tests after
-test_inserted tests cmp before after key w same marks written settled = record {
-  marks = λ e. ap marks_coming marks ∙ settled.marks e ∙ sym (ap marks_held marks);
+test_inserted tests cmp before after key w same index written settled = record {
+  index = λ e. ap index_staged index ∙ settled.index e ∙ sym (ap index_committed index);
   points = subst (AllByRecursion (IsSettledTest tests)) (sym written) (All-inserted cmp (IsSettledTest tests) key w before.tests.entries (λ other e. same) settled.points);
 }
 
@@ -59,7 +59,7 @@ found_pair {K} {V} P here v (pair ∷ pairs) found all = at (here pair.0) refl f
     at true e is rest = (pair.0, e, subst (λ (x : V). P (pair.0, x)) (same_Some pair.1 v is) all.0)
     at false e is rest = rest is
 
--- a file is written of which nothing more is to come than of the one before
+-- a file is written of which nothing more is staged than of the one before
 pub file_settled : {K A : Type 0} (name : K → List ℕ) (touched : List (List ℕ × List ℕ)) (file : List ℕ) (v w : File A) (before after : List (K × File A))
     → lookup (is_at (λ other. slice_cmp nat_cmp file (name other))) before ≡ Some v → after ≡ set_value (is_at (λ other. slice_cmp nat_cmp file (name other))) before w
     → (IsSettledBut (tests_of file touched) v → IsSettledBut (tests_of file touched) w) → AreSettledBut name touched before → AreSettledBut name touched after

@@ -5,7 +5,7 @@ use Rattle.std.proofs.lemmas.List.{append-nil, length-append}
 use Rattle.std.proofs.lemmas.List.Concat.{flat_map-append}
 use Rattle.covline.specs.Row.{Row, SectData, rows_of_sect}
 use Rattle.covstore.specs.Clash.{Agree, Checksum, checksum_of_row, checksums_in, clash_of, first_clash}
-use Rattle.covstore.specs.Stored.{AddsRows, ClashesWith, HasRoomForRows, SameHeld, StoreData, RefuseData, ClashRefuse, MemoryRefuse}
+use Rattle.covstore.specs.Stored.{AddsRows, ClashesWith, HasRoomForRows, SameCommitted, StoreData, RefuseData, ClashRefuse, MemoryRefuse}
 use Rattle.covstore.specs.State.{IsStateOf}
 use Rattle.covstore.proofs.AddsLists.{clash_before, clash_behind}
 
@@ -15,13 +15,13 @@ pub clash_of_more : (rows xs ys : List Row) → clash_of rows xs ≡ None → cl
 clash_of_more rows xs ys none =
     ap (first_clash (checksums_in rows)) (flat_map-append checksum_of_row xs ys)
     ∙ clash_behind (checksums_in rows) (checksums_in xs) (checksums_in ys) none
-    ∙ ap (λ (held : List Checksum). first_clash held (checksums_in ys)) (sym (flat_map-append checksum_of_row rows xs))
+    ∙ ap (λ (committed : List Checksum). first_clash committed (checksums_in ys)) (sym (flat_map-append checksum_of_row rows xs))
 
 pub no_rows_added : (store : StoreData) → AddsRows [] store store
 no_rows_added store = record {
   adds = λ rows state agree. (
     refl,
-    subst (λ (rs : List Row). IsStateOf rs store.coming) (sym (append-nil rows)) state,
+    subst (λ (rs : List Row). IsStateOf rs store.staged) (sym (append-nil rows)) state,
     subst (λ (rs : List Row). Agree (checksums_in rs)) (sym (append-nil rows)) agree,
   );
   totals = λ same. same;
@@ -33,7 +33,7 @@ rows_added_more xs ys before now later first second = record {
       let one = first.adds rows state agree in
       let other = second.adds (rows ++ xs) one.1 one.2 in (
         clash_of_more rows xs ys one.0 ∙ other.0,
-        subst (λ (rs : List Row). IsStateOf rs later.coming) (append_assoc rows xs ys) other.1,
+        subst (λ (rs : List Row). IsStateOf rs later.staged) (append_assoc rows xs ys) other.1,
         subst (λ (rs : List Row). Agree (checksums_in rs)) (append_assoc rows xs ys) other.2,
       );
   totals = λ same. second.totals (first.totals same);
@@ -48,16 +48,16 @@ clashes_later xs ys zs before now (ClashRefuse clash) first later = λ rows stat
     ∙ ap (first_clash (checksums_in (rows ++ xs))) (flat_map-append checksum_of_row ys zs)
     ∙ clash_before (checksums_in (rows ++ xs)) (checksums_in ys) (checksums_in zs) clash (later (rows ++ xs) one.1 one.2)
 
--- ---- what is held
+-- ---- what is committed
 
-pub same_held : (store : StoreData) → SameHeld store store
-same_held store = record { sections = refl; members = refl; held = record { states = λ rows state. state; totals = refl } }
+pub same_committed : (store : StoreData) → SameCommitted store store
+same_committed store = record { sections = refl; members = refl; committed = record { states = λ rows state. state; totals = refl } }
 
-pub held_by_both : (before now later : StoreData) → SameHeld before now → SameHeld now later → SameHeld before later
+pub held_by_both : (before now later : StoreData) → SameCommitted before now → SameCommitted now later → SameCommitted before later
 held_by_both before now later first second = record {
   sections = second.sections ∙ first.sections;
   members = second.members ∙ first.members;
-  held = record { states = λ rows state. second.held.states rows (first.held.states rows state); totals = second.held.totals ∙ first.held.totals };
+  committed = record { states = λ rows state. second.committed.states rows (first.committed.states rows state); totals = second.committed.totals ∙ first.committed.totals };
 }
 
 -- ---- room for rows
@@ -86,23 +86,23 @@ room_then xs ys before now room added =
 
 -- these sections are taken, and there is room for those that are left
 pub record HasTakenSects (taken left : List SectData) (before now : StoreData) : Type 0 where
-  pub held : SameHeld before now
+  pub committed : SameCommitted before now
   pub adds : AddsRows (flat_map rows_of_sect taken) before now
   pub room : HasRoomForRows (flat_map rows_of_sect left) now
 
 pub no_sects : (left : List SectData) (store : StoreData) → HasRoomForRows (flat_map rows_of_sect left) store → HasTakenSects [] left store store
-no_sects left store room = record { held = same_held store; adds = no_rows_added store; room = room }
+no_sects left store room = record { committed = same_committed store; adds = no_rows_added store; room = room }
 
 module _ (taken : List SectData) (sect : SectData) (left : List SectData) (before now : StoreData) (so_far : HasTakenSects taken (sect ∷ left) before now) where
   pub next_room : HasRoomForRows (rows_of_sect sect) now
   next_room = room_first (rows_of_sect sect) (flat_map rows_of_sect left) now so_far.room
 
-  pub one_sect : (later : StoreData) → SameHeld now later → AddsRows (rows_of_sect sect) now later → HasTakenSects (taken ++ sect ∷ []) left before later
-  one_sect later held added =
+  pub one_sect : (later : StoreData) → SameCommitted now later → AddsRows (rows_of_sect sect) now later → HasTakenSects (taken ++ sect ∷ []) left before later
+  one_sect later committed added =
       let rows : flat_map rows_of_sect (taken ++ sect ∷ []) ≡ flat_map rows_of_sect taken ++ rows_of_sect sect =
       flat_map-append rows_of_sect taken (sect ∷ []) ∙ ap (λ (rs : List Row). flat_map rows_of_sect taken ++ rs) (append-nil (rows_of_sect sect)) in
       record {
-        held = held_by_both before now later so_far.held held;
+        committed = held_by_both before now later so_far.committed committed;
         adds = subst (λ (rs : List Row). AddsRows rs before later) (sym rows) (rows_added_more (flat_map rows_of_sect taken) (rows_of_sect sect) before now later so_far.adds added);
         room = room_then (rows_of_sect sect) (flat_map rows_of_sect left) now later so_far.room added;
       }

@@ -1,14 +1,12 @@
 -- What rows add up to: of which tests it is, how large it gets, and that equal contents stay equal with the same rows added.
-use Rattle.std.proofs.Common.{◌≡◌, ◌≤◌, ℕ, Bool, true, false, ◌||◌, List, [], ◌∷◌, ◌++◌, length, map, filter, refl, sym, ap, ◌∙◌, arith}
+use Rattle.std.proofs.Common.{◌≡◌, ◌≤◌, ℕ, List, ◌++◌, length, map, filter, ◌∙◌, arith}
 use Rattle.std.specs.declared.cmp.Ordering.{Ordering}
 use Rattle.std.specs.Str.{bytes_eq}
 use Rattle.std.specs.List.{flat_map, list_any}
-use Rattle.std.proofs.lemmas.Bool.{or_left}
 use Rattle.std.proofs.lemmas.List.{length-map}
-use Rattle.std.proofs.lemmas.List.Folds.{list_any-append}
 use Rattle.std.proofs.lemmas.List.Sums.{length-filter, count_by-le-length}
 use Rattle.covline.specs.Points.{line_point, func_point, branch_point}
-use Rattle.covline.specs.Row.{ItemData, LineItem, FuncItem, BranchItem, Row, SectData, SubmissionData, rows_of, rows_of_sect}
+use Rattle.covline.specs.Row.{ItemData, LineItem, FuncItem, BranchItem, Row}
 use Rattle.covstore.specs.Ascending.{ascending}
 use Rattle.covstore.specs.Clash.{Agree, checksums_in, clash_of}
 use Rattle.covstore.specs.Content.{SectionData, section_of, content_of, function_at, branch_at, line_at}

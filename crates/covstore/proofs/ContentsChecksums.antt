@@ -123,23 +123,23 @@ checksums_there rows others agree same c i =
     let there : In (checksum_with key.file c.line first.0) (checksums_in others) =
     said_among others key c.line first.0
     (first_in (said_at key c.line others) first.0 (sym (ap (λ (v : LineValueData). v.checksum) (lines_same rows others same key c.line)) ∙ first.1)) in
-    let held : In (checksum_with c.file c.line first.0) (checksums_in rows) = subst (λ (file : List ℕ). In (checksum_with file c.line first.0) (checksums_in rows)) said.1 own in
+    let committed : In (checksum_with c.file c.line first.0) (checksums_in rows) = subst (λ (file : List ℕ). In (checksum_with file c.line first.0) (checksums_in rows)) said.1 own in
     let is : first.0 ≡ c.checksum =
-    one_checksum c.file c.line first.0 c.checksum (agree (checksum_with c.file c.line first.0) c (Contains-from (checksums_in rows) (checksum_with c.file c.line first.0) held) (Contains-from (checksums_in rows) c i)) in
+    one_checksum c.file c.line first.0 c.checksum (agree (checksum_with c.file c.line first.0) c (Contains-from (checksums_in rows) (checksum_with c.file c.line first.0) committed) (Contains-from (checksums_in rows) c i)) in
     subst (λ (d : Checksum). In d (checksums_in others)) (ap (λ (file : List ℕ). checksum_with file c.line first.0) said.1 ∙ ap (checksum_with c.file c.line) is) there
 
--- ---- a clash is told by the members of what is held
+-- ---- a clash is told by the members of what is committed
 
-module _ (held others : List Checksum) (there : (c : Checksum) → In c held → In c others) (back : (c : Checksum) → In c others → In c held) where
-  agree_there : (more : List Checksum) → Agree (held ++ more) → Agree (others ++ more)
+module _ (committed others : List Checksum) (there : (c : Checksum) → In c committed → In c others) (back : (c : Checksum) → In c others → In c committed) where
+  agree_there : (more : List Checksum) → Agree (committed ++ more) → Agree (others ++ more)
   agree_there more agree a b i j = agree a b (held_too a i) (held_too b j)
     where
-      held_too : (c : Checksum) → Contains (others ++ more) c → Contains (held ++ more) c
+      held_too : (c : Checksum) → Contains (others ++ more) c → Contains (committed ++ more) c
       held_too c k =
-          Contains-from (held ++ more) c
-          (In-joined held more c (⊎_elim (λ l. inl (back c l)) (λ l. inr l) (In-parts others more c (In-from (others ++ more) c k))))
+          Contains-from (committed ++ more) c
+          (In-joined committed more c (⊎_elim (λ l. inl (back c l)) (λ l. inr l) (In-parts others more c (In-from (others ++ more) c k))))
 
-  first_there : (given : List Checksum) (clash : ClashData) → IsFirstClash held given clash → IsFirstClash others given clash
+  first_there : (given : List Checksum) (clash : ClashData) → IsFirstClash committed given clash → IsFirstClash others given clash
   first_there given clash is = record {
     before = is.before;
     first = is.first;
@@ -147,15 +147,15 @@ module _ (held others : List Checksum) (there : (c : Checksum) → In c held →
     other = is.other;
     place = is.place;
     among = Contains-from (others ++ is.before) is.other
-        (In-joined others is.before is.other (⊎_elim (λ l. inl (there is.other l)) (λ l. inr l) (In-parts held is.before is.other (In-from (held ++ is.before) is.other is.among))));
+        (In-joined others is.before is.other (⊎_elim (λ l. inl (there is.other l)) (λ l. inr l) (In-parts committed is.before is.other (In-from (committed ++ is.before) is.other is.among))));
     differ = is.differ;
     none_before = agree_there is.before is.none_before;
     told = is.told;
   }
 
-  pub same_clash_told : (given : List Checksum) (told : Option ClashData) → first_clash held given ≡ told → Agree held → Agree others → told ≡ first_clash others given
-  same_clash_told given None e agree agrees = sym (agree_none others given agrees (agree_there given (none_told held given agree e)))
-  same_clash_told given (Some clash) e agree agrees = sym (told_first others given clash (first_there given clash (first_told held given clash agree e)))
+  pub same_clash_told : (given : List Checksum) (told : Option ClashData) → first_clash committed given ≡ told → Agree committed → Agree others → told ≡ first_clash others given
+  same_clash_told given None e agree agrees = sym (agree_none others given agrees (agree_there given (none_told committed given agree e)))
+  same_clash_told given (Some clash) e agree agrees = sym (told_first others given clash (first_there given clash (first_told committed given clash agree e)))
 
 pub same_checksums_clash : (rows others : List Row) (given : List Checksum) → Agree (checksums_in rows) → Agree (checksums_in others) → content_of rows ≡ content_of others
     → first_clash (checksums_in rows) given ≡ first_clash (checksums_in others) given

@@ -8,8 +8,8 @@ use Rattle.covline.specs.Row.{ItemData, Row}
 use Rattle.covstore.specs.Adds.{Adds, HasRoomFor}
 use Rattle.covstore.specs.Clash.{Agree, Checksum, checksum_of_row, checksums_in}
 use Rattle.covstore.specs.FileAdds.{HasFile}
-use Rattle.covstore.specs.Marks.{MarksData, file_with}
-use Rattle.covstore.specs.Puts.{put, value_of}
+use Rattle.covstore.specs.FileIndex.{FileIndexData, file_with}
+use Rattle.covmap.specs.Puts.{put, value_of}
 use Rattle.covstore.specs.Renaming.{CopiesIn, HasHolders, HasRoomToCopyIn, copied_rows, items_of_test, key_of}
 use Rattle.covstore.specs.SectionAdds.{rows_of_items}
 use Rattle.covstore.specs.Sums.{TestData}
@@ -30,17 +30,17 @@ agree_copied rows name old new agree a b of_a of_b = agree a b (there a of_a) (t
         (In-parts (checksums_in rows) (checksums_in (copied_rows name old new rows)) c
         (subst (In c) (flat_map-append checksum_of_row rows (copied_rows name old new rows)) (In-from (checksums_in (rows ++ copied_rows name old new rows)) c i))))
 
-module _ (old new : List ℕ) (tests : List (List ℕ × TestData)) (marks : MarksData) (source target : TestData)
+module _ (old new : List ℕ) (tests : List (List ℕ × TestData)) (index : FileIndexData) (source target : TestData)
     (its_source : value_of (slice_cmp nat_cmp) old tests ≡ Some source) (its_target : value_of (slice_cmp nat_cmp) new tests ≡ Some target) where
   -- there is room for the values, and each line with a checksum is among those of which one is held
-  module _ (room : HasRoomToCopyIn old new (file_with tests marks)) where
-    its_values : items_of_test marks.texts source ≡ values_of (items_at (key_of room.name old) room.rows)
-    its_values = values_are room.rows room.files room.stands.state room.name old (file_with tests marks) source room.stands.there its_source
+  module _ (room : HasRoomToCopyIn old new (file_with tests index)) where
+    its_values : items_of_test index.texts source ≡ values_of (items_at (key_of room.name old) room.rows)
+    its_values = values_are room.rows room.files room.stands.state room.name old (file_with tests index) source room.stands.there its_source
 
-    pub copies_room : length tests < 2 ^ 63 → HasRoomFor (items_of_test marks.texts source) target marks
+    pub copies_room : length tests < 2 ^ 63 → HasRoomFor (items_of_test index.texts source) target index
     copies_room few =
         let items = items_at (key_of room.name old) room.rows in
-        room_for (items_of_test marks.texts source) new tests target marks its_target
+        room_for (items_of_test index.texts source) new tests target index its_target
         (record {
           points = target;
           its_test = its_target;
@@ -51,16 +51,16 @@ module _ (old new : List ℕ) (tests : List (List ℕ × TestData)) (marks : Mar
           few = omega (arith, ap (λ (is : List ItemData). length is) its_values, few_values items, room.few);
         }) few
 
-    pub copies_holders : HasHolders source.lines marks
-    copies_holders = holders_are room.rows room.files room.stands.state room.name old (file_with tests marks) source room.stands.there its_source
+    pub copies_holders : HasHolders source.lines index
+    copies_holders = holders_are room.rows room.files room.stands.state room.name old (file_with tests index) source room.stands.there its_source
 
-  pub copies_in : (target_after : TestData) (marks_after : MarksData) → Adds (items_of_test marks.texts source) target marks target_after marks_after
-      → CopiesIn old new (file_with tests marks) (file_with (put (slice_cmp nat_cmp) new target_after tests) marks_after)
-  copies_in target_after marks_after adds rows files name has =
-      let file = file_with tests marks in
-      let after = file_with (put (slice_cmp nat_cmp) new target_after tests) marks_after in
+  pub copies_in : (target_after : TestData) (index_after : FileIndexData) → Adds (items_of_test index.texts source) target index target_after index_after
+      → CopiesIn old new (file_with tests index) (file_with (put (slice_cmp nat_cmp) new target_after tests) index_after)
+  copies_in target_after index_after adds rows files name has =
+      let file = file_with tests index in
+      let after = file_with (put (slice_cmp nat_cmp) new target_after tests) index_after in
       let same = values_are rows files has.state name old file source has.there its_source in
-      let added = adds_in (items_of_test marks.texts source) new tests target marks its_target target_after marks_after adds rows files name has in
+      let added = adds_in (items_of_test index.texts source) new tests target index its_target target_after index_after adds rows files name has in
       let stands : HasFile (rows ++ rows_of_items name new (values_of (items_at (key_of name old) rows))) (put (slice_cmp nat_cmp) name after files) name after =
       subst (λ (items : List ItemData). HasFile (rows ++ rows_of_items name new items) (put (slice_cmp nat_cmp) name after files) name after) same added.1 in
       record {

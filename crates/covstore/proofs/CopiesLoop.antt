@@ -9,20 +9,20 @@ use Rattle.std.proofs.lemmas.Simd.{map-map}
 use Rattle.covline.specs.declared.point.BranchPoint as code
 use Rattle.covline.specs.PointView.{branch_point_data}
 use Rattle.covline.specs.Row.{ItemData, LineItem, Row, rows_of_sect}
-use Rattle.covstore.specs.declared.marks.Marks.{Marks}
+use Rattle.covstore.specs.declared.index.FileIndex.{FileIndex}
 use Rattle.covstore.specs.declared.sums.LineSum.{LineSum}
-use Rattle.covstore.specs.declared.sums.Taken.{Taken}
+use Rattle.covstore.specs.declared.sums.BranchSum.{BranchSum}
 use Rattle.covstore.specs.declared.test.Test.{Test}
 use Rattle.covstore.specs.Adds.{Adds, HasRoomFor, files_with, section_of_items}
 use Rattle.covstore.specs.Counts.{is_above_at}
-use Rattle.covstore.specs.Marks.{MarksData}
-use Rattle.covstore.specs.MarksView.{KeepsHeld, marks_coming}
-use Rattle.covstore.specs.Puts.{ArePairs, put, value_of}
+use Rattle.covstore.specs.FileIndex.{FileIndexData}
+use Rattle.covstore.specs.FileIndexView.{KeepsCommitted, index_staged}
+use Rattle.covmap.specs.Puts.{ArePairs, put, value_of}
 use Rattle.covstore.specs.Renaming.{HasHolders, branch_item, line_item}
 use Rattle.covstore.specs.State.{has_checksum, text_at}
 use Rattle.covstore.specs.Steps.{HasRoom, IsTextOf, KeepsCounts, KeepsTextsOf}
 use Rattle.covstore.specs.Sums.{TestData, with_item}
-use Rattle.covstore.specs.TestView.{branches_data, test_coming, test_held}
+use Rattle.covstore.specs.TestView.{branches_data, test_staged, test_committed}
 use Rattle.covstore.proofs.AddsLists.{length-put_there}
 use Rattle.covstore.proofs.AddsLoop.{HasTaken, next_has_room, none_taken, one_taken}
 use Rattle.covstore.proofs.AddsPlace.{its_whole}
@@ -32,8 +32,8 @@ use Rattle.covstore.proofs.Puts.{value_of_before, value_of_first, value_of_later
 
 -- ---- room for items and then others
 
-pub room_front : (xs ys : List ItemData) (test : TestData) (marks : MarksData) → HasRoomFor (xs ++ ys) test marks → HasRoomFor xs test marks
-room_front xs ys test marks room = record {
+pub room_front : (xs ys : List ItemData) (test : TestData) (index : FileIndexData) → HasRoomFor (xs ++ ys) test index → HasRoomFor xs test index
+room_front xs ys test index room = record {
   rows = room.rows;
   files = room.files;
   file = room.file;
@@ -44,13 +44,13 @@ room_front xs ys test marks room = record {
   few_tests = room.few_tests;
 }
 
-pub room_back : (xs ys : List ItemData) (test test_after : TestData) (marks marks_after : MarksData) → HasRoomFor (xs ++ ys) test marks → Adds xs test marks test_after marks_after → HasRoomFor ys test_after marks_after
-room_back xs ys test test_after marks marks_after room adds =
+pub room_back : (xs ys : List ItemData) (test test_after : TestData) (index index_after : FileIndexData) → HasRoomFor (xs ++ ys) test index → Adds xs test index test_after index_after → HasRoomFor ys test_after index_after
+room_back xs ys test test_after index index_after room adds =
     let front = rows_of_sect (section_of_items room.file room.name xs) in
     let there = adds room.rows room.files room.file room.name room.tests room.stands in
     record {
       rows = room.rows ++ front;
-      files = files_with room.file room.name room.tests test_after marks_after room.files;
+      files = files_with room.file room.name room.tests test_after index_after room.files;
       file = room.file;
       name = room.name;
       tests = put (slice_cmp nat_cmp) room.name test_after room.tests;
@@ -62,42 +62,42 @@ room_back xs ys test test_after marks marks_after room adds =
 -- ---- a walk over values
 
 -- the values before those that are left are taken
-pub record IsCopying {A D : Type 0} (f : D → ItemData) (all left : List D) (test : Test A) (marks : Marks A) (test_now : Test A) (marks_now : Marks A) : Type 0 where
+pub record IsCopying {A D : Type 0} (f : D → ItemData) (all left : List D) (test : Test A) (index : FileIndex A) (test_now : Test A) (index_now : FileIndex A) : Type 0 where
   pub taken : List D
   pub parts : all ≡ taken ++ left
-  pub takes : HasTaken (map f taken) (map f left) test marks test_now marks_now
+  pub takes : HasTaken (map f taken) (map f left) test index test_now index_now
 
-module _ {A D : Type 0} (f : D → ItemData) (all : List D) (test : Test A) (marks : Marks A) where
-  pub copying_first : (left : List D) → left ≡ all → HasRoomFor (map f all) (test_coming test) (marks_coming marks) → IsCopying f all left test marks test marks
+module _ {A D : Type 0} (f : D → ItemData) (all : List D) (test : Test A) (index : FileIndex A) where
+  pub copying_first : (left : List D) → left ≡ all → HasRoomFor (map f all) (test_staged test) (index_staged index) → IsCopying f all left test index test index
   copying_first left same room = record {
     taken = [];
     parts = sym same;
-    takes = none_taken (map f left) test marks (subst (λ (ds : List D). HasRoomFor (map f ds) (test_coming test) (marks_coming marks)) (sym same) room);
+    takes = none_taken (map f left) test index (subst (λ (ds : List D). HasRoomFor (map f ds) (test_staged test) (index_staged index)) (sym same) room);
   }
 
-  pub copying_all : (left : List D) (test_now : Test A) (marks_now : Marks A) → left ≡ [] → IsCopying f all left test marks test_now marks_now
-      → Adds (map f all) (test_coming test) (marks_coming marks) (test_coming test_now) (marks_coming marks_now)
-  copying_all left test_now marks_now none is =
+  pub copying_all : (left : List D) (test_now : Test A) (index_now : FileIndex A) → left ≡ [] → IsCopying f all left test index test_now index_now
+      → Adds (map f all) (test_staged test) (index_staged index) (test_staged test_now) (index_staged index_now)
+  copying_all left test_now index_now none is =
       let same : is.taken ≡ all = sym (append-nil is.taken) ∙ ap (λ (ds : List D). is.taken ++ ds) (sym none) ∙ sym is.parts in
-      subst (λ (ds : List D). Adds (map f ds) (test_coming test) (marks_coming marks) (test_coming test_now) (marks_coming marks_now)) same is.takes.adds
+      subst (λ (ds : List D). Adds (map f ds) (test_staged test) (index_staged index) (test_staged test_now) (index_staged index_now)) same is.takes.adds
 
-  module _ (d : D) (left rest : List D) (first : left ≡ d ∷ rest) (test_now : Test A) (marks_now : Marks A) (is : IsCopying f all left test marks test_now marks_now) where
-    takes_next : HasTaken (map f is.taken) (f d ∷ map f rest) test marks test_now marks_now
-    takes_next = subst (λ (ds : List D). HasTaken (map f is.taken) (map f ds) test marks test_now marks_now) first is.takes
+  module _ (d : D) (left rest : List D) (first : left ≡ d ∷ rest) (test_now : Test A) (index_now : FileIndex A) (is : IsCopying f all left test index test_now index_now) where
+    takes_next : HasTaken (map f is.taken) (f d ∷ map f rest) test index test_now index_now
+    takes_next = subst (λ (ds : List D). HasTaken (map f is.taken) (map f ds) test index test_now index_now) first is.takes
 
-    pub copying_room : HasRoom (test_coming test_now) (marks_coming marks_now)
-    copying_room = next_has_room (map f is.taken) (f d) (map f rest) test marks test_now marks_now takes_next
+    pub copying_room : HasRoom (test_staged test_now) (index_staged index_now)
+    copying_room = next_has_room (map f is.taken) (f d) (map f rest) test index test_now index_now takes_next
 
     -- the item that was added is that of the value
-    pub copying_more : (item : ItemData) → item ≡ f d → (test_later : Test A) (marks_later : Marks A) → test_held test_later ≡ test_held test_now → KeepsHeld marks_now marks_later
-        → test_coming test_later ≡ with_item item (test_coming test_now) → KeepsCounts (test_coming test_now) (test_coming test_later) (marks_coming marks_now) (marks_coming marks_later)
-        → IsTextOf item (marks_coming marks_later) → KeepsTextsOf (marks_coming marks_now) (marks_coming marks_later) → IsCopying f all rest test marks test_later marks_later
-    copying_more item same test_later marks_later held keeps more counts own texts = record {
+    pub copying_more : (item : ItemData) → item ≡ f d → (test_later : Test A) (index_later : FileIndex A) → test_committed test_later ≡ test_committed test_now → KeepsCommitted index_now index_later
+        → test_staged test_later ≡ with_item item (test_staged test_now) → KeepsCounts (test_staged test_now) (test_staged test_later) (index_staged index_now) (index_staged index_later)
+        → IsTextOf item (index_staged index_later) → KeepsTextsOf (index_staged index_now) (index_staged index_later) → IsCopying f all rest test index test_later index_later
+    copying_more item same test_later index_later committed keeps more counts own texts = record {
       taken = is.taken ++ d ∷ [];
       parts = is.parts ∙ ap (λ (ds : List D). is.taken ++ ds) first ∙ sym (append_assoc is.taken (d ∷ []) rest);
-      takes = subst (λ (some : List ItemData). HasTaken some (map f rest) test marks test_later marks_later) (sym (map-append f is.taken (d ∷ [])))
-          (one_taken (map f is.taken) (f d) (map f rest) test marks test_now marks_now takes_next test_later marks_later held keeps
-          (more ∙ ap (λ (i : ItemData). with_item i (test_coming test_now)) same) counts (subst (λ (i : ItemData). IsTextOf i (marks_coming marks_later)) same own) texts);
+      takes = subst (λ (some : List ItemData). HasTaken some (map f rest) test index test_later index_later) (sym (map-append f is.taken (d ∷ [])))
+          (one_taken (map f is.taken) (f d) (map f rest) test index test_now index_now takes_next test_later index_later committed keeps
+          (more ∙ ap (λ (i : ItemData). with_item i (test_staged test_now)) same) counts (subst (λ (i : ItemData). IsTextOf i (index_staged index_later)) same own) texts);
     }
 
 -- ---- the lines
@@ -108,58 +108,58 @@ text_same texts others line true same = same refl
 text_same texts others line false same = refl
 
 -- the lines that are left ascend, and those among them with a checksum hold it
-pub record IsCopyingLines {A : Type 0} (all left : List (ℕ × LineSum)) (test : Test A) (marks : Marks A) (test_now : Test A) (marks_now : Marks A) : Type 0 where
-  pub copying : IsCopying (line_item (marks_coming marks).texts) all left test marks test_now marks_now
+pub record IsCopyingLines {A : Type 0} (all left : List (ℕ × LineSum)) (test : Test A) (index : FileIndex A) (test_now : Test A) (index_now : FileIndex A) : Type 0 where
+  pub copying : IsCopying (line_item (index_staged index).texts) all left test index test_now index_now
   pub sorted : ArePairs nat_cmp left
-  pub holders : HasHolders left (marks_coming marks)
-  pub texts : KeepsTextsOf (marks_coming marks) (marks_coming marks_now)
+  pub holders : HasHolders left (index_staged index)
+  pub texts : KeepsTextsOf (index_staged index) (index_staged index_now)
 
-module _ {A : Type 0} (all : List (ℕ × LineSum)) (test : Test A) (marks : Marks A) where
-  pub lines_first : (left : List (ℕ × LineSum)) → left ≡ all → ArePairs nat_cmp all → HasHolders all (marks_coming marks)
-      → HasRoomFor (map (line_item (marks_coming marks).texts) all) (test_coming test) (marks_coming marks) → IsCopyingLines all left test marks test marks
+module _ {A : Type 0} (all : List (ℕ × LineSum)) (test : Test A) (index : FileIndex A) where
+  pub lines_first : (left : List (ℕ × LineSum)) → left ≡ all → ArePairs nat_cmp all → HasHolders all (index_staged index)
+      → HasRoomFor (map (line_item (index_staged index).texts) all) (test_staged test) (index_staged index) → IsCopyingLines all left test index test index
   lines_first left same sorted holders room = record {
-    copying = copying_first (line_item (marks_coming marks).texts) all test marks left same room;
+    copying = copying_first (line_item (index_staged index).texts) all test index left same room;
     sorted = subst (ArePairs nat_cmp) (sym same) sorted;
-    holders = subst (λ (points : List (ℕ × LineSum)). HasHolders points (marks_coming marks)) (sym same) holders;
-    texts = record { held = λ line e. e; texts_stay = λ line e. refl };
+    holders = subst (λ (points : List (ℕ × LineSum)). HasHolders points (index_staged index)) (sym same) holders;
+    texts = record { committed = λ line e. e; texts_stay = λ line e. refl };
   }
 
-  module _ (line : ℕ) (sum : LineSum) (left rest : List (ℕ × LineSum)) (first : left ≡ (line, sum) ∷ rest) (test_now : Test A) (marks_now : Marks A)
-      (is : IsCopyingLines all left test marks test_now marks_now) where
-    held_before : sum.has_checksum ≡ true → is_some (value_of nat_cmp line (marks_coming marks).holders) ≡ true
+  module _ (line : ℕ) (sum : LineSum) (left rest : List (ℕ × LineSum)) (first : left ≡ (line, sum) ∷ rest) (test_now : Test A) (index_now : FileIndex A)
+      (is : IsCopyingLines all left test index test_now index_now) where
+    held_before : sum.has_checksum ≡ true → is_some (value_of nat_cmp line (index_staged index).holders) ≡ true
     held_before e = is.holders line (ap (is_above_at has_checksum) (ap (value_of nat_cmp line) first ∙ value_of_first lines_order line sum rest) ∙ e)
 
-    same_item : line_item (marks_coming marks_now).texts (line, sum) ≡ line_item (marks_coming marks).texts (line, sum)
-    same_item = ap (LineItem line sum.count) (text_same (marks_coming marks).texts (marks_coming marks_now).texts line sum.has_checksum (λ e. is.texts.texts_stay line (held_before e)))
+    same_item : line_item (index_staged index_now).texts (line, sum) ≡ line_item (index_staged index).texts (line, sum)
+    same_item = ap (LineItem line sum.count) (text_same (index_staged index).texts (index_staged index_now).texts line sum.has_checksum (λ e. is.texts.texts_stay line (held_before e)))
 
-    pub lines_more : (test_later : Test A) (marks_later : Marks A) → test_held test_later ≡ test_held test_now → KeepsHeld marks_now marks_later
-        → test_coming test_later ≡ with_item (line_item (marks_coming marks_now).texts (line, sum)) (test_coming test_now)
-        → KeepsCounts (test_coming test_now) (test_coming test_later) (marks_coming marks_now) (marks_coming marks_later)
-        → IsTextOf (line_item (marks_coming marks_now).texts (line, sum)) (marks_coming marks_later) → KeepsTextsOf (marks_coming marks_now) (marks_coming marks_later)
-        → IsCopyingLines all rest test marks test_later marks_later
-    lines_more test_later marks_later held keeps more counts own texts =
+    pub lines_more : (test_later : Test A) (index_later : FileIndex A) → test_committed test_later ≡ test_committed test_now → KeepsCommitted index_now index_later
+        → test_staged test_later ≡ with_item (line_item (index_staged index_now).texts (line, sum)) (test_staged test_now)
+        → KeepsCounts (test_staged test_now) (test_staged test_later) (index_staged index_now) (index_staged index_later)
+        → IsTextOf (line_item (index_staged index_now).texts (line, sum)) (index_staged index_later) → KeepsTextsOf (index_staged index_now) (index_staged index_later)
+        → IsCopyingLines all rest test index test_later index_later
+    lines_more test_later index_later committed keeps more counts own texts =
         let sorted = subst (ArePairs nat_cmp) first is.sorted in
         record {
-          copying = copying_more (line_item (marks_coming marks).texts) all test marks (line, sum) left rest first test_now marks_now is.copying
-              (line_item (marks_coming marks_now).texts (line, sum)) same_item test_later marks_later held keeps more counts own texts;
+          copying = copying_more (line_item (index_staged index).texts) all test index (line, sum) left rest first test_now index_now is.copying
+              (line_item (index_staged index_now).texts (line, sum)) same_item test_later index_later committed keeps more counts own texts;
           sorted = sorted.1;
           holders = holders_rest sorted;
           texts = record {
-            held = λ other e. texts.held other (is.texts.held other e);
-            texts_stay = λ other e. texts.texts_stay other (is.texts.held other e) ∙ is.texts.texts_stay other e;
+            committed = λ other e. texts.committed other (is.texts.committed other e);
+            texts_stay = λ other e. texts.texts_stay other (is.texts.committed other e) ∙ is.texts.texts_stay other e;
           };
         }
       where
-        holders_rest : ArePairs nat_cmp ((line, sum) ∷ rest) → HasHolders rest (marks_coming marks)
+        holders_rest : ArePairs nat_cmp ((line, sum) ∷ rest) → HasHolders rest (index_staged index)
         holders_rest sorted =
-            any_key lines_order (λ (other : ℕ). is_above_at has_checksum (value_of nat_cmp other rest) ≡ true → is_some (value_of nat_cmp other (marks_coming marks).holders) ≡ true) line
+            any_key lines_order (λ (other : ℕ). is_above_at has_checksum (value_of nat_cmp other rest) ≡ true → is_some (value_of nat_cmp other (index_staged index).holders) ≡ true) line
             (λ e. absurd (false≢true (sym (ap (is_above_at has_checksum) (value_of_before lines_order line rest sorted.0)) ∙ e)))
             (λ other apart e. is.holders other (ap (is_above_at has_checksum) (ap (value_of nat_cmp other) first ∙ value_of_later lines_order other (line, sum) rest apart) ∙ e))
 
 -- ---- the branches, whose points are of the code
 
-abbrev pub code_branch_item : code.BranchPoint × Taken → ItemData
+abbrev pub code_branch_item : code.BranchPoint × BranchSum → ItemData
 code_branch_item pair = branch_item (branch_point_data pair.0, pair.1)
 
-pub all_branches : (pairs : List (code.BranchPoint × Taken)) → map code_branch_item pairs ≡ map branch_item (branches_data pairs)
+pub all_branches : (pairs : List (code.BranchPoint × BranchSum)) → map code_branch_item pairs ≡ map branch_item (branches_data pairs)
 all_branches pairs = sym (map-map branch_item (λ pair. (branch_point_data pair.0, pair.1)) pairs)

@@ -8,7 +8,7 @@ use Rattle.std.proofs.lemmas.List.Sums.{count_by-le-length, sum_by-append, sum_b
 use Rattle.std.proofs.lemmas.Option.{none-some, same_Some}
 use Rattle.covstore.specs.declared.sums.Tests.{Tests}
 use Rattle.covstore.specs.Counts.{AreCounts, count_above, count_with, is_above_at, one_if, tests_at}
-use Rattle.covstore.specs.Puts.{value_of}
+use Rattle.covmap.specs.Puts.{value_of}
 use Rattle.covstore.proofs.Puts.{counted_one}
 
 -- the numbers of a point, from how many tests have it and how many have it above 0
@@ -73,22 +73,22 @@ module _ {K V : Type 0} (cmp : K → K → Ordering) (is_above : V → Bool) whe
 -- ---- how large the numbers are
 
 -- numbers of a point: some test has it, no more have it above 0, and no more than all have it
-pub record IsWithin (held : Tests) (tests : ℕ) : Type 0 where
-  pub some : 0 < held.tests
-  pub hit : held.hit ≤ held.tests
-  pub all : held.tests ≤ tests
+pub record IsWithin (committed : Tests) (tests : ℕ) : Type 0 where
+  pub some : 0 < committed.tests
+  pub hit : committed.hit ≤ committed.tests
+  pub all : committed.tests ≤ tests
 
-within_at : (is : Bool) (tests hit all : ℕ) (held : Tests) → nat_lt 0 tests ≡ is → hit ≤ tests → tests ≤ all → (if is then Some (record { tests = tests; hit = hit }) else None) ≡ Some held → IsWithin held all
-within_at false tests hit all held e less most h = absurd (none-some held h)
-within_at true tests hit all held e less most h =
-    let same : record { tests = tests; hit = hit } ≡ held = same_Some (record { tests = tests; hit = hit }) held h in
-    let there : tests ≡ held.tests = ap (λ (t : Tests). t.tests) same in
-    let above : hit ≡ held.hit = ap (λ (t : Tests). t.hit) same in
+within_at : (is : Bool) (tests hit all : ℕ) (committed : Tests) → nat_lt 0 tests ≡ is → hit ≤ tests → tests ≤ all → (if is then Some (record { tests = tests; hit = hit }) else None) ≡ Some committed → IsWithin committed all
+within_at false tests hit all committed e less most h = absurd (none-some committed h)
+within_at true tests hit all committed e less most h =
+    let same : record { tests = tests; hit = hit } ≡ committed = same_Some (record { tests = tests; hit = hit }) committed h in
+    let there : tests ≡ committed.tests = ap (λ (t : Tests). t.tests) same in
+    let above : hit ≡ committed.hit = ap (λ (t : Tests). t.hit) same in
     let more : 0 < tests = ltb-true 0 tests e in
     record { some = omega arith; hit = omega arith; all = omega arith }
 
 pub counts_within : {K V : Type 0} {cmp : K → K → Ordering} {is_above : V → Bool} {tests : List (List (K × V))} {counts : List (K × Tests)} → AreCounts cmp is_above tests counts
-    → (key : K) (held : Tests) → value_of cmp key counts ≡ Some held → IsWithin held (length tests)
-counts_within {cmp = cmp} {is_above = is_above} {tests = tests} are key held e =
-    within_at (nat_lt 0 (count_with cmp key tests)) (count_with cmp key tests) (count_above cmp is_above key tests) (length tests) held refl
+    → (key : K) (committed : Tests) → value_of cmp key counts ≡ Some committed → IsWithin committed (length tests)
+counts_within {cmp = cmp} {is_above = is_above} {tests = tests} are key committed e =
+    within_at (nat_lt 0 (count_with cmp key tests)) (count_with cmp key tests) (count_above cmp is_above key tests) (length tests) committed refl
     (above_le_with cmp is_above key tests) (count_by-le-length (λ pairs. is_some (value_of cmp key pairs)) tests) (sym (are.counted key) ∙ e)

@@ -13,7 +13,7 @@ use Rattle.std.proofs.lemmas.Option.{cond_some}
 use Rattle.covstore.specs.declared.sums.Tests.{Tests}
 use Rattle.covstore.specs.Ascending.{ascending}
 use Rattle.covstore.specs.Counts.{AreCounts, count_above, count_with, found_of, hit_of, is_above_at}
-use Rattle.covstore.specs.Puts.{ArePairs, value_of}
+use Rattle.covmap.specs.Puts.{ArePairs, value_of}
 use Rattle.covstore.proofs.Ascend.{IsExactOrder, In-ascending, In-to_ascending, ascending_sorted, one_sorted}
 use Rattle.covstore.proofs.CountsMapped.{count_by-map}
 use Rattle.covstore.proofs.Members.{In, In-map, In-unmap}
@@ -58,7 +58,7 @@ module _ {K V : Type 0} {cmp : K → K → Ordering} (o : IsExactOrder cmp) {is_
   numbers_kept pair i =
       let found = cond_some (nat_lt 0 (count_with cmp pair.0 tests)) (record { tests = count_with cmp pair.0 tests; hit = count_above cmp is_above pair.0 tests }) pair.1
       (sym (are.counted pair.0) ∙ value_of_pair o pair.0 pair.1 counts are.ascending i) in
-      (found.0, ap (λ (held : Tests). held.hit) found.1)
+      (found.0, ap (λ (committed : Tests). committed.hit) found.1)
 
   kept_to : (key : K) → In key (points_of counts) → In key (flat_map points_of tests)
   kept_to key i =
@@ -76,10 +76,10 @@ module _ {K V : Type 0} {cmp : K → K → Ordering} (o : IsExactOrder cmp) {is_
       let pair = In-unmap (λ (p : K × V). p.0) test.0 key test.2 in
       let has = λ (other : List (K × V)). is_some (value_of cmp pair.0.0 other) in
       let some : nat_lt 0 (count_with cmp pair.0.0 tests) ≡ true = any_counted has tests ∙ any_from_in has tests test.0 test.1 (some_in o pair.0.0 pair.0.1 test.0 pair.1) in
-      let held : Tests = record { tests = count_with cmp pair.0.0 tests; hit = count_above cmp is_above pair.0.0 tests } in
+      let committed : Tests = record { tests = count_with cmp pair.0.0 tests; hit = count_above cmp is_above pair.0.0 tests } in
       subst (λ (k : K). In k (points_of counts)) pair.2
-      (In-map (λ (p : K × Tests). p.0) counts (pair.0.0, held)
-      (pair_in o pair.0.0 held counts (are.counted pair.0.0 ∙ cond-true (nat_lt 0 (count_with cmp pair.0.0 tests)) (Some held) None some)))
+      (In-map (λ (p : K × Tests). p.0) counts (pair.0.0, committed)
+      (pair_in o pair.0.0 committed counts (are.counted pair.0.0 ∙ cond-true (nat_lt 0 (count_with cmp pair.0.0 tests)) (Some committed) None some)))
 
   -- the points that are kept are those of the tests, each once
   pub points_kept : points_of counts ≡ ascending cmp (flat_map points_of tests)

@@ -7,7 +7,7 @@ use Rattle.std.specs.Ordering.{is_eq}
 use Rattle.std.proofs.lemmas.List.Sums.{sum_by-cons}
 use Rattle.covstore.specs.declared.sums.Tests.{Tests}
 use Rattle.covstore.specs.Counts.{AreCounts, is_above_at, tests_at}
-use Rattle.covstore.specs.Puts.{value_of}
+use Rattle.covmap.specs.Puts.{value_of}
 use Rattle.covstore.proofs.Counts.{same_tests}
 
 pub count_by-map : {X Y : Type 0} (p : X → Bool) (q : Y → Bool) (f : X → Y) → ((x : X) → q (f x) ≡ p x) → (xs : List X) → count_by q (map f xs) ≡ count_by p xs

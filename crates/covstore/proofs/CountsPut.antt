@@ -6,7 +6,7 @@ use Rattle.std.proofs.lemmas.Bool.{cases_Bool, cond-true, false≢true, lt-ltb, 
 use Rattle.std.proofs.lemmas.Map.Views.{tells_apart}
 use Rattle.covstore.specs.declared.sums.Tests.{Tests}
 use Rattle.covstore.specs.Counts.{AreCounts, count_above, count_with, counts_with, is_above_at, is_new, is_newly_hit, one_if, tests_at, tests_more}
-use Rattle.covstore.specs.Puts.{ArePairs, put, value_of}
+use Rattle.covmap.specs.Puts.{ArePairs, put, value_of}
 use Rattle.covstore.proofs.Ascend.{IsExactOrder}
 use Rattle.covstore.proofs.Counts.{above_le_with, same_tests, tests_among, tests_at-between, tests_of}
 use Rattle.covstore.proofs.Puts.{ArePairs-put, value_of-put, value_of-put_apart}
@@ -53,7 +53,7 @@ module _ {K V : Type 0} {cmp : K → K → Ordering} (o : IsExactOrder cmp) (is_
       → value_of cmp key (put cmp key (tests_more true (above && true) (value_of cmp key counts)) counts) ≡ tests_of (tests + 1) (hit + one_if above)
   new_at above tests hit less e =
       value_of-put o key (tests_more true (above && true) (value_of cmp key counts)) counts
-      ∙ ap (λ (held : Option Tests). Some (tests_more true (above && true) held)) e
+      ∙ ap (λ (committed : Option Tests). Some (tests_more true (above && true) committed)) e
       ∙ tests_more_is true (above && true) (tests + 0) (hit + 0) (omega arith) (omega arith)
       ∙ same_tests {tests = tests + 0 + 1} {hit = hit + 0 + one_if (above && true)} (omega arith) (both above)
     where
@@ -66,7 +66,7 @@ module _ {K V : Type 0} {cmp : K → K → Ordering} (o : IsExactOrder cmp) (is_
   old_at true true tests hit less stays e = e
   old_at true false tests hit less stays e =
       value_of-put o key (tests_more false true (value_of cmp key counts)) counts
-      ∙ ap (λ (held : Option Tests). Some (tests_more false true held)) e
+      ∙ ap (λ (committed : Option Tests). Some (tests_more false true committed)) e
       ∙ tests_more_is false true (tests + 1) (hit + 0) (omega arith) (omega arith)
       ∙ same_tests {tests = tests + 1 + 0} {hit = hit + 0 + 1} (omega arith) (omega arith)
   old_at false true tests hit less stays e = absurd (false≢true (stays refl))
@@ -75,7 +75,7 @@ module _ {K V : Type 0} {cmp : K → K → Ordering} (o : IsExactOrder cmp) (is_
   here_at : (before : Option V) (tests hit : ℕ) → hit ≤ tests → (is_above_at is_above before ≡ true → is_above value ≡ true) → value_of cmp key counts ≡ tests_among is_above tests hit before
       → value_of cmp key (counts_with cmp is_above key before value counts) ≡ tests_among is_above tests hit (Some value)
   here_at None tests hit less stays e = new_at (is_above value) tests hit less e
-  here_at (Some held) tests hit less stays e = old_at (is_above value) (is_above held) tests hit less stays e
+  here_at (Some committed) tests hit less stays e = old_at (is_above value) (is_above committed) tests hit less stays e
 
   -- ---- the whole
 

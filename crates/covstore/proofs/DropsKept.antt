@@ -6,17 +6,17 @@ use Rattle.std.specs.Ordering.{nat_cmp}
 use Rattle.std.proofs.lemmas.List.{map-append}
 use Rattle.covstore.specs.declared.sums.Tests.{Tests}
 use Rattle.covstore.specs.Counts.{AreCounts, found_of, hit_of, is_above_at}
-use Rattle.covstore.specs.Drops.{AreMarks}
+use Rattle.covstore.specs.Drops.{IsIndexOf}
 use Rattle.covstore.specs.Dropped.{IsWithoutTest, tests_without}
-use Rattle.covstore.specs.Marks.{MarksData, file_with}
-use Rattle.covstore.specs.Puts.{value_of}
+use Rattle.covstore.specs.FileIndex.{FileIndexData, file_with}
+use Rattle.covmap.specs.Puts.{value_of}
 use Rattle.covstore.specs.State.{AreKept, FileData, IsWholeFile, branch_above, file_totals, function_above, has_checksum, holders_at, line_above, tests_in}
 use Rattle.covstore.specs.Sums.{TestData}
 use Rattle.covstore.specs.Value.{branch_cmp}
 use Rattle.covstore.proofs.AddsPlace.{kept_beside}
 use Rattle.covstore.proofs.Ascend.{IsExactOrder}
 use Rattle.covstore.proofs.Counts.{count_by-between, tests_at-between}
-use Rattle.covstore.proofs.DropsTests.{IsBetween, between, others, others_ascend, others_of_none}
+use Rattle.covstore.proofs.DropsTests.{IsBetween, between, others_ascend, others_of_none}
 use Rattle.covstore.proofs.Orders.{branches_order, lines_order, names_order}
 use Rattle.covstore.proofs.Puts.{same_pairs}
 use Rattle.covstore.proofs.TotalsKinds.{same_totals}
@@ -71,24 +71,24 @@ one_totals tests file other kept also =
 abbrev pub points_of_all : List (List ℕ × TestData) → List TestData
 points_of_all tests = map (λ pair. pair.1) tests
 
-module _ (name : List ℕ) (points : TestData) (tests : List (List ℕ × TestData)) (marks : MarksData) (whole : IsWholeFile (file_with tests marks))
+module _ (name : List ℕ) (points : TestData) (tests : List (List ℕ × TestData)) (index : FileIndexData) (whole : IsWholeFile (file_with tests index))
     (found : value_of (slice_cmp nat_cmp) name tests ≡ Some points) where
   place : IsBetween name points tests
   place = between name points tests whole.ascending found
 
   -- the numbers count it, and the others
-  pub marks_first : AreMarks (points ∷ points_of_all (tests_without name tests)) marks
-  marks_first =
+  pub index_first : IsIndexOf (points ∷ points_of_all (tests_without name tests)) index
+  index_first =
       let front = points_of_all place.front in
       let back = points_of_all place.back in
       let all : points_of_all tests ≡ front ++ points ∷ back = ap points_of_all place.all ∙ map-append (λ (pair : List ℕ × TestData). pair.1) place.front ((name, points) ∷ place.back) in
       let rest : points_of_all (tests_without name tests) ≡ front ++ back = ap points_of_all place.without ∙ map-append (λ (pair : List ℕ × TestData). pair.1) place.front place.back in
-      subst (λ (others : List TestData). AreKept (points ∷ others) (file_with [] marks)) (sym rest)
-      (kept_first front points back (file_with [] marks)
-      (subst (λ (list : List TestData). AreKept list (file_with [] marks)) all (kept_beside tests [] (points_of_all tests) marks whole.kept)))
+      subst (λ (others : List TestData). AreKept (points ∷ others) (file_with [] index)) (sym rest)
+      (kept_first front points back (file_with [] index)
+      (subst (λ (list : List TestData). AreKept list (file_with [] index)) all (kept_beside tests [] (points_of_all tests) index whole.kept)))
 
-  pub without_found : (rest : MarksData) → rest.texts ≡ marks.texts → AreMarks (points_of_all (tests_without name tests)) rest
-      → IsWithoutTest name (file_with tests marks) (file_with (tests_without name tests) rest)
+  pub without_found : (rest : FileIndexData) → rest.texts ≡ index.texts → IsIndexOf (points_of_all (tests_without name tests)) rest
+      → IsWithoutTest name (file_with tests index) (file_with (tests_without name tests) rest)
   without_found rest texts are = record {
     tests = refl;
     texts = texts;
@@ -96,12 +96,12 @@ module _ (name : List ℕ) (points : TestData) (tests : List (List ℕ × TestDa
   }
 
 -- what is kept of a file that is given so
-abbrev pub marks_in : FileData → MarksData
-marks_in file = record { lines = file.lines; functions = file.functions; branches = file.branches; holders = file.holders; texts = file.texts }
+abbrev pub index_in : FileData → FileIndexData
+index_in file = record { lines = file.lines; functions = file.functions; branches = file.branches; holders = file.holders; texts = file.texts }
 
-pub marks_after : (name : List ℕ) (before after : FileData) → IsWithoutTest name before after → AreMarks (points_of_all (tests_without name before.tests)) (marks_in after)
-marks_after name before after is =
-    kept_beside after.tests [] (points_of_all (tests_without name before.tests)) (marks_in after)
+pub index_after : (name : List ℕ) (before after : FileData) → IsWithoutTest name before after → IsIndexOf (points_of_all (tests_without name before.tests)) (index_in after)
+index_after name before after is =
+    kept_beside after.tests [] (points_of_all (tests_without name before.tests)) (index_in after)
     (subst (λ (tests : List (List ℕ × TestData)). AreKept (points_of_all tests) after) is.tests is.whole.kept)
 
 -- the test isn't there

@@ -6,23 +6,23 @@ use Rattle.std.specs.Str.{bytes_eq}
 use Rattle.covstore.specs.declared.file.File.{File}
 use Rattle.covstore.specs.declared.test.Test.{Test}
 use Rattle.covstore.specs.Dropped.{AreWithoutTest, IsWithoutTest}
-use Rattle.covstore.specs.FileView.{file_held}
-use Rattle.covstore.specs.MapsView.{AreSettledBut, IsSettledBut, files_held, tests_of}
-use Rattle.covstore.specs.MarksView.{marks_coming, marks_held}
-use Rattle.covstore.specs.TestView.{test_coming, test_held}
+use Rattle.covstore.specs.FileView.{file_committed}
+use Rattle.covstore.specs.MapsView.{AreSettledBut, IsSettledBut, files_committed, tests_of}
+use Rattle.covstore.specs.FileIndexView.{index_staged, index_committed}
+use Rattle.covstore.specs.TestView.{test_staged, test_committed}
 use Rattle.covstore.proofs.DropsRetain.{AreWritten}
 use Rattle.covstore.proofs.Members.{All-in, In-joined}
 
--- a file of the code is written so: the test is gone, and of what nothing was to come nothing is
+-- a file of the code is written so: the test is gone, and of what nothing was staged nothing is
 abbrev pub IsWritten : {A : Type 0} → List ℕ → File A → File A → Type 0
-IsWritten test before after = IsWithoutTest test (file_held before) (file_held after) × ((tests : List (List ℕ)) → IsSettledBut tests before → IsSettledBut tests after)
+IsWritten test before after = IsWithoutTest test (file_committed before) (file_committed after) × ((tests : List (List ℕ)) → IsSettledBut tests before → IsSettledBut tests after)
 
 module _ {K A : Type 0} (name : K → List ℕ) where
-  pub written_held : (test : List ℕ) (files after : List (K × File A)) → AreWritten (IsWritten test) files after → AreWithoutTest test (files_held name files) (files_held name after)
-  written_held test [] [] are = tt
-  written_held test [] (later ∷ laters) are = absurd are
-  written_held test (pair ∷ pairs) [] are = absurd are
-  written_held test (pair ∷ pairs) (later ∷ laters) are = (ap name are.0, are.1.0, written_held test pairs laters are.2)
+  pub written_committed : (test : List ℕ) (files after : List (K × File A)) → AreWritten (IsWritten test) files after → AreWithoutTest test (files_committed name files) (files_committed name after)
+  written_committed test [] [] are = tt
+  written_committed test [] (later ∷ laters) are = absurd are
+  written_committed test (pair ∷ pairs) [] are = absurd are
+  written_committed test (pair ∷ pairs) (later ∷ laters) are = (ap name are.0, are.1.0, written_committed test pairs laters are.2)
 
   pub written_settled : (test : List ℕ) (touched : List (List ℕ × List ℕ)) (files after : List (K × File A)) → AreWritten (IsWritten test) files after
       → AreSettledBut name touched files → AreSettledBut name touched after
@@ -45,14 +45,14 @@ All-removed {K} {X} P here (entry ∷ entries) all = by (here entry.0) (All-remo
     by true rest = all.1
     by false rest = (all.0, rest)
 
--- nothing is to come of a test, if its name isn't among these
+-- nothing is staged of a test, if its name isn't among these
 abbrev IsSettledTest : {A : Type 0} → List (List ℕ) → Vec ℕ A × Test A → Type 0
-IsSettledTest tests pair = list_any (λ test. bytes_eq test pair.0.items) tests ≡ false → test_coming pair.1 ≡ test_held pair.1
+IsSettledTest tests pair = list_any (λ test. bytes_eq test pair.0.items) tests ≡ false → test_staged pair.1 ≡ test_committed pair.1
 
--- nothing is to come of a file's marks; and of its tests, of which one is removed, as before
-pub removed_settled : {A : Type 0} (tests : List (List ℕ)) (here : Vec ℕ A → Bool) (before after : File A) → marks_coming after.marks ≡ marks_held after.marks
+-- nothing is staged of a file's index; and of its tests, of which one is removed, as before
+pub removed_settled : {A : Type 0} (tests : List (List ℕ)) (here : Vec ℕ A → Bool) (before after : File A) → index_staged after.index ≡ index_committed after.index
     → after.tests.entries ≡ remove_entry here before.tests.entries → IsSettledBut tests before → IsSettledBut tests after
-removed_settled {A} tests here before after marks left settled = record {
-  marks = λ none. marks;
+removed_settled {A} tests here before after index left settled = record {
+  index = λ none. index;
   points = subst (AllByRecursion (IsSettledTest tests)) (sym left) (All-removed (IsSettledTest tests) here before.tests.entries settled.points);
 }

@@ -1,5 +1,5 @@
 -- What is kept of files where a test is gone can be told from what is kept with it: the points of the others, counted again.
-use Rattle.std.proofs.Common.{◌≡◌, ℕ, ◌+◌, ◌≤◌, Bool, true, false, cond, nat_lt, if◌then◌else◌, Option, Some, None, List, [], ◌∷◌, ◌++◌, map, refl, sym, ap, ◌∙◌, ⊎_elim, arith}
+use Rattle.std.proofs.Common.{◌≡◌, ℕ, ◌≤◌, Bool, true, false, cond, nat_lt, if◌then◌else◌, Option, Some, None, List, [], ◌∷◌, ◌++◌, map, refl, sym, ap, ◌∙◌, ⊎_elim, arith}
 use Rattle.std.specs.Cmp.Lexicographic.{slice_cmp}
 use Rattle.std.specs.declared.cmp.Ordering.{Ordering}
 use Rattle.std.specs.declared.cmp.Ordering.TheVariants.{Less}
@@ -12,15 +12,15 @@ use Rattle.std.proofs.lemmas.Map.Views.{tells_apart}
 use Rattle.std.proofs.lemmas.Option.{none-some}
 use Rattle.covstore.specs.declared.sums.Tests.{Tests}
 use Rattle.covstore.specs.Counts.{AreCounts, count_above, count_with, is_above_at, tests_at}
-use Rattle.covstore.specs.Drops.{AreMarks}
+use Rattle.covstore.specs.Drops.{IsIndexOf}
 use Rattle.covstore.specs.Dropped.{AreWithoutTest, IsWithoutTest, tests_without}
-use Rattle.covstore.specs.Marks.{MarksData, file_with}
-use Rattle.covstore.specs.Puts.{ArePairs, value_of}
+use Rattle.covstore.specs.FileIndex.{FileIndexData, file_with}
+use Rattle.covmap.specs.Puts.{ArePairs, value_of}
 use Rattle.covstore.specs.State.{FileData, IsWholeFile, branch_above, function_above, has_checksum, holders_at, holding, line_above}
 use Rattle.covstore.specs.Sums.{TestData}
 use Rattle.covstore.specs.Value.{branch_cmp}
 use Rattle.covstore.proofs.Ascend.{IsExactOrder}
-use Rattle.covstore.proofs.DropsKept.{marks_first, marks_in, points_of_all, without_found, without_unfound}
+use Rattle.covstore.proofs.DropsKept.{index_first, index_in, points_of_all, without_found, without_unfound}
 use Rattle.covstore.proofs.Orders.{branches_order, lines_order, names_order}
 use Rattle.covstore.proofs.Puts.{value_of_first, value_of_later}
 
@@ -120,21 +120,21 @@ rest_counts {K} {V} {cmp} o is_above pairs others counts are = record {
       (sym (are.counted key) ∙ none));
 }
 
-pub rest_of : (test : TestData) (others : List TestData) (marks : MarksData) → AreMarks (test ∷ others) marks → (rest : MarksData) × (rest.texts ≡ marks.texts) × AreMarks others rest
-rest_of test others marks are = (
+pub rest_of : (test : TestData) (others : List TestData) (index : FileIndexData) → IsIndexOf (test ∷ others) index → (rest : FileIndexData) × (rest.texts ≡ index.texts) × IsIndexOf others rest
+rest_of test others index are = (
   record {
-    lines = renewed (λ line. tests_at nat_cmp line_above line (map (λ t. t.lines) others)) marks.lines;
-    functions = renewed (λ name. tests_at (slice_cmp nat_cmp) function_above name (map (λ t. t.functions) others)) marks.functions;
-    branches = renewed (λ point. tests_at branch_cmp branch_above point (map (λ t. t.branches) others)) marks.branches;
-    holders = renewed (λ line. holders_at line others) marks.holders;
-    texts = marks.texts;
+    lines = renewed (λ line. tests_at nat_cmp line_above line (map (λ t. t.lines) others)) index.lines;
+    functions = renewed (λ name. tests_at (slice_cmp nat_cmp) function_above name (map (λ t. t.functions) others)) index.functions;
+    branches = renewed (λ point. tests_at branch_cmp branch_above point (map (λ t. t.branches) others)) index.branches;
+    holders = renewed (λ line. holders_at line others) index.holders;
+    texts = index.texts;
   },
   refl,
   record {
-    lines = rest_counts lines_order line_above test.lines (map (λ t. t.lines) others) marks.lines are.lines;
-    functions = rest_counts names_order function_above test.functions (map (λ t. t.functions) others) marks.functions are.functions;
-    branches = rest_counts branches_order branch_above test.branches (map (λ t. t.branches) others) marks.branches are.branches;
-    holders = λ line. renewed_is (λ l. holders_at l others) lines_order line marks.holders
+    lines = rest_counts lines_order line_above test.lines (map (λ t. t.lines) others) index.lines are.lines;
+    functions = rest_counts names_order function_above test.functions (map (λ t. t.functions) others) index.functions are.functions;
+    branches = rest_counts branches_order branch_above test.branches (map (λ t. t.branches) others) index.branches are.branches;
+    holders = λ line. renewed_is (λ l. holders_at l others) lines_order line index.holders
         (λ none. none_of_others (λ t. is_above_at has_checksum (value_of nat_cmp line t.lines)) test others (holding line (test ∷ others)) (holding line others) (sym (are.holders line) ∙ none));
   },
 )
@@ -142,18 +142,18 @@ rest_of test others marks are = (
 -- ---- files
 
 -- a whole file can be told without the test
-pub file_without : (name : List ℕ) (tests : List (List ℕ × TestData)) (marks : MarksData) → IsWholeFile (file_with tests marks) → (after : FileData) × IsWithoutTest name (file_with tests marks) after
-file_without name tests marks whole = by (value_of (slice_cmp nat_cmp) name tests) refl
+pub file_without : (name : List ℕ) (tests : List (List ℕ × TestData)) (index : FileIndexData) → IsWholeFile (file_with tests index) → (after : FileData) × IsWithoutTest name (file_with tests index) after
+file_without name tests index whole = by (value_of (slice_cmp nat_cmp) name tests) refl
   where
-    by : (found : Option TestData) → value_of (slice_cmp nat_cmp) name tests ≡ found → (after : FileData) × IsWithoutTest name (file_with tests marks) after
-    by None e = (file_with tests marks, without_unfound name (file_with tests marks) whole e)
+    by : (found : Option TestData) → value_of (slice_cmp nat_cmp) name tests ≡ found → (after : FileData) × IsWithoutTest name (file_with tests index) after
+    by None e = (file_with tests index, without_unfound name (file_with tests index) whole e)
     by (Some points) e =
-        let rest = rest_of points (points_of_all (tests_without name tests)) marks (marks_first name points tests marks whole e) in
-        (file_with (tests_without name tests) rest.0, without_found name points tests marks whole e rest.0 rest.1 rest.2)
+        let rest = rest_of points (points_of_all (tests_without name tests)) index (index_first name points tests index whole e) in
+        (file_with (tests_without name tests) rest.0, without_found name points tests index whole e rest.0 rest.1 rest.2)
 
 pub files_without : (name : List ℕ) (files : List (List ℕ × FileData)) → AllByRecursion (λ pair. IsWholeFile pair.1) files → (after : List (List ℕ × FileData)) × AreWithoutTest name files after
 files_without name [] whole = ([], tt)
 files_without name (pair ∷ files) whole =
-    let one = file_without name pair.1.tests (marks_in pair.1) whole.0 in
+    let one = file_without name pair.1.tests (index_in pair.1) whole.0 in
     let rest = files_without name files whole.1 in
     ((pair.0, one.0) ∷ rest.0, (refl, one.1, rest.1))

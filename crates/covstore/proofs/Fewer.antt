@@ -6,7 +6,7 @@ use Rattle.std.proofs.lemmas.Bool.{cond-true, cond-false, lt-ltb, ltb-true, ltb-
 use Rattle.covstore.specs.declared.sums.Tests.{Tests}
 use Rattle.covstore.specs.Counts.{AreCounts, count_above, count_with, one_if, tests_at}
 use Rattle.covstore.specs.Fewer.{CanLose, counts_without, fewer_of, fewer_tests}
-use Rattle.covstore.specs.Puts.{ArePairs, value_of}
+use Rattle.covmap.specs.Puts.{ArePairs, value_of}
 use Rattle.covstore.proofs.Ascend.{IsExactOrder}
 use Rattle.covstore.proofs.Assigned.{ArePairs-assigned, any_key, apart_assigned, own_assigned}
 use Rattle.covstore.proofs.Counts.{above_le_with, counts_unempty, same_tests, tests_among, tests_at-between, tests_of}

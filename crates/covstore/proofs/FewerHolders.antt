@@ -4,10 +4,10 @@ use Rattle.std.specs.Option.{is_some}
 use Rattle.std.specs.Ordering.{is_eq, nat_cmp}
 use Rattle.std.proofs.lemmas.Bool.{cond-true, cond-false, lt-ltb, ltb-true, ltb-false}
 use Rattle.covstore.specs.declared.sums.LineSum.{LineSum}
-use Rattle.covstore.specs.Assigned.{assigned}
+use Rattle.covmap.specs.Assigned.{assigned}
 use Rattle.covstore.specs.Counts.{is_above_at, one_if}
 use Rattle.covstore.specs.Fewer.{AreHolders, AreHoldersWith, LosesHolders, held_less, less_of, one_less, with_lines}
-use Rattle.covstore.specs.Puts.{ArePairs, value_of}
+use Rattle.covmap.specs.Puts.{ArePairs, value_of}
 use Rattle.covstore.specs.State.{has_checksum, holders_at, holding}
 use Rattle.covstore.specs.Sums.{TestData}
 use Rattle.covstore.proofs.Assigned.{any_key, apart_assigned, own_assigned}
@@ -94,7 +94,7 @@ by_checksum : {G : Type 0} (b : Bool) → (b ≡ true → G) → (b ≡ false �
 by_checksum true yes_holds no_holds = yes_holds refl
 by_checksum false yes_holds no_holds = no_holds refl
 
--- what is held without the test
+-- what is committed without the test
 pub rest_of_holders : (lines : List (ℕ × LineSum)) (others : List TestData) (holders : List (ℕ × ℕ)) → ArePairs nat_cmp lines → AreHolders (with_lines lines ∷ others) holders → (rest : List (ℕ × ℕ)) × AreHolders others rest
 rest_of_holders [] others holders sorted are = (holders, holders_none others holders are)
 rest_of_holders (first ∷ lines) others holders sorted are =

@@ -8,12 +8,12 @@ use Rattle.std.proofs.lemmas.List.{length-map}
 use Rattle.covline.specs.Points.{BranchPoint}
 use Rattle.covline.specs.PointView.{branch_point_data}
 use Rattle.covline.specs.declared.point.BranchPoint as code
-use Rattle.covstore.specs.declared.kept.Tally.{Tally}
+use Rattle.covstore.specs.declared.kind_index.KindTotals.{KindTotals}
 use Rattle.covstore.specs.declared.sums.Tests.{Tests}
 use Rattle.covstore.specs.Counts.{AreCounts, hit_of, is_above_at, tests_at}
 use Rattle.covstore.specs.Fewer.{AreWith, IsTallyWithout, LosesTest}
 use Rattle.covstore.specs.KeyOrders.{code_branch_cmp, code_branch_exact, code_branch_total}
-use Rattle.covstore.specs.Puts.{ArePairs, value_of}
+use Rattle.covmap.specs.Puts.{ArePairs, value_of}
 use Rattle.covstore.specs.Value.{branch_cmp}
 use Rattle.covstore.proofs.Ascend.{IsExactOrder}
 use Rattle.covstore.proofs.Counts.{same_tests}
@@ -96,7 +96,7 @@ module _ {K L : Type 0} (cmp : L → L → Ordering) (f : K → L) (back : L →
         subst (λ (tests : List (List (L × V))). AreCounts cmp is_above tests (seen fewer)) (all_unseen others)
         (counts_seen (map unseen others) fewer (loses (map unseen others) (from_others points counts others are)))
 
-    pub tally_seen : (points : List (K × V)) (counts : List (K × Tests)) (tally : Tally) → IsTallyWithout (λ a b. cmp (f a) (f b)) is_above points counts tally
+    pub tally_seen : (points : List (K × V)) (counts : List (K × Tests)) (tally : KindTotals) → IsTallyWithout (λ a b. cmp (f a) (f b)) is_above points counts tally
         → IsTallyWithout cmp is_above (map (λ pair. (f pair.0, pair.1)) points) (map (λ pair. (f pair.0, pair.1)) counts) tally
     tally_seen points counts tally without others rest are own_rest =
         let unseen_rest =
@@ -125,6 +125,6 @@ module _ {V : Type 0} (is_above : V → Bool) where
       → LosesTest branch_cmp is_above (map (λ pair. (branch_point_data pair.0, pair.1)) points) (map (λ pair. (branch_point_data pair.0, pair.1)) counts) (map (λ pair. (branch_point_data pair.0, pair.1)) fewer)
   branches_lose points counts fewer loses = loses_seen branch_cmp branch_point_data code_point (λ point. refl) is_above points counts fewer loses
 
-  pub branches_tally : (points : List (code.BranchPoint × V)) (counts : List (code.BranchPoint × Tests)) (tally : Tally) → IsTallyWithout code_branch_cmp is_above points counts tally
+  pub branches_tally : (points : List (code.BranchPoint × V)) (counts : List (code.BranchPoint × Tests)) (tally : KindTotals) → IsTallyWithout code_branch_cmp is_above points counts tally
       → IsTallyWithout branch_cmp is_above (map (λ pair. (branch_point_data pair.0, pair.1)) points) (map (λ pair. (branch_point_data pair.0, pair.1)) counts) tally
   branches_tally points counts tally without = tally_seen branch_cmp branch_point_data code_point (λ point. refl) is_above points counts tally without

@@ -2,12 +2,12 @@
 use Rattle.std.proofs.Common.{◌≡◌, Bool, Some, List, [], ◌∷◌, sym, ap, ◌∙◌, subst}
 use Rattle.std.specs.declared.cmp.Ordering.{Ordering}
 use Rattle.std.proofs.lemmas.Option.{none-some}
-use Rattle.covstore.specs.declared.kept.Tally.{Tally}
+use Rattle.covstore.specs.declared.kind_index.KindTotals.{KindTotals}
 use Rattle.covstore.specs.declared.sums.Tests.{Tests}
 use Rattle.covstore.specs.Changes.{IsTallyOf}
 use Rattle.covstore.specs.Counts.{AreCounts}
 use Rattle.covstore.specs.Fewer.{AreWith, CanLose, IsTallyAt, IsTallyWithout, LosesTest, counts_without}
-use Rattle.covstore.specs.Puts.{ArePairs, value_of}
+use Rattle.covmap.specs.Puts.{ArePairs, value_of}
 use Rattle.covstore.proofs.Ascend.{IsExactOrder}
 use Rattle.covstore.proofs.Assigned.{any_key}
 use Rattle.covstore.proofs.Counts.{counts_unempty}
@@ -20,7 +20,7 @@ pub record IsLosing {K V : Type 0} (cmp : K → K → Ordering) (is_above : V �
   pub counted : (others : List (List (K × V))) → AreCounts cmp is_above (points ∷ others) counts → AreCounts cmp is_above (left ∷ others) fewer
 
 -- likewise of a tally alone; the points that are left have the values that they have in the test
-pub record IsTallying {K V : Type 0} (cmp : K → K → Ordering) (is_above : V → Bool) (points : List (K × V)) (counts : List (K × Tests)) (left : List (K × V)) (tally : Tally) : Type 0 where
+pub record IsTallying {K V : Type 0} (cmp : K → K → Ordering) (is_above : V → Bool) (points : List (K × V)) (counts : List (K × Tests)) (left : List (K × V)) (tally : KindTotals) : Type 0 where
   pub sorted : ArePairs cmp left
   pub values : (key : K) (value : V) → value_of cmp key left ≡ Some value → value_of cmp key points ≡ Some value
   pub tallied : (others : List (List (K × V))) → AreCounts cmp is_above (points ∷ others) counts → (fewer : List (K × Tests)) × AreCounts cmp is_above (left ∷ others) fewer × IsTallyOf fewer tally
@@ -62,14 +62,14 @@ module _ {K V : Type 0} {cmp : K → K → Ordering} (o : IsExactOrder cmp) (is_
 
   -- ---- the tally
 
-  pub tallying_first : (left : List (K × V)) (tally : Tally) → ArePairs cmp points → left ≡ points → IsTallyOf counts tally → IsTallying cmp is_above points counts left tally
+  pub tallying_first : (left : List (K × V)) (tally : KindTotals) → ArePairs cmp points → left ≡ points → IsTallyOf counts tally → IsTallying cmp is_above points counts left tally
   tallying_first left tally sorted all is = record {
     sorted = subst (ArePairs cmp) (sym all) sorted;
     values = λ key value e. ap (value_of cmp key) (sym all) ∙ e;
     tallied = λ others are. (counts, subst (λ (own : List (K × V)). AreCounts cmp is_above (own ∷ others) counts) (sym all) are, is);
   }
 
-  module _ (key : K) (value : V) (asked : K) (named : asked ≡ key) (above : Bool) (read : above ≡ is_above value) (left rest : List (K × V)) (first : left ≡ (key, value) ∷ rest) (tally : Tally)
+  module _ (key : K) (value : V) (asked : K) (named : asked ≡ key) (above : Bool) (read : above ≡ is_above value) (left rest : List (K × V)) (first : left ≡ (key, value) ∷ rest) (tally : KindTotals)
       (is : IsTallying cmp is_above points counts left tally) where
     value_there : value_of cmp key left ≡ Some value
     value_there = ap (value_of cmp key) first ∙ value_of_first o key value rest
@@ -91,19 +91,19 @@ module _ {K V : Type 0} {cmp : K → K → Ordering} (o : IsExactOrder cmp) (is_
     pub tallying_at : AreWith cmp is_above points counts → (fewer : List (K × Tests)) × IsTallyAt cmp asked counts fewer tally
     tallying_at are = let of = is.tallied are.0 are.1 in (of.0, tally_at are.0 are.1 of.0 of.1 of.2)
 
-    rest_value : ArePairs cmp ((key, value) ∷ rest) → (other : K) (held : V) → value_of cmp other rest ≡ Some held → value_of cmp other left ≡ Some held
-    rest_value sorted other held e =
-        any_key o (λ (k : K). value_of cmp k rest ≡ Some held → value_of cmp k left ≡ Some held) key
-        (λ there. absurd (none-some held (sym (value_of_before o key rest sorted.0) ∙ there)))
+    rest_value : ArePairs cmp ((key, value) ∷ rest) → (other : K) (committed : V) → value_of cmp other rest ≡ Some committed → value_of cmp other left ≡ Some committed
+    rest_value sorted other committed e =
+        any_key o (λ (k : K). value_of cmp k rest ≡ Some committed → value_of cmp k left ≡ Some committed) key
+        (λ there. absurd (none-some committed (sym (value_of_before o key rest sorted.0) ∙ there)))
         (λ k apart there. ap (value_of cmp k) first ∙ value_of_later o k (key, value) rest apart ∙ there) other e
 
-    pub tallying_more : (less : Tally) → ((fewer : List (K × Tests)) → IsTallyAt cmp asked counts fewer tally → IsTallyOf (counts_without cmp asked above fewer) less)
+    pub tallying_more : (less : KindTotals) → ((fewer : List (K × Tests)) → IsTallyAt cmp asked counts fewer tally → IsTallyOf (counts_without cmp asked above fewer) less)
         → IsTallying cmp is_above points counts rest less
     tallying_more less moved =
         let sorted = subst (ArePairs cmp) first is.sorted in
         record {
           sorted = sorted.1;
-          values = λ other held e. is.values other held (rest_value sorted other held e);
+          values = λ other committed e. is.values other committed (rest_value sorted other committed e);
           tallied = λ others are.
               let of = is.tallied others are in (
                 counts_without cmp key (is_above value) of.0,
@@ -113,7 +113,7 @@ module _ {K V : Type 0} {cmp : K → K → Ordering} (o : IsExactOrder cmp) (is_
               );
         }
 
-  pub tallying_all : (left : List (K × V)) (tally : Tally) → left ≡ [] → IsTallying cmp is_above points counts left tally → IsTallyWithout cmp is_above points counts tally
+  pub tallying_all : (left : List (K × V)) (tally : KindTotals) → left ≡ [] → IsTallying cmp is_above points counts left tally → IsTallyWithout cmp is_above points counts tally
   tallying_all left tally none is others rest are own =
       let of = is.tallied others are in
       let all = counts_unempty cmp is_above [] others of.0 (subst (λ (own : List (K × V)). AreCounts cmp is_above (own ∷ others) of.0) none of.1) in

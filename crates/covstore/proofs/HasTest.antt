@@ -12,9 +12,9 @@ use Rattle.std.proofs.lemmas.Map.Views.{tells_apart}
 use Rattle.covline.specs.declared.point.BranchPoint as code
 use Rattle.covstore.specs.declared.sums.FunctionSum.{FunctionSum}
 use Rattle.covstore.specs.declared.sums.LineSum.{LineSum}
-use Rattle.covstore.specs.declared.sums.Taken.{Taken}
+use Rattle.covstore.specs.declared.sums.BranchSum.{BranchSum}
 use Rattle.covstore.specs.Content.{SectionData}
-use Rattle.covstore.specs.Puts.{ArePairs, value_of}
+use Rattle.covmap.specs.Puts.{ArePairs, value_of}
 use Rattle.covstore.specs.State.{FileData, IsWholeFile, has_no_points, has_none, has_points_of, points_or_none, section_seen, section_with_points, sections_of, sections_of_file}
 use Rattle.covstore.specs.Sums.{TestData}
 use Rattle.covstore.specs.TestView.{branches_data}
@@ -100,13 +100,13 @@ none_as (x ∷ xs) true is = absurd (cons-nil x xs (is.0 refl))
     cons-nil x xs e = let lengths = ap length e in omega (arith, lengths)
 none_as (x ∷ xs) false is = refl
 
-pub no_points : (lines : List (ℕ × LineSum)) (functions : List (List ℕ × FunctionSum)) (branches : List (code.BranchPoint × Taken)) (b : Bool) → lines ≡ [] → functions ≡ [] → IsTrue b ↔ (branches ≡ [])
+pub no_points : (lines : List (ℕ × LineSum)) (functions : List (List ℕ × FunctionSum)) (branches : List (code.BranchPoint × BranchSum)) (b : Bool) → lines ≡ [] → functions ≡ [] → IsTrue b ↔ (branches ≡ [])
     → b ≡ has_none lines && has_none functions && has_none (branches_data branches)
 no_points lines functions branches b no_lines no_functions is =
     none_as branches b is ∙ mapped branches
     ∙ ap (λ (xs : List (List ℕ × FunctionSum)). has_none xs && has_none (branches_data branches)) (sym no_functions)
     ∙ ap (λ (xs : List (ℕ × LineSum)). has_none xs && has_none functions && has_none (branches_data branches)) (sym no_lines)
   where
-    mapped : (xs : List (code.BranchPoint × Taken)) → has_none xs ≡ has_none (branches_data xs)
+    mapped : (xs : List (code.BranchPoint × BranchSum)) → has_none xs ≡ has_none (branches_data xs)
     mapped [] = refl
     mapped (x ∷ xs) = refl

@@ -10,7 +10,7 @@ use Rattle.covstore.specs.declared.totals.Totals.{Totals}
 use Rattle.covstore.specs.Counts.{found_of, hit_of}
 use Rattle.covstore.specs.FileView.{no_file, with_file}
 use Rattle.covstore.specs.Stored.{KeepsState}
-use Rattle.covstore.specs.Puts.{ArePairs, put, value_of}
+use Rattle.covmap.specs.Puts.{ArePairs, put, value_of}
 use Rattle.covstore.specs.State.{FileData}
 use Rattle.covstore.proofs.Orders.{names_order}
 use Rattle.covstore.proofs.Puts.{at_before, sum_by-put}

@@ -11,8 +11,8 @@ use Rattle.covstore.specs.Clash.{checksums_in}
 use Rattle.covstore.specs.Counts.{AreCounts, found_of, hit_of}
 use Rattle.covstore.specs.FileView.{KeepsFile, with_test}
 use Rattle.covstore.specs.Stored.{KeepsState}
-use Rattle.covstore.specs.Marks.{MarksData}
-use Rattle.covstore.specs.Puts.{ArePairs, put, value_of}
+use Rattle.covstore.specs.FileIndex.{FileIndexData}
+use Rattle.covmap.specs.Puts.{ArePairs, put, value_of}
 use Rattle.covstore.specs.State.{AreKept, FileData, IsStateOf, IsWholeFile, branch_above, function_above, line_above, points_in, tests_in, totals_in}
 use Rattle.covstore.specs.Sums.{TestData, test_of}
 use Rattle.covstore.specs.Value.{branch_cmp}
@@ -45,8 +45,8 @@ module _ (name : List ℕ) (before after : FileData) (files : List (List ℕ × 
 
 -- ---- texts of lines that nobody holds
 
-marks_of : FileData → MarksData
-marks_of file = record { lines = file.lines; functions = file.functions; branches = file.branches; holders = file.holders; texts = file.texts }
+index_of : FileData → FileIndexData
+index_of file = record { lines = file.lines; functions = file.functions; branches = file.branches; holders = file.holders; texts = file.texts }
 
 module _ (name test : List ℕ) (before after : FileData) (points : TestData) (there : value_of (slice_cmp nat_cmp) test before.tests ≡ Some points) (keeps : KeepsFile before after) where
   still_whole : IsWholeFile before → IsWholeFile after
@@ -61,12 +61,12 @@ module _ (name test : List ℕ) (before after : FileData) (points : TestData) (t
   }
 
   module _ (rows : List Row) (files : List (List ℕ × FileData)) (state : IsStateOf rows files) (is : value_of (slice_cmp nat_cmp) name files ≡ Some before) where
-    its_place : IsIn rows files name test before.tests points (marks_of before)
-    unfolding marks_of
+    its_place : IsIn rows files name test before.tests points (index_of before)
+    unfolding index_of
     its_place = record { state = state; agree = state_agrees rows files state; its_file = is; its_test = there }
 
     file_state : IsStateOf rows (put (slice_cmp nat_cmp) name after files)
-    unfolding marks_of
+    unfolding index_of
     file_state = state_changed rows rows files state name after (record {
       whole = still_whole (file_whole rows files state name before is);
       points = λ t.

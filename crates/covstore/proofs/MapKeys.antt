@@ -9,7 +9,7 @@ use Rattle.std.specs.Map.{lookup, set_value, keys_of}
 use Rattle.std.specs.Option.{is_some}
 use Rattle.std.specs.Ordering.{is_eq, match_ordering, ordering_reverse}
 use Rattle.std.proofs.lemmas.Bool.{false≢true}
-use Rattle.covstore.specs.Puts.{value_of, put, ArePairs}
+use Rattle.covmap.specs.Puts.{value_of, put, ArePairs}
 use Rattle.covstore.proofs.Ascend.{IsExactOrder, All-weaker}
 use Rattle.covstore.proofs.Puts.{value_of_before}
 

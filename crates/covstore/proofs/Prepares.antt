@@ -1,4 +1,4 @@
--- What is made ready to hold: from what is held, with the rows of a submission.
+-- What is made ready to hold: from what is committed, with the rows of a submission.
 use Rattle.std.proofs.Common.{◌≡◌, ◌+◌, ◌*◌, ◌<◌, ◌≤◌, ◌^◌, None, [], ◌∷◌, ◌++◌, length, sym, ap, ◌∙◌, subst, arith}
 use Rattle.std.specs.List.{AllByRecursion}
 use Rattle.std.proofs.lemmas.List.{length-append}
@@ -7,9 +7,9 @@ use Rattle.covline.specs.Lawful.{IsLawful, most_items}
 use Rattle.covstore.specs.declared.totals.Totals.{Totals}
 use Rattle.covstore.specs.Clash.{Agree, checksums_in, clash_of}
 use Rattle.covstore.specs.Content.{content_at, content_of}
-use Rattle.covstore.specs.Stored.{AddsRows, ClashesWith, HasRoomForRows, IsPlanOf, PlanData, SameContent, SameHeld, StandsFor, StoreData, IsRefusedAt, RefuseData, ClashRefuse, MemoryRefuse, most_members}
+use Rattle.covstore.specs.Stored.{AddsRows, ClashesWith, HasRoomForRows, IsPlanOf, PlanData, SameContent, SameCommitted, StandsFor, StoreData, IsRefusedAt, RefuseData, ClashRefuse, MemoryRefuse, most_members}
 use Rattle.covstore.specs.State.{IsStateOf, sections_of, totals_in}
-use Rattle.covstore.specs.StoreHeld.{IsKept}
+use Rattle.covstore.specs.StoreCommitted.{IsKept}
 use Rattle.covstore.specs.Table.{Table, all_rows, clash_at}
 use Rattle.covstore.specs.Totals.{AreTotals, totals_of}
 use Rattle.covstore.proofs.Contents.{clash_by_content, content-append}
@@ -26,59 +26,59 @@ pub rows_in_table : (table : Table) → AllByRecursion (λ rows. length rows ≤
 rows_in_table [] small = omega arith
 rows_in_table (rows ∷ table) small = omega (arith, length-append rows (all_rows table), small.0, rows_in_table table small.1)
 
-module _ (before : StoreData) (held : Totals) (kept : IsKept before held) (few : before.members < most_members) (s : SubmissionData) (lawful : IsLawful s) where
+module _ (before : StoreData) (committed : Totals) (kept : IsKept before committed) (few : before.members < most_members) (s : SubmissionData) (lawful : IsLawful s) where
   abbrev own : Table
   own = kept.is.own
 
   few_in_all : length (all_rows own) + length (rows_of s) ≤ 2 ^ 47
   few_in_all = omega (arith, rows_in_table kept.is.own kept.is.small, kept.is.counted, few, few_rows s lawful)
 
-  module _ (settled : StoreData) (same_sections : settled.sections ≡ before.sections) (same_members : settled.members ≡ before.members) (same_kept : settled.held ≡ before.held)
-      (coming : settled.coming ≡ before.held) (after : settled.after ≡ totals_in before.held) where
-    its_state : IsStateOf (all_rows own) settled.coming
-    its_state = subst (IsStateOf (all_rows kept.is.own)) (sym coming) kept.is.state
+  module _ (settled : StoreData) (same_sections : settled.sections ≡ before.sections) (same_members : settled.members ≡ before.members) (same_kept : settled.committed ≡ before.committed)
+      (staged : settled.staged ≡ before.committed) (after : settled.after ≡ totals_in before.committed) where
+    its_state : IsStateOf (all_rows own) settled.staged
+    its_state = subst (IsStateOf (all_rows kept.is.own)) (sym staged) kept.is.state
 
     pub room_for_submission : HasRoomForRows (rows_of s) settled
     room_for_submission = record {
       rows = all_rows own;
       state = its_state;
-      agree = state_agrees (all_rows own) settled.coming its_state;
+      agree = state_agrees (all_rows own) settled.staged its_state;
       few = few_in_all;
-      totals = after ∙ ap totals_in (sym coming);
+      totals = after ∙ ap totals_in (sym staged);
     }
 
-    module _ (later : StoreData) (same : SameHeld settled later) where
+    module _ (later : StoreData) (same : SameCommitted settled later) where
       pub content_stays : SameContent before later
       content_stays = record { sections = same.sections ∙ same_sections; members = same.members ∙ same_members }
 
       same_rows : (table : Table) → StandsFor before table → content_of (all_rows own) ≡ content_of (all_rows table)
-      same_rows table stands = sym (sections_are (all_rows kept.is.own) before.held kept.is.state kept.is.agree) ∙ sym kept.seen ∙ stands.content
+      same_rows table stands = sym (sections_are (all_rows kept.is.own) before.committed kept.is.state kept.is.agree) ∙ sym kept.seen ∙ stands.content
 
       own_agrees : Agree (checksums_in (all_rows own))
       own_agrees = kept.is.agree
 
       module _ (added : AddsRows (rows_of s) settled later) where
-        ready : (clash_of (all_rows own) (rows_of s) ≡ None) × IsStateOf (all_rows own ++ rows_of s) later.coming × Agree (checksums_in (all_rows own ++ rows_of s))
+        ready : (clash_of (all_rows own) (rows_of s) ≡ None) × IsStateOf (all_rows own ++ rows_of s) later.staged × Agree (checksums_in (all_rows own ++ rows_of s))
         ready = added.adds (all_rows own) its_state own_agrees
 
-        still_held : IsStateOf (all_rows own) later.held
-        still_held = same.held.states (all_rows kept.is.own) (subst (IsStateOf (all_rows kept.is.own)) (sym same_kept) kept.is.state)
+        still_committed : IsStateOf (all_rows own) later.committed
+        still_committed = same.committed.states (all_rows kept.is.own) (subst (IsStateOf (all_rows kept.is.own)) (sym same_kept) kept.is.state)
 
-        later_totals : later.after ≡ totals_in later.coming
-        later_totals = added.totals (after ∙ ap totals_in (sym coming))
+        later_totals : later.after ≡ totals_in later.staged
+        later_totals = added.totals (after ∙ ap totals_in (sym staged))
 
-        seen_totals : later.after ≡ totals_of (sections_of later.coming)
-        seen_totals = later_totals ∙ sym (totals_are (all_rows own ++ rows_of s) later.coming ready.1 ready.2)
+        seen_totals : later.after ≡ totals_of (sections_of later.staged)
+        seen_totals = later_totals ∙ sym (totals_are (all_rows own ++ rows_of s) later.staged ready.1 ready.2)
 
         pub later_bounds : AreTotals later.after
-        later_bounds = subst AreTotals (sym seen_totals) (are_totals (sections_of later.coming))
+        later_bounds = subst AreTotals (sym seen_totals) (are_totals (sections_of later.staged))
 
         pub is_planned : (plan : PlanData) → plan.after ≡ later.after → IsPlanOf later s plan
         is_planned plan planned = record {
           lawful = lawful;
           adds = λ rows state agree.
-              let more = same_state (all_rows own) rows later.held still_held state (rows_of s) later.coming ready.1 in
-              (sym (same_clash (all_rows own) rows later.held still_held state (rows_of s)) ∙ ready.0, more, state_agrees (rows ++ rows_of s) later.coming more);
+              let more = same_state (all_rows own) rows later.committed still_committed state (rows_of s) later.staged ready.1 in
+              (sym (same_clash (all_rows own) rows later.committed still_committed state (rows_of s)) ∙ ready.0, more, state_agrees (rows ++ rows_of s) later.staged more);
           planned = planned;
           totals = later_totals;
           few = omega (arith, few, same.members, same_members);
@@ -87,7 +87,7 @@ module _ (before : StoreData) (held : Totals) (kept : IsKept before held) (few :
         pub planned_totals : (table : Table) → StandsFor before table → later.after ≡ totals_of (content_at (table ++ rows_of s ∷ []))
         planned_totals table stands =
             seen_totals
-            ∙ ap totals_of (sections_are (all_rows own ++ rows_of s) later.coming ready.1 ready.2
+            ∙ ap totals_of (sections_are (all_rows own ++ rows_of s) later.staged ready.1 ready.2
             ∙ content-append (all_rows own) (all_rows table) (rows_of s) (same_rows table stands)
             ∙ ap content_of (sym (rows_accepted table (rows_of s))))
 

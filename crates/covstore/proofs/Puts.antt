@@ -12,7 +12,7 @@ use Rattle.std.proofs.lemmas.List.Sums.{sum_by-cons}
 use Rattle.std.proofs.lemmas.Map.Views.{tells_apart}
 use Rattle.std.proofs.lemmas.Option.{none-some, same_Some}
 use Rattle.covstore.specs.Counts.{is_above_at, is_new, one_if}
-use Rattle.covstore.specs.Puts.{value_of, put, ArePairs}
+use Rattle.covmap.specs.Puts.{value_of, put, ArePairs}
 use Rattle.covstore.proofs.Ascend.{IsExactOrder, All-match, All-weaker, flips, one_sorted}
 use Rattle.covstore.proofs.Members.{In, All-in}
 use Rattle.covstore.proofs.TotalsCounts.{one_each}
@@ -26,7 +26,7 @@ pub counted_one : (b : Bool) → cond {A = ℕ} b 1 0 ≡ one_if b
 counted_one true = refl
 counted_one false = refl
 
-same_pair : {K V : Type 0} {key other : K} {value held : V} → key ≡ other → value ≡ held → ◌≡◌ {A = K × V} (key, value) (other, held)
+same_pair : {K V : Type 0} {key other : K} {value committed : V} → key ≡ other → value ≡ committed → ◌≡◌ {A = K × V} (key, value) (other, committed)
 same_pair keys values = λ i. (keys i, values i)
 
 module _ {K V : Type 0} {cmp : K → K → Ordering} (o : IsExactOrder cmp) where
@@ -55,9 +55,9 @@ module _ {K V : Type 0} {cmp : K → K → Ordering} (o : IsExactOrder cmp) wher
   pair_in key value [] h = absurd (none-some value h)
   pair_in key value (pair ∷ pairs) h = pair_in_at key value pair pairs (cmp pair.0 key) refl (pair_in key value pairs) h
 
-  some_in_at : (equal : Bool) (held : V) (rest : Option V) → is_some rest ≡ true → is_some (cond equal (Some held) rest) ≡ true
-  some_in_at true held rest e = refl
-  some_in_at false held rest e = e
+  some_in_at : (equal : Bool) (committed : V) (rest : Option V) → is_some rest ≡ true → is_some (cond equal (Some committed) rest) ≡ true
+  some_in_at true committed rest e = refl
+  some_in_at false committed rest e = e
 
   -- a key that is there has a value
   pub some_in : (key : K) (value : V) (pairs : List (K × V)) → In (key, value) pairs → is_some (value_of cmp key pairs) ≡ true
@@ -175,14 +175,14 @@ module _ {K V : Type 0} {cmp : K → K → Ordering} (o : IsExactOrder cmp) wher
     where
       one_or_new : (before : Option V) → at_before {K = K} {V = V} (λ pair. 1) key before + one_if (is_new before) ≡ 1
       one_or_new None = omega arith
-      one_or_new (Some held) = omega arith
+      one_or_new (Some committed) = omega arith
 
   pub count_by-put : (p : K × V → Bool) (key : K) (value : V) (pairs : List (K × V)) → ArePairs cmp pairs
-      → count_by p (put cmp key value pairs) + one_if (is_above_at (λ held. p (key, held)) (value_of cmp key pairs)) ≡ count_by p pairs + one_if (p (key, value))
+      → count_by p (put cmp key value pairs) + one_if (is_above_at (λ committed. p (key, committed)) (value_of cmp key pairs)) ≡ count_by p pairs + one_if (p (key, value))
   count_by-put p key value pairs sorted =
       let sums = sum_by-put (λ pair. cond (p pair) 1 0) key value pairs sorted in
       omega (arith, sums, counted (value_of cmp key pairs), counted_one (p (key, value)))
     where
-      counted : (before : Option V) → at_before (λ pair. cond (p pair) 1 0) key before ≡ one_if (is_above_at (λ held. p (key, held)) before)
+      counted : (before : Option V) → at_before (λ pair. cond (p pair) 1 0) key before ≡ one_if (is_above_at (λ committed. p (key, committed)) before)
       counted None = refl
-      counted (Some held) = counted_one (p (key, held))
+      counted (Some committed) = counted_one (p (key, committed))

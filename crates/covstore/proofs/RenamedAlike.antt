@@ -10,7 +10,7 @@ use Rattle.covline.specs.Row.{ItemData}
 use Rattle.covstore.specs.Ascending.{ascending}
 use Rattle.covstore.specs.declared.sums.LineSum.{LineSum}
 use Rattle.covstore.specs.declared.sums.FunctionSum.{FunctionSum}
-use Rattle.covstore.specs.declared.sums.Taken.{Taken}
+use Rattle.covstore.specs.declared.sums.BranchSum.{BranchSum}
 use Rattle.covstore.specs.Sums.{TestData, line_sum, function_sum, branch_sum, test_of}
 use Rattle.covstore.specs.Value.{lines_in, names_in, branches_in, bounded, branch_cmp, line_added, line_value, checksum_said, line_checksum, first_of, start_said, function_start, function_added, function_count, taken_said, branch_value}
 use Rattle.covstore.proofs.Alike.{AreAlike, alike_said, sum_alike, least_alike}
@@ -18,7 +18,7 @@ use Rattle.covstore.proofs.Ascend.{IsExactOrder}
 use Rattle.covstore.proofs.ContentsKinds.{same_ascending, map_same}
 use Rattle.covstore.proofs.Orders.{lines_order, names_order, branches_order}
 
-test_from : List (ℕ × LineSum) → List (List ℕ × FunctionSum) → List (BranchPoint × Taken) → TestData
+test_from : List (ℕ × LineSum) → List (List ℕ × FunctionSum) → List (BranchPoint × BranchSum) → TestData
 test_from lines functions branches = record { lines = lines; functions = functions; branches = branches }
 
 -- the sums of items are those of others where the lists of each kind are the same
@@ -45,7 +45,7 @@ pub same_function_sum : (name : List ℕ) (xs ys : List ItemData) → function_s
 unfolding function_from
 same_function_sum name xs ys line count = ap₂ (λ (m n : ℕ). function_from name m n) line count
 
-branch_from : BranchPoint → Option ℕ → BranchPoint × Taken
+branch_from : BranchPoint → Option ℕ → BranchPoint × BranchSum
 branch_from point times = (point, record { times = times })
 
 pub same_branch_sum : (point : BranchPoint) (xs ys : List ItemData) → branch_value point xs ≡ branch_value point ys → branch_sum xs point ≡ branch_sum ys point

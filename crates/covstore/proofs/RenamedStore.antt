@@ -12,15 +12,15 @@ use Rattle.std.proofs.lemmas.Bool.{false≢true}
 use Rattle.std.proofs.lemmas.Option.{same_Some}
 use Rattle.covstore.specs.declared.file.File.{File}
 use Rattle.covstore.specs.declared.totals.Totals.{Totals}
-use Rattle.covstore.specs.FileView.{KeepsFile, file_coming, file_held}
-use Rattle.covstore.specs.MapsView.{AreSettledBut, IsSettledBut, IsStore, files_coming, files_held}
-use Rattle.covstore.specs.Puts.{value_of}
+use Rattle.covstore.specs.FileView.{KeepsFile, file_staged, file_committed}
+use Rattle.covstore.specs.MapsView.{AreSettledBut, IsSettledBut, IsStore, files_staged, files_committed}
+use Rattle.covmap.specs.Puts.{value_of}
 use Rattle.covstore.specs.Renaming.{Copies, CopiesIn, HasRoomToCopy, HasRoomToCopyIn, copied_rows, key_of}
 use Rattle.covstore.specs.SectionAdds.{HasPlace}
 use Rattle.covstore.specs.State.{FileData, IsStateOf, has_no_points, points_in, points_or_none}
-use Rattle.covstore.specs.Stored.{KeepsState, SameHeld, StoreData}
+use Rattle.covstore.specs.Stored.{KeepsState, SameCommitted, StoreData}
 use Rattle.covstore.specs.Sums.{TestData}
-use Rattle.covstore.specs.TestView.{test_coming, test_held}
+use Rattle.covstore.specs.TestView.{test_staged, test_committed}
 use Rattle.covstore.proofs.AddsMaps.{file_value, file_written, kept_written, no_place, test_too, written_settled}
 use Rattle.covstore.proofs.AddsPlace.{state_agrees}
 use Rattle.covstore.proofs.AddsReady.{held_kept}
@@ -40,16 +40,16 @@ file_with_points : (test : List ℕ) (found : Option FileData) → has_no_points
 file_with_points test None e = absurd (false≢true (sym e))
 file_with_points test (Some file) e = refl
 
-pub file_there : (file old : List ℕ) (store : StoreData) → HasRoomToCopy file old store → is_some (value_of (slice_cmp nat_cmp) file store.coming) ≡ true
-file_there file old store room = file_with_points old (value_of (slice_cmp nat_cmp) file store.coming) room.some
+pub file_there : (file old : List ℕ) (store : StoreData) → HasRoomToCopy file old store → is_some (value_of (slice_cmp nat_cmp) file store.staged) ≡ true
+file_there file old store room = file_with_points old (value_of (slice_cmp nat_cmp) file store.staged) room.some
 
 -- ---- where the new test was made ready
 
-pub copy_room_kept : (file old : List ℕ) (before now : StoreData) → KeepsState before.held now.held → KeepsState before.coming now.coming → HasRoomToCopy file old before → HasRoomToCopy file old now
-copy_room_kept file old before now held coming room =
+pub copy_room_kept : (file old : List ℕ) (before now : StoreData) → KeepsState before.committed now.committed → KeepsState before.staged now.staged → HasRoomToCopy file old before → HasRoomToCopy file old now
+copy_room_kept file old before now committed staged room =
     let key = key_of file old in
-    let stands = held.states room.own room.stands in
-    let state = coming.states room.rows room.state in
+    let stands = committed.states room.own room.stands in
+    let state = staged.states room.rows room.state in
     record {
       own = room.own;
       stands = stands;
@@ -66,80 +66,80 @@ copies_kept file old new before now later keeps copies = λ rows state. copies r
 -- ---- the file is written
 
 module _ {A : Type 0} (files : List (Vec ℕ A × File A)) (members : ℕ) (totals : Totals) (name old new : List ℕ) (store : StoreData)
-    (view : store_of members (files_held file_name files) (files_coming file_name files) totals ≡ store) (given : HasRoomToCopy name old store) (place : HasPlace name new store.coming) where
+    (view : store_of members (files_committed file_name files) (files_staged file_name files) totals ≡ store) (given : HasRoomToCopy name old store) (place : HasPlace name new store.staged) where
   -- the store inside
   abbrev inside : StoreData
-  inside = store_of members (files_held file_name files) (files_coming file_name files) totals
+  inside = store_of members (files_committed file_name files) (files_staged file_name files) totals
 
   room : HasRoomToCopy name old inside
   room = subst (HasRoomToCopy name old) (sym view) given
 
-  its_place : HasPlace name new inside.coming
-  its_place = subst (λ (s : StoreData). HasPlace name new s.coming) (sym view) place
+  its_place : HasPlace name new inside.staged
+  its_place = subst (λ (s : StoreData). HasPlace name new s.staged) (sym view) place
 
   pub unfound : lookup (is_at (λ (other : Vec ℕ A). slice_cmp nat_cmp name other.items)) files ≡ None → ⊥
-  unfound none = no_place file_name file_coming name files none store.coming (ap (λ (s : StoreData). s.coming) view) (ap is_some place.its_file)
+  unfound none = no_place file_name file_staged name files none store.staged (ap (λ (s : StoreData). s.staged) view) (ap is_some place.its_file)
 
   module _ (before : File A) (found : lookup (is_at (λ (other : Vec ℕ A). slice_cmp nat_cmp name other.items)) files ≡ Some before) where
-    there : value_of (slice_cmp nat_cmp) name inside.coming ≡ Some (file_coming before)
-    there = file_value file_name name files before found file_coming
+    there : value_of (slice_cmp nat_cmp) name inside.staged ≡ Some (file_staged before)
+    there = file_value file_name name files before found file_staged
 
-    held_there : value_of (slice_cmp nat_cmp) name inside.held ≡ Some (file_held before)
-    held_there = file_value file_name name files before found file_held
+    held_there : value_of (slice_cmp nat_cmp) name inside.committed ≡ Some (file_committed before)
+    held_there = file_value file_name name files before found file_committed
 
-    target : value_of (slice_cmp nat_cmp) new (file_coming before).tests ≡ Some its_place.points
+    target : value_of (slice_cmp nat_cmp) new (file_staged before).tests ≡ Some its_place.points
     target =
-        subst (λ (f : FileData). value_of (slice_cmp nat_cmp) new f.tests ≡ Some its_place.points) (same_Some its_place.file (file_coming before) (sym its_place.its_file ∙ there)) its_place.its_test
+        subst (λ (f : FileData). value_of (slice_cmp nat_cmp) new f.tests ≡ Some its_place.points) (same_Some its_place.file (file_staged before) (sym its_place.its_file ∙ there)) its_place.its_test
 
-    source : (points : TestData) × (value_of (slice_cmp nat_cmp) old (file_coming before).tests ≡ Some points)
+    source : (points : TestData) × (value_of (slice_cmp nat_cmp) old (file_staged before).tests ≡ Some points)
     source =
-        with_points (value_of (slice_cmp nat_cmp) old (file_coming before).tests)
+        with_points (value_of (slice_cmp nat_cmp) old (file_staged before).tests)
         (ap (λ (f : Option FileData). has_no_points (points_in f old)) (sym there) ∙ room.some)
 
-    -- nothing is to come of the old test
-    pub copied_same : value_of (slice_cmp nat_cmp) old (file_coming before).tests ≡ value_of (slice_cmp nat_cmp) old (file_held before).tests
+    -- nothing is staged of the old test
+    pub copied_same : value_of (slice_cmp nat_cmp) old (file_staged before).tests ≡ value_of (slice_cmp nat_cmp) old (file_committed before).tests
     copied_same =
-        let other = test_too file_name test_coming test_held old before.tests.entries source.0 source.1 in
-        let points : points_in (Some (file_coming before)) old ≡ points_in (Some (file_held before)) old =
+        let other = test_too file_name test_staged test_committed old before.tests.entries source.0 source.1 in
+        let points : points_in (Some (file_staged before)) old ≡ points_in (Some (file_committed before)) old =
         ap (λ (f : Option FileData). points_in f old) (sym there) ∙ room.same ∙ ap (λ (f : Option FileData). points_in f old) held_there in
         let same : source.0 ≡ other.0 = sym (ap points_or_none source.1) ∙ points ∙ ap points_or_none other.1 in
         source.1 ∙ ap (λ (t : TestData). Some t) same ∙ sym other.1
 
-    pub copied_room : HasRoomToCopyIn old new (file_coming before)
+    pub copied_room : HasRoomToCopyIn old new (file_staged before)
     copied_room = record {
       source = source.0;
       target = its_place.points;
       its_source = source.1;
       its_target = target;
       rows = room.rows;
-      files = inside.coming;
+      files = inside.staged;
       name = name;
-      stands = record { state = room.state; agree = state_agrees room.rows inside.coming room.state; there = there };
+      stands = record { state = room.state; agree = state_agrees room.rows inside.staged room.state; there = there };
       few = room.few;
     }
 
     module _ (after : File A) (later : List (Vec ℕ A × File A)) (sorted : IsStrictlySortedBy (λ (a b : Vec ℕ A). slice_cmp nat_cmp a.items b.items) (keys_of files))
         (written : later ≡ set_value (is_at (λ (other : Vec ℕ A). slice_cmp nat_cmp name other.items)) files after) where
-      held_keeps : KeepsFile (file_held before) (file_held after) → KeepsState (files_held file_name files) (files_held file_name later)
+      held_keeps : KeepsFile (file_committed before) (file_committed after) → KeepsState (files_committed file_name files) (files_committed file_name later)
       held_keeps keeps =
-          let points = test_too file_name test_coming test_held new before.tests.entries its_place.points target in
-          kept_written file_name name files before found after later sorted written file_held new points.0 points.1 keeps
+          let points = test_too file_name test_staged test_committed new before.tests.entries its_place.points target in
+          kept_written file_name name files before found after later sorted written file_committed new points.0 points.1 keeps
 
-      pub copied_held : (held : Totals) → IsStore members held (files_held file_name files) → KeepsFile (file_held before) (file_held after) → (now : Totals)
-          → SameHeld store (store_of members (files_held file_name later) (files_coming file_name later) now)
-      copied_held held is keeps now = held_kept members held (files_held file_name files) (files_held file_name later) (files_coming file_name files) (files_coming file_name later) totals now store is (held_keeps keeps) view
+      pub copied_committed : (committed : Totals) → IsStore members committed (files_committed file_name files) → KeepsFile (file_committed before) (file_committed after) → (now : Totals)
+          → SameCommitted store (store_of members (files_committed file_name later) (files_staged file_name later) now)
+      copied_committed committed is keeps now = held_kept members committed (files_committed file_name files) (files_committed file_name later) (files_staged file_name files) (files_staged file_name later) totals now store is (held_keeps keeps) view
 
-      pub copied_store : (held : Totals) (touched more : List (List ℕ × List ℕ)) → IsStore members held (files_held file_name files) × AreSettledBut file_name touched files → KeepsFile (file_held before) (file_held after)
+      pub copied_store : (committed : Totals) (touched more : List (List ℕ × List ℕ)) → IsStore members committed (files_committed file_name files) × AreSettledBut file_name touched files → KeepsFile (file_committed before) (file_committed after)
           → more ≡ touched ++ (name, new) ∷ []
           → ((tests : List (List ℕ)) → list_any (λ own. bytes_eq own new) tests ≡ true → IsSettledBut tests before → IsSettledBut tests after)
-          → IsStore members held (files_held file_name later) × AreSettledBut file_name more later
-      copied_store held touched more is keeps pushed settled = (
-        store_kept members held (files_held file_name files) (files_held file_name later) (held_keeps keeps) is.0,
+          → IsStore members committed (files_committed file_name later) × AreSettledBut file_name more later
+      copied_store committed touched more is keeps pushed settled = (
+        store_kept members committed (files_committed file_name files) (files_committed file_name later) (held_keeps keeps) is.0,
         written_settled touched more name new before after files later pushed found written settled is.1,
       )
 
-      pub copied_to : CopiesIn old new (file_coming before) (file_coming after) → Copies name old new store.coming (files_coming file_name later)
+      pub copied_to : CopiesIn old new (file_staged before) (file_staged after) → Copies name old new store.staged (files_staged file_name later)
       copied_to copies = λ rows state.
-          let first : IsStateOf rows inside.coming = subst (λ (s : StoreData). IsStateOf rows s.coming) (sym view) state in
-          let copied = copies rows inside.coming name (record { state = first; agree = state_agrees rows inside.coming first; there = there }) in
-          subst (λ (fs : List (List ℕ × FileData)). IsStateOf (rows ++ copied_rows name old new rows) fs) (sym (file_written file_name name files before found after later sorted written file_coming)) copied.state
+          let first : IsStateOf rows inside.staged = subst (λ (s : StoreData). IsStateOf rows s.staged) (sym view) state in
+          let copied = copies rows inside.staged name (record { state = first; agree = state_agrees rows inside.staged first; there = there }) in
+          subst (λ (fs : List (List ℕ × FileData)). IsStateOf (rows ++ copied_rows name old new rows) fs) (sym (file_written file_name name files before found after later sorted written file_staged)) copied.state

@@ -11,7 +11,7 @@ use Rattle.std.proofs.lemmas.Map.Text.{is_eq-slice_cmp}
 use Rattle.std.proofs.lemmas.Slice.Eq.{bytes_eq-Decides}
 use Rattle.covline.specs.Row.{ItemData, Row}
 use Rattle.covstore.specs.Clash.{Checksum, checksum_of_row, checksums_in}
-use Rattle.covstore.specs.Puts.{ArePairs, value_of}
+use Rattle.covmap.specs.Puts.{ArePairs, value_of}
 use Rattle.covstore.specs.Renamed.{moved_rows, renamed_row}
 use Rattle.covstore.specs.Renaming.{Copies, copied_rows, key_of, names_with}
 use Rattle.covstore.specs.SectionAdds.{rows_of_items}
@@ -103,14 +103,14 @@ module _ (old new : List ℕ) (apart : old ≡ new → ⊥) where
   later_copy file rows some = ap (rows_of_items file new) (later_items file rows some)
 
   -- and so are the points that are copied
-  pub points_to_copy : (file : List ℕ) (rows : List Row) (some : List (List ℕ)) (coming : List (List ℕ × FileData)) → IsStateOf (rows ++ copies_of old new rows some) coming
-      → points_at (key_of file old) coming ≡ test_of (items_at (key_of file old) rows)
-  points_to_copy file rows some coming state = state.points (key_of file old) ∙ ap test_of (later_items file rows some)
+  pub points_to_copy : (file : List ℕ) (rows : List Row) (some : List (List ℕ)) (staged : List (List ℕ × FileData)) → IsStateOf (rows ++ copies_of old new rows some) staged
+      → points_at (key_of file old) staged ≡ test_of (items_at (key_of file old) rows)
+  points_to_copy file rows some staged state = state.points (key_of file old) ∙ ap test_of (later_items file rows some)
 
-  -- the points of the old test that are to come are those that are held
-  pub points_still : (file : List ℕ) (rows : List Row) (some : List (List ℕ)) (held coming : List (List ℕ × FileData)) → IsStateOf rows held → IsStateOf (rows ++ copies_of old new rows some) coming
-      → points_at (key_of file old) coming ≡ points_at (key_of file old) held
-  points_still file rows some held coming before state = points_to_copy file rows some coming state ∙ sym (before.points (key_of file old))
+  -- the staged points of the old test are the committed ones
+  pub points_still : (file : List ℕ) (rows : List Row) (some : List (List ℕ)) (committed staged : List (List ℕ × FileData)) → IsStateOf rows committed → IsStateOf (rows ++ copies_of old new rows some) staged
+      → points_at (key_of file old) staged ≡ points_at (key_of file old) committed
+  points_still file rows some committed staged before state = points_to_copy file rows some staged state ∙ sym (before.points (key_of file old))
 
   -- one file more is copied
   pub copied_next : (file : List ℕ) (rows : List Row) (some : List (List ℕ)) (before after : List (List ℕ × FileData)) → IsStateOf (rows ++ copies_of old new rows some) before
@@ -154,14 +154,14 @@ module _ (old new : List ℕ) where
           ∙ none_picked rows)
 
   -- their checksums are among those of the rows
-  pub held_in_moved : (rows : List Row) (held : Checksum) → In held (checksums_in (rows ++ moved_rows old new rows)) → In held (checksums_in rows)
-  held_in_moved rows held i =
-      ⊎_elim {C = In held (checksums_in rows)}
-      (λ (before : In held (checksums_in rows)). before)
-      (λ (now : In held (checksums_in (moved_rows old new rows))).
-      let row = In-unflat checksum_of_row (filter (is_of_test old) rows) held (subst (In held) (agree_renamed old new (filter (is_of_test old) rows)) now) in
-      In-flat checksum_of_row rows row.0 held (In-unfilter (is_of_test old) rows row.0 row.1).0 row.2)
-      (In-parts (checksums_in rows) (checksums_in (moved_rows old new rows)) held (subst (In held) (flat_map-append checksum_of_row rows (moved_rows old new rows)) i))
+  pub held_in_moved : (rows : List Row) (committed : Checksum) → In committed (checksums_in (rows ++ moved_rows old new rows)) → In committed (checksums_in rows)
+  held_in_moved rows committed i =
+      ⊎_elim {C = In committed (checksums_in rows)}
+      (λ (before : In committed (checksums_in rows)). before)
+      (λ (now : In committed (checksums_in (moved_rows old new rows))).
+      let row = In-unflat checksum_of_row (filter (is_of_test old) rows) committed (subst (In committed) (agree_renamed old new (filter (is_of_test old) rows)) now) in
+      In-flat checksum_of_row rows row.0 committed (In-unfilter (is_of_test old) rows row.0 row.1).0 row.2)
+      (In-parts (checksums_in rows) (checksums_in (moved_rows old new rows)) committed (subst (In committed) (flat_map-append checksum_of_row rows (moved_rows old new rows)) i))
 
 -- ---- the copied rows of a key
 
@@ -240,25 +240,25 @@ module _ (old new : List ℕ) (rows : List Row) where
       (sym (has_at same pair.1 found) ∙ ap (λ (b : Bool). has_found (cond b (Some pair.1) found)) (sym (is_eq-slice_cmp pair.0 key.file)))
 
   -- where all files with points of the old test are copied, the moved rows are there
-  pub all_copied : (held coming : List (List ℕ × FileData)) → IsStateOf rows held → IsStateOf (rows ++ copies_of old new rows (names_with old held)) coming
-      → IsStateOf (rows ++ moved_rows old new rows) coming
-  all_copied held coming before state = record {
+  pub all_copied : (committed staged : List (List ℕ × FileData)) → IsStateOf rows committed → IsStateOf (rows ++ copies_of old new rows (names_with old committed)) staged
+      → IsStateOf (rows ++ moved_rows old new rows) staged
+  all_copied committed staged before state = record {
     ascending = state.ascending;
     points = λ key. state.points key ∙ ap test_of (
-        items_at-append key rows (copies_of old new rows (names_with old held))
+        items_at-append key rows (copies_of old new rows (names_with old committed))
         ∙ ap (λ (is : List ItemData). items_at key rows ++ is) (as_moved key)
         ∙ sym (items_at-append key rows (moved_rows old new rows)));
-    texts = λ sum i. state.texts sum (Contains-from (checksums_in (rows ++ copies_of old new rows (names_with old held))) sum (
-        subst (In sum) (sym (flat_map-append checksum_of_row rows (copies_of old new rows (names_with old held))))
-        (In-joined (checksums_in rows) (checksums_in (copies_of old new rows (names_with old held))) sum
+    texts = λ sum i. state.texts sum (Contains-from (checksums_in (rows ++ copies_of old new rows (names_with old committed))) sum (
+        subst (In sum) (sym (flat_map-append checksum_of_row rows (copies_of old new rows (names_with old committed))))
+        (In-joined (checksums_in rows) (checksums_in (copies_of old new rows (names_with old committed))) sum
         (inl (held_in_moved old new rows sum (In-from (checksums_in (rows ++ moved_rows old new rows)) sum i))))));
     whole = state.whole;
   }
     where
-      as_moved : (key : Key) → items_at key (copies_of old new rows (names_with old held)) ≡ items_at key (moved_rows old new rows)
+      as_moved : (key : Key) → items_at key (copies_of old new rows (names_with old committed)) ≡ items_at key (moved_rows old new rows)
       as_moved key =
           let items = items_at (key_of key.file old) rows in
-          copied_items key held before.ascending
-          ∙ all_or_none (bytes_eq new key.test) (has_found (value_of (slice_cmp nat_cmp) key.file held)) items
+          copied_items key committed before.ascending
+          ∙ all_or_none (bytes_eq new key.test) (has_found (value_of (slice_cmp nat_cmp) key.file committed)) items
           (λ e. no_items items (sym (ap (λ (points : TestData). not (has_no_points points)) (before.points (key_of key.file old))) ∙ e))
           ∙ sym (moved_items old new key rows)

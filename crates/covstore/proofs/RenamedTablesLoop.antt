@@ -8,17 +8,17 @@ use Rattle.std.proofs.lemmas.List.Concat.{flat_map-append}
 use Rattle.covline.specs.Row.{ItemData, Row}
 use Rattle.covstore.specs.declared.totals.Totals.{Totals}
 use Rattle.covstore.specs.Clash.{checksum_of_row, checksums_in}
-use Rattle.covstore.specs.Puts.{ArePairs, value_of}
+use Rattle.covmap.specs.Puts.{ArePairs, value_of}
 use Rattle.covstore.specs.Renamed.{moved_rows}
 use Rattle.covstore.specs.Renaming.{Copies, HasRoomToCopy, IsMoving, key_of, names_with}
 use Rattle.covstore.specs.State.{FileData, IsStateOf, has_no_points, has_points_of, points_at, points_in}
-use Rattle.covstore.specs.Stored.{SameHeld, StoreData}
-use Rattle.covstore.specs.StoreHeld.{IsKept}
+use Rattle.covstore.specs.Stored.{SameCommitted, StoreData}
+use Rattle.covstore.specs.StoreCommitted.{IsKept}
 use Rattle.covstore.specs.Sums.{test_of}
 use Rattle.covstore.specs.Table.{all_rows}
 use Rattle.covstore.specs.Value.{items_at}
 use Rattle.covstore.proofs.AddsPlace.{state_agrees}
-use Rattle.covstore.proofs.AddsStore.{held_by_both, same_held}
+use Rattle.covstore.proofs.AddsStore.{held_by_both, same_committed}
 use Rattle.covstore.proofs.ContentsChecksums.{checksums_there}
 use Rattle.covstore.proofs.ContentsLists.{In-unfilter}
 use Rattle.covstore.proofs.ContentsSections.{items_at-append}
@@ -40,10 +40,10 @@ test_or_none : (b : Bool) (xs ys : List ItemData) → test_of xs ≡ test_of ys 
 test_or_none true xs ys same = same
 test_or_none false xs ys same = refl
 
-module _ (old new : List ℕ) (rows others : List Row) (held : List (List ℕ × FileData)) (state : IsStateOf rows held) (other : IsStateOf others held) where
+module _ (old new : List ℕ) (rows others : List Row) (committed : List (List ℕ × FileData)) (state : IsStateOf rows committed) (other : IsStateOf others committed) where
   -- with the moved rows of some there are those of the others
-  pub moved_too : (coming : List (List ℕ × FileData)) → IsStateOf (rows ++ moved_rows old new rows) coming → IsStateOf (others ++ moved_rows old new others) coming
-  moved_too coming later = record {
+  pub moved_too : (staged : List (List ℕ × FileData)) → IsStateOf (rows ++ moved_rows old new rows) staged → IsStateOf (others ++ moved_rows old new others) staged
+  moved_too staged later = record {
     ascending = later.ascending;
     points = λ key.
         later.points key
@@ -56,7 +56,7 @@ module _ (old new : List ℕ) (rows others : List Row) (held : List (List ℕ ×
     texts = λ sum i. later.texts sum (Contains-from (checksums_in (rows ++ moved_rows old new rows)) sum (
         subst (In sum) (sym (flat_map-append checksum_of_row rows (moved_rows old new rows)))
         (In-joined (checksums_in rows) (checksums_in (moved_rows old new rows)) sum
-        (inl (checksums_there others rows (state_agrees others held other) (sym (same_contents rows others held state other)) sum
+        (inl (checksums_there others rows (state_agrees others committed other) (sym (same_contents rows others committed state other)) sum
         (held_in_moved old new others sum (In-from (checksums_in (others ++ moved_rows old new others)) sum i)))))));
     whole = later.whole;
   }
@@ -87,25 +87,25 @@ named_has_points old files sorted file i =
 
 -- some of the files with points of the old test are copied, and these are to be
 pub record HasCopied (old new : List ℕ) (some rest : List (List ℕ)) (before now : StoreData) : Type 0 where
-  pub held : SameHeld before now
-  pub names : names_with old before.held ≡ some ++ rest
+  pub committed : SameCommitted before now
+  pub names : names_with old before.committed ≡ some ++ rest
   pub rows : List Row
-  pub first : IsStateOf rows before.held
+  pub first : IsStateOf rows before.committed
   pub few : 2 * length rows ≤ 2 ^ 47
-  pub state : IsStateOf (rows ++ copies_of old new rows some) now.coming
+  pub state : IsStateOf (rows ++ copies_of old new rows some) now.staged
 
 -- at first none is copied
-pub none_copied : (old new : List ℕ) (names : List (List ℕ)) (store : StoreData) (totals : Totals) → IsKept store totals → store.coming ≡ store.held → names ≡ names_with old store.held
+pub none_copied : (old new : List ℕ) (names : List (List ℕ)) (store : StoreData) (totals : Totals) → IsKept store totals → store.staged ≡ store.committed → names ≡ names_with old store.committed
     → HasCopied old new [] names store store
 none_copied old new names store totals kept still named =
     let rows = all_rows kept.is.own in
     record {
-      held = same_held store;
+      committed = same_committed store;
       names = sym named;
       rows = rows;
       first = kept.is.state;
       few = omega (arith, rows_in_table kept.is.own kept.is.small, kept.is.few);
-      state = subst (λ (rs : List Row). IsStateOf rs store.coming) (sym (append-nil rows)) (subst (λ (files : List (List ℕ × FileData)). IsStateOf rows files) (sym still) kept.is.state);
+      state = subst (λ (rs : List Row). IsStateOf rs store.staged) (sym (append-nil rows)) (subst (λ (files : List (List ℕ × FileData)). IsStateOf rows files) (sym still) kept.is.state);
     }
 
 module _ (old new : List ℕ) (apart : old ≡ new → ⊥) (some : List (List ℕ)) (before now : StoreData) where
@@ -114,40 +114,40 @@ module _ (old new : List ℕ) (apart : old ≡ new → ⊥) (some : List (List �
   copy_room file rest copied =
       let items : items_at (key_of file old) (copied.rows ++ copies_of old new copied.rows some) ≡ items_at (key_of file old) copied.rows = later_items old new apart file copied.rows some in
       let room : length (copied.rows ++ copies_of old new copied.rows some) + length (items_at (key_of file old) copied.rows) ≤ 2 * length copied.rows =
-      copied_room old new copied.rows before.held copied.first.ascending some file rest copied.names in
-      let has : has_no_points (points_at (key_of file old) before.held) ≡ false =
-      named_has_points old before.held copied.first.ascending file (subst (In file) (sym copied.names) (last_in some rest file)) in
+      copied_room old new copied.rows before.committed copied.first.ascending some file rest copied.names in
+      let has : has_no_points (points_at (key_of file old) before.committed) ≡ false =
+      named_has_points old before.committed copied.first.ascending file (subst (In file) (sym copied.names) (last_in some rest file)) in
       record {
         own = copied.rows;
-        stands = copied.held.held.states copied.rows copied.first;
+        stands = copied.committed.committed.states copied.rows copied.first;
         rows = copied.rows ++ copies_of old new copied.rows some;
         state = copied.state;
         few = omega (arith, room, copied.few, ap (λ (is : List ItemData). length is) items);
-        some = ap has_no_points (points_still old new apart file copied.rows some before.held now.coming copied.first copied.state) ∙ has;
-        same = points_still old new apart file copied.rows some now.held now.coming (copied.held.held.states copied.rows copied.first) copied.state;
+        some = ap has_no_points (points_still old new apart file copied.rows some before.committed now.staged copied.first copied.state) ∙ has;
+        same = points_still old new apart file copied.rows some now.committed now.staged (copied.committed.committed.states copied.rows copied.first) copied.state;
       }
 
   -- and then it is copied too
-  pub one_file_copied : (file : List ℕ) (rest : List (List ℕ)) → HasCopied old new some (file ∷ rest) before now → (later : StoreData) → SameHeld now later
-      → Copies file old new now.coming later.coming → HasCopied old new (some ++ file ∷ []) rest before later
-  one_file_copied file rest copied later held copies = record {
-    held = held_by_both before now later copied.held held;
+  pub one_file_copied : (file : List ℕ) (rest : List (List ℕ)) → HasCopied old new some (file ∷ rest) before now → (later : StoreData) → SameCommitted now later
+      → Copies file old new now.staged later.staged → HasCopied old new (some ++ file ∷ []) rest before later
+  one_file_copied file rest copied later committed copies = record {
+    committed = held_by_both before now later copied.committed committed;
     names = copied.names ∙ sym (append_assoc some (file ∷ []) rest);
     rows = copied.rows;
     first = copied.first;
     few = copied.few;
-    state = copied_next old new apart file copied.rows some now.coming later.coming copied.state copies;
+    state = copied_next old new apart file copied.rows some now.staged later.staged copied.state copies;
   }
 
   -- after the last one the rename is ready
   pub moving_ready : HasCopied old new some [] before now → IsMoving now old new old
   moving_ready copied =
-      let names : some ≡ names_with old before.held = sym (copied.names ∙ append-nil some) in
-      let state : IsStateOf (copied.rows ++ moved_rows old new copied.rows) now.coming =
-      all_copied old new copied.rows before.held now.coming copied.first
-      (subst (λ (ns : List (List ℕ)). IsStateOf (copied.rows ++ copies_of old new copied.rows ns) now.coming) names copied.state) in
+      let names : some ≡ names_with old before.committed = sym (copied.names ∙ append-nil some) in
+      let state : IsStateOf (copied.rows ++ moved_rows old new copied.rows) now.staged =
+      all_copied old new copied.rows before.committed now.staged copied.first
+      (subst (λ (ns : List (List ℕ)). IsStateOf (copied.rows ++ copies_of old new copied.rows ns) now.staged) names copied.state) in
       record {
         is_old = refl;
         apart = apart;
-        moves = λ rows held. moved_too old new copied.rows rows now.held (copied.held.held.states copied.rows copied.first) held now.coming state;
+        moves = λ rows committed. moved_too old new copied.rows rows now.committed (copied.committed.committed.states copied.rows copied.first) committed now.staged state;
       }

@@ -1,4 +1,4 @@
--- The state of rows where a test has another name: what was to come of it under the new name is there, and the old test is gone.
+-- The state of rows where a test has another name: what was staged of it under the new name is there, and the old test is gone.
 use Rattle.std.proofs.Common.{◌≡◌, ℕ, Bool, true, false, cond, not, List, [], ◌∷◌, ◌++◌, map, filter, refl, sym, ap, ◌∙◌, subst, arith}
 use Rattle.std.specs.Option.{is_some}
 use Rattle.std.specs.List.{count_by}
@@ -13,7 +13,7 @@ use Rattle.covline.specs.Points.{BranchPoint}
 use Rattle.covline.specs.Row.{ItemData, Row}
 use Rattle.covstore.specs.declared.sums.FunctionSum.{FunctionSum}
 use Rattle.covstore.specs.declared.sums.LineSum.{LineSum}
-use Rattle.covstore.specs.declared.sums.Taken.{Taken}
+use Rattle.covstore.specs.declared.sums.BranchSum.{BranchSum}
 use Rattle.covstore.specs.declared.totals.Totals.{Totals}
 use Rattle.covstore.specs.Clash.{Agree, checksum_of_row, checksums_in}
 use Rattle.covstore.specs.Content.{BranchValueData, FunctionValueData, LineValueData, SectionData, branch_at, content_of, function_at, line_at, section_with}
@@ -51,7 +51,7 @@ state_alike rows others files alike state = record {
   ascending = state.ascending;
   points = λ key. state.points key
       ∙ test_alike (items_at key rows) (items_at key others) (alike_mapped (λ (row : Row). row.item) (filter (has_key key) rows) (filter (has_key key) others) (alike_picked (has_key key) rows others alike));
-  texts = λ held i. state.texts held (Contains-from (checksums_in rows) held ((alike_said checksum_of_row rows others alike).back held (In-from (checksums_in others) held i)));
+  texts = λ committed i. state.texts committed (Contains-from (checksums_in rows) committed ((alike_said checksum_of_row rows others alike).back committed (In-from (checksums_in others) committed i)));
   whole = state.whole;
 }
 
@@ -60,7 +60,7 @@ tests_by_section : (key : Key) (xs ys : List ItemData) → section_with key xs �
 tests_by_section key xs ys same =
     let line : LineValueData → ℕ × LineSum = λ v. (v.line, record { count = v.count; has_checksum = is_some v.checksum }) in
     let function : FunctionValueData → List ℕ × FunctionSum = λ v. (v.name, record { line = v.line; count = v.count }) in
-    let branch : BranchValueData → BranchPoint × Taken = λ v. (v.point, record { times = v.taken }) in
+    let branch : BranchValueData → BranchPoint × BranchSum = λ v. (v.point, record { times = v.taken }) in
     same_sums xs ys
     (sym (map_of_map (line_at xs) line (line_sum xs) (lines_in xs) (λ n. refl)) ∙ ap (λ (s : SectionData). map line s.lines) same ∙ map_of_map (line_at ys) line (line_sum ys) (lines_in ys) (λ n. refl))
     (sym (map_of_map (function_at xs) function (function_sum xs) (names_in xs) (λ n. refl)) ∙ ap (λ (s : SectionData). map function s.functions) same
@@ -73,7 +73,7 @@ pub state_by_content : (rows others : List Row) (files : List (List ℕ × FileD
 state_by_content rows others files same agree state = record {
   ascending = state.ascending;
   points = λ key. state.points key ∙ tests_by_section key (items_at key rows) (items_at key others) (sections_same rows others same key);
-  texts = λ held i. state.texts held (Contains-from (checksums_in rows) held (checksums_there others rows agree (sym same) held (In-from (checksums_in others) held i)));
+  texts = λ committed i. state.texts committed (Contains-from (checksums_in rows) committed (checksums_there others rows agree (sym same) committed (In-from (checksums_in others) committed i)));
   whole = state.whole;
 }
 
@@ -147,27 +147,27 @@ module _ (old new : List ℕ) where
 
 -- ---- the store
 
-module _ (old new : List ℕ) (apart : old ≡ new → ⊥) (members : ℕ) (held : Totals) (files coming after : List (List ℕ × FileData)) (is : IsStore members held files)
-    (moves : (rows : List Row) → IsStateOf rows files → IsStateOf (rows ++ moved_rows old new rows) coming) (are : AreWithoutTest old coming after) where
+module _ (old new : List ℕ) (apart : old ≡ new → ⊥) (members : ℕ) (committed : Totals) (files staged after : List (List ℕ × FileData)) (is : IsStore members committed files)
+    (moves : (rows : List Row) → IsStateOf rows files → IsStateOf (rows ++ moved_rows old new rows) staged) (are : AreWithoutTest old staged after) where
   -- the state of the renamed rows of any rows that the store is the state of
   state_now : (rows : List Row) → IsStateOf rows files → IsStateOf (map (renamed_row old new) rows) after
-  state_now rows state = renamed_state old new apart rows coming after (moves rows state) are
+  state_now rows state = renamed_state old new apart rows staged after (moves rows state) are
 
   -- and of any table
   table_now : (table : Table) → IsStateOf (all_rows table) files → IsStateOf (all_rows (renamed old new table)) after
   table_now table state = subst (λ (rows : List Row). IsStateOf rows after) (sym (rows_renamed old new table)) (state_now (all_rows table) state)
 
-  pub totals_kept : held ≡ totals_in after
+  pub totals_kept : committed ≡ totals_in after
   totals_kept =
       let rows = all_rows is.own in
       let now = map (renamed_row old new) rows in
       let state = state_now rows is.state in
       let agree = state_agrees now after state in
-      store_totals members held files is ∙ ap totals_of (store_sections members held files is)
+      store_totals members committed files is ∙ ap totals_of (store_sections members committed files is)
       ∙ sym (content_totals_renamed old new rows) ∙ sym (ap totals_of (sections_are now after state agree)) ∙ totals_are now after state agree
 
   -- the store where the test is renamed, with the same totals
-  pub store_renamed : IsStore members held after
+  pub store_renamed : IsStore members committed after
   store_renamed = record {
     own = renamed old new is.own;
     state = table_now is.own is.state;
@@ -179,10 +179,10 @@ module _ (old new : List ℕ) (apart : old ≡ new → ⊥) (members : ℕ) (hel
   }
 
   -- it stands for the renamed table of each that the store stands for
-  pub stands_renamed : (coming_before coming_after : List (List ℕ × FileData)) (before later : Totals) (table : Table) → StandsFor (store_of members files coming_before before) table
-      → StandsFor (store_of members after coming_after later) (renamed old new table)
-  stands_renamed coming_before coming_after before later table stands =
-      let same : content_of (all_rows is.own) ≡ content_of (all_rows table) = sym (store_sections members held files is) ∙ stands.content in
+  pub stands_renamed : (staged_before staged_after : List (List ℕ × FileData)) (before later : Totals) (table : Table) → StandsFor (store_of members files staged_before before) table
+      → StandsFor (store_of members after staged_after later) (renamed old new table)
+  stands_renamed staged_before staged_after before later table stands =
+      let same : content_of (all_rows is.own) ≡ content_of (all_rows table) = sym (store_sections members committed files is) ∙ stands.content in
       let state = table_now table (state_by_content (all_rows is.own) (all_rows table) files same stands.agree is.state) in
       let agree = agree_in_renamed old new table stands.agree in
       record {
@@ -195,21 +195,21 @@ module _ (old new : List ℕ) (apart : old ≡ new → ⊥) (members : ℕ) (hel
 
 -- ---- a rename that was made ready
 
-module _ (old new leaves : List ℕ) (members : ℕ) (held later : Totals) (files coming after : List (List ℕ × FileData)) (is : IsStore members held files)
-    (moving : IsMoving (store_of members files coming later) old new leaves) (are : AreWithoutTest leaves coming after) where
-  left_old : AreWithoutTest old coming after
-  left_old = subst (λ (name : List ℕ). AreWithoutTest name coming after) moving.is_old are
+module _ (old new leaves : List ℕ) (members : ℕ) (committed later : Totals) (files staged after : List (List ℕ × FileData)) (is : IsStore members committed files)
+    (moving : IsMoving (store_of members files staged later) old new leaves) (are : AreWithoutTest leaves staged after) where
+  left_old : AreWithoutTest old staged after
+  left_old = subst (λ (name : List ℕ). AreWithoutTest name staged after) moving.is_old are
 
-  -- what is kept when what is to come is taken, and the test that leaves is dropped
-  pub store_moved : IsStore members held after
-  store_moved = store_renamed old new moving.apart members held files coming after is moving.moves left_old
+  -- what is kept when what is staged is committed, and the test that leaves is dropped
+  pub store_moved : IsStore members committed after
+  store_moved = store_renamed old new moving.apart members committed files staged after is moving.moves left_old
 
-  pub stands_moved : (coming_after : List (List ℕ × FileData)) (totals_after : Totals) (table : Table) → StandsFor (store_of members files coming later) table
-      → StandsFor (store_of members after coming_after totals_after) (renamed old new table)
-  stands_moved coming_after totals_after table stands =
-      stands_renamed old new moving.apart members held files coming after is moving.moves left_old coming coming_after later totals_after table stands
+  pub stands_moved : (staged_after : List (List ℕ × FileData)) (totals_after : Totals) (table : Table) → StandsFor (store_of members files staged later) table
+      → StandsFor (store_of members after staged_after totals_after) (renamed old new table)
+  stands_moved staged_after totals_after table stands =
+      stands_renamed old new moving.apart members committed files staged after is moving.moves left_old staged staged_after later totals_after table stands
 
 -- where no file has points of the test, each table that a store stands for stays
-pub stands_still : (old new : List ℕ) (members : ℕ) (held : Totals) (files coming : List (List ℕ × FileData)) (later : Totals) → IsStore members held files
-    → count_by (λ pair. has_points_of old pair.1) files ≡ 0 → (table : Table) → StandsFor (store_of members files coming later) table → renamed old new table ≡ table
-stands_still old new members held files coming later is none table stands = renamed_none_counted old new table (sym (sections_with old members held files is table stands.content) ∙ none)
+pub stands_still : (old new : List ℕ) (members : ℕ) (committed : Totals) (files staged : List (List ℕ × FileData)) (later : Totals) → IsStore members committed files
+    → count_by (λ pair. has_points_of old pair.1) files ≡ 0 → (table : Table) → StandsFor (store_of members files staged later) table → renamed old new table ≡ table
+stands_still old new members committed files staged later is none table stands = renamed_none_counted old new table (sym (sections_with old members committed files is table stands.content) ∙ none)

@@ -10,7 +10,7 @@ use Rattle.covline.specs.Row.{ItemData, LineItem, Row}
 use Rattle.covstore.specs.declared.sums.LineSum.{LineSum}
 use Rattle.covstore.specs.Clash.{Checksum, checksum_of, checksum_of_row, checksums_in}
 use Rattle.covstore.specs.Counts.{is_above_at}
-use Rattle.covstore.specs.Puts.{value_of}
+use Rattle.covmap.specs.Puts.{value_of}
 use Rattle.covstore.specs.Renaming.{key_of, copied_rows, line_item, function_item, branch_item, items_of_test}
 use Rattle.covstore.specs.SectionAdds.{rows_of_items}
 use Rattle.covstore.specs.State.{FileData, IsStateOf, IsWholeFile, has_checksum, points_in, tests_in, text_at}
@@ -29,15 +29,15 @@ use Rattle.covstore.proofs.StateSeen.{HasChecksums, map_of_map}
 -- ---- the items of a test
 
 text_as_said : (texts : List (ℕ × List ℕ)) (line : ℕ) (said : Option (List ℕ)) → ((text : List ℕ) → said ≡ Some text → value_of nat_cmp line texts ≡ Some text) → text_at texts line (is_some said) ≡ said
-text_as_said texts line None held = refl
-text_as_said texts line (Some text) held = held text refl
+text_as_said texts line None committed = refl
+text_as_said texts line (Some text) committed = committed text refl
 
 -- the items of what items add up to are their values
 pub items_as_values : (texts : List (ℕ × List ℕ)) (items : List ItemData) → HasChecksums texts items → items_of_test texts (test_of items) ≡ values_of items
-items_as_values texts items held =
+items_as_values texts items committed =
     ap₂ (λ (ls others : List ItemData). ls ++ others)
     (map_of_map (line_sum items) (line_item texts) (line_value_item items) (lines_in items)
-    (λ line. ap (λ (text : Option (List ℕ)). LineItem line (line_value line items) text) (text_as_said texts line (line_checksum line items) (held line))))
+    (λ line. ap (λ (text : Option (List ℕ)). LineItem line (line_value line items) text) (text_as_said texts line (line_checksum line items) (committed line))))
     (ap₂ (λ (fs bs : List ItemData). fs ++ bs)
     (map_of_map (function_sum items) function_item (function_value_item items) (names_in items) (λ name. refl))
     (map_of_map (branch_sum items) branch_item (branch_value_item items) (branches_in items) (λ point. refl)))
@@ -112,12 +112,12 @@ module _ (rows : List Row) (name old new : List ℕ) where
   copied_state after state = record {
     ascending = state.ascending;
     points = λ key. state.points key ∙ points_copied key;
-    texts = λ held i.
-        state.texts held
-        (Contains-from (checksums_in (rows ++ rows_of_items name new (values_of its_items))) held
-        (subst (In held) (sym (flat_map-append checksum_of_row rows (rows_of_items name new (values_of its_items))))
-        (In-joined (checksums_in rows) (checksums_in (rows_of_items name new (values_of its_items))) held
-        (inl (checksums_joined held (In-from (checksums_in (rows ++ copied_rows name old new rows)) held i))))));
+    texts = λ committed i.
+        state.texts committed
+        (Contains-from (checksums_in (rows ++ rows_of_items name new (values_of its_items))) committed
+        (subst (In committed) (sym (flat_map-append checksum_of_row rows (rows_of_items name new (values_of its_items))))
+        (In-joined (checksums_in rows) (checksums_in (rows_of_items name new (values_of its_items))) committed
+        (inl (checksums_joined committed (In-from (checksums_in (rows ++ copied_rows name old new rows)) committed i))))));
     whole = state.whole;
   }
 
@@ -134,5 +134,5 @@ pub holders_are : (rows : List Row) (files : List (List ℕ × FileData)) → Is
 holders_are rows files state name old file source its_file its_test line has =
     let whole : IsWholeFile file = All-in (λ (pair : List ℕ × FileData). IsWholeFile pair.1) files (name, file) state.whole (pair_in names_order name file files its_file) in
     let sum : HasSum source line = above_sum (value_of nat_cmp line source.lines) has in
-    ap (λ (held : Option ℕ). is_some held) (whole.kept.holders line)
+    ap (λ (committed : Option ℕ). is_some committed) (whole.kept.holders line)
     ∙ held_of line (tests_in file) source (In-map (λ (pair : List ℕ × TestData). pair.1) file.tests (old, source) (pair_in names_order old source file.tests its_test)) sum

@@ -34,8 +34,8 @@ few_sections rows few (key ∷ keys) =
       few_sections rows few keys,
     )
 
-pub few_of_store : (members : ℕ) (held : Totals) (files : List (List ℕ × FileData)) → IsStore members held files → AllByRecursion IsFewOf (sections_of files)
-few_of_store members held files is =
+pub few_of_store : (members : ℕ) (committed : Totals) (files : List (List ℕ × FileData)) → IsStore members committed files → AllByRecursion IsFewOf (sections_of files)
+few_of_store members committed files is =
     let members_few : length is.own ≤ 1048576 = is.few in
     let few : length (all_rows is.own) < 2 ^ 64 = omega (arith, members_few, rows_of_own is.own is.small) in
     subst (AllByRecursion IsFewOf) (sym (sections_are (all_rows is.own) files is.state is.agree)) (few_sections (all_rows is.own) few (keys_of (all_rows is.own)))

@@ -8,20 +8,20 @@ use Rattle.std.proofs.lemmas.List.Folds.{flat_map-map}
 use Rattle.covstore.specs.declared.file.File.{File}
 use Rattle.covstore.specs.declared.test.Test.{Test}
 use Rattle.covstore.specs.Content.{SectionData}
-use Rattle.covstore.specs.FileView.{file_held}
-use Rattle.covstore.specs.MapsView.{files_held}
+use Rattle.covstore.specs.FileView.{file_committed}
+use Rattle.covstore.specs.MapsView.{files_committed}
 use Rattle.covstore.specs.SeenView.{or_none, sections_left, tests_seen}
 use Rattle.covstore.specs.Sums.{TestData}
 use Rattle.covstore.specs.State.{FileData, section_seen, sections_of, sections_of_file}
-use Rattle.covstore.specs.TestView.{test_held}
+use Rattle.covstore.specs.TestView.{test_committed}
 
 -- ---- the sections of a file
 
-pub tests_of_pairs : {K A : Type 0} (name : K → List ℕ) (file : List ℕ) (kept : FileData) (pairs : List (K × Test A)) → kept.tests ≡ map (λ pair. (name pair.0, test_held pair.1)) pairs
+pub tests_of_pairs : {K A : Type 0} (name : K → List ℕ) (file : List ℕ) (kept : FileData) (pairs : List (K × Test A)) → kept.tests ≡ map (λ pair. (name pair.0, test_committed pair.1)) pairs
     → sections_of_file (file, kept) ≡ tests_seen name file kept.texts pairs
 tests_of_pairs name file kept pairs is =
     ap (flat_map (λ (test : List ℕ × TestData). section_seen file kept.texts test.0 test.1)) is
-    ∙ flat_map-map (λ (test : List ℕ × TestData). section_seen file kept.texts test.0 test.1) (λ pair. (name pair.0, test_held pair.1)) pairs
+    ∙ flat_map-map (λ (test : List ℕ × TestData). section_seen file kept.texts test.0 test.1) (λ pair. (name pair.0, test_committed pair.1)) pairs
 
 -- ---- what holds of all sections that are left
 
@@ -35,11 +35,11 @@ all_last P (x ∷ xs) ys all = all_last P xs ys all.1
 
 -- it holds of those of the file that comes next
 pub all_of_next : {K A : Type 0} (P : SectionData → Type 0) (name : K → List ℕ) (current : Option (List SectionData)) (files : List (K × File A)) (all : List SectionData) (key : K) (file : File A) (rest : List (K × File A))
-    → files ≡ (key, file) ∷ rest → sections_left name current files ≡ all → AllByRecursion P all → AllByRecursion P (sections_of_file (name key, file_held file))
+    → files ≡ (key, file) ∷ rest → sections_left name current files ≡ all → AllByRecursion P all → AllByRecursion P (sections_of_file (name key, file_committed file))
 all_of_next {K = K} {A = A} P name current files all key file rest is left holds =
-    let files_in : AllByRecursion P (sections_of (files_held name files)) = all_last P (or_none current) (sections_of (files_held name files)) (subst (AllByRecursion P) (sym left) holds) in
-    all_first P (sections_of_file (name key, file_held file)) (sections_of (files_held name rest))
-    (subst (λ (fs : List (K × File A)). AllByRecursion P (sections_of (files_held name fs))) is files_in)
+    let files_in : AllByRecursion P (sections_of (files_committed name files)) = all_last P (or_none current) (sections_of (files_committed name files)) (subst (AllByRecursion P) (sym left) holds) in
+    all_first P (sections_of_file (name key, file_committed file)) (sections_of (files_committed name rest))
+    (subst (λ (fs : List (K × File A)). AllByRecursion P (sections_of (files_committed name fs))) is files_in)
 
 -- ---- the next file is at hand
 
@@ -48,9 +48,9 @@ none_at_hand None before after b is none ends = ends.0
 none_at_hand (Some s) before after b is none ends = absurd (false≢true (sym none ∙ is))
 
 pub next_at_hand : {K A : Type 0} (name : K → List ℕ) (current : Option (List SectionData)) (files : List (K × File A)) (all : List SectionData) (key : K) (file : File A) (rest : List (K × File A)) (sections : List SectionData)
-    → or_none current ≡ [] → files ≡ (key, file) ∷ rest → sections_left name current files ≡ all → sections ≡ sections_of_file (name key, file_held file) → sections_left name (Some sections) rest ≡ all
+    → or_none current ≡ [] → files ≡ (key, file) ∷ rest → sections_left name current files ≡ all → sections ≡ sections_of_file (name key, file_committed file) → sections_left name (Some sections) rest ≡ all
 next_at_hand {K = K} {A = A} name current files all key file rest sections none is left its =
-    ap (λ (own : List SectionData). own ++ sections_of (files_held name rest)) its
-    ∙ sym (ap (λ (fs : List (K × File A)). sections_of (files_held name fs)) is)
-    ∙ sym (ap (λ (own : List SectionData). own ++ sections_of (files_held name files)) none)
+    ap (λ (own : List SectionData). own ++ sections_of (files_committed name rest)) its
+    ∙ sym (ap (λ (fs : List (K × File A)). sections_of (files_committed name fs)) is)
+    ∙ sym (ap (λ (own : List SectionData). own ++ sections_of (files_committed name files)) none)
     ∙ left

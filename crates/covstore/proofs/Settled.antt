@@ -1,4 +1,4 @@
--- Nothing is to come of a file but for some tests, and of files but for some tests of them.
+-- Nothing is staged of a file but for some tests, and of files but for some tests of them.
 use Rattle.std.proofs.Common.{◌≡◌, ℕ, Bool, true, false, cond, ◌||◌, length, arith, Some, None, List, [], ◌∷◌, ◌++◌, map, filter, refl, sym, ap, ◌∙◌, subst, Vec}
 use Rattle.std.specs.Cmp.Lexicographic.{slice_cmp}
 use Rattle.std.specs.List.{AllByRecursion, list_any}
@@ -13,13 +13,13 @@ use Rattle.std.proofs.lemmas.Slice.Eq.{bytes_eq-Decides}
 use Rattle.covstore.specs.declared.file.File.{File}
 use Rattle.covstore.specs.declared.store.Touched.{Touched}
 use Rattle.covstore.specs.declared.test.Test.{Test}
-use Rattle.covstore.specs.Marks.{MarksData, file_with}
+use Rattle.covstore.specs.FileIndex.{FileIndexData, file_with}
 use Rattle.covstore.specs.State.{FileData}
 use Rattle.covstore.specs.Sums.{TestData}
-use Rattle.covstore.specs.FileView.{file_coming, file_held}
-use Rattle.covstore.specs.MapsView.{AreSettledBut, IsSettledBut, files_coming, files_held, tests_of, touched_data}
-use Rattle.covstore.specs.MarksView.{marks_coming, marks_held}
-use Rattle.covstore.specs.TestView.{test_coming, test_held}
+use Rattle.covstore.specs.FileView.{file_staged, file_committed}
+use Rattle.covstore.specs.MapsView.{AreSettledBut, IsSettledBut, files_staged, files_committed, tests_of, touched_data}
+use Rattle.covstore.specs.FileIndexView.{index_staged, index_committed}
+use Rattle.covstore.specs.TestView.{test_staged, test_committed}
 use Rattle.covstore.proofs.Ascend.{All-weaker}
 use Rattle.covstore.proofs.MapNames.{All-unfound, All-written, bytes_apart, map_written, names_with}
 
@@ -37,19 +37,19 @@ not_among : (name last : List ℕ) (tests : List (List ℕ)) → (last ≡ name 
 not_among name last [] apart e = ap (λ (b : Bool). b || false) (bytes_apart last name apart)
 not_among name last (test ∷ tests) apart e = not_among_at (bytes_eq test name) (among name tests) (among name (tests ++ last ∷ [])) (not_among name last tests apart) e
 
--- nothing is to come of a test, if its name isn't among these
+-- nothing is staged of a test, if its name isn't among these
 abbrev IsSettledTest : {A : Type 0} → List (List ℕ) → Vec ℕ A × Test A → Type 0
-IsSettledTest tests pair = among pair.0.items tests ≡ false → test_coming pair.1 ≡ test_held pair.1
+IsSettledTest tests pair = among pair.0.items tests ≡ false → test_staged pair.1 ≡ test_committed pair.1
 
-module _ {A : Type 0} (tests : List (List ℕ)) (test : List ℕ) (before after : File A) (was : IsSettledBut (tests ++ test ∷ []) before) (marks : marks_coming after.marks ≡ marks_held after.marks) where
+module _ {A : Type 0} (tests : List (List ℕ)) (test : List ℕ) (before after : File A) (was : IsSettledBut (tests ++ test ∷ []) before) (index : index_staged after.index ≡ index_committed after.index) where
   others_stay : (pair : Vec ℕ A × Test A) → IsSettledTest (tests ++ test ∷ []) pair → (pair.0.items ≡ test → ⊥) → IsSettledTest tests pair
   others_stay pair settled apart = λ e. settled (not_among pair.0.items test tests (λ same. apart (sym same)) e)
 
   pub settled_found : (v w : Test A) → IsStrictlySortedBy (λ (a b : Vec ℕ A). slice_cmp nat_cmp a.items b.items) (keys_of before.tests.entries)
       → after.tests.entries ≡ set_value (λ (k : Vec ℕ A). is_eq (slice_cmp nat_cmp test k.items)) before.tests.entries w
-      → lookup (λ (k : Vec ℕ A). is_eq (slice_cmp nat_cmp test k.items)) before.tests.entries ≡ Some v → test_coming w ≡ test_held w → IsSettledBut tests after
+      → lookup (λ (k : Vec ℕ A). is_eq (slice_cmp nat_cmp test k.items)) before.tests.entries ≡ Some v → test_staged w ≡ test_committed w → IsSettledBut tests after
   settled_found v w sorted written found settled = record {
-    marks = λ e. marks;
+    index = λ e. index;
     points = subst (AllByRecursion (IsSettledTest tests)) (sym written)
         (All-written (λ (k : Vec ℕ A). k.items) test (IsSettledTest (tests ++ test ∷ [])) (IsSettledTest tests) v w before.tests.entries sorted found
         (λ k old same. λ e. settled) others_stay was.points);
@@ -57,14 +57,14 @@ module _ {A : Type 0} (tests : List (List ℕ)) (test : List ℕ) (before after 
 
   pub settled_unfound : lookup (λ (k : Vec ℕ A). is_eq (slice_cmp nat_cmp test k.items)) before.tests.entries ≡ None → after.tests.entries ≡ before.tests.entries → IsSettledBut tests after
   settled_unfound none same = record {
-    marks = λ e. marks;
+    index = λ e. index;
     points = subst (AllByRecursion (IsSettledTest tests)) (sym same)
         (All-unfound (λ (k : Vec ℕ A). k.items) test (IsSettledTest (tests ++ test ∷ [])) (IsSettledTest tests) before.tests.entries none others_stay was.points);
   }
 
 -- what is seen of a file: its tests, and what is kept of it
-pub same_file : {tests others : List (List ℕ × TestData)} {marks more : MarksData} → tests ≡ others → marks ≡ more → file_with tests marks ≡ file_with others more
-same_file {tests} {others} {marks} {more} same equal = ap (λ (xs : List (List ℕ × TestData)). file_with xs marks) same ∙ ap (λ (m : MarksData). file_with others m) equal
+pub same_file : {tests others : List (List ℕ × TestData)} {index more : FileIndexData} → tests ≡ others → index ≡ more → file_with tests index ≡ file_with others more
+same_file {tests} {others} {index} {more} same equal = ap (λ (xs : List (List ℕ × TestData)). file_with xs index) same ∙ ap (λ (m : FileIndexData). file_with others m) equal
 
 -- where only that is seen of a test that stays as it was
 pub tests_written : {A : Type 0} (seen : Test A → TestData) (test : List ℕ) (before after : List (Vec ℕ A × Test A)) (v w : Test A)
@@ -93,7 +93,7 @@ tests_of_last name front file test same e =
 abbrev pub file_name : {A : Type 0} → Vec ℕ A → List ℕ
 file_name k = k.items
 
--- what is seen of the files stays, and but for the tests that are left nothing is to come
+-- what is seen of the files stays, and but for the tests that are left nothing is staged
 pub record IsSettling {A : Type 0} (seen : File A → FileData) (touched : List (Touched A)) (first now : List (Vec ℕ A × File A)) : Type 0 where
   pub stays : names_with file_name seen now ≡ names_with file_name seen first
   pub settled : AreSettledBut file_name (touched_data touched) now
@@ -141,20 +141,20 @@ module _ {A : Type 0} (seen : File A → FileData) (touched front : List (Touche
 
 -- ---- nothing is left
 
-test_settled : {A : Type 0} (pairs : List (Vec ℕ A × Test A)) → AllByRecursion (IsSettledTest []) pairs → names_with file_name test_coming pairs ≡ names_with file_name test_held pairs
+test_settled : {A : Type 0} (pairs : List (Vec ℕ A × Test A)) → AllByRecursion (IsSettledTest []) pairs → names_with file_name test_staged pairs ≡ names_with file_name test_committed pairs
 test_settled [] all = refl
 test_settled (pair ∷ pairs) all =
-    ap (λ (points : TestData). (pair.0.items, points) ∷ names_with file_name test_coming pairs) (all.0 refl)
-    ∙ ap (λ (rest : List (List ℕ × TestData)). (pair.0.items, test_held pair.1) ∷ rest) (test_settled pairs all.1)
+    ap (λ (points : TestData). (pair.0.items, points) ∷ names_with file_name test_staged pairs) (all.0 refl)
+    ∙ ap (λ (rest : List (List ℕ × TestData)). (pair.0.items, test_committed pair.1) ∷ rest) (test_settled pairs all.1)
 
-file_settled : {A : Type 0} (file : File A) → IsSettledBut [] file → file_coming file ≡ file_held file
-file_settled file settled = same_file (test_settled file.tests.entries settled.points) (settled.marks refl)
+file_settled : {A : Type 0} (file : File A) → IsSettledBut [] file → file_staged file ≡ file_committed file
+file_settled file settled = same_file (test_settled file.tests.entries settled.points) (settled.index refl)
 
-pub all_settled : {A : Type 0} (pairs : List (Vec ℕ A × File A)) → AreSettledBut file_name [] pairs → files_coming file_name pairs ≡ files_held file_name pairs
+pub all_settled : {A : Type 0} (pairs : List (Vec ℕ A × File A)) → AreSettledBut file_name [] pairs → files_staged file_name pairs ≡ files_committed file_name pairs
 all_settled [] all = refl
 all_settled (pair ∷ pairs) all =
-    ap (λ (file : FileData). (pair.0.items, file) ∷ files_coming file_name pairs) (file_settled pair.1 all.0)
-    ∙ ap (λ (rest : List (List ℕ × FileData)). (pair.0.items, file_held pair.1) ∷ rest) (all_settled pairs all.1)
+    ap (λ (file : FileData). (pair.0.items, file) ∷ files_staged file_name pairs) (file_settled pair.1 all.0)
+    ∙ ap (λ (rest : List (List ℕ × FileData)). (pair.0.items, file_committed pair.1) ∷ rest) (all_settled pairs all.1)
 
 pub none_left : {A : Type 0} (touched : List (Touched A)) (pairs : List (Vec ℕ A × File A)) → length touched ≡ 0 → AreSettledBut file_name (touched_data touched) pairs → AreSettledBut file_name [] pairs
 none_left [] pairs e all = all
@@ -177,7 +177,7 @@ not_empty xs x e = let lengths = ap length e in omega (arith, lengths, length_pu
 
 file_with_more : {A : Type 0} (last : List ℕ) (tests : List (List ℕ)) (file : File A) → IsSettledBut tests file → IsSettledBut (tests ++ last ∷ []) file
 file_with_more last tests file settled = record {
-  marks = λ e. absurd (not_empty tests last e);
+  index = λ e. absurd (not_empty tests last e);
   points = test_with_more last tests file.tests.entries settled.points;
 }
 

@@ -12,7 +12,7 @@ use Rattle.std.proofs.lemmas.List.Elements.{filter-append}
 use Rattle.std.proofs.lemmas.List.Sums.{sum_by-cons, sum_by-append}
 use Rattle.std.proofs.lemmas.Slice.Eq.{bytes_eq-Decides}
 use Rattle.covstore.specs.Content.{SectionData}
-use Rattle.covstore.specs.Puts.{ArePairs}
+use Rattle.covmap.specs.Puts.{ArePairs}
 use Rattle.covstore.specs.State.{FileData, sections_of, sections_of_file}
 use Rattle.covstore.specs.Totals.{files_in, over_files, sections_of as own_sections}
 use Rattle.covstore.proofs.Ascend.{In-ascending, In-to_ascending, ascending_sorted, one_sorted}

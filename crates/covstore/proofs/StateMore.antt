@@ -10,7 +10,7 @@ use Rattle.std.proofs.lemmas.Option.{none-some}
 use Rattle.covline.specs.Row.{Row}
 use Rattle.covstore.specs.declared.sums.Tests.{Tests}
 use Rattle.covstore.specs.Counts.{AreCounts, is_above_at}
-use Rattle.covstore.specs.Puts.{put, value_of}
+use Rattle.covmap.specs.Puts.{put, value_of}
 use Rattle.covstore.specs.State.{AreKept, FileData, IsStateOf, IsWholeFile, branch_above, function_above, has_checksum, holders_at, holding, line_above, points_in, tests_in, text_in}
 use Rattle.covstore.specs.Sums.{TestData, test_of}
 use Rattle.covstore.specs.Value.{branch_cmp}
@@ -123,4 +123,4 @@ test_more rows files state name test file there none =
     let whole : IsWholeFile file = file_whole rows files state name file there in
     same_rows rows files state name (with_test test file) (whole_with_test test file whole none)
     (λ other. points_with_test test file none other (name_or_not test other) ∙ ap (λ (found : Option FileData). points_in found other) (sym there))
-    (λ line text held. sym (ap (λ (found : Option FileData). text_in found line) there) ∙ held)
+    (λ line text committed. sym (ap (λ (found : Option FileData). text_in found line) there) ∙ committed)

@@ -8,7 +8,7 @@ use Rattle.std.specs.List.Sorted.{IsStrictlySortedBy}
 use Rattle.std.specs.Ordering.{nat_cmp, ordering_then}
 use Rattle.std.proofs.lemmas.Cmp.{tied_itself}
 use Rattle.covstore.specs.Content.{SectionData}
-use Rattle.covstore.specs.Puts.{ArePairs}
+use Rattle.covmap.specs.Puts.{ArePairs}
 use Rattle.covstore.specs.State.{FileData, IsWholeFile, section_seen, section_with_points, sections_of, sections_of_file}
 use Rattle.covstore.specs.Sums.{TestData}
 use Rattle.covstore.specs.Value.{Key, key_cmp}

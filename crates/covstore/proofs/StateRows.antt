@@ -12,7 +12,7 @@ use Rattle.std.proofs.lemmas.List.Concat.{flat_map-append}
 use Rattle.std.proofs.lemmas.Slice.Eq.{bytes_eq-Decides}
 use Rattle.covline.specs.Row.{ItemData, Row}
 use Rattle.covstore.specs.Clash.{Checksum, checksum_of_row, checksums_in}
-use Rattle.covstore.specs.Puts.{put, value_of}
+use Rattle.covmap.specs.Puts.{put, value_of}
 use Rattle.covstore.specs.State.{FileData, IsStateOf, IsWholeFile, points_at, points_in, text_in}
 use Rattle.covstore.specs.Sums.{TestData, test_of, with_item}
 use Rattle.covstore.specs.Value.{Key, has_key, items_at}
@@ -44,8 +44,8 @@ pub record IsChange (rows more : List Row) (name : List ℕ) (after : FileData) 
   pub whole : IsWholeFile after
   pub points : (test : List ℕ) → points_in (Some after) test ≡ test_of (items_at (record { file = name; test = test }) more)
   pub others : (key : Key) → (name ≡ key.file → ⊥) → items_at key more ≡ items_at key rows
-  pub texts : (held : Checksum) → Contains (checksums_in more) held → name ≡ held.file → value_of nat_cmp held.line after.texts ≡ Some held.checksum
-  pub held_before : (held : Checksum) → Contains (checksums_in more) held → (name ≡ held.file → ⊥) → Contains (checksums_in rows) held
+  pub texts : (committed : Checksum) → Contains (checksums_in more) committed → name ≡ committed.file → value_of nat_cmp committed.line after.texts ≡ Some committed.checksum
+  pub held_before : (committed : Checksum) → Contains (checksums_in more) committed → (name ≡ committed.file → ⊥) → Contains (checksums_in rows) committed
 
 module _ (rows more : List Row) (files : List (List ℕ × FileData)) (state : IsStateOf rows files) (name : List ℕ) (after : FileData) (change : IsChange rows more name after) where
   abbrev files_after : List (List ℕ × FileData)
@@ -64,15 +64,15 @@ module _ (rows more : List Row) (files : List (List ℕ × FileData)) (state : I
   points_after key (inr other) =
       ap (λ (found : Option FileData). points_in found key.test) (found_before key.file other) ∙ state.points key ∙ ap test_of (sym (change.others key other))
 
-  texts_after : (held : Checksum) → Contains (checksums_in more) held → (name ≡ held.file) ⊎ (name ≡ held.file → ⊥) → text_in (value_of (slice_cmp nat_cmp) held.file files_after) held.line ≡ Some held.checksum
-  texts_after held i (inl is) = ap (λ (found : Option FileData). text_in found held.line) (found_after held.file is) ∙ change.texts held i is
-  texts_after held i (inr other) = ap (λ (found : Option FileData). text_in found held.line) (found_before held.file other) ∙ state.texts held (change.held_before held i other)
+  texts_after : (committed : Checksum) → Contains (checksums_in more) committed → (name ≡ committed.file) ⊎ (name ≡ committed.file → ⊥) → text_in (value_of (slice_cmp nat_cmp) committed.file files_after) committed.line ≡ Some committed.checksum
+  texts_after committed i (inl is) = ap (λ (found : Option FileData). text_in found committed.line) (found_after committed.file is) ∙ change.texts committed i is
+  texts_after committed i (inr other) = ap (λ (found : Option FileData). text_in found committed.line) (found_before committed.file other) ∙ state.texts committed (change.held_before committed i other)
 
   pub state_changed : IsStateOf more (put (slice_cmp nat_cmp) name after files)
   state_changed = record {
     ascending = ArePairs-put names_order name after files state.ascending;
     points = λ key. points_after key (name_or_not name key.file);
-    texts = λ held i. texts_after held i (name_or_not name held.file);
+    texts = λ committed i. texts_after committed i (name_or_not name committed.file);
     whole = All-put (slice_cmp nat_cmp) (λ (pair : List ℕ × FileData). IsWholeFile pair.1) name after files change.whole state.whole;
   }
 
@@ -86,9 +86,9 @@ same_rows rows files state name after whole points texts = state_changed rows ro
   whole = whole;
   points = λ test. points test ∙ state.points (record { file = name; test = test });
   others = λ key other. refl;
-  texts = λ held i is. texts held.line held.checksum
-      (ap (λ (file : List ℕ). text_in (value_of (slice_cmp nat_cmp) file files) held.line) is ∙ state.texts held i);
-  held_before = λ held i other. i;
+  texts = λ committed i is. texts committed.line committed.checksum
+      (ap (λ (file : List ℕ). text_in (value_of (slice_cmp nat_cmp) file files) committed.line) is ∙ state.texts committed i);
+  held_before = λ committed i other. i;
 })
 
 -- ---- one row more
@@ -113,15 +113,15 @@ item_more rows row =
     items_at-append key rows (row ∷ []) ∙ ap (λ (own : List Row). items_at key rows ++ map (λ (r : Row). r.item) own) (cond-true (has_key key row) (row ∷ []) [] (own_row row))
 
 -- the checksums of other files are those of the rows before
-held_of_others : (rows : List Row) (row : Row) (held : Checksum) → Contains (checksums_in (rows ++ row ∷ [])) held → (row.file ≡ held.file → ⊥) → Contains (checksums_in rows) held
-held_of_others rows row held i other =
-    ⊎_elim {C = Contains (checksums_in rows) held}
-    (λ (before : In held (checksums_in rows)). Contains-from (checksums_in rows) held before)
-    (λ (now : In held (checksums_in (row ∷ []))). let own = In-unflat checksum_of_row (row ∷ []) held now in absurd (by own.0 own.1 own.2))
-    (In-parts (checksums_in rows) (checksums_in (row ∷ [])) held (subst (In held) (flat_map-append checksum_of_row rows (row ∷ [])) (In-from (checksums_in (rows ++ row ∷ [])) held i)))
+held_of_others : (rows : List Row) (row : Row) (committed : Checksum) → Contains (checksums_in (rows ++ row ∷ [])) committed → (row.file ≡ committed.file → ⊥) → Contains (checksums_in rows) committed
+held_of_others rows row committed i other =
+    ⊎_elim {C = Contains (checksums_in rows) committed}
+    (λ (before : In committed (checksums_in rows)). Contains-from (checksums_in rows) committed before)
+    (λ (now : In committed (checksums_in (row ∷ []))). let own = In-unflat checksum_of_row (row ∷ []) committed now in absurd (by own.0 own.1 own.2))
+    (In-parts (checksums_in rows) (checksums_in (row ∷ [])) committed (subst (In committed) (flat_map-append checksum_of_row rows (row ∷ [])) (In-from (checksums_in (rows ++ row ∷ [])) committed i)))
   where
-    by : (from : Row) → In from (row ∷ []) → In held (checksum_of_row from) → ⊥
-    by from (inl is) j = other (ap (λ (r : Row). r.file) is ∙ (line_of_said from.file held from.item j).0)
+    by : (from : Row) → In from (row ∷ []) → In committed (checksum_of_row from) → ⊥
+    by from (inl is) j = other (ap (λ (r : Row). r.file) is ∙ (line_of_said from.file committed from.item j).0)
     by from (inr none) j = none
 
 module _ (sums_more : (items : List ItemData) (item : ItemData) → test_of (items ++ item ∷ []) ≡ with_item item (test_of items)) (rows : List Row) (row : Row) (files : List (List ℕ × FileData))
@@ -145,12 +145,12 @@ module _ (sums_more : (items : List ItemData) (item : ItemData) → test_of (ite
   -- the state with the file as it is with the row
   pub row_more : IsStateOf rows files → value_of (slice_cmp nat_cmp) row.file files ≡ Some file → value_of (slice_cmp nat_cmp) row.test file.tests ≡ Some points
       → after.tests ≡ put (slice_cmp nat_cmp) row.test (with_item row.item points) file.tests → IsWholeFile after
-      → ((held : Checksum) → Contains (checksums_in (rows ++ row ∷ [])) held → held.file ≡ row.file → value_of nat_cmp held.line after.texts ≡ Some held.checksum)
+      → ((committed : Checksum) → Contains (checksums_in (rows ++ row ∷ [])) committed → committed.file ≡ row.file → value_of nat_cmp committed.line after.texts ≡ Some committed.checksum)
       → IsStateOf (rows ++ row ∷ []) (put (slice_cmp nat_cmp) row.file after files)
   row_more state in_files in_tests more whole texts = state_changed rows (rows ++ row ∷ []) files state row.file after (record {
     whole = whole;
     points = λ test. points_more state in_files in_tests more test (name_or_not row.test test);
     others = λ key other. items_as_before key rows row (λ file test. other file);
-    texts = λ held i is. texts held i (sym is);
+    texts = λ committed i is. texts committed i (sym is);
     held_before = held_of_others rows row;
   })

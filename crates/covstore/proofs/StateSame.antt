@@ -39,14 +39,14 @@ module _ (rows others : List Row) (files : List (List ℕ × FileData)) (state :
         later.points key ∙ ap test_of (items_joined key rows more)
         ∙ tests_with_more (items_at key rows) (items_at key others) (items_at key more) (sym (state.points key) ∙ other.points key)
         ∙ ap test_of (sym (items_joined key others more));
-    texts = λ held i. later.texts held (Contains-from (checksums_in (rows ++ more)) held (
-        subst (In held) (sym (flat_map-append checksum_of_row rows more))
-        (⊎_elim {C = In held (checksums_in rows ++ checksums_in more)}
-        (λ (before : In held (checksums_in others)).
-        In-joined (checksums_in rows) (checksums_in more) held (inl (checksums_there others rows (state_agrees others files other) (sym same_contents) held before)))
-        (λ (now : In held (checksums_in more)). In-joined (checksums_in rows) (checksums_in more) held (inr now))
-        (In-parts (checksums_in others) (checksums_in more) held
-        (subst (In held) (flat_map-append checksum_of_row others more) (In-from (checksums_in (others ++ more)) held i))))));
+    texts = λ committed i. later.texts committed (Contains-from (checksums_in (rows ++ more)) committed (
+        subst (In committed) (sym (flat_map-append checksum_of_row rows more))
+        (⊎_elim {C = In committed (checksums_in rows ++ checksums_in more)}
+        (λ (before : In committed (checksums_in others)).
+        In-joined (checksums_in rows) (checksums_in more) committed (inl (checksums_there others rows (state_agrees others files other) (sym same_contents) committed before)))
+        (λ (now : In committed (checksums_in more)). In-joined (checksums_in rows) (checksums_in more) committed (inr now))
+        (In-parts (checksums_in others) (checksums_in more) committed
+        (subst (In committed) (flat_map-append checksum_of_row others more) (In-from (checksums_in (others ++ more)) committed i))))));
     whole = later.whole;
   }
 

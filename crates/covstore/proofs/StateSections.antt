@@ -6,7 +6,7 @@ use Rattle.std.proofs.lemmas.Cmp.{on_total}
 use Rattle.covline.specs.Row.{ItemData, Row}
 use Rattle.covstore.specs.Clash.{Agree, Checksum, checksums_in}
 use Rattle.covstore.specs.Content.{SectionData, section_of, content_of}
-use Rattle.covstore.specs.Puts.{value_of}
+use Rattle.covmap.specs.Puts.{value_of}
 use Rattle.covstore.specs.State.{FileData, IsStateOf, IsWholeFile, points_in, points_or_none, section_seen, sections_of, sections_of_file, text_in}
 use Rattle.covstore.specs.Sums.{TestData, test_of}
 use Rattle.covstore.specs.Value.{Key, key_cmp, key_of_row, keys_of, has_key, items_at}
@@ -37,9 +37,9 @@ points_same file other test e = ap points_or_none e
 module _ (rows : List Row) (files : List (List ℕ × FileData)) (state : IsStateOf rows files) where
   pub file_has_checksums : (key : Key) (file : FileData) → value_of (slice_cmp nat_cmp) key.file files ≡ Some file → HasChecksums file.texts (items_at key rows)
   file_has_checksums key file there line said e =
-      let held : Checksum = record { file = key.file; line = line; checksum = said } in
+      let committed : Checksum = record { file = key.file; line = line; checksum = said } in
       ap (λ (found : Option FileData). text_in found line) (sym there)
-      ∙ state.texts held (Contains-from (checksums_in rows) held (line_checksum_held rows key line said e))
+      ∙ state.texts committed (Contains-from (checksums_in rows) committed (line_checksum_held rows key line said e))
 
   -- ---- each section that is seen is of a key of the rows
 
@@ -125,4 +125,4 @@ sections_are rows files state agree = sections_as rows files state
 -- ---- no rows
 
 pub no_rows : IsStateOf [] []
-no_rows = record { ascending = tt; points = λ key. refl; texts = λ held i. absurd (In-from [] held i); whole = tt }
+no_rows = record { ascending = tt; points = λ key. refl; texts = λ committed i. absurd (In-from [] committed i); whole = tt }

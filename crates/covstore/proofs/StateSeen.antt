@@ -7,9 +7,9 @@ use Rattle.covline.specs.Points.{BranchPoint, line_points, func_points, branch_p
 use Rattle.covline.specs.Row.{ItemData, LineItem, FuncItem, BranchItem}
 use Rattle.covstore.specs.declared.sums.FunctionSum.{FunctionSum}
 use Rattle.covstore.specs.declared.sums.LineSum.{LineSum}
-use Rattle.covstore.specs.declared.sums.Taken.{Taken}
+use Rattle.covstore.specs.declared.sums.BranchSum.{BranchSum}
 use Rattle.covstore.specs.Content.{FunctionValueData, BranchValueData, LineValueData, SectionData, function_at, branch_at, line_at, section_with}
-use Rattle.covstore.specs.Puts.{value_of}
+use Rattle.covmap.specs.Puts.{value_of}
 use Rattle.covstore.specs.State.{text_at, line_seen, function_seen, branch_seen, section_with_points, section_seen}
 use Rattle.covstore.specs.Sums.{TestData, test_of, line_sum, function_sum, branch_sum}
 use Rattle.covstore.specs.Value.{Key, lines_in, line_checksum, names_in, branches_in}
@@ -28,7 +28,7 @@ pub record HasNone (test : TestData) : Type 0 where
 not_empty : {X : Type 0} (x : X) (xs : List X) → In x xs → xs ≡ [] → ⊥
 not_empty {X} x xs i e = subst (In x) e i
 
-points_from : List (ℕ × LineSum) → List (List ℕ × FunctionSum) → List (BranchPoint × Taken) → TestData
+points_from : List (ℕ × LineSum) → List (List ℕ × FunctionSum) → List (BranchPoint × BranchSum) → TestData
 points_from lines functions branches = record { lines = lines; functions = functions; branches = branches }
 
 -- what is seen of a test: nothing where it has no points, else one section
@@ -36,7 +36,7 @@ abbrev pub IsSeen : List ℕ → List (ℕ × List ℕ) → List ℕ → TestDat
 IsSeen file texts test points =
     (HasNone points × (section_seen file texts test points ≡ [])) ⊎ ((HasNone points → ⊥) × (section_seen file texts test points ≡ section_with_points file texts test points ∷ []))
 
-seen_at : (file : List ℕ) (texts : List (ℕ × List ℕ)) (test : List ℕ) (lines : List (ℕ × LineSum)) (functions : List (List ℕ × FunctionSum)) (branches : List (BranchPoint × Taken))
+seen_at : (file : List ℕ) (texts : List (ℕ × List ℕ)) (test : List ℕ) (lines : List (ℕ × LineSum)) (functions : List (List ℕ × FunctionSum)) (branches : List (BranchPoint × BranchSum))
     → IsSeen file texts test (points_from lines functions branches)
 unfolding points_from
 seen_at file texts test [] [] [] = inl (record { lines = refl; functions = refl; branches = refl }, refl)
@@ -86,8 +86,8 @@ some_points_of (first ∷ others) item i none = some_points (first ∷ others) f
 -- ---- the values of the points
 
 text_as_said : (texts : List (ℕ × List ℕ)) (line : ℕ) (said : Option (List ℕ)) → ((text : List ℕ) → said ≡ Some text → value_of nat_cmp line texts ≡ Some text) → text_at texts line (is_some said) ≡ said
-text_as_said texts line None held = refl
-text_as_said texts line (Some text) held = held text refl
+text_as_said texts line None committed = refl
+text_as_said texts line (Some text) committed = committed text refl
 
 pub map_of_map : {X Y Z : Type 0} (f : X → Y) (g : Y → Z) (h : X → Z) (xs : List X) → ((x : X) → g (f x) ≡ h x) → map g (map f xs) ≡ map h xs
 map_of_map f g h [] same = refl
@@ -99,7 +99,7 @@ line_from line count checksum = record { line = line; count = count; checksum = 
 line_as : (texts : List (ℕ × List ℕ)) (items : List ItemData) (line : ℕ) → ((text : List ℕ) → line_checksum line items ≡ Some text → value_of nat_cmp line texts ≡ Some text)
     → line_seen texts (line_sum items line) ≡ line_at items line
 unfolding line_from
-line_as texts items line held = ap (line_from line (line_sum items line).1.count) (text_as_said texts line (line_checksum line items) held)
+line_as texts items line committed = ap (line_from line (line_sum items line).1.count) (text_as_said texts line (line_checksum line items) committed)
 
 -- the texts have what the items give as checksums
 abbrev pub HasChecksums : List (ℕ × List ℕ) → List ItemData → Type 0
@@ -110,11 +110,11 @@ section_from key functions branches lines = record { key = key; functions = func
 
 whole_as : (key : Key) (texts : List (ℕ × List ℕ)) (items : List ItemData) → HasChecksums texts items → section_with_points key.file texts key.test (test_of items) ≡ section_with key items
 unfolding section_from
-whole_as key texts items held =
+whole_as key texts items committed =
     let functions : map function_seen (test_of items).functions ≡ map (function_at items) (names_in items) = map_of_map (function_sum items) function_seen (function_at items) (names_in items) (λ name. refl) in
     let branches : map branch_seen (test_of items).branches ≡ map (branch_at items) (branches_in items) = map_of_map (branch_sum items) branch_seen (branch_at items) (branches_in items) (λ point. refl) in
     let lines : map (line_seen texts) (test_of items).lines ≡ map (line_at items) (lines_in items) =
-    map_of_map (line_sum items) (line_seen texts) (line_at items) (lines_in items) (λ line. line_as texts items line (held line)) in
+    map_of_map (line_sum items) (line_seen texts) (line_at items) (lines_in items) (λ line. line_as texts items line (committed line)) in
     ap (λ (fs : List FunctionValueData). section_from key fs (map branch_seen (test_of items).branches) (map (line_seen texts) (test_of items).lines)) functions
     ∙ ap (λ (bs : List BranchValueData). section_from key (map (function_at items) (names_in items)) bs (map (line_seen texts) (test_of items).lines)) branches
     ∙ ap (section_from key (map (function_at items) (names_in items)) (map (branch_at items) (branches_in items))) lines
@@ -124,16 +124,16 @@ whole_as key texts items held =
 -- with items it is theirs
 pub seen_as : (key : Key) (texts : List (ℕ × List ℕ)) (items : List ItemData) (item : ItemData) → HasChecksums texts items → In item items
     → section_seen key.file texts key.test (test_of items) ≡ section_with key items ∷ []
-seen_as key texts [] item held i = absurd i
-seen_as key texts (first ∷ others) item held i =
+seen_as key texts [] item committed i = absurd i
+seen_as key texts (first ∷ others) item committed i =
     let items = first ∷ others in
-    seen_whole key.file texts key.test (test_of items) (some_points items first others refl) ∙ ap (λ (s : SectionData). s ∷ []) (whole_as key texts items held)
+    seen_whole key.file texts key.test (test_of items) (some_points items first others refl) ∙ ap (λ (s : SectionData). s ∷ []) (whole_as key texts items committed)
 
 -- what is seen is the section of some items
 pub seen_is : (key : Key) (texts : List (ℕ × List ℕ)) (items : List ItemData) (section : SectionData) → HasChecksums texts items → In section (section_seen key.file texts key.test (test_of items))
     → (section_with key items ≡ section) × (item : ItemData) × In item items
-seen_is key texts [] section held i = absurd i
-seen_is key texts (first ∷ others) section held i = by (subst (In section) (seen_as key texts (first ∷ others) first held (inl refl)) i)
+seen_is key texts [] section committed i = absurd i
+seen_is key texts (first ∷ others) section committed i = by (subst (In section) (seen_as key texts (first ∷ others) first committed (inl refl)) i)
   where
     by : In section (section_with key (first ∷ others) ∷ []) → (section_with key (first ∷ others) ≡ section) × (item : ItemData) × In item (first ∷ others)
     by (inl is) = (is, first, inl refl)

@@ -8,12 +8,12 @@ use Rattle.covline.specs.Points.{BranchPoint}
 use Rattle.covline.specs.Row.{Row}
 use Rattle.covstore.specs.declared.sums.FunctionSum.{FunctionSum}
 use Rattle.covstore.specs.declared.sums.LineSum.{LineSum}
-use Rattle.covstore.specs.declared.sums.Taken.{Taken}
+use Rattle.covstore.specs.declared.sums.BranchSum.{BranchSum}
 use Rattle.covstore.specs.declared.sums.Tests.{Tests}
 use Rattle.covstore.specs.Clash.{Agree, checksums_in}
 use Rattle.covstore.specs.Content.{BranchValueData, FunctionValueData, LineValueData, SectionData, content_of}
 use Rattle.covstore.specs.Counts.{AreCounts, found_of, hit_of}
-use Rattle.covstore.specs.Puts.{ArePairs}
+use Rattle.covmap.specs.Puts.{ArePairs}
 use Rattle.covstore.specs.State.{FileData, IsStateOf, IsWholeFile, branch_above, branch_seen, function_above, function_seen, line_above, line_seen, section_seen, section_with_points, sections_of, sections_of_file, totals_in}
 use Rattle.covstore.specs.Sums.{TestData}
 use Rattle.covstore.specs.Totals.{branches_found, functions_found, is_branch_hit, is_function_hit, is_line_hit, lines_found, sections_of as own_sections, totals_of}
@@ -89,7 +89,7 @@ module _ (pair : List ℕ × FileData) (file_is : IsWholeFile pair.1) where
   branches_seen =
       seen_counts branch_cmp branch_above (λ (b : BranchValueData). is_taken b.taken) (λ point sum. branch_seen (point, sum)) (λ point sum. refl) (λ (test : TestData). test.branches) branches_of
       pair.0 pair.1.texts (λ test empty. empty.branches)
-      (λ name test. map_of_map branch_seen (λ (b : BranchValueData). (b.point, b)) (λ (point : BranchPoint × Taken). (point.0, branch_seen (point.0, point.1))) test.branches (λ point. refl))
+      (λ name test. map_of_map branch_seen (λ (b : BranchValueData). (b.point, b)) (λ (point : BranchPoint × BranchSum). (point.0, branch_seen (point.0, point.1))) test.branches (λ point. refl))
       pair.1.tests pair.1.branches file_is.kept.branches
 
 -- ---- all kinds

@@ -5,15 +5,15 @@ use Rattle.std.specs.declared.cmp.Ordering.TheVariants.{Less, Equal, Greater}
 use Rattle.std.specs.Option.{is_some}
 use Rattle.std.specs.Ordering.{is_eq, match_ordering}
 use Rattle.std.proofs.lemmas.Bool.{false≢true, lt-ltb, ltb-true}
-use Rattle.covstore.specs.declared.kept.Change.{Change}
-use Rattle.covstore.specs.declared.kept.Change.TheVariants.{Same, Hit, Found, FoundAndHit}
+use Rattle.covstore.specs.declared.kind_index.PointChange.{PointChange}
+use Rattle.covstore.specs.declared.kind_index.PointChange.TheVariants.{Same, Hit, Found, FoundAndHit}
 use Rattle.covstore.specs.declared.sums.FunctionSum.{FunctionSum}
 use Rattle.covstore.specs.declared.sums.LineSum.{LineSum}
-use Rattle.covstore.specs.declared.sums.Taken.{Taken}
+use Rattle.covstore.specs.declared.sums.BranchSum.{BranchSum}
 use Rattle.covstore.specs.declared.sums.Tests.{Tests}
 use Rattle.covstore.specs.Changes.{change_by, change_of, changed}
 use Rattle.covstore.specs.Counts.{counts_with, is_above_at, tests_more}
-use Rattle.covstore.specs.Puts.{put, value_of}
+use Rattle.covmap.specs.Puts.{put, value_of}
 use Rattle.covstore.specs.State.{branch_above, function_above, has_checksum, line_above}
 use Rattle.covstore.specs.Sums.{branch_with, function_with, line_with, sum_taken}
 use Rattle.covstore.specs.Value.{bounded, is_taken}
@@ -31,37 +31,37 @@ module _ {K V : Type 0} (cmp : K → K → Ordering) (is_above : V → Bool) (ke
 
   pub changed_is : (before : Option V) (after : V) → changed cmp key (change_of (is_some before) (is_above_at is_above before) (is_above after)) counts ≡ counts_with cmp is_above key before after counts
   changed_is None after = changed_new (is_above after && true)
-  changed_is (Some held) after = changed_old (is_above after && not (is_above held))
+  changed_is (Some committed) after = changed_old (is_above after && not (is_above committed))
 
   -- by what the code asks of the value before
-  pub changed_as : (change : Change) (some was : Bool) (given before : Option V) (after : V) → change ≡ change_of some was (is_above after) → some ≡ is_some given → was ≡ is_above_at is_above given
+  pub changed_as : (change : PointChange) (some was : Bool) (given before : Option V) (after : V) → change ≡ change_of some was (is_above after) → some ≡ is_some given → was ≡ is_above_at is_above given
       → given ≡ before → changed cmp key change counts ≡ counts_with cmp is_above key before after counts
   changed_as change some was given before after e there above same =
-      ap (λ (c : Change). changed cmp key c counts) (e ∙ ap (λ (b : Bool). change_of b was (is_above after)) there ∙ ap (λ (b : Bool). change_of (is_some given) b (is_above after)) above)
-      ∙ changed_is given after ∙ ap (λ (held : Option V). counts_with cmp is_above key held after counts) same
+      ap (λ (c : PointChange). changed cmp key c counts) (e ∙ ap (λ (b : Bool). change_of b was (is_above after)) there ∙ ap (λ (b : Bool). change_of (is_some given) b (is_above after)) above)
+      ∙ changed_is given after ∙ ap (λ (committed : Option V). counts_with cmp is_above key committed after counts) same
 
 -- ---- a value with one item more doesn't fall back to 0
 
-more_above : (held count : ℕ) → nat_lt 0 held ≡ true → nat_lt 0 (bounded (held + count)) ≡ true
-more_above held count e = lt-ltb 0 (bounded (held + count)) (omega (arith, ltb-true 0 held e))
+more_above : (committed count : ℕ) → nat_lt 0 committed ≡ true → nat_lt 0 (bounded (committed + count)) ≡ true
+more_above committed count e = lt-ltb 0 (bounded (committed + count)) (omega (arith, ltb-true 0 committed e))
 
 pub line_stays : (count : ℕ) (has_checksum : Bool) (before : Option LineSum) → is_above_at line_above before ≡ true → line_above (line_with count has_checksum before) ≡ true
 line_stays count has_checksum None e = absurd (false≢true e)
-line_stays count has_checksum (Some held) e = more_above held.count count e
+line_stays count has_checksum (Some committed) e = more_above committed.count count e
 
 pub function_stays : (line count : ℕ) (before : Option FunctionSum) → is_above_at function_above before ≡ true → function_above (function_with line count before) ≡ true
 function_stays line count None e = absurd (false≢true e)
-function_stays line count (Some held) e = more_above held.count count e
+function_stays line count (Some committed) e = more_above committed.count count e
 
-taken_stays : (held taken : Option ℕ) → is_taken held ≡ true → is_taken (sum_taken held taken) ≡ true
+taken_stays : (committed taken : Option ℕ) → is_taken committed ≡ true → is_taken (sum_taken committed taken) ≡ true
 taken_stays None None e = absurd (false≢true e)
 taken_stays None (Some taken) e = absurd (false≢true e)
-taken_stays (Some held) None e = e
-taken_stays (Some held) (Some taken) e = more_above held taken e
+taken_stays (Some committed) None e = e
+taken_stays (Some committed) (Some taken) e = more_above committed taken e
 
-pub branch_stays : (taken : Option ℕ) (before : Option Taken) → is_above_at branch_above before ≡ true → branch_above (branch_with taken before) ≡ true
+pub branch_stays : (taken : Option ℕ) (before : Option BranchSum) → is_above_at branch_above before ≡ true → branch_above (branch_with taken before) ≡ true
 branch_stays taken None e = absurd (false≢true e)
-branch_stays taken (Some held) e = taken_stays held.times taken e
+branch_stays taken (Some committed) e = taken_stays committed.times taken e
 
 -- ---- a line's checksum
 
@@ -75,11 +75,11 @@ either_false false = refl
 
 pub line_checked : (count : ℕ) (before : Option LineSum) → (line_with count true before).has_checksum ≡ true
 line_checked count None = refl
-line_checked count (Some held) = either_true held.has_checksum
+line_checked count (Some committed) = either_true committed.has_checksum
 
 pub line_bare : (count : ℕ) (before : Option LineSum) → (line_with count false before).has_checksum ≡ is_above_at has_checksum before
 line_bare count None = refl
-line_bare count (Some held) = either_false held.has_checksum
+line_bare count (Some committed) = either_false committed.has_checksum
 
 -- ---- keys of the code, seen as other keys in the same order
 
@@ -110,9 +110,9 @@ module _ {K L : Type 0} (cmp : L → L → Ordering) (f : K → L) where
       → seen (put own key (tests_more new newly (value_of own key counts)) counts) ≡ put cmp (f key) (tests_more new newly (value_of cmp (f key) (seen counts))) (seen counts)
   seen-put_more key new newly counts =
       seen-put key (tests_more new newly (value_of own key counts)) counts
-      ∙ ap (λ (held : Option Tests). put cmp (f key) (tests_more new newly held) (seen counts)) (sym (value_of-seen key counts))
+      ∙ ap (λ (committed : Option Tests). put cmp (f key) (tests_more new newly committed) (seen counts)) (sym (value_of-seen key counts))
 
-  pub seen-changed : (key : K) (change : Change) (counts : List (K × Tests)) → seen (changed own key change counts) ≡ changed cmp (f key) change (seen counts)
+  pub seen-changed : (key : K) (change : PointChange) (counts : List (K × Tests)) → seen (changed own key change counts) ≡ changed cmp (f key) change (seen counts)
   seen-changed key Same counts = refl
   seen-changed key Hit counts = seen-put_more key false true counts
   seen-changed key Found counts = seen-put_more key true false counts

@@ -1,15 +1,15 @@
 -- What an item's step asks for and tells: the room for it, and what stays where memory is refused.
-use Rattle.std.proofs.Common.{◌≡◌, ℕ, ◌+◌, ◌<◌, ◌^◌, Bool, true, false, cond, nat_lt, Some, None, List, ◌∷◌, ◌++◌, length, refl, sym, ap, ◌∙◌, subst, arith}
+use Rattle.std.proofs.Common.{◌≡◌, ℕ, ◌+◌, ◌<◌, ◌^◌, Bool, true, false, cond, nat_lt, Some, None, List, ◌∷◌, ◌++◌, refl, sym, ap, ◌∙◌, subst, arith}
 use Rattle.std.specs.Option.{IfSome, is_some}
 use Rattle.std.specs.Ordering.{nat_cmp}
 use Rattle.std.proofs.lemmas.Bool.{cond-true, lt-ltb}
 use Rattle.std.proofs.lemmas.List.Sums.{count_by-le-length}
-use Rattle.covstore.specs.declared.marks.Marks.{Marks}
+use Rattle.covstore.specs.declared.index.FileIndex.{FileIndex}
 use Rattle.covstore.specs.declared.sums.LineSum.{LineSum}
 use Rattle.covstore.specs.Counts.{one_if}
-use Rattle.covstore.specs.Marks.{MarksData}
-use Rattle.covstore.specs.MarksView.{KeepsHeld}
-use Rattle.covstore.specs.Puts.{value_of}
+use Rattle.covstore.specs.FileIndex.{FileIndexData}
+use Rattle.covstore.specs.FileIndexView.{KeepsCommitted}
+use Rattle.covmap.specs.Puts.{value_of}
 use Rattle.covstore.specs.State.{holding}
 use Rattle.covstore.specs.Steps.{HasRoom}
 use Rattle.covstore.specs.Sums.{TestData}
@@ -25,26 +25,26 @@ few_where : (some : Bool) (n : ℕ) → n < 2 ^ 63 → IfSome (cond some (Some n
 few_where true n few = few
 few_where false n few = tt
 
-module _ (test : TestData) (marks : MarksData) (room : HasRoom test marks) (line : ℕ) where
+module _ (test : TestData) (index : FileIndexData) (room : HasRoom test index) (line : ℕ) where
   abbrev tests : List TestData
   tests = room.front ++ test ∷ room.back
 
   -- where the test holds a line's checksum, one is held
-  pub held_by_test : is_holding line test ≡ true → is_some (value_of nat_cmp line marks.holders) ≡ true
+  pub held_by_test : is_holding line test ≡ true → is_some (value_of nat_cmp line index.holders) ≡ true
   held_by_test holds =
       ap is_some (room.kept.holders line)
       ∙ held_where (holding line tests) (holding line (room.front ++ room.back)) (count_by-between (is_holding line) room.front test room.back ∙ ap (λ (b : Bool). holding line (room.front ++ room.back) + one_if b) holds)
 
   -- no more tests hold it than there are
-  pub holders_few : IfSome (value_of nat_cmp line marks.holders) (λ held. held < 2 ^ 63)
+  pub holders_few : IfSome (value_of nat_cmp line index.holders) (λ committed. committed < 2 ^ 63)
   holders_few =
       let few : holding line tests < 2 ^ 63 = omega (arith, room.few, count_by-le-length (is_holding line) tests) in
-      subst (λ held. IfSome held (λ n. n < 2 ^ 63)) (sym (room.kept.holders line)) (few_where (nat_lt 0 (holding line tests)) (holding line tests) few)
+      subst (λ committed. IfSome committed (λ n. n < 2 ^ 63)) (sym (room.kept.holders line)) (few_where (nat_lt 0 (holding line tests)) (holding line tests) few)
 
 -- ---- where memory is refused
 
-pub held_as_before : {A : Type 0} (marks : Marks A) → KeepsHeld marks marks
-held_as_before marks = record { lines = refl; functions = refl; branches = refl; holders = refl; texts = λ line e. refl }
+pub held_as_before : {A : Type 0} (index : FileIndex A) → KeepsCommitted index index
+held_as_before index = record { lines = refl; functions = refl; branches = refl; holders = refl; texts = λ line e. refl }
 
 -- the test with other lines
 abbrev pub with_lines : TestData → List (ℕ × LineSum) → TestData

@@ -10,12 +10,12 @@ use Rattle.std.proofs.lemmas.Map.Views.{tells_apart}
 use Rattle.covline.specs.Points.{BranchPoint}
 use Rattle.covstore.specs.declared.sums.FunctionSum.{FunctionSum}
 use Rattle.covstore.specs.declared.sums.LineSum.{LineSum}
-use Rattle.covstore.specs.declared.sums.Taken.{Taken}
+use Rattle.covstore.specs.declared.sums.BranchSum.{BranchSum}
 use Rattle.covstore.specs.declared.sums.Tests.{Tests}
 use Rattle.covstore.specs.Checksums.{held_more, one_more}
 use Rattle.covstore.specs.Counts.{AreCounts, counts_with, is_above_at, one_if}
-use Rattle.covstore.specs.Marks.{MarksData, file_with}
-use Rattle.covstore.specs.Puts.{put, value_of}
+use Rattle.covstore.specs.FileIndex.{FileIndexData, file_with}
+use Rattle.covmap.specs.Puts.{put, value_of}
 use Rattle.covstore.specs.State.{AreKept, branch_above, function_above, has_checksum, holders_at, holding, line_above}
 use Rattle.covstore.specs.Steps.{KeepsCounts}
 use Rattle.covstore.specs.Sums.{TestData}
@@ -86,7 +86,7 @@ module _ (front : List TestData) (before after : TestData) (back : List TestData
   own_holders line n false e =
       let none : n + 0 ≡ n = omega arith in
       value_of-put lines_order line (one_more (value_of nat_cmp line holders)) holders
-      ∙ ap (λ (held : Option ℕ). Some (one_more held)) (e ∙ ap some_above none)
+      ∙ ap (λ (committed : Option ℕ). Some (one_more committed)) (e ∙ ap some_above none)
       ∙ one_more_of n (nat_lt 0 n) refl
 
   other_holders : (line other : ℕ) (was : Bool) → is_eq (nat_cmp line other) ≡ false → value_of nat_cmp other (held_more line was holders) ≡ value_of nat_cmp other holders
@@ -110,26 +110,26 @@ module _ (front : List TestData) (before after : TestData) (back : List TestData
 
 -- ---- one item more
 
-module _ (before after : TestData) (marks more : MarksData) where
+module _ (before after : TestData) (index more : FileIndexData) where
   pub keeps_function : (name : List ℕ) (value : FunctionSum) → (is_above_at function_above (value_of (slice_cmp nat_cmp) name before.functions) ≡ true → function_above value ≡ true)
-      → after.lines ≡ before.lines → after.functions ≡ put (slice_cmp nat_cmp) name value before.functions → after.branches ≡ before.branches → more.lines ≡ marks.lines
-      → more.functions ≡ counts_with (slice_cmp nat_cmp) function_above name (value_of (slice_cmp nat_cmp) name before.functions) value marks.functions → more.branches ≡ marks.branches
-      → more.holders ≡ marks.holders → KeepsCounts before after marks more
+      → after.lines ≡ before.lines → after.functions ≡ put (slice_cmp nat_cmp) name value before.functions → after.branches ≡ before.branches → more.lines ≡ index.lines
+      → more.functions ≡ counts_with (slice_cmp nat_cmp) function_above name (value_of (slice_cmp nat_cmp) name before.functions) value index.functions → more.branches ≡ index.branches
+      → more.holders ≡ index.holders → KeepsCounts before after index more
   keeps_function name value stays lines functions branches kept_lines kept_functions kept_branches kept_holders front back are = record {
     lines = kind_same (λ (test : TestData). test.lines) front before after back lines kept_lines are.lines;
     functions = kind_put (λ (test : TestData). test.functions) front before after back names_order name value functions stays kept_functions are.functions;
     branches = kind_same (λ (test : TestData). test.branches) front before after back branches kept_branches are.branches;
-    holders = holders_same front before after back marks.holders more.holders (λ line. ap (λ (own : List (ℕ × LineSum)). is_above_at has_checksum (value_of nat_cmp line own)) lines) kept_holders are.holders;
+    holders = holders_same front before after back index.holders more.holders (λ line. ap (λ (own : List (ℕ × LineSum)). is_above_at has_checksum (value_of nat_cmp line own)) lines) kept_holders are.holders;
   }
 
-  pub keeps_branch : (point : BranchPoint) (value : Taken) → (is_above_at branch_above (value_of branch_cmp point before.branches) ≡ true → branch_above value ≡ true)
-      → after.lines ≡ before.lines → after.functions ≡ before.functions → after.branches ≡ put branch_cmp point value before.branches → more.lines ≡ marks.lines → more.functions ≡ marks.functions
-      → more.branches ≡ counts_with branch_cmp branch_above point (value_of branch_cmp point before.branches) value marks.branches → more.holders ≡ marks.holders → KeepsCounts before after marks more
+  pub keeps_branch : (point : BranchPoint) (value : BranchSum) → (is_above_at branch_above (value_of branch_cmp point before.branches) ≡ true → branch_above value ≡ true)
+      → after.lines ≡ before.lines → after.functions ≡ before.functions → after.branches ≡ put branch_cmp point value before.branches → more.lines ≡ index.lines → more.functions ≡ index.functions
+      → more.branches ≡ counts_with branch_cmp branch_above point (value_of branch_cmp point before.branches) value index.branches → more.holders ≡ index.holders → KeepsCounts before after index more
   keeps_branch point value stays lines functions branches kept_lines kept_functions kept_branches kept_holders front back are = record {
     lines = kind_same (λ (test : TestData). test.lines) front before after back lines kept_lines are.lines;
     functions = kind_same (λ (test : TestData). test.functions) front before after back functions kept_functions are.functions;
     branches = kind_put (λ (test : TestData). test.branches) front before after back branches_order point value branches stays kept_branches are.branches;
-    holders = holders_same front before after back marks.holders more.holders (λ line. ap (λ (own : List (ℕ × LineSum)). is_above_at has_checksum (value_of nat_cmp line own)) lines) kept_holders are.holders;
+    holders = holders_same front before after back index.holders more.holders (λ line. ap (λ (own : List (ℕ × LineSum)). is_above_at has_checksum (value_of nat_cmp line own)) lines) kept_holders are.holders;
   }
 
   -- a line's item with a checksum, and one without
@@ -151,9 +151,9 @@ module _ (before after : TestData) (marks more : MarksData) where
         (cases_Bool (is_eq (nat_cmp line other)))
 
     module _ (stays : is_above_at line_above (value_of nat_cmp line before.lines) ≡ true → line_above value ≡ true) (functions : after.functions ≡ before.functions) (branches : after.branches ≡ before.branches)
-        (kept_lines : more.lines ≡ counts_with nat_cmp line_above line (value_of nat_cmp line before.lines) value marks.lines) (kept_functions : more.functions ≡ marks.functions)
-        (kept_branches : more.branches ≡ marks.branches) where
-      with_holders : (front back : List TestData) → AreKept (front ++ before ∷ back) (file_with [] marks)
+        (kept_lines : more.lines ≡ counts_with nat_cmp line_above line (value_of nat_cmp line before.lines) value index.lines) (kept_functions : more.functions ≡ index.functions)
+        (kept_branches : more.branches ≡ index.branches) where
+      with_holders : (front back : List TestData) → AreKept (front ++ before ∷ back) (file_with [] index)
           → ((other : ℕ) → value_of nat_cmp other more.holders ≡ holders_at other (front ++ after ∷ back)) → AreKept (front ++ after ∷ back) (file_with [] more)
       with_holders front back are holders = record {
         lines = kind_put (λ (test : TestData). test.lines) front before after back lines_order line value puts stays kept_lines are.lines;
@@ -162,20 +162,20 @@ module _ (before after : TestData) (marks more : MarksData) where
         holders = holders;
       }
 
-      pub keeps_line_checked : value.has_checksum ≡ true → more.holders ≡ held_more line (is_holding line before) marks.holders → KeepsCounts before after marks more
+      pub keeps_line_checked : value.has_checksum ≡ true → more.holders ≡ held_more line (is_holding line before) index.holders → KeepsCounts before after index more
       keeps_line_checked holds moves front back are =
-          with_holders front back are (holders_more front before after back marks.holders more.holders line (own_holding ∙ holds) apart_holding moves are.holders)
+          with_holders front back are (holders_more front before after back index.holders more.holders line (own_holding ∙ holds) apart_holding moves are.holders)
 
-      pub keeps_line_bare : value.has_checksum ≡ is_holding line before → more.holders ≡ marks.holders → KeepsCounts before after marks more
-      keeps_line_bare same stay front back are = with_holders front back are (holders_same front before after back marks.holders more.holders (all_holding same) stay are.holders)
+      pub keeps_line_bare : value.has_checksum ≡ is_holding line before → more.holders ≡ index.holders → KeepsCounts before after index more
+      keeps_line_bare same stay front back are = with_holders front back are (holders_same front before after back index.holders more.holders (all_holding same) stay are.holders)
 
 -- ---- how large the numbers of a point are
 
-within_few : (value : Option Tests) (tests : ℕ) → tests < 2 ^ 63 → ((held : Tests) → value ≡ Some held → IsWithin held tests) → IfSome value (λ held. (held.tests < 2 ^ 63) × (held.hit < 2 ^ 63))
+within_few : (value : Option Tests) (tests : ℕ) → tests < 2 ^ 63 → ((committed : Tests) → value ≡ Some committed → IsWithin committed tests) → IfSome value (λ committed. (committed.tests < 2 ^ 63) × (committed.hit < 2 ^ 63))
 within_few None tests few within = tt
-within_few (Some held) tests few within = let is = within held refl in (omega (arith, is.all), omega (arith, is.all, is.hit))
+within_few (Some committed) tests few within = let is = within committed refl in (omega (arith, is.all), omega (arith, is.all, is.hit))
 
 pub room_for : {K V : Type 0} {cmp : K → K → Ordering} {is_above : V → Bool} {X : Type 0} (points : X → List (K × V)) (tests : List X) (counts : List (K × Tests)) → length tests < 2 ^ 63
-    → AreCounts cmp is_above (map points tests) counts → (key : K) → IfSome (value_of cmp key counts) (λ held. (held.tests < 2 ^ 63) × (held.hit < 2 ^ 63))
+    → AreCounts cmp is_above (map points tests) counts → (key : K) → IfSome (value_of cmp key counts) (λ committed. (committed.tests < 2 ^ 63) × (committed.hit < 2 ^ 63))
 room_for {cmp = cmp} points tests counts few are key =
     within_few (value_of cmp key counts) (length (map points tests)) (omega (arith, length-map tests points)) (counts_within are key)

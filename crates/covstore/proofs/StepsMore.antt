@@ -1,18 +1,13 @@
 -- What is known after several items: the numbers still count the tests, the texts stay, and there is room for the next.
-use Rattle.std.proofs.Common.{◌≡◌, ℕ, ◌<◌, ◌≤◌, ◌^◌, Bool, Some, None, List, [], ◌∷◌, ◌++◌, length, map, refl, sym, ap, ◌∙◌, arith}
-use Rattle.std.specs.declared.cmp.Ordering.{Ordering}
-use Rattle.std.specs.List.{flat_map, sum_by}
+use Rattle.std.proofs.Common.{ℕ, List, ap, ◌∙◌}
 use Rattle.std.specs.Option.{is_some}
 use Rattle.std.specs.Ordering.{nat_cmp}
-use Rattle.std.proofs.lemmas.List.{length-append, length-map}
-use Rattle.std.proofs.lemmas.List.Sums.{sum_by-cons}
-use Rattle.covline.specs.Row.{ItemData, LineItem, FuncItem, BranchItem}
-use Rattle.covstore.specs.declared.marks.Marks.{Marks}
-use Rattle.covstore.specs.MarksView.{KeepsHeld}
-use Rattle.covstore.specs.Puts.{value_of}
+use Rattle.covstore.specs.declared.index.FileIndex.{FileIndex}
+use Rattle.covstore.specs.FileIndexView.{KeepsCommitted}
+use Rattle.covmap.specs.Puts.{value_of}
 
-pub held_both : {A : Type 0} (marks more most : Marks A) → KeepsHeld marks more → KeepsHeld more most → KeepsHeld marks most
-held_both marks more most first second = record {
+pub held_both : {A : Type 0} (index more most : FileIndex A) → KeepsCommitted index more → KeepsCommitted more most → KeepsCommitted index most
+held_both index more most first second = record {
   lines = second.lines ∙ first.lines;
   functions = second.functions ∙ first.functions;
   branches = second.branches ∙ first.branches;

@@ -6,12 +6,12 @@ use Rattle.std.specs.declared.cmp.Ordering.TheVariants.{Less, Equal, Greater}
 use Rattle.std.specs.List.{AllByRecursion, sum_by}
 use Rattle.std.specs.Ordering.{is_eq, match_ordering}
 use Rattle.std.proofs.lemmas.List.Sums.{sum_by-cons}
-use Rattle.covstore.specs.declared.kept.Tally.{Tally}
+use Rattle.covstore.specs.declared.kind_index.KindTotals.{KindTotals}
 use Rattle.covstore.specs.declared.sums.Tests.{Tests}
 use Rattle.covstore.specs.Changes.{IsTallyOf}
 use Rattle.covstore.specs.Counts.{found_of, hit_of, is_above_at, is_new, one_if}
-use Rattle.covstore.specs.PointsData.{PointsData}
-use Rattle.covstore.specs.Puts.{ArePairs, put, value_of}
+use Rattle.covmap.specs.MapData.{MapData}
+use Rattle.covmap.specs.Puts.{ArePairs, put, value_of}
 use Rattle.covstore.proofs.Ascend.{All-weaker, flips}
 use Rattle.covstore.proofs.Puts.{counted_one}
 use Rattle.covstore.proofs.SumsPuts.{no_value}
@@ -42,40 +42,40 @@ module _ {K V : Type 0} {cmp : K → K → Ordering} (t : IsTotalOrder cmp) (f :
   sum_of-put [] sorted = omega (arith, sum_by-cons (λ (p : K × V). f p.1) (key, value) [])
   sum_of-put (pair ∷ pairs) sorted = sum_of-put_at pair pairs (cmp pair.0 key) refl sorted.0 (sum_of-put pairs sorted.1)
 
-one_or_new : {V : Type 0} (before : Option V) → value_before {V = V} (λ held. 1) before + one_if (is_new before) ≡ 1
+one_or_new : {V : Type 0} (before : Option V) → value_before {V = V} (λ committed. 1) before + one_if (is_new before) ≡ 1
 one_or_new None = omega arith
-one_or_new (Some held) = omega arith
+one_or_new (Some committed) = omega arith
 
 module _ {K : Type 0} {cmp : K → K → Ordering} (t : IsTotalOrder cmp) (key : K) (after : Tests) (counts : List (K × Tests)) (sorted : ArePairs cmp counts) where
   -- a new point is one more
   pub found_of-put : found_of (put cmp key after counts) ≡ found_of counts + one_if (is_new (value_of cmp key counts))
   found_of-put =
-      let sums = sum_of-put t (λ held. 1) key after counts sorted in
+      let sums = sum_of-put t (λ committed. 1) key after counts sorted in
       omega (arith, sums, one_each (put cmp key after counts), one_each counts, one_or_new (value_of cmp key counts))
 
   -- and one that is hit now and wasn't before
-  pub hit_of-put : hit_of (put cmp key after counts) + one_if (is_above_at (λ held. nat_lt 0 held.hit) (value_of cmp key counts)) ≡ hit_of counts + one_if (nat_lt 0 after.hit)
+  pub hit_of-put : hit_of (put cmp key after counts) + one_if (is_above_at (λ committed. nat_lt 0 committed.hit) (value_of cmp key counts)) ≡ hit_of counts + one_if (nat_lt 0 after.hit)
   hit_of-put =
-      let sums = sum_of-put t (λ held. cond (nat_lt 0 held.hit) 1 0) key after counts sorted in
+      let sums = sum_of-put t (λ committed. cond (nat_lt 0 committed.hit) 1 0) key after counts sorted in
       omega (arith, sums, counted (value_of cmp key counts), counted_one (nat_lt 0 after.hit))
     where
-      counted : (before : Option Tests) → value_before (λ held. cond (nat_lt 0 held.hit) 1 0) before ≡ one_if (is_above_at (λ held. nat_lt 0 held.hit) before)
+      counted : (before : Option Tests) → value_before (λ committed. cond (nat_lt 0 committed.hit) 1 0) before ≡ one_if (is_above_at (λ committed. nat_lt 0 committed.hit) before)
       counted None = refl
-      counted (Some held) = counted_one (nat_lt 0 held.hit)
+      counted (Some committed) = counted_one (nat_lt 0 committed.hit)
 
   -- the numbers move with the point
-  pub tally_put : (before : Option Tests) → before ≡ value_of cmp key counts → (tally more : Tally) → IsTallyOf counts tally → more.found ≡ tally.found + one_if (is_new before)
-      → more.hit + one_if (is_above_at (λ held. nat_lt 0 held.hit) before) ≡ tally.hit + one_if (nat_lt 0 after.hit) → IsTallyOf (put cmp key after counts) more
+  pub tally_put : (before : Option Tests) → before ≡ value_of cmp key counts → (tally more : KindTotals) → IsTallyOf counts tally → more.found ≡ tally.found + one_if (is_new before)
+      → more.hit + one_if (is_above_at (λ committed. nat_lt 0 committed.hit) before) ≡ tally.hit + one_if (nat_lt 0 after.hit) → IsTallyOf (put cmp key after counts) more
   tally_put before e tally more is found hit =
-      let new = ap (λ (held : Option Tests). one_if (is_new held)) e in
-      let above = ap (λ (held : Option Tests). one_if (is_above_at (λ (tests : Tests). nat_lt 0 tests.hit) held)) e in
+      let new = ap (λ (committed : Option Tests). one_if (is_new committed)) e in
+      let above = ap (λ (committed : Option Tests). one_if (is_above_at (λ (tests : Tests). nat_lt 0 tests.hit) committed)) e in
       record { found = omega (arith, found_of-put, found, is.found, new); hit = omega (arith, hit_of-put, hit, is.hit, above) }
 
   -- and so do both tallies of the code
-  pub tallies_put : (before : Option Tests) (old middle new : PointsData K Tests) (held coming more : Tally) → IsTallyOf old.held held × IsTallyOf old.coming coming → counts ≡ old.coming → middle ≡ old
-      → new.held ≡ middle.held → new.coming ≡ put cmp key after middle.coming → before ≡ value_of cmp key old.coming → more.found ≡ coming.found + one_if (is_new before)
-      → more.hit + one_if (is_above_at (λ held. nat_lt 0 held.hit) before) ≡ coming.hit + one_if (nat_lt 0 after.hit) → IsTallyOf new.held held × IsTallyOf new.coming more
-  tallies_put before old middle new held coming more are own same stays puts e found hit =
-      let first = subst (λ (points : List (K × Tests)). IsTallyOf points held) (sym (stays ∙ ap (λ (points : PointsData K Tests). points.held) same)) are.0 in
-      let there = tally_put before (e ∙ ap (value_of cmp key) (sym own)) coming more (subst (λ (points : List (K × Tests)). IsTallyOf points coming) (sym own) are.1) found hit in
-      (first, subst (λ (points : List (K × Tests)). IsTallyOf points more) (sym (puts ∙ ap (put cmp key after) (ap (λ (points : PointsData K Tests). points.coming) same ∙ sym own))) there)
+  pub tallies_put : (before : Option Tests) (old middle new : MapData K Tests) (committed staged more : KindTotals) → IsTallyOf old.committed committed × IsTallyOf old.staged staged → counts ≡ old.staged → middle ≡ old
+      → new.committed ≡ middle.committed → new.staged ≡ put cmp key after middle.staged → before ≡ value_of cmp key old.staged → more.found ≡ staged.found + one_if (is_new before)
+      → more.hit + one_if (is_above_at (λ committed. nat_lt 0 committed.hit) before) ≡ staged.hit + one_if (nat_lt 0 after.hit) → IsTallyOf new.committed committed × IsTallyOf new.staged more
+  tallies_put before old middle new committed staged more are own same stays puts e found hit =
+      let first = subst (λ (points : List (K × Tests)). IsTallyOf points committed) (sym (stays ∙ ap (λ (points : MapData K Tests). points.committed) same)) are.0 in
+      let there = tally_put before (e ∙ ap (value_of cmp key) (sym own)) staged more (subst (λ (points : List (K × Tests)). IsTallyOf points staged) (sym own) are.1) found hit in
+      (first, subst (λ (points : List (K × Tests)). IsTallyOf points more) (sym (puts ∙ ap (put cmp key after) (ap (λ (points : MapData K Tests). points.staged) same ∙ sym own))) there)

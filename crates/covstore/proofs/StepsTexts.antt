@@ -9,7 +9,7 @@ use Rattle.std.specs.Result.{is_err}
 use Rattle.std.specs.Ordering.{is_eq, match_ordering, nat_cmp, ordering_reverse}
 use Rattle.std.proofs.lemmas.Bool.{false≢true}
 use Rattle.covstore.specs.Checksums.{AreAmong, HaveTexts, KeepsTexts, StayTexts}
-use Rattle.covstore.specs.Puts.{put, value_of}
+use Rattle.covmap.specs.Puts.{put, value_of}
 use Rattle.covstore.proofs.Ascend.{IsExactOrder}
 use Rattle.covstore.proofs.Orders.{lines_order}
 use Rattle.covstore.proofs.Puts.{value_of-put, value_of-put_any, value_of-put_other}
@@ -57,13 +57,13 @@ module _ (line : ℕ) (text : List ℕ) (holders : List (ℕ × ℕ)) (texts mor
       ∙ value_of-put_other lines_order line other text texts (λ same. false≢true (sym (ap is_some none) ∙ ap (λ (l : ℕ). is_some (value_of nat_cmp l holders)) same ∙ e))
 
   -- a text comes in of a line of which no checksum is to be held: those of the lines of which one is held stay
-  pub stay_inserted : (held : List (ℕ × ℕ)) → AreAmong held holders → value_of nat_cmp line holders ≡ None → StayTexts held texts more
-  stay_inserted held among none other e = other_text none other (among other e)
+  pub stay_inserted : (committed : List (ℕ × ℕ)) → AreAmong committed holders → value_of nat_cmp line holders ≡ None → StayTexts committed texts more
+  stay_inserted committed among none other e = other_text none other (among other e)
 
   -- and then its checksum is to be held
   pub keeps_first : (others : List (ℕ × ℕ)) → value_of nat_cmp line holders ≡ None → others ≡ put nat_cmp line 1 holders → KeepsTexts holders texts others more
   keeps_first others none puts = record {
-    held = λ other e. ap (λ (pairs : List (ℕ × ℕ)). is_some (value_of nat_cmp other pairs)) puts ∙ some_after line other 1 holders e;
+    committed = λ other e. ap (λ (pairs : List (ℕ × ℕ)). is_some (value_of nat_cmp other pairs)) puts ∙ some_after line other 1 holders e;
     texts_stay = other_text none;
   }
 
@@ -72,8 +72,8 @@ module _ (line tests : ℕ) (holders others : List (ℕ × ℕ)) (puts : others 
   pub held_is : is_some (value_of nat_cmp line others) ≡ true
   held_is = ap is_some (ap (value_of nat_cmp line) puts ∙ value_of-put lines_order line tests holders)
 
-  held_at : (other : ℕ) → is_some (value_of nat_cmp other others) ≡ true → (nat_cmp line other ≡ Equal) ⊎ (is_some (value_of nat_cmp other holders) ≡ true)
-  held_at other e = by (nat_cmp line other) refl (sym (ap is_some (ap (value_of nat_cmp other) puts ∙ value_of-put_any lines_order line other tests holders)) ∙ e)
+  lookup_at : (other : ℕ) → is_some (value_of nat_cmp other others) ≡ true → (nat_cmp line other ≡ Equal) ⊎ (is_some (value_of nat_cmp other holders) ≡ true)
+  lookup_at other e = by (nat_cmp line other) refl (sym (ap is_some (ap (value_of nat_cmp other) puts ∙ value_of-put_any lines_order line other tests holders)) ∙ e)
     where
       by : (order : Ordering) → nat_cmp line other ≡ order → is_some (cond (is_eq order) (Some tests) (value_of nat_cmp other holders)) ≡ true
           → (nat_cmp line other ≡ Equal) ⊎ (is_some (value_of nat_cmp other holders) ≡ true)
@@ -83,16 +83,16 @@ module _ (line tests : ℕ) (holders others : List (ℕ × ℕ)) (puts : others 
 
   pub have_held : (texts : List (ℕ × List ℕ)) → is_some (value_of nat_cmp line texts) ≡ true → HaveTexts holders texts → HaveTexts others texts
   have_held texts there have other e =
-      ⊎_elim (λ (same : nat_cmp line other ≡ Equal). subst (λ (l : ℕ). is_some (value_of nat_cmp l texts) ≡ true) (lines_order.exact line other same) there) (λ h. have other h) (held_at other e)
+      ⊎_elim (λ (same : nat_cmp line other ≡ Equal). subst (λ (l : ℕ). is_some (value_of nat_cmp l texts) ≡ true) (lines_order.exact line other same) there) (λ h. have other h) (lookup_at other e)
 
   -- what was among the lines of which a checksum is held is so still
-  pub among_held : (held : List (ℕ × ℕ)) → AreAmong held holders → AreAmong held others
-  among_held held among other e = ap (λ (pairs : List (ℕ × ℕ)). is_some (value_of nat_cmp other pairs)) puts ∙ some_after line other tests holders (among other e)
+  pub among_held : (committed : List (ℕ × ℕ)) → AreAmong committed holders → AreAmong committed others
+  among_held committed among other e = ap (λ (pairs : List (ℕ × ℕ)). is_some (value_of nat_cmp other pairs)) puts ∙ some_after line other tests holders (among other e)
 
   -- one test more holds a line's checksum
-  pub keeps_held : (texts : List (ℕ × List ℕ)) → KeepsTexts holders texts others texts
-  keeps_held texts = record {
-    held = λ other e. ap (λ (pairs : List (ℕ × ℕ)). is_some (value_of nat_cmp other pairs)) puts ∙ some_after line other tests holders e;
+  pub keeps_committed : (texts : List (ℕ × List ℕ)) → KeepsTexts holders texts others texts
+  keeps_committed texts = record {
+    committed = λ other e. ap (λ (pairs : List (ℕ × ℕ)). is_some (value_of nat_cmp other pairs)) puts ∙ some_after line other tests holders e;
     texts_stay = λ other e. refl;
   }
 

@@ -14,8 +14,8 @@ use Rattle.covstore.specs.State.{FileData}
 use Rattle.covstore.specs.Table.{all_rows}
 use Rattle.covstore.proofs.Keeps.{with_file_keeps}
 
-pub store_kept : (members : ℕ) (held : Totals) (before after : List (List ℕ × FileData)) → KeepsState before after → IsStore members held before → IsStore members held after
-store_kept members held before after keeps is = record {
+pub store_kept : (members : ℕ) (committed : Totals) (before after : List (List ℕ × FileData)) → KeepsState before after → IsStore members committed before → IsStore members committed after
+store_kept members committed before after keeps is = record {
   own = is.own;
   state = keeps.states (all_rows is.own) is.state;
   agree = is.agree;
@@ -25,9 +25,9 @@ store_kept members held before after keeps is = record {
   totals = is.totals ∙ sym keeps.totals;
 }
 
-pub store_with_file : (members : ℕ) (held : Totals) (file : List ℕ) (before after : List (List ℕ × FileData)) → after ≡ with_file file before → IsStore members held before → IsStore members held after
-store_with_file members held file before after is store =
-    subst (IsStore members held) (sym is) (store_kept members held before (with_file file before) (with_file_keeps file before store.state.ascending) store)
+pub store_with_file : (members : ℕ) (committed : Totals) (file : List ℕ) (before after : List (List ℕ × FileData)) → after ≡ with_file file before → IsStore members committed before → IsStore members committed after
+store_with_file members committed file before after is store =
+    subst (IsStore members committed) (sym is) (store_kept members committed before (with_file file before) (with_file_keeps file before store.state.ascending) store)
 
 -- ---- an entry put in
 

@@ -46,34 +46,34 @@ no_store = record {
   totals = refl;
 }
 
-module _ (members : ℕ) (held : Totals) (files : List (List ℕ × FileData)) (is : IsStore members held files) where
+module _ (members : ℕ) (committed : Totals) (files : List (List ℕ × FileData)) (is : IsStore members committed files) where
   pub store_sections : sections_of files ≡ content_of (all_rows is.own)
   store_sections = sections_are (all_rows is.own) files is.state is.agree
 
-  pub store_totals : held ≡ totals_of (sections_of files)
+  pub store_totals : committed ≡ totals_of (sections_of files)
   store_totals = is.totals ∙ sym (totals_are (all_rows is.own) files is.state is.agree)
 
-  pub store_bounds : AreTotals held
+  pub store_bounds : AreTotals committed
   store_bounds = subst AreTotals (sym store_totals) (are_totals (sections_of files))
 
 -- ---- a submission more
 
 -- a store, seen as plain data
 abbrev pub store_of : ℕ → List (List ℕ × FileData) → List (List ℕ × FileData) → Totals → StoreData
-store_of members held coming after = record { sections = sections_of held; members = members; held = held; coming = coming; after = after }
+store_of members committed staged after = record { sections = sections_of committed; members = members; committed = committed; staged = staged; after = after }
 
-module _ (members : ℕ) (totals : Totals) (held coming : List (List ℕ × FileData)) (after : Totals) (is : IsStore members totals held) (s : SubmissionData) (plan : PlanData)
-    (p : IsPlanOf (store_of members held coming after) s plan) where
-  more : (clash_of (all_rows is.own) (rows_of s) ≡ None) × IsStateOf (all_rows is.own ++ rows_of s) coming × Agree (checksums_in (all_rows is.own ++ rows_of s))
+module _ (members : ℕ) (totals : Totals) (committed staged : List (List ℕ × FileData)) (after : Totals) (is : IsStore members totals committed) (s : SubmissionData) (plan : PlanData)
+    (p : IsPlanOf (store_of members committed staged after) s plan) where
+  more : (clash_of (all_rows is.own) (rows_of s) ≡ None) × IsStateOf (all_rows is.own ++ rows_of s) staged × Agree (checksums_in (all_rows is.own ++ rows_of s))
   more = p.adds (all_rows is.own) is.state is.agree
 
   rows_more : all_rows (is.own ++ rows_of s ∷ []) ≡ all_rows is.own ++ rows_of s
   rows_more = rows_accepted is.own (rows_of s)
 
-  pub store_more : IsStore (members + 1) plan.after coming
+  pub store_more : IsStore (members + 1) plan.after staged
   store_more = record {
     own = is.own ++ rows_of s ∷ [];
-    state = subst (λ (rows : List Row). IsStateOf rows coming) (sym rows_more) more.1;
+    state = subst (λ (rows : List Row). IsStateOf rows staged) (sym rows_more) more.1;
     agree = subst (λ (rows : List Row). Agree (checksums_in rows)) (sym rows_more) more.2;
     counted = omega (arith, is.counted, length_push is.own (rows_of s));
     few = omega (arith, is.counted, p.few, length_push is.own (rows_of s));
@@ -82,17 +82,17 @@ module _ (members : ℕ) (totals : Totals) (held coming : List (List ℕ × File
   }
 
   -- it is one more in each table that the store stands for
-  module _ (table : Table) (stands : StandsFor (store_of members held coming after) table) where
+  module _ (table : Table) (stands : StandsFor (store_of members committed staged after) table) where
     same_content : content_of (all_rows is.own) ≡ content_of (all_rows table)
-    same_content = sym (store_sections members totals held is) ∙ stands.content
+    same_content = sym (store_sections members totals committed is) ∙ stands.content
 
     no_clash : clash_at table s ≡ None
     no_clash = sym (clash_by_content (all_rows is.own) (all_rows table) (rows_of s) is.agree stands.agree same_content) ∙ more.0
 
-    pub stands_more : StandsFor (store_of (members + 1) coming coming plan.after) (table ++ rows_of s ∷ [])
+    pub stands_more : StandsFor (store_of (members + 1) staged staged plan.after) (table ++ rows_of s ∷ [])
     stands_more = record {
       content =
-          sections_are (all_rows is.own ++ rows_of s) coming more.1 more.2
+          sections_are (all_rows is.own ++ rows_of s) staged more.1 more.2
           ∙ content-append (all_rows is.own) (all_rows table) (rows_of s) same_content
           ∙ ap content_of (sym (rows_accepted table (rows_of s)));
       members = omega (arith, stands.members, length_push table (rows_of s));
@@ -103,13 +103,13 @@ module _ (members : ℕ) (totals : Totals) (held coming : List (List ℕ × File
 
 -- ---- stores that are equal part by part
 
-pub same_members : {held other : Totals} {files others : List (List ℕ × FileData)} (members count : ℕ) → members ≡ count → held ≡ other → files ≡ others → IsStore count other others → IsStore members held files
-same_members {held} {other} {files} {others} members count counted totals same is =
-    subst (λ (m : ℕ). IsStore m held files) (sym counted) (subst (λ (t : Totals). IsStore count t files) (sym totals) (subst (λ (xs : List (List ℕ × FileData)). IsStore count other xs) (sym same) is))
+pub same_members : {committed other : Totals} {files others : List (List ℕ × FileData)} (members count : ℕ) → members ≡ count → committed ≡ other → files ≡ others → IsStore count other others → IsStore members committed files
+same_members {committed} {other} {files} {others} members count counted totals same is =
+    subst (λ (m : ℕ). IsStore m committed files) (sym counted) (subst (λ (t : Totals). IsStore count t files) (sym totals) (subst (λ (xs : List (List ℕ × FileData)). IsStore count other xs) (sym same) is))
 
-pub stands_same : (table : Table) (members count : ℕ) (held coming others : List (List ℕ × FileData)) (after other : Totals) → members ≡ count → held ≡ others
-    → StandsFor (store_of count others others other) table → StandsFor (store_of members held coming after) table
-stands_same table members count held coming others after other counted same stands = record {
+pub stands_same : (table : Table) (members count : ℕ) (committed staged others : List (List ℕ × FileData)) (after other : Totals) → members ≡ count → committed ≡ others
+    → StandsFor (store_of count others others other) table → StandsFor (store_of members committed staged after) table
+stands_same table members count committed staged others after other counted same stands = record {
   content = ap sections_of same ∙ stands.content;
   members = counted ∙ stands.members;
   agree = stands.agree;

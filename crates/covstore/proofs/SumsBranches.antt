@@ -6,8 +6,8 @@ use Rattle.std.proofs.lemmas.List.{append-nil}
 use Rattle.std.proofs.lemmas.List.Sums.{sum_by-append, sum_by-cons}
 use Rattle.covline.specs.Points.{BranchPoint, branch_point, branch_points}
 use Rattle.covline.specs.Row.{ItemData, BranchItem}
-use Rattle.covstore.specs.declared.sums.Taken.{Taken}
-use Rattle.covstore.specs.Puts.{put, value_of}
+use Rattle.covstore.specs.declared.sums.BranchSum.{BranchSum}
+use Rattle.covmap.specs.Puts.{put, value_of}
 use Rattle.covstore.specs.Sums.{branch_sum, branch_with, sum_taken}
 use Rattle.covstore.specs.Value.{bounded, branch_cmp, is_branch, sum_if_any, taken_said}
 use Rattle.covstore.proofs.Bounds.{bounded_sum}
@@ -18,10 +18,10 @@ use Rattle.covstore.proofs.SumsKinds.{sums, sums_put, sums_same}
 use Rattle.covstore.proofs.SumsLast.{last_said, none_said}
 
 -- what items add up to at a branch
-abbrev pub branch_held : List ItemData → BranchPoint → Taken
+abbrev pub branch_held : List ItemData → BranchPoint → BranchSum
 branch_held items point = (branch_sum items point).1
 
-taken_of : Option ℕ → Taken
+taken_of : Option ℕ → BranchSum
 taken_of times = record { times = times }
 
 -- an item that doesn't speak of the branch leaves it

@@ -11,7 +11,7 @@ use Rattle.std.proofs.lemmas.Slice.Eq.{bytes_eq-Decides}
 use Rattle.covline.specs.Points.{func_point, func_points, least}
 use Rattle.covline.specs.Row.{ItemData, FuncItem}
 use Rattle.covstore.specs.declared.sums.FunctionSum.{FunctionSum}
-use Rattle.covstore.specs.Puts.{put, value_of}
+use Rattle.covmap.specs.Puts.{put, value_of}
 use Rattle.covstore.specs.Sums.{function_sum, function_with}
 use Rattle.covstore.specs.Value.{bounded, function_added, function_count, function_start, start_said}
 use Rattle.covstore.proofs.ContentsPoints.{count_unadded, has_start, nothing_added, nothing_said, start_unsaid}

@@ -11,7 +11,7 @@ use Rattle.std.proofs.lemmas.List.Concat.{flat_map-append}
 use Rattle.std.proofs.lemmas.Option.{same_Some, none-some}
 use Rattle.covline.specs.Row.{ItemData}
 use Rattle.covstore.specs.Ascending.{ascending}
-use Rattle.covstore.specs.Puts.{ArePairs, put, value_of}
+use Rattle.covmap.specs.Puts.{ArePairs, put, value_of}
 use Rattle.covstore.proofs.Ascend.{IsExactOrder, ascending_sorted, In-ascending, In-to_ascending}
 use Rattle.covstore.proofs.ContentsLists.{In-or_not}
 use Rattle.covstore.proofs.Members.{In, In-from, Contains-from, In-joined, In-parts}
@@ -137,11 +137,11 @@ module _ {P V : Type 0} {cmp : P → P → Ordering} (order : IsExactOrder cmp) 
 
   -- ---- which points have a value, and which
 
-  pub sums_held : (items : List ItemData) (p : P) (held : V) → value_of cmp p (sums cmp point value items) ≡ Some held → In p (flat_map point items) × (value items p ≡ held)
-  sums_held items p held h =
-      ⊎_elim {C = In p (flat_map point items) × (value items p ≡ held)}
-      (λ (i : In p (flat_map point items)). (i, same_Some (value items p) held (sym (sums_some items p i) ∙ h)))
-      (λ (none : In p (flat_map point items) → ⊥). absurd (none-some held (sym (sums_none items p none) ∙ h)))
+  pub sums_held : (items : List ItemData) (p : P) (committed : V) → value_of cmp p (sums cmp point value items) ≡ Some committed → In p (flat_map point items) × (value items p ≡ committed)
+  sums_held items p committed h =
+      ⊎_elim {C = In p (flat_map point items) × (value items p ≡ committed)}
+      (λ (i : In p (flat_map point items)). (i, same_Some (value items p) committed (sym (sums_some items p i) ∙ h)))
+      (λ (none : In p (flat_map point items) → ⊥). absurd (none-some committed (sym (sums_none items p none) ∙ h)))
       (In-or_not cmp order p (flat_map point items))
 
   pub sums_known : (items : List ItemData) (p : P) → Contains (flat_map point items) p → value_of cmp p (sums cmp point value items) ≡ Some (value items p)

@@ -7,7 +7,7 @@ use Rattle.std.proofs.lemmas.Bool.{cond-true, eq-eqb}
 use Rattle.covline.specs.Points.{line_point, line_points}
 use Rattle.covline.specs.Row.{ItemData, LineItem}
 use Rattle.covstore.specs.declared.sums.LineSum.{LineSum}
-use Rattle.covstore.specs.Puts.{put, value_of}
+use Rattle.covmap.specs.Puts.{put, value_of}
 use Rattle.covstore.specs.Sums.{line_sum, line_with}
 use Rattle.covstore.specs.Value.{bounded, checksum_said, first_of, line_added, line_checksum, line_value}
 use Rattle.covstore.proofs.ContentsPoints.{checksum_unsaid, line_unadded, nothing_added, nothing_said}

@@ -6,7 +6,7 @@ use Rattle.std.specs.Ordering.{nat_cmp}
 use Rattle.covline.specs.Points.{line_point, line_points}
 use Rattle.covline.specs.Row.{ItemData}
 use Rattle.covstore.specs.declared.sums.LineSum.{LineSum}
-use Rattle.covstore.specs.Puts.{value_of}
+use Rattle.covmap.specs.Puts.{value_of}
 use Rattle.covstore.specs.Sums.{test_of, line_sum}
 use Rattle.covstore.specs.Value.{line_checksum}
 use Rattle.covstore.proofs.Orders.{lines_order}
@@ -17,8 +17,8 @@ pub line_known : (items : List ItemData) (line : ℕ) → Contains (line_points 
 line_known items line there = sums_known lines_order line_point line_held items line there
 
 -- the value that a line has is the sum of its items
-pub line_is : (items : List ItemData) (line : ℕ) (held : LineSum) → value_of nat_cmp line (test_of items).lines ≡ Some held → (line_sum items line).1 ≡ held
-line_is items line held h = (sums_held lines_order line_point line_held items line held h).1
+pub line_is : (items : List ItemData) (line : ℕ) (committed : LineSum) → value_of nat_cmp line (test_of items).lines ≡ Some committed → (line_sum items line).1 ≡ committed
+line_is items line committed h = (sums_held lines_order line_point line_held items line committed h).1
 
-pub line_has_checksum : (items : List ItemData) (line : ℕ) (held : LineSum) → value_of nat_cmp line (test_of items).lines ≡ Some held → held.has_checksum ≡ is_some (line_checksum line items)
-line_has_checksum items line held h = ap (λ (sum : LineSum). sum.has_checksum) (sym (line_is items line held h))
+pub line_has_checksum : (items : List ItemData) (line : ℕ) (committed : LineSum) → value_of nat_cmp line (test_of items).lines ≡ Some committed → committed.has_checksum ≡ is_some (line_checksum line items)
+line_has_checksum items line committed h = ap (λ (sum : LineSum). sum.has_checksum) (sym (line_is items line committed h))

@@ -1,27 +1,25 @@
 -- What items add up to with one item more.
 use Rattle.std.proofs.Common.{◌≡◌, ℕ, List, [], ◌∷◌, ◌++◌, refl, ap, ◌∙◌}
-use Rattle.std.specs.Cmp.Lexicographic.{slice_cmp}
-use Rattle.std.specs.Ordering.{nat_cmp}
-use Rattle.covline.specs.Points.{BranchPoint, line_point, func_point, branch_point}
+use Rattle.covline.specs.Points.{BranchPoint}
 use Rattle.covline.specs.Row.{ItemData, LineItem, FuncItem, BranchItem}
 use Rattle.covstore.specs.declared.sums.LineSum.{LineSum}
 use Rattle.covstore.specs.declared.sums.FunctionSum.{FunctionSum}
-use Rattle.covstore.specs.declared.sums.Taken.{Taken}
+use Rattle.covstore.specs.declared.sums.BranchSum.{BranchSum}
 use Rattle.covstore.specs.Sums.{TestData, test_of, with_item}
 use Rattle.covstore.proofs.SumsBranches.{branches_put, branches_same}
 use Rattle.covstore.proofs.SumsFunctions.{functions_put, functions_same}
 use Rattle.covstore.proofs.SumsLines.{lines_put, lines_same}
 
-test_from : List (ℕ × LineSum) → List (List ℕ × FunctionSum) → List (BranchPoint × Taken) → TestData
+test_from : List (ℕ × LineSum) → List (List ℕ × FunctionSum) → List (BranchPoint × BranchSum) → TestData
 test_from lines functions branches = record { lines = lines; functions = functions; branches = branches }
 
 -- two tests of the same lists are the same
-same_test : (lines others : List (ℕ × LineSum)) (functions names : List (List ℕ × FunctionSum)) (branches points : List (BranchPoint × Taken)) → lines ≡ others → functions ≡ names → branches ≡ points
+same_test : (lines others : List (ℕ × LineSum)) (functions names : List (List ℕ × FunctionSum)) (branches points : List (BranchPoint × BranchSum)) → lines ≡ others → functions ≡ names → branches ≡ points
     → test_from lines functions branches ≡ test_from others names points
 same_test lines others functions names branches points a b c =
     ap (λ (ls : List (ℕ × LineSum)). test_from ls functions branches) a
     ∙ ap (λ (fs : List (List ℕ × FunctionSum)). test_from others fs branches) b
-    ∙ ap (λ (bs : List (BranchPoint × Taken)). test_from others names bs) c
+    ∙ ap (λ (bs : List (BranchPoint × BranchSum)). test_from others names bs) c
 
 more_as : (items : List ItemData) (item : ItemData) (test : TestData) → (test_of (items ++ item ∷ [])).lines ≡ test.lines → (test_of (items ++ item ∷ [])).functions ≡ test.functions
     → (test_of (items ++ item ∷ [])).branches ≡ test.branches → test_of (items ++ item ∷ []) ≡ test

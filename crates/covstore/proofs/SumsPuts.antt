@@ -8,7 +8,7 @@ use Rattle.std.specs.List.{AllByRecursion}
 use Rattle.std.specs.Ordering.{is_eq, match_ordering, ordering_reverse}
 use Rattle.std.proofs.lemmas.Cmp.{tied_itself, tied_back}
 use Rattle.std.proofs.lemmas.Option.{same_Some, none-some}
-use Rattle.covstore.specs.Puts.{ArePairs, put, value_of}
+use Rattle.covmap.specs.Puts.{ArePairs, put, value_of}
 use Rattle.covstore.proofs.Ascend.{IsExactOrder, All-match, All-weaker, flips}
 
 pub less_not_equal : Less ≡ Equal → ⊥
@@ -104,10 +104,10 @@ no_value {K} {V} {cmp} t key (pair ∷ pairs) all =
     ap (λ (r : Ordering). cond (is_eq r) (Some pair.1) (value_of cmp key pairs)) later ∙ no_value t key pairs all.1
 
 -- a first key isn't among keys that begin with a later one
-not_later : {K V : Type 0} {cmp : K → K → Ordering} → IsTotalOrder cmp → (key : K) (value : V) (xs : List (K × V)) (later : K) (held : V) (ys : List (K × V))
-    → value_of cmp key ((key, value) ∷ xs) ≡ value_of cmp key ((later, held) ∷ ys) → IsBefore cmp later ys → cmp key later ≡ Less → ⊥
-not_later {K} {V} {cmp} t key value xs later held ys same all less =
-    none-some value (sym (no_value t key ((later, held) ∷ ys) (less, before_too t key later ys less all)) ∙ sym same ∙ head_value t key value xs)
+not_later : {K V : Type 0} {cmp : K → K → Ordering} → IsTotalOrder cmp → (key : K) (value : V) (xs : List (K × V)) (later : K) (committed : V) (ys : List (K × V))
+    → value_of cmp key ((key, value) ∷ xs) ≡ value_of cmp key ((later, committed) ∷ ys) → IsBefore cmp later ys → cmp key later ≡ Less → ⊥
+not_later {K} {V} {cmp} t key value xs later committed ys same all less =
+    none-some value (sym (no_value t key ((later, committed) ∷ ys) (less, before_too t key later ys less all)) ∙ sym same ∙ head_value t key value xs)
 
 by_order : {G : Type 0} (r : Ordering) → (r ≡ Less → ⊥) → (r ≡ Greater → ⊥) → (r ≡ Equal → G) → G
 by_order Less less greater equal = absurd (less refl)

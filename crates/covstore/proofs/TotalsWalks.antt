@@ -1,11 +1,6 @@
--- The walk over what is held gives the items of a file over all tests, in the order of the rows, and the files of the rows.
-use Rattle.std.proofs.Common.{◌≡◌, ℕ, Bool, true, false, cond, List, [], ◌∷◌, ◌++◌, map, filter, refl, sym, ap, ◌∙◌, subst}
-use Rattle.std.specs.Str.{bytes_eq}
-use Rattle.std.specs.List.{flat_map}
-use Rattle.std.proofs.lemmas.Bool.{cond-true, cond-false}
-use Rattle.std.proofs.lemmas.List.{map-append}
-use Rattle.std.proofs.lemmas.List.Elements.{filter-append}
-use Rattle.covline.specs.Row.{ItemData, SectData, SubmissionData, Row, rows_of, rows_of_sect}
+-- The walk over what is committed gives the items of a file over all tests, in the order of the rows, and the files of the rows.
+use Rattle.std.proofs.Common.{◌≡◌, ℕ, List, map, ap, subst}
+use Rattle.covline.specs.Row.{Row}
 use Rattle.covstore.specs.Value.{Key, key_of_row}
 use Rattle.covstore.proofs.Members.{In, In-map, In-unmap}
 

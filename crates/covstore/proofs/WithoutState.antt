@@ -16,7 +16,7 @@ use Rattle.covstore.specs.declared.totals.Totals.{Totals}
 use Rattle.covstore.specs.Clash.{Agree, Checksum, checksum_of_row, checksums_in}
 use Rattle.covstore.specs.Dropped.{AreWithoutTest, IsWithoutTest}
 use Rattle.covstore.specs.MapsView.{IsStore}
-use Rattle.covstore.specs.Puts.{ArePairs, value_of}
+use Rattle.covmap.specs.Puts.{ArePairs, value_of}
 use Rattle.covstore.specs.State.{FileData, IsStateOf, IsWholeFile, points_at, points_in, points_or_none, text_in, totals_in}
 use Rattle.covstore.specs.Sums.{TestData, test_of}
 use Rattle.covstore.specs.Table.{Table, all_rows}
@@ -97,11 +97,11 @@ module _ (test : List ℕ) where
 
   -- ---- the checksums that are left are of those that were there
 
-  pub held_before : (rows : List Row) (held : Checksum) → Contains (checksums_in (rows_without test rows)) held → Contains (checksums_in rows) held
-  held_before rows held i =
-      let row = In-unflat checksum_of_row (rows_without test rows) held (In-from (checksums_in (rows_without test rows)) held i) in
+  pub held_before : (rows : List Row) (committed : Checksum) → Contains (checksums_in (rows_without test rows)) committed → Contains (checksums_in rows) committed
+  held_before rows committed i =
+      let row = In-unflat checksum_of_row (rows_without test rows) committed (In-from (checksums_in (rows_without test rows)) committed i) in
       let own = In-unfilter (λ r. not (is_of_test test r)) rows row.0 row.1 in
-      Contains-from (checksums_in rows) held (In-flat checksum_of_row rows row.0 held own.0 row.2)
+      Contains-from (checksums_in rows) committed (In-flat checksum_of_row rows row.0 committed own.0 row.2)
 
   -- ---- the state
 
@@ -123,9 +123,9 @@ module _ (test : List ℕ) where
     state_without = record {
       ascending = names_ascend files after are state.ascending;
       points = λ key. points_by key (bytes_eq key.test test) refl;
-      texts = λ held i.
-          text_stays held.line (value_of (slice_cmp nat_cmp) held.file files) (value_of (slice_cmp nat_cmp) held.file after) (found_without held.file files after are)
-          ∙ state.texts held (held_before rows held i);
+      texts = λ committed i.
+          text_stays committed.line (value_of (slice_cmp nat_cmp) committed.file files) (value_of (slice_cmp nat_cmp) committed.file after) (found_without committed.file files after are)
+          ∙ state.texts committed (held_before rows committed i);
       whole = all_whole files after are;
     }
 
@@ -136,8 +136,8 @@ module _ (test : List ℕ) where
   fewer (rows ∷ table) all =
       (omega (arith, all.0, length-filter (λ row. not (is_of_test test row)) rows, count_by-le-length (λ row. not (is_of_test test row)) rows), fewer table all.1)
 
-  pub store_without : (members : ℕ) (held : Totals) (files after : List (List ℕ × FileData)) → IsStore members held files → AreWithoutTest test files after → (totals : Totals) → totals ≡ totals_in after → IsStore members totals after
-  store_without members held files after is are totals same =
+  pub store_without : (members : ℕ) (committed : Totals) (files after : List (List ℕ × FileData)) → IsStore members committed files → AreWithoutTest test files after → (totals : Totals) → totals ≡ totals_in after → IsStore members totals after
+  store_without members committed files after is are totals same =
       let left = rows_left test is.own in
       let state = subst (λ (rows : List Row). IsStateOf rows after) (sym left) (state_without (all_rows is.own) files after is.state are) in
       record {

@@ -1,18 +1,15 @@
 -- A store without a test: what it stands for, and its totals.
-use Rattle.std.proofs.Common.{◌≡◌, ℕ, ◌≤◌, ◌^◌, not, List, [], ◌∷◌, length, filter, refl, sym, ap, ◌∙◌, subst, arith}
-use Rattle.std.specs.Prelude.{Contains}
+use Rattle.std.proofs.Common.{◌≡◌, ℕ, ◌≤◌, ◌^◌, not, List, [], ◌∷◌, length, filter, refl, sym, ap, ◌∙◌, arith}
 use Rattle.std.specs.List.{AllByRecursion, count_by}
 use Rattle.std.specs.Str.{bytes_eq}
 use Rattle.std.proofs.lemmas.List.{length-map}
-use Rattle.covline.specs.Row.{Row}
 use Rattle.covstore.specs.declared.file.File.{File}
 use Rattle.covstore.specs.declared.totals.Totals.{Totals}
-use Rattle.covstore.specs.Clash.{Checksum, checksums_in}
 use Rattle.covstore.specs.Content.{SectionData, content_at}
 use Rattle.covstore.specs.Dropped.{AreWithoutTest}
 use Rattle.covstore.specs.Exchanged.{FitTotals}
-use Rattle.covstore.specs.FileView.{file_held}
-use Rattle.covstore.specs.MapsView.{IsStore, files_held}
+use Rattle.covstore.specs.FileView.{file_committed}
+use Rattle.covstore.specs.MapsView.{IsStore, files_committed}
 use Rattle.covstore.specs.State.{FileData, IsWholeFile, has_points_of, sections_of, totals_in}
 use Rattle.covstore.specs.Stored.{StandsFor, StoreData}
 use Rattle.covstore.specs.Table.{Table, all_rows}
@@ -24,24 +21,24 @@ use Rattle.covstore.proofs.ExchangedFiles.{totals_few}
 use Rattle.covstore.proofs.Prepares.{rows_in_table}
 use Rattle.covstore.proofs.StateSections.{sections_are}
 use Rattle.covstore.proofs.Stores.{store_bounds, store_of, store_sections, store_totals}
-use Rattle.covstore.proofs.WithoutContent.{content_left, content_without, rows_left, rows_without, sections_counted}
+use Rattle.covstore.proofs.WithoutContent.{content_left, content_without, rows_without, sections_counted}
 use Rattle.covstore.proofs.WithoutSections.{count_in_files}
 use Rattle.covstore.proofs.WithoutState.{agree_left, fewer, state_without, store_without}
 
-module _ (test : List ℕ) (members : ℕ) (held : Totals) (files : List (List ℕ × FileData)) (is : IsStore members held files) where
+module _ (test : List ℕ) (members : ℕ) (committed : Totals) (files : List (List ℕ × FileData)) (is : IsStore members committed files) where
   -- the sections of other tests
   abbrev of_others : List SectionData → List SectionData
   of_others sections = filter (λ s. not (bytes_eq s.key.test test)) sections
 
   module _ (after : List (List ℕ × FileData)) (are : AreWithoutTest test files after) where
     left : IsStore members (totals_in after) after
-    left = store_without test members held files after is are (totals_in after) refl
+    left = store_without test members committed files after is are (totals_in after) refl
 
     pub sections_left : sections_of after ≡ of_others (sections_of files)
     sections_left =
         let state = state_without test (all_rows is.own) files after is.state are in
         sections_are (rows_without test (all_rows is.own)) after state (state_agrees (rows_without test (all_rows is.own)) after state)
-        ∙ content_left test (all_rows is.own) ∙ ap of_others (sym (store_sections members held files is))
+        ∙ content_left test (all_rows is.own) ∙ ap of_others (sym (store_sections members committed files is))
 
     pub totals_bounds : AreTotals (totals_in after)
     totals_bounds = store_bounds members (totals_in after) after left
@@ -65,9 +62,9 @@ module _ (test : List ℕ) (members : ℕ) (held : Totals) (files : List (List �
         store_totals members (totals_in after) after left ∙ ap totals_of (sections_left ∙ ap of_others content ∙ sym (content_without test table))
 
     -- the store without the test stands for the table without it
-    pub stands_left : (coming after_coming : List (List ℕ × FileData)) (totals later : Totals) (table : Table) → StandsFor (store_of members files coming totals) table
-        → StandsFor (store_of members after after_coming later) (without_test test table)
-    stands_left coming after_coming totals later table stands = record {
+    pub stands_left : (staged after_staged : List (List ℕ × FileData)) (totals later : Totals) (table : Table) → StandsFor (store_of members files staged totals) table
+        → StandsFor (store_of members after after_staged later) (without_test test table)
+    stands_left staged after_staged totals later table stands = record {
       content = sections_left ∙ ap of_others stands.content ∙ sym (content_without test table);
       members = stands.members ∙ sym (length-map table (filter (λ row. not (is_of_test test row))));
       agree = agree_left table test stands.agree;
@@ -95,6 +92,6 @@ stands_too store other table sections members stands = record {
 }
 
 -- whole files, by their names or not
-pub whole_files : {K A : Type 0} (name : K → List ℕ) (pairs : List (K × File A)) → AllByRecursion (λ pair. IsWholeFile pair.1) (files_held name pairs) → AllByRecursion (λ pair. IsWholeFile (file_held pair.1)) pairs
+pub whole_files : {K A : Type 0} (name : K → List ℕ) (pairs : List (K × File A)) → AllByRecursion (λ pair. IsWholeFile pair.1) (files_committed name pairs) → AllByRecursion (λ pair. IsWholeFile (file_committed pair.1)) pairs
 whole_files name [] whole = tt
 whole_files name (pair ∷ pairs) whole = (whole.0, whole_files name pairs whole.1)

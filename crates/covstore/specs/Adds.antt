@@ -6,54 +6,54 @@ use Rattle.covline.specs.Row.{ItemData, Row, SectData, rows_of_sect}
 use Rattle.covstore.specs.declared.stop.Stop.{Stop}
 use Rattle.covstore.specs.declared.stop.Stop.TheVariants.{Clash, Memory}
 use Rattle.covstore.specs.Clash.{ClashData, Agree, checksums_in, clash_of}
-use Rattle.covstore.specs.Marks.{MarksData, file_with}
-use Rattle.covstore.specs.Puts.{put, value_of}
+use Rattle.covstore.specs.FileIndex.{FileIndexData, file_with}
+use Rattle.covmap.specs.Puts.{put, value_of}
 use Rattle.covstore.specs.State.{FileData, IsStateOf}
 use Rattle.covstore.specs.Sums.{TestData}
 
--- the files are the state of rows whose checksums agree; the file of this name has these tests and marks, and the test of this
+-- the files are the state of rows whose checksums agree; the file of this name has these tests and this index, and the test of this
 -- name these points
-pub record IsIn (rows : List Row) (files : List (List ℕ × FileData)) (file : List ℕ) (name : List ℕ) (tests : List (List ℕ × TestData)) (test : TestData) (marks : MarksData) : Type 0 where
+pub record IsIn (rows : List Row) (files : List (List ℕ × FileData)) (file : List ℕ) (name : List ℕ) (tests : List (List ℕ × TestData)) (test : TestData) (index : FileIndexData) : Type 0 where
   pub state : IsStateOf rows files
   pub agree : Agree (checksums_in rows)
-  pub its_file : value_of (slice_cmp nat_cmp) file files ≡ Some (file_with tests marks)
+  pub its_file : value_of (slice_cmp nat_cmp) file files ≡ Some (file_with tests index)
   pub its_test : value_of (slice_cmp nat_cmp) name tests ≡ Some test
 
 abbrev pub section_of_items : List ℕ → List ℕ → List ItemData → SectData
 section_of_items file name items = record { test = name; file = file; items = items }
 
--- the files where a test of a file has other points, and the file other marks
-abbrev pub files_with : List ℕ → List ℕ → List (List ℕ × TestData) → TestData → MarksData → List (List ℕ × FileData) → List (List ℕ × FileData)
-files_with file name tests test marks files = put (slice_cmp nat_cmp) file (file_with (put (slice_cmp nat_cmp) name test tests) marks) files
+-- the files where a test of a file has other points, and the file another index
+abbrev pub files_with : List ℕ → List ℕ → List (List ℕ × TestData) → TestData → FileIndexData → List (List ℕ × FileData) → List (List ℕ × FileData)
+files_with file name tests test index files = put (slice_cmp nat_cmp) file (file_with (put (slice_cmp nat_cmp) name test tests) index) files
 
--- wherever the test and the marks stand, they stand for these items more afterwards, and these clash with nothing
-abbrev pub Adds : List ItemData → TestData → MarksData → TestData → MarksData → Type 0
-Adds items test marks test_after marks_after =
-    (rows : List Row) (files : List (List ℕ × FileData)) (file name : List ℕ) (tests : List (List ℕ × TestData)) → IsIn rows files file name tests test marks
+-- wherever the test and the index stand, they stand for these items more afterwards, and these clash with nothing
+abbrev pub Adds : List ItemData → TestData → FileIndexData → TestData → FileIndexData → Type 0
+Adds items test index test_after index_after =
+    (rows : List Row) (files : List (List ℕ × FileData)) (file name : List ℕ) (tests : List (List ℕ × TestData)) → IsIn rows files file name tests test index
     → (clash_of rows (rows_of_sect (section_of_items file name items)) ≡ None)
-    × IsIn (rows ++ rows_of_sect (section_of_items file name items)) (files_with file name tests test_after marks_after files) file name (put (slice_cmp nat_cmp) name test_after tests) test_after marks_after
+    × IsIn (rows ++ rows_of_sect (section_of_items file name items)) (files_with file name tests test_after index_after files) file name (put (slice_cmp nat_cmp) name test_after tests) test_after index_after
 
 -- what is told of a clash in a file
 abbrev pub clash_told : List ℕ → ℕ → List ℕ → List ℕ → ClashData
 clash_told file line held given = record { file = file; line = line; held = held; given = given }
 
--- wherever the test and the marks stand, these items clash, and this is the first clash
-abbrev pub ClashesAt : List ItemData → TestData → MarksData → ℕ → List ℕ → List ℕ → Type 0
-ClashesAt items test marks line held given =
-    (rows : List Row) (files : List (List ℕ × FileData)) (file name : List ℕ) (tests : List (List ℕ × TestData)) → IsIn rows files file name tests test marks
+-- wherever the test and the index stand, these items clash, and this is the first clash
+abbrev pub ClashesAt : List ItemData → TestData → FileIndexData → ℕ → List ℕ → List ℕ → Type 0
+ClashesAt items test index line held given =
+    (rows : List Row) (files : List (List ℕ × FileData)) (file name : List ℕ) (tests : List (List ℕ × TestData)) → IsIn rows files file name tests test index
     → clash_of rows (rows_of_sect (section_of_items file name items)) ≡ Some (clash_told file line held given)
 
-abbrev pub Clashes : {A : Type 0} → List ItemData → TestData → MarksData → Stop A → Type 0
-Clashes items test marks Memory = Unit {0}
-Clashes items test marks (Clash line held given) = ClashesAt items test marks line held given
+abbrev pub Clashes : {A : Type 0} → List ItemData → TestData → FileIndexData → Stop A → Type 0
+Clashes items test index Memory = Unit {0}
+Clashes items test index (Clash line held given) = ClashesAt items test index line held given
 
--- the test and the marks stand for rows, not too many with these items more, and there are not too many tests
-pub record HasRoomFor (items : List ItemData) (test : TestData) (marks : MarksData) : Type 0 where
+-- the test and the index stand for rows, not too many with these items more, and there are not too many tests
+pub record HasRoomFor (items : List ItemData) (test : TestData) (index : FileIndexData) : Type 0 where
   pub rows : List Row
   pub files : List (List ℕ × FileData)
   pub file : List ℕ
   pub name : List ℕ
   pub tests : List (List ℕ × TestData)
-  pub stands : IsIn rows files file name tests test marks
+  pub stands : IsIn rows files file name tests test index
   pub few : length rows + length items ≤ 2 ^ 47
   pub few_tests : length tests < 2 ^ 63

@@ -4,21 +4,21 @@ use Rattle.std.specs.Option.{is_some}
 use Rattle.std.specs.Ordering.{nat_cmp}
 use Rattle.covstore.specs.declared.stop.Stop.{Stop}
 use Rattle.covstore.specs.declared.stop.Stop.TheVariants.{Clash, Memory}
-use Rattle.covstore.specs.Puts.{put, value_of}
+use Rattle.covmap.specs.Puts.{put, value_of}
 
--- how many tests hold a checksum of a line, as it is and as it is to be; and the texts
+-- how many tests hold a checksum of a line, committed and staged; and the texts
 pub record ChecksumsData : Type 0 where
-  pub held : List (ℕ × ℕ)
-  pub coming : List (ℕ × ℕ)
+  pub committed : List (ℕ × ℕ)
+  pub staged : List (ℕ × ℕ)
   pub texts : List (ℕ × List ℕ)
 
 -- each line of which a checksum is held has its text
 abbrev pub HaveTexts : List (ℕ × ℕ) → List (ℕ × List ℕ) → Type 0
 HaveTexts holders texts = (line : ℕ) → is_some (value_of nat_cmp line holders) ≡ true → is_some (value_of nat_cmp line texts) ≡ true
 
--- each line of which a checksum is held is among those that are to hold one
+-- each line of which a checksum is held is among those of which one is staged
 abbrev pub AreAmong : List (ℕ × ℕ) → List (ℕ × ℕ) → Type 0
-AreAmong held coming = (line : ℕ) → is_some (value_of nat_cmp line held) ≡ true → is_some (value_of nat_cmp line coming) ≡ true
+AreAmong committed staged = (line : ℕ) → is_some (value_of nat_cmp line committed) ≡ true → is_some (value_of nat_cmp line staged) ≡ true
 
 -- the text of each line of which a checksum is held stays
 abbrev pub StayTexts : List (ℕ × ℕ) → List (ℕ × List ℕ) → List (ℕ × List ℕ) → Type 0
@@ -26,7 +26,7 @@ StayTexts holders texts more = (line : ℕ) → is_some (value_of nat_cmp line h
 
 -- each line of which a checksum is held stays one, and its text stays
 pub record KeepsTexts (holders : List (ℕ × ℕ)) (texts : List (ℕ × List ℕ)) (more_holders : List (ℕ × ℕ)) (more_texts : List (ℕ × List ℕ)) : Type 0 where
-  pub held : (line : ℕ) → is_some (value_of nat_cmp line holders) ≡ true → is_some (value_of nat_cmp line more_holders) ≡ true
+  pub committed : (line : ℕ) → is_some (value_of nat_cmp line holders) ≡ true → is_some (value_of nat_cmp line more_holders) ≡ true
   pub texts_stay : (line : ℕ) → is_some (value_of nat_cmp line holders) ≡ true → value_of nat_cmp line more_texts ≡ value_of nat_cmp line texts
 
 -- one test more holds the checksum of the line, unless it held it before
@@ -40,13 +40,13 @@ held_more line false holders = put nat_cmp line (one_more (value_of nat_cmp line
 
 -- the line's checksum is held, and is this text; and it was, where one was held
 pub record IsHeldToo (line : ℕ) (text : List ℕ) (before after : ChecksumsData) : Type 0 where
-  pub is_held : is_some (value_of nat_cmp line after.coming) ≡ true
+  pub is_held : is_some (value_of nat_cmp line after.staged) ≡ true
   pub is_kept : value_of nat_cmp line after.texts ≡ Some text
-  pub agrees : is_some (value_of nat_cmp line before.coming) ≡ true → value_of nat_cmp line before.texts ≡ Some text
+  pub agrees : is_some (value_of nat_cmp line before.staged) ≡ true → value_of nat_cmp line before.texts ≡ Some text
 
 -- another checksum of the line is held
 pub record IsOther (before : ChecksumsData) (line : ℕ) (held given : List ℕ) : Type 0 where
-  pub is_held : is_some (value_of nat_cmp line before.coming) ≡ true
+  pub is_held : is_some (value_of nat_cmp line before.staged) ≡ true
   pub is_kept : value_of nat_cmp line before.texts ≡ Some held
   pub other : held ≡ given → ⊥
 

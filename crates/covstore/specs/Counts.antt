@@ -3,7 +3,7 @@ use Rattle.std.specs.Prelude.{◌≡◌, ℕ, ◌+◌, Bool, true, false, nat_lt
 use Rattle.std.specs.declared.cmp.Ordering.{Ordering}
 use Rattle.std.specs.Option.{is_some}
 use Rattle.covstore.specs.declared.sums.Tests.{Tests}
-use Rattle.covstore.specs.Puts.{ArePairs, put, value_of}
+use Rattle.covmap.specs.Puts.{ArePairs, put, value_of}
 
 -- there is a value, and it is above 0
 abbrev pub is_above_at : {V : Type 0} → (V → Bool) → Option V → Bool
@@ -43,7 +43,7 @@ one_if false = 0
 
 abbrev pub tests_more : Bool → Bool → Option Tests → Tests
 tests_more is_new is_newly_hit None = record { tests = one_if is_new; hit = one_if is_newly_hit }
-tests_more is_new is_newly_hit (Some held) = record { tests = held.tests + one_if is_new; hit = held.hit + one_if is_newly_hit }
+tests_more is_new is_newly_hit (Some committed) = record { tests = committed.tests + one_if is_new; hit = committed.hit + one_if is_newly_hit }
 
 -- the point had no value before; it is above 0, and wasn't before
 abbrev pub is_new : {V : Type 0} → Option V → Bool

@@ -3,24 +3,24 @@ use Rattle.std.specs.Prelude.{◌≡◌, ℕ, ◌+◌, ◌-◌, ◌<◌, ◌≤�
 use Rattle.std.specs.declared.cmp.Ordering.{Ordering}
 use Rattle.std.specs.Ordering.{nat_cmp}
 use Rattle.std.specs.Option.{is_some}
-use Rattle.covstore.specs.declared.kept.Tally.{Tally}
+use Rattle.covstore.specs.declared.kind_index.KindTotals.{KindTotals}
 use Rattle.covstore.specs.declared.sums.LineSum.{LineSum}
 use Rattle.covstore.specs.declared.sums.Tests.{Tests}
 use Rattle.covstore.specs.declared.totals.Totals.{Totals}
-use Rattle.covstore.specs.Assigned.{assigned}
+use Rattle.covmap.specs.Assigned.{assigned}
 use Rattle.covstore.specs.Changes.{IsTallyOf}
 use Rattle.covstore.specs.Counts.{AreCounts, is_above_at, one_if}
-use Rattle.covstore.specs.Puts.{ArePairs, value_of}
+use Rattle.covmap.specs.Puts.{ArePairs, value_of}
 use Rattle.covstore.specs.State.{holders_at}
 use Rattle.covstore.specs.Sums.{TestData}
 
 -- a test less has the point, above 0 or not; none where it was the only one
 abbrev pub fewer_tests : Bool → Tests → Option Tests
-fewer_tests was_above held = if nat_lt 1 held.tests then Some (record { tests = held.tests - 1; hit = held.hit - one_if was_above }) else None
+fewer_tests was_above committed = if nat_lt 1 committed.tests then Some (record { tests = committed.tests - 1; hit = committed.hit - one_if was_above }) else None
 
 abbrev pub fewer_of : Bool → Option Tests → Option Tests
 fewer_of was_above None = None
-fewer_of was_above (Some held) = fewer_tests was_above held
+fewer_of was_above (Some committed) = fewer_tests was_above committed
 
 -- the counts where a test less has the point
 abbrev pub counts_without : {K : Type 0} → (K → K → Ordering) → K → Bool → List (K × Tests) → List (K × Tests)
@@ -28,11 +28,11 @@ counts_without cmp key was_above counts = assigned cmp key (fewer_of was_above (
 
 -- some test has the point, above 0 or not, and of the others no more have it above 0 than have it
 abbrev pub HaveOne : Bool → Tests → Type 0
-HaveOne was_above held = (one_if was_above ≤ held.hit) × (held.hit < held.tests + one_if was_above)
+HaveOne was_above committed = (one_if was_above ≤ committed.hit) × (committed.hit < committed.tests + one_if was_above)
 
 abbrev pub CanLose : Bool → Option Tests → Type 0
 CanLose was_above None = ⊥
-CanLose was_above (Some held) = HaveOne was_above held
+CanLose was_above (Some committed) = HaveOne was_above committed
 
 -- the counts are those of a test with these points, and of others
 abbrev pub AreWith : {K V : Type 0} → (K → K → Ordering) → (V → Bool) → List (K × V) → List (K × Tests) → Type 0
@@ -43,30 +43,30 @@ abbrev pub LosesTest : {K V : Type 0} → (K → K → Ordering) → (V → Bool
 LosesTest {K} {V} cmp is_above points counts fewer = (others : List (List (K × V))) → AreCounts cmp is_above (points ∷ others) counts → AreCounts cmp is_above others fewer
 
 -- whatever the others are, this is the tally of what is counted without that test
-abbrev pub IsTallyWithout : {K V : Type 0} → (K → K → Ordering) → (V → Bool) → List (K × V) → List (K × Tests) → Tally → Type 0
+abbrev pub IsTallyWithout : {K V : Type 0} → (K → K → Ordering) → (V → Bool) → List (K × V) → List (K × Tests) → KindTotals → Type 0
 IsTallyWithout {K} {V} cmp is_above points counts tally =
     (others : List (List (K × V))) (rest : List (K × Tests)) → AreCounts cmp is_above (points ∷ others) counts → AreCounts cmp is_above others rest → IsTallyOf rest tally
 
 -- the tally is of other counts, in which the point has the same numbers
-pub record IsTallyAt {K : Type 0} (cmp : K → K → Ordering) (key : K) (counts others : List (K × Tests)) (tally : Tally) : Type 0 where
+pub record IsTallyAt {K : Type 0} (cmp : K → K → Ordering) (key : K) (counts others : List (K × Tests)) (tally : KindTotals) : Type 0 where
   pub ascending : ArePairs cmp others
   pub same : value_of cmp key others ≡ value_of cmp key counts
   pub tallied : IsTallyOf others tally
 
 -- the totals of a file, by the tallies of its kinds of points
-abbrev pub totals_by : Tally → Tally → Tally → Totals
+abbrev pub totals_by : KindTotals → KindTotals → KindTotals → Totals
 totals_by lines functions branches = record { lf = lines.found; lh = lines.hit; ff = functions.found; fh = functions.hit; bf = branches.found; bh = branches.hit }
 
 -- some test has the point above 0
 abbrev pub is_hit : Option Tests → Bool
-is_hit held = is_above_at (λ tests. nat_lt 0 tests.hit) held
+is_hit committed = is_above_at (λ tests. nat_lt 0 tests.hit) committed
 
 -- a point's numbers go from these to those: it is found and hit no more where it was
-pub record IsLess (tally : Tally) (before : Tests) (after : Option Tests) (less : Tally) : Type 0 where
+pub record IsLess (tally : KindTotals) (before : Tests) (after : Option Tests) (less : KindTotals) : Type 0 where
   pub found : less.found + 1 ≡ tally.found + one_if (is_some after)
   pub hit : less.hit + one_if (is_hit (Some before)) ≡ tally.hit + one_if (is_hit after)
 
-pub record CanBeLess (tally : Tally) (before : Tests) (after : Option Tests) : Type 0 where
+pub record CanBeLess (tally : KindTotals) (before : Tests) (after : Option Tests) : Type 0 where
   pub found : 1 ≤ tally.found + one_if (is_some after)
   pub hit : one_if (is_hit (Some before)) ≤ tally.hit + one_if (is_hit after)
   pub falls : is_hit after ≡ true → is_hit (Some before) ≡ true

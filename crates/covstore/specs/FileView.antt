@@ -1,25 +1,25 @@
--- A file of the code, seen as plain data: as it is, and as it is to be.
+-- A file of the code, seen as plain data: committed, and staged.
 use Rattle.std.specs.Prelude.{◌≡◌, ℕ, true, if◌then◌else◌, List, [], map}
 use Rattle.std.specs.Cmp.Lexicographic.{slice_cmp}
 use Rattle.std.specs.Option.{is_some}
 use Rattle.std.specs.Ordering.{nat_cmp}
 use Rattle.covstore.specs.declared.file.File.{File}
-use Rattle.covstore.specs.Marks.{file_with}
-use Rattle.covstore.specs.MarksView.{marks_coming, marks_held, no_marks}
-use Rattle.covstore.specs.Puts.{put, value_of}
+use Rattle.covstore.specs.FileIndex.{file_with}
+use Rattle.covstore.specs.FileIndexView.{index_staged, index_committed, empty_index}
+use Rattle.covmap.specs.Puts.{put, value_of}
 use Rattle.covstore.specs.State.{FileData}
 use Rattle.covstore.specs.Sums.{TestData, test_of}
-use Rattle.covstore.specs.TestView.{test_coming, test_held}
+use Rattle.covstore.specs.TestView.{test_staged, test_committed}
 
-abbrev pub file_held : {A : Type 0} → File A → FileData
-file_held file = file_with (map (λ pair. (pair.0.items, test_held pair.1)) file.tests.entries) (marks_held file.marks)
+abbrev pub file_committed : {A : Type 0} → File A → FileData
+file_committed file = file_with (map (λ pair. (pair.0.items, test_committed pair.1)) file.tests.entries) (index_committed file.index)
 
-abbrev pub file_coming : {A : Type 0} → File A → FileData
-file_coming file = file_with (map (λ pair. (pair.0.items, test_coming pair.1)) file.tests.entries) (marks_coming file.marks)
+abbrev pub file_staged : {A : Type 0} → File A → FileData
+file_staged file = file_with (map (λ pair. (pair.0.items, test_staged pair.1)) file.tests.entries) (index_staged file.index)
 
 -- a file without tests
 abbrev pub no_file : FileData
-no_file = file_with [] no_marks
+no_file = file_with [] empty_index
 
 -- the file with this test, without points where it wasn't there
 abbrev pub tests_with : List ℕ → List (List ℕ × TestData) → List (List ℕ × TestData)

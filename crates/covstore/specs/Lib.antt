@@ -6,12 +6,10 @@ pub mod Content
 pub mod Totals
 pub mod TotalsSteps
 pub mod Counted
-pub mod StoreHeld
+pub mod StoreCommitted
 pub mod Stored
 pub mod RefuseView
 pub mod ValueView
-pub mod Puts
-pub mod PointsData
 pub mod KeyOrders
 pub mod Sums
 pub mod Counts
@@ -19,8 +17,8 @@ pub mod State
 pub mod TestView
 pub mod Changes
 pub mod Checksums
-pub mod Marks
-pub mod MarksView
+pub mod FileIndex
+pub mod FileIndexView
 pub mod Steps
 pub mod Adds
 pub mod FileView
@@ -29,11 +27,6 @@ pub mod SectionAdds
 pub mod MapsView
 pub mod Exchanged
 pub mod SeenView
-pub mod Asked
-pub mod Slots
-pub mod SlotPlace
-pub mod Coming
-pub mod Assigned
 pub mod Without
 pub mod Fewer
 pub mod Drops

@@ -1,4 +1,4 @@
--- The store's maps, seen as plain data; what holds of them; and of which tests something is to come.
+-- The store's maps, seen as plain data; what holds of them; and of which tests something is staged.
 use Rattle.std.specs.Prelude.{◌≡◌, ℕ, ◌≤◌, false, List, [], length, map, filter}
 use Rattle.std.specs.List.{AllByRecursion, list_any}
 use Rattle.std.specs.Str.{bytes_eq}
@@ -7,31 +7,31 @@ use Rattle.covstore.specs.declared.file.File.{File}
 use Rattle.covstore.specs.declared.store.Touched.{Touched}
 use Rattle.covstore.specs.declared.totals.Totals.{Totals}
 use Rattle.covstore.specs.Clash.{Agree, checksums_in}
-use Rattle.covstore.specs.FileView.{file_coming, file_held}
-use Rattle.covstore.specs.MarksView.{marks_coming, marks_held}
+use Rattle.covstore.specs.FileView.{file_staged, file_committed}
+use Rattle.covstore.specs.FileIndexView.{index_staged, index_committed}
 use Rattle.covstore.specs.State.{FileData, IsStateOf, totals_in}
 use Rattle.covstore.specs.Stored.{most_members}
 use Rattle.covstore.specs.Table.{Table, all_rows}
-use Rattle.covstore.specs.TestView.{test_coming, test_held}
+use Rattle.covstore.specs.TestView.{test_staged, test_committed}
 
 -- the files by their names, which a key of the map tells
-abbrev pub files_held : {K A : Type 0} → (K → List ℕ) → List (K × File A) → List (List ℕ × FileData)
-files_held name pairs = map (λ pair. (name pair.0, file_held pair.1)) pairs
+abbrev pub files_committed : {K A : Type 0} → (K → List ℕ) → List (K × File A) → List (List ℕ × FileData)
+files_committed name pairs = map (λ pair. (name pair.0, file_committed pair.1)) pairs
 
-abbrev pub files_coming : {K A : Type 0} → (K → List ℕ) → List (K × File A) → List (List ℕ × FileData)
-files_coming name pairs = map (λ pair. (name pair.0, file_coming pair.1)) pairs
+abbrev pub files_staged : {K A : Type 0} → (K → List ℕ) → List (K × File A) → List (List ℕ × FileData)
+files_staged name pairs = map (λ pair. (name pair.0, file_staged pair.1)) pairs
 
 -- what is kept is the state of the rows of some table of as many members, whose checksums agree; the totals are those
-pub record IsStore (members : ℕ) (held : Totals) (files : List (List ℕ × FileData)) : Type 0 where
+pub record IsStore (members : ℕ) (committed : Totals) (files : List (List ℕ × FileData)) : Type 0 where
   pub own : Table
   pub state : IsStateOf (all_rows own) files
   pub agree : Agree (checksums_in (all_rows own))
   pub counted : members ≡ length own
   pub few : length own ≤ most_members
   pub small : AllByRecursion (λ rows. length rows ≤ most_items) own
-  pub totals : held ≡ totals_in files
+  pub totals : committed ≡ totals_in files
 
--- ---- what is to come
+-- ---- what is staged
 
 abbrev pub touched_data : {A : Type 0} → List (Touched A) → List (List ℕ × List ℕ)
 touched_data touched = map (λ t. (t.file.items, t.test.items)) touched
@@ -40,11 +40,11 @@ touched_data touched = map (λ t. (t.file.items, t.test.items)) touched
 abbrev pub tests_of : List ℕ → List (List ℕ × List ℕ) → List (List ℕ)
 tests_of file touched = map (λ t. t.1) (filter (λ t. bytes_eq t.0 file) touched)
 
--- but for these tests nothing is to come of a file; where it is none, nothing is to come of what is kept of the file either
+-- but for these tests nothing is staged of a file; where it is none, nothing is staged of what is kept of the file either
 pub record IsSettledBut {A : Type 0} (tests : List (List ℕ)) (file : File A) : Type 0 where
-  pub marks : tests ≡ [] → marks_coming file.marks ≡ marks_held file.marks
-  pub points : AllByRecursion (λ pair. list_any (λ test. bytes_eq test pair.0.items) tests ≡ false → test_coming pair.1 ≡ test_held pair.1) file.tests.entries
+  pub index : tests ≡ [] → index_staged file.index ≡ index_committed file.index
+  pub points : AllByRecursion (λ pair. list_any (λ test. bytes_eq test pair.0.items) tests ≡ false → test_staged pair.1 ≡ test_committed pair.1) file.tests.entries
 
--- but for these tests of these files nothing is to come
+-- but for these tests of these files nothing is staged
 abbrev pub AreSettledBut : {K A : Type 0} → (K → List ℕ) → List (List ℕ × List ℕ) → List (K × File A) → Type 0
 AreSettledBut name touched pairs = AllByRecursion (λ pair. IsSettledBut (tests_of (name pair.0) touched) pair.1) pairs

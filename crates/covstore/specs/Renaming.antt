@@ -1,4 +1,4 @@
--- A rename that a store has made ready: what is to come has the values of the old test under the new name too. Then the old test
+-- A rename that a store has made ready: what is staged has the values of the old test under the new name too. Then the old test
 -- goes.
 use Rattle.std.specs.Prelude.{◌≡◌, ◌≢◌, ℕ, ◌+◌, ◌≤◌, ◌^◌, true, false, List, ◌++◌, Option, Some, None, length, map, filter}
 use Rattle.std.specs.Cmp.Lexicographic.{slice_cmp}
@@ -8,10 +8,10 @@ use Rattle.covline.specs.Row.{ItemData, LineItem, FuncItem, BranchItem, Row}
 use Rattle.covline.specs.Points.{BranchPoint}
 use Rattle.covstore.specs.declared.sums.LineSum.{LineSum}
 use Rattle.covstore.specs.declared.sums.FunctionSum.{FunctionSum}
-use Rattle.covstore.specs.declared.sums.Taken.{Taken}
+use Rattle.covstore.specs.declared.sums.BranchSum.{BranchSum}
 use Rattle.covstore.specs.FileAdds.{HasFile}
-use Rattle.covstore.specs.Marks.{MarksData}
-use Rattle.covstore.specs.Puts.{put, value_of}
+use Rattle.covstore.specs.FileIndex.{FileIndexData}
+use Rattle.covmap.specs.Puts.{put, value_of}
 use Rattle.covstore.specs.Renamed.{moved_rows, renamed}
 use Rattle.covstore.specs.SectionAdds.{rows_of_items}
 use Rattle.covstore.specs.State.{FileData, IsStateOf, has_checksum, has_no_points, has_points_of, points_at, text_at}
@@ -26,11 +26,11 @@ pub record RenamingData : Type 0 where
   pub sections : ℕ
   pub leaves : Option (List ℕ)
 
--- what is to come are the rows that are held and, under the new name, those of the old test
+-- what is staged are the committed rows and, under the new name, those of the old test
 pub record IsMoving (store : StoreData) (old new leaves : List ℕ) : Type 0 where
   pub is_old : leaves ≡ old
   pub apart : old ≢ new
-  pub moves : (rows : List Row) → IsStateOf rows store.held → IsStateOf (rows ++ moved_rows old new rows) store.coming
+  pub moves : (rows : List Row) → IsStateOf rows store.committed → IsStateOf (rows ++ moved_rows old new rows) store.staged
 
 -- nothing is to be done where the table stays as it is
 abbrev pub IsMovingIfAny : StoreData → List ℕ → List ℕ → Option (List ℕ) → Type 0
@@ -73,16 +73,16 @@ pub record HasRoomToCopyIn (old new : List ℕ) (file : FileData) : Type 0 where
   pub stands : HasFile rows files name file
   pub few : length rows + length (items_at (key_of name old) rows) ≤ 2 ^ 47
 
--- what is to come is the state of rows, not too many with those of the file that are copied; its old test has points, and of these
--- nothing is to come. What is held is the state of some rows too
+-- what is staged is the state of rows, not too many with those of the file that are copied; its old test has points, and of these
+-- nothing is staged. What is committed is the state of some rows too
 pub record HasRoomToCopy (file old : List ℕ) (store : StoreData) : Type 0 where
   pub own : List Row
-  pub stands : IsStateOf own store.held
+  pub stands : IsStateOf own store.committed
   pub rows : List Row
-  pub state : IsStateOf rows store.coming
+  pub state : IsStateOf rows store.staged
   pub few : length rows + length (items_at (key_of file old) rows) ≤ 2 ^ 47
-  pub some : has_no_points (points_at (key_of file old) store.coming) ≡ false
-  pub same : points_at (key_of file old) store.coming ≡ points_at (key_of file old) store.held
+  pub some : has_no_points (points_at (key_of file old) store.staged) ≡ false
+  pub same : points_at (key_of file old) store.staged ≡ points_at (key_of file old) store.committed
 
 -- the names of the files in which a test has points
 abbrev pub names_with : List ℕ → List (List ℕ × FileData) → List (List ℕ)
@@ -96,7 +96,7 @@ line_item texts pair = LineItem pair.0 pair.1.count (text_at texts pair.0 pair.1
 abbrev pub function_item : List ℕ × FunctionSum → ItemData
 function_item pair = FuncItem pair.0 pair.1.line pair.1.count
 
-abbrev pub branch_item : BranchPoint × Taken → ItemData
+abbrev pub branch_item : BranchPoint × BranchSum → ItemData
 branch_item pair = BranchItem pair.0.line pair.0.block pair.0.branch pair.1.times
 
 -- one for each point, with its value; the checksums' texts are these
@@ -104,5 +104,5 @@ abbrev pub items_of_test : List (ℕ × List ℕ) → TestData → List ItemData
 items_of_test texts test = map (line_item texts) test.lines ++ (map function_item test.functions ++ map branch_item test.branches)
 
 -- each line that has a checksum is among those of which one is held
-abbrev pub HasHolders : List (ℕ × LineSum) → MarksData → Type 0
-HasHolders lines marks = (line : ℕ) → is_above_at has_checksum (value_of nat_cmp line lines) ≡ true → is_some (value_of nat_cmp line marks.holders) ≡ true
+abbrev pub HasHolders : List (ℕ × LineSum) → FileIndexData → Type 0
+HasHolders lines index = (line : ℕ) → is_above_at has_checksum (value_of nat_cmp line lines) ≡ true → is_some (value_of nat_cmp line index.holders) ≡ true

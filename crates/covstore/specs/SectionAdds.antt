@@ -6,7 +6,7 @@ use Rattle.covline.specs.Row.{ItemData, Row, rows_of_sect}
 use Rattle.covstore.specs.Adds.{section_of_items}
 use Rattle.covstore.specs.Clash.{clash_of}
 use Rattle.covstore.specs.FileAdds.{HasFile}
-use Rattle.covstore.specs.Puts.{value_of}
+use Rattle.covmap.specs.Puts.{value_of}
 use Rattle.covstore.specs.State.{FileData}
 use Rattle.covstore.specs.Stored.{RefuseData, ClashRefuse, MemoryRefuse}
 use Rattle.covstore.specs.Sums.{TestData}

@@ -4,9 +4,9 @@ use Rattle.std.specs.List.{flat_map}
 use Rattle.covstore.specs.declared.test.Test.{Test}
 use Rattle.covstore.specs.Content.{SectionData}
 use Rattle.covstore.specs.declared.file.File.{File}
-use Rattle.covstore.specs.MapsView.{files_held}
+use Rattle.covstore.specs.MapsView.{files_committed}
 use Rattle.covstore.specs.State.{section_seen, sections_of}
-use Rattle.covstore.specs.TestView.{test_held}
+use Rattle.covstore.specs.TestView.{test_committed}
 
 -- the points of each kind are fewer than 64 bits count
 pub record IsFewOf (section : SectionData) : Type 0 where
@@ -16,7 +16,7 @@ pub record IsFewOf (section : SectionData) : Type 0 where
 
 -- the sections of a file's tests
 abbrev pub tests_seen : {K A : Type 0} → (K → List ℕ) → List ℕ → List (ℕ × List ℕ) → List (K × Test A) → List SectionData
-tests_seen name file texts pairs = flat_map (λ pair. section_seen file texts (name pair.0) (test_held pair.1)) pairs
+tests_seen name file texts pairs = flat_map (λ pair. section_seen file texts (name pair.0) (test_committed pair.1)) pairs
 
 -- those of the file that is at hand, and then those of the files that are left
 abbrev pub or_none : Option (List SectionData) → List SectionData
@@ -24,4 +24,4 @@ or_none None = []
 or_none (Some sections) = sections
 
 abbrev pub sections_left : {K A : Type 0} → (K → List ℕ) → Option (List SectionData) → List (K × File A) → List SectionData
-sections_left name current files = or_none current ++ sections_of (files_held name files)
+sections_left name current files = or_none current ++ sections_of (files_committed name files)

@@ -8,13 +8,13 @@ use Rattle.covline.specs.Points.{BranchPoint}
 use Rattle.covline.specs.Row.{Row}
 use Rattle.covstore.specs.declared.sums.LineSum.{LineSum}
 use Rattle.covstore.specs.declared.sums.FunctionSum.{FunctionSum}
-use Rattle.covstore.specs.declared.sums.Taken.{Taken}
+use Rattle.covstore.specs.declared.sums.BranchSum.{BranchSum}
 use Rattle.covstore.specs.declared.sums.Tests.{Tests}
 use Rattle.covstore.specs.declared.totals.Totals.{Totals}
 use Rattle.covstore.specs.Clash.{Checksum, checksums_in}
 use Rattle.covstore.specs.Content.{FunctionValueData, BranchValueData, LineValueData, SectionData}
 use Rattle.covstore.specs.Counts.{AreCounts, found_of, hit_of, is_above_at}
-use Rattle.covstore.specs.Puts.{ArePairs, value_of}
+use Rattle.covmap.specs.Puts.{ArePairs, value_of}
 use Rattle.covstore.specs.Sums.{TestData, test_of}
 use Rattle.covstore.specs.Value.{Key, branch_cmp, items_at, is_taken}
 
@@ -36,7 +36,7 @@ line_above sum = nat_lt 0 sum.count
 abbrev pub function_above : FunctionSum → Bool
 function_above sum = nat_lt 0 sum.count
 
-abbrev pub branch_above : Taken → Bool
+abbrev pub branch_above : BranchSum → Bool
 branch_above sum = is_taken sum.times
 
 abbrev pub has_checksum : LineSum → Bool
@@ -83,7 +83,7 @@ line_seen texts pair = record { line = pair.0; count = pair.1.count; checksum = 
 abbrev pub function_seen : List ℕ × FunctionSum → FunctionValueData
 function_seen pair = record { line = pair.1.line; name = pair.0; count = pair.1.count }
 
-abbrev pub branch_seen : BranchPoint × Taken → BranchValueData
+abbrev pub branch_seen : BranchPoint × BranchSum → BranchValueData
 branch_seen pair = record { point = pair.0; taken = pair.1.times }
 
 -- the section of a test's points, and none where there are no points
@@ -154,5 +154,5 @@ pub record IsWholeFile (file : FileData) : Type 0 where
 pub record IsStateOf (rows : List Row) (files : List (List ℕ × FileData)) : Type 0 where
   pub ascending : ArePairs (slice_cmp nat_cmp) files
   pub points : (key : Key) → points_at key files ≡ test_of (items_at key rows)
-  pub texts : (held : Checksum) → Contains (checksums_in rows) held → text_in (value_of (slice_cmp nat_cmp) held.file files) held.line ≡ Some held.checksum
+  pub texts : (committed : Checksum) → Contains (checksums_in rows) committed → text_in (value_of (slice_cmp nat_cmp) committed.file files) committed.line ≡ Some committed.checksum
   pub whole : AllByRecursion (λ pair. IsWholeFile pair.1) files

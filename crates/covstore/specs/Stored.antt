@@ -1,4 +1,4 @@
--- What a store is to its callers: its content, and the tables that it stands for; and what is to come of it.
+-- What a store is to its callers: its content, and the tables that it stands for; and what is staged of it.
 use Rattle.std.specs.Prelude.{◌≡◌, ℕ, ◌+◌, ◌<◌, ◌≤◌, ◌^◌, List, ◌++◌, Some, None, length}
 use Rattle.std.specs.List.{AllByRecursion}
 use Rattle.covline.specs.Row.{Row, SubmissionData, rows_of}
@@ -13,16 +13,16 @@ use Rattle.covstore.specs.Table.{Table, all_rows, clash_at}
 abbrev pub most_members : ℕ
 most_members = 1048576
 
--- the sections, and how many submissions there are; what is kept of the files, as they are and as they are to be, and the totals
+-- the sections, and how many submissions there are; what is kept of the files, committed and staged, and the totals
 -- that are to be
 pub record StoreData : Type 0 where
   pub sections : List SectionData
   pub members : ℕ
-  pub held : List (List ℕ × FileData)
-  pub coming : List (List ℕ × FileData)
+  pub committed : List (List ℕ × FileData)
+  pub staged : List (List ℕ × FileData)
   pub after : Totals
 
--- the same content; what is to come may differ
+-- the same content; what is staged may differ
 pub record SameContent (before after : StoreData) : Type 0 where
   pub sections : after.sections ≡ before.sections
   pub members : after.members ≡ before.members
@@ -32,11 +32,11 @@ pub record KeepsState (before after : List (List ℕ × FileData)) : Type 0 wher
   pub states : (rows : List Row) → IsStateOf rows before → IsStateOf rows after
   pub totals : totals_in after ≡ totals_in before
 
--- the content and the state that is kept are the same; what is to come may differ
-pub record SameHeld (before after : StoreData) : Type 0 where
+-- the content and the state that is kept are the same; what is staged may differ
+pub record SameCommitted (before after : StoreData) : Type 0 where
   pub sections : after.sections ≡ before.sections
   pub members : after.members ≡ before.members
-  pub held : KeepsState before.held after.held
+  pub committed : KeepsState before.committed after.committed
 
 -- the store's content is the value of all rows of the table, which has no two different checksums of one line of a file
 pub record StandsFor (store : StoreData) (table : Table) : Type 0 where
@@ -56,14 +56,14 @@ AddsTo added before after =
     (rows : List Row) → IsStateOf rows before → Agree (checksums_in rows)
     → (clash_of rows added ≡ None) × IsStateOf (rows ++ added) after × Agree (checksums_in (rows ++ added))
 
--- the store is as `prepare` left it when it made this plan for this submission: what is to come is what is kept with the
--- submission, which is lawful and clashes with nothing, and the totals are those of what is to come. Callers hand it from
+-- the store is as `prepare` left it when it made this plan for this submission: what is staged is what is kept with the
+-- submission, which is lawful and clashes with nothing, and the totals are those of what is staged. Callers hand it from
 -- `prepare` to `commit` and look at none of its parts
 pub record IsPlanOf (store : StoreData) (submission : SubmissionData) (plan : PlanData) : Type 0 where
   pub lawful : IsLawful submission
-  pub adds : AddsTo (rows_of submission) store.held store.coming
+  pub adds : AddsTo (rows_of submission) store.committed store.staged
   pub planned : plan.after ≡ store.after
-  pub totals : store.after ≡ totals_in store.coming
+  pub totals : store.after ≡ totals_in store.staged
   pub few : store.members < most_members
 
 -- why no plan is made
@@ -78,20 +78,20 @@ IsRefusedAt table submission MemoryRefuse = Unit {0}
 
 -- ---- rows that come in
 
--- rows are taken into what is to come, and the totals with them
+-- rows are staged, and the totals with them
 pub record AddsRows (added : List Row) (before after : StoreData) : Type 0 where
-  pub adds : AddsTo added before.coming after.coming
-  pub totals : before.after ≡ totals_in before.coming → after.after ≡ totals_in after.coming
+  pub adds : AddsTo added before.staged after.staged
+  pub totals : before.after ≡ totals_in before.staged → after.after ≡ totals_in after.staged
 
--- a clash is told only where the rows clash with what is to come, and then the first
+-- a clash is told only where the rows clash with what is staged, and then the first
 abbrev pub ClashesWith : List Row → StoreData → RefuseData → Type 0
 ClashesWith added store MemoryRefuse = Unit {0}
-ClashesWith added store (ClashRefuse clash) = (rows : List Row) → IsStateOf rows store.coming → Agree (checksums_in rows) → clash_of rows added ≡ Some clash
+ClashesWith added store (ClashRefuse clash) = (rows : List Row) → IsStateOf rows store.staged → Agree (checksums_in rows) → clash_of rows added ≡ Some clash
 
--- what is to come is the state of rows, not too many with those that are added
+-- what is staged is the state of rows, not too many with those that are added
 pub record HasRoomForRows (added : List Row) (store : StoreData) : Type 0 where
   pub rows : List Row
-  pub state : IsStateOf rows store.coming
+  pub state : IsStateOf rows store.staged
   pub agree : Agree (checksums_in rows)
   pub few : length rows + length added ≤ 2 ^ 47
-  pub totals : store.after ≡ totals_in store.coming
+  pub totals : store.after ≡ totals_in store.staged

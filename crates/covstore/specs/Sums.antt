@@ -7,15 +7,15 @@ use Rattle.covline.specs.Points.{BranchPoint}
 use Rattle.covline.specs.Row.{ItemData, LineItem, FuncItem, BranchItem}
 use Rattle.covstore.specs.declared.sums.LineSum.{LineSum}
 use Rattle.covstore.specs.declared.sums.FunctionSum.{FunctionSum}
-use Rattle.covstore.specs.declared.sums.Taken.{Taken}
-use Rattle.covstore.specs.Puts.{put, value_of}
+use Rattle.covstore.specs.declared.sums.BranchSum.{BranchSum}
+use Rattle.covmap.specs.Puts.{put, value_of}
 use Rattle.covstore.specs.Value.{bounded, lines_in, line_value, line_checksum, names_in, function_start, function_count, branch_cmp, branches_in, branch_value}
 
 -- the lines, functions and branches of a test, each with what its items add up to
 pub record TestData : Type 0 where
   pub lines : List (ℕ × LineSum)
   pub functions : List (List ℕ × FunctionSum)
-  pub branches : List (BranchPoint × Taken)
+  pub branches : List (BranchPoint × BranchSum)
 
 abbrev pub line_sum : List ItemData → ℕ → ℕ × LineSum
 line_sum items line = (line, record { count = line_value line items; has_checksum = is_some (line_checksum line items) })
@@ -23,7 +23,7 @@ line_sum items line = (line, record { count = line_value line items; has_checksu
 abbrev pub function_sum : List ItemData → List ℕ → List ℕ × FunctionSum
 function_sum items name = (name, record { line = function_start name items; count = function_count name items })
 
-abbrev pub branch_sum : List ItemData → BranchPoint → BranchPoint × Taken
+abbrev pub branch_sum : List ItemData → BranchPoint → BranchPoint × BranchSum
 branch_sum items point = (point, record { times = branch_value point items })
 
 -- what items add up to
@@ -38,22 +38,22 @@ test_of items = record {
 
 abbrev pub line_with : ℕ → Bool → Option LineSum → LineSum
 line_with count has_checksum None = record { count = bounded count; has_checksum = has_checksum }
-line_with count has_checksum (Some held) = record { count = bounded (held.count + count); has_checksum = held.has_checksum || has_checksum }
+line_with count has_checksum (Some committed) = record { count = bounded (committed.count + count); has_checksum = committed.has_checksum || has_checksum }
 
 abbrev pub function_with : ℕ → ℕ → Option FunctionSum → FunctionSum
 function_with line count None = record { line = line; count = bounded count }
-function_with line count (Some held) = record { line = min held.line line; count = bounded (held.count + count) }
+function_with line count (Some committed) = record { line = min committed.line line; count = bounded (committed.count + count) }
 
 -- two numbers that may be missing: their sum, and none where both are missing
 abbrev pub sum_taken : Option ℕ → Option ℕ → Option ℕ
 sum_taken None None = None
 sum_taken None (Some taken) = Some (bounded taken)
-sum_taken (Some held) None = Some held
-sum_taken (Some held) (Some taken) = Some (bounded (held + taken))
+sum_taken (Some committed) None = Some committed
+sum_taken (Some committed) (Some taken) = Some (bounded (committed + taken))
 
-abbrev pub branch_with : Option ℕ → Option Taken → Taken
+abbrev pub branch_with : Option ℕ → Option BranchSum → BranchSum
 branch_with taken None = record { times = sum_taken None taken }
-branch_with taken (Some held) = record { times = sum_taken held.times taken }
+branch_with taken (Some committed) = record { times = sum_taken committed.times taken }
 
 abbrev pub with_item : ItemData → TestData → TestData
 with_item (LineItem line count checksum) test = record {

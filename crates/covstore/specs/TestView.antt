@@ -1,4 +1,4 @@
--- A test of the code, seen as plain data: as it is, and as it is to be.
+-- A test of the code, seen as plain data: committed, and staged.
 use Rattle.std.specs.Prelude.{List, map}
 use Rattle.covline.specs.Points.{BranchPoint}
 use Rattle.covline.specs.PointView.{branch_point_data}
@@ -10,8 +10,8 @@ use Rattle.covstore.specs.Sums.{TestData}
 abbrev pub branches_data : {V : Type 0} → List (code.BranchPoint × V) → List (BranchPoint × V)
 branches_data pairs = map (λ pair. (branch_point_data pair.0, pair.1)) pairs
 
-abbrev pub test_held : {A : Type 0} → Test A → TestData
-test_held test = record { lines = test.lines.held; functions = test.functions.held; branches = branches_data test.branches.held }
+abbrev pub test_committed : {A : Type 0} → Test A → TestData
+test_committed test = record { lines = test.lines.committed; functions = test.functions.committed; branches = branches_data test.branches.committed }
 
-abbrev pub test_coming : {A : Type 0} → Test A → TestData
-test_coming test = record { lines = test.lines.coming; functions = test.functions.coming; branches = branches_data test.branches.coming }
+abbrev pub test_staged : {A : Type 0} → Test A → TestData
+test_staged test = record { lines = test.lines.staged; functions = test.functions.staged; branches = branches_data test.branches.staged }

@@ -1,11 +1,11 @@
 -- Totals over rows: the items of one file over all tests, its points that are hit, and what is counted of them.
-use Rattle.std.specs.Prelude.{ℕ, Bool, false, nat_lt, ◌==◌, ◌&&◌, List, [], ◌∷◌, length, map, filter, count_by, if◌then◌else◌}
+use Rattle.std.specs.Prelude.{ℕ, Bool, false, nat_lt, ◌==◌, ◌&&◌, List, length, map, filter, count_by}
 use Rattle.std.specs.declared.cmp.Ordering.{Ordering}
 use Rattle.std.specs.Ordering.{nat_cmp}
 use Rattle.std.specs.Cmp.Lexicographic.{slice_cmp}
 use Rattle.std.specs.Str.{bytes_eq}
 use Rattle.std.specs.List.{flat_map, list_any, sum_by}
-use Rattle.covline.specs.Row.{ItemData, LineItem, FuncItem, BranchItem, SectData, Row}
+use Rattle.covline.specs.Row.{ItemData, LineItem, FuncItem, BranchItem, Row}
 use Rattle.covline.specs.Points.{BranchPoint, line_point, func_point, branch_point}
 use Rattle.covstore.specs.declared.totals.Totals.{Totals}
 use Rattle.covstore.specs.Ascending.{ascending}

@@ -3,22 +3,22 @@
 ghost use Rattle.std.specs.Prelude.{◌≡◌, ◌<◌, ◌^◌, [], true, Some, is_some, option_map, IfErr, IfSome, OnOk};
 ghost use Rattle.covstore.specs.Checksums.{IsToldOf, IsHeldToo, KeepsTexts, StayTexts, held_more};
 ghost use Rattle.covstore.specs.Fewer.{held_less, one_less};
-ghost use Rattle.covstore.specs.Puts.{put, value_of};
+ghost use Rattle.covmap.specs.Puts.{put, value_of};
 ghost use Rattle.covstore.specs.declared.stop.Stop.TheVariants as stops;
 ghost use Rattle.std.specs.Ordering.{nat_cmp};
 
-use crate::points::Points;
 use crate::stop::Stop;
 use covline::Bytes;
+use covmap::StagedMap;
 use std::alloc::Allocator;
 use std::collections::BTreeMap;
 use std::marker::Model;
 
-/// How many tests hold a checksum of a line, as it is and as it is to be, and what the checksums are: among them some that
+/// How many tests hold a checksum of a line, committed and staged, and what the checksums are: among them some that
 /// no test holds any more, in whose place another may come. Contracts see both.
 #[derive(Drop)]
 pub(crate) struct Checksums<A: Allocator> {
-    holders: Points<u64, u64, A>,
+    holders: StagedMap<u64, u64, A>,
     texts: BTreeMap<u64, Bytes<A>, A>,
 }
 
@@ -27,20 +27,20 @@ impl<A: Allocator> Model for Checksums<A> {
 
     ghost Value = { ChecksumsData };
 
-    ghost view = { λ c. record { held = c.holders.held; coming = c.holders.coming; texts = c.texts.entries } };
+    ghost view = { λ c. record { committed = c.holders.committed; staged = c.holders.staged; texts = c.texts.entries } };
 
-    ghost invariant = { λ c. HaveTexts c.holders.held c.texts.entries × HaveTexts c.holders.coming c.texts.entries × AreAmong c.holders.held c.holders.coming };
+    ghost invariant = { λ c. HaveTexts c.holders.committed c.texts.entries × HaveTexts c.holders.staged c.texts.entries × AreAmong c.holders.committed c.holders.staged };
 }
 
 impl<A: Allocator + Copy> Checksums<A> {
     /// No checksums.
     pub(crate) fn new(alloc: A) -> Checksums<A>
-        ensures held { result.held ≡ [] }
-        ensures coming { result.coming ≡ [] }
+        ensures committed { result.committed ≡ [] }
+        ensures staged { result.staged ≡ [] }
         ensures texts { result.texts ≡ [] }
     {
         Checksums {
-            holders: Points::new(alloc),
+            holders: StagedMap::new(alloc),
             texts: BTreeMap::new(alloc),
         }
     }
@@ -53,16 +53,16 @@ impl<A: Allocator + Copy> Checksums<A> {
         text: &[u8],
         is_held: bool,
     ) -> Result<(), Stop<A>>
-        requires holds { is_held ≡ true → is_some (value_of nat_cmp line self.old.coming) ≡ true }
-        requires room { IfSome (value_of nat_cmp line self.old.coming) (λ tests. tests < 2 ^ 63) }
-        ensures held { self.new.held ≡ self.old.held }
-        ensures ok { OnOk result (self.new.coming ≡ held_more line is_held self.old.coming) }
+        requires holds { is_held ≡ true → is_some (value_of nat_cmp line self.old.staged) ≡ true }
+        requires room { IfSome (value_of nat_cmp line self.old.staged) (λ tests. tests < 2 ^ 63) }
+        ensures committed { self.new.committed ≡ self.old.committed }
+        ensures ok { OnOk result (self.new.staged ≡ held_more line is_held self.old.staged) }
         ensures text { OnOk result (IsHeldToo line text.now self.old self.new) }
-        ensures others { OnOk result (KeepsTexts self.old.coming self.old.texts self.new.coming self.new.texts) }
-        ensures stay { StayTexts self.old.held self.old.texts self.new.texts }
+        ensures others { OnOk result (KeepsTexts self.old.staged self.old.texts self.new.staged self.new.texts) }
+        ensures stay { StayTexts self.old.committed self.old.texts self.new.texts }
         ensures clash { IfErr result (IsToldOf self.old line text.now) }
     {
-        let Some(tests) = self.holders.coming_at(line) else {
+        let Some(tests) = self.holders.lookup_staged(line) else {
             self.texts.insert(line, Bytes::of(alloc, text)?)?;
             return self.count(alloc, line, 1);
         };
@@ -73,16 +73,16 @@ impl<A: Allocator + Copy> Checksums<A> {
         self.count(alloc, line, tests + 1)
     }
 
-    /// So many tests hold the checksum of a line, which has its text. A refusal forgets what is to come.
+    /// So many tests hold the checksum of a line, which has its text. A refusal forgets what is staged.
     fn count(&mut self, alloc: A, line: u64, tests: u64) -> Result<(), Stop<A>>
         requires { is_some (value_of nat_cmp line self.old.texts) ≡ true }
-        ensures held { self.new.held ≡ self.old.held }
+        ensures committed { self.new.committed ≡ self.old.committed }
         ensures texts { self.new.texts ≡ self.old.texts }
-        ensures ok { OnOk result (self.new.coming ≡ put nat_cmp line tests self.old.coming) }
+        ensures ok { OnOk result (self.new.staged ≡ put nat_cmp line tests self.old.staged) }
         ensures err { IfErr result (λ stop. stop ≡ stops.Memory) }
     {
-        if self.holders.put(alloc, line, tests).is_err() {
-            self.holders.forget();
+        if self.holders.stage(alloc, line, tests).is_err() {
+            self.holders.rollback();
             return Err(Stop::Memory);
         }
         Ok(())
@@ -90,7 +90,7 @@ impl<A: Allocator + Copy> Checksums<A> {
 
     /// Tells the checksum that is held of a line, where it is another one than this.
     fn agrees(&self, alloc: A, line: u64, text: &[u8]) -> Result<(), Stop<A>>
-        requires held { is_some (value_of nat_cmp line self.now.coming) ≡ true }
+        requires committed { is_some (value_of nat_cmp line self.now.staged) ≡ true }
         requires kept { is_some (value_of nat_cmp line self.now.texts) ≡ true }
         ensures ok { OnOk result (value_of nat_cmp line self.now.texts ≡ Some text.now) }
         ensures clash { IfErr result (IsToldOf self.now line text.now) }
@@ -107,35 +107,35 @@ impl<A: Allocator + Copy> Checksums<A> {
         Ok(())
     }
 
-    /// What was to come is there.
-    pub(crate) fn take(&mut self)
-        ensures held { self.new.held ≡ self.old.coming }
-        ensures coming { self.new.coming ≡ self.old.coming }
+    /// Commits what is staged. Takes no memory.
+    pub(crate) fn commit(&mut self)
+        ensures committed { self.new.committed ≡ self.old.staged }
+        ensures staged { self.new.staged ≡ self.old.staged }
         ensures texts { self.new.texts ≡ self.old.texts }
     {
-        self.holders.take();
+        self.holders.commit();
     }
 
-    /// Nothing is to come.
-    pub(crate) fn forget(&mut self)
-        ensures held { self.new.held ≡ self.old.held }
-        ensures coming { self.new.coming ≡ self.old.held }
+    /// Forgets what is staged. Takes no memory.
+    pub(crate) fn rollback(&mut self)
+        ensures committed { self.new.committed ≡ self.old.committed }
+        ensures staged { self.new.staged ≡ self.old.committed }
         ensures texts { self.new.texts ≡ self.old.texts }
     {
-        self.holders.forget();
+        self.holders.rollback();
     }
 }
 
 impl<A: Allocator> Checksums<A> {
-    /// A test less holds the checksum of a line. Nothing else is to come then. Takes no memory.
+    /// A test less holds the checksum of a line. Nothing else is staged then. Takes no memory.
     pub(crate) fn release(&mut self, line: u64)
-        requires { is_some (value_of nat_cmp line self.old.held) ≡ true }
-        ensures held { self.new.held ≡ held_less line self.old.held }
-        ensures coming { self.new.coming ≡ self.new.held }
+        requires { is_some (value_of nat_cmp line self.old.committed) ≡ true }
+        ensures committed { self.new.committed ≡ held_less line self.old.committed }
+        ensures staged { self.new.staged ≡ self.new.committed }
         ensures texts { self.new.texts ≡ self.old.texts }
     {
-        if let Some(tests) = self.holders.held(line) {
-            self.holders.exchange(line, one_less(tests));
+        if let Some(tests) = self.holders.lookup(line) {
+            self.holders.replace(line, one_less(tests));
         }
     }
 

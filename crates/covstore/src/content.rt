@@ -7,7 +7,7 @@ mod points;
 
 pub use self::points::{Branches, Functions, Lines};
 use crate::file::File;
-use crate::marks::Marks;
+use crate::index::FileIndex;
 use crate::test::Test;
 use std::alloc::{Allocator, Global};
 use std::collections::btree_map::Iter;
@@ -17,7 +17,7 @@ use std::marker::Model;
 #[derive(Drop)]
 pub(crate) struct FileSections<'a, A: Allocator> {
     file: &'a [u8],
-    marks: &'a Marks<A>,
+    index: &'a FileIndex<A>,
     tests: Iter<'a, Vec<u8, A>, Test<A>>,
 }
 
@@ -29,9 +29,9 @@ impl<'a, A: Allocator> Model for FileSections<'a, A> {
 
     ghost Value = { List SectionData };
 
-    ghost view = { λ s. tests_seen (λ name. name.items) s.file.now s.marks.now.checksums.texts s.tests };
+    ghost view = { λ s. tests_seen (λ name. name.items) s.file.now s.index.now.checksums.texts s.tests };
 
-    ghost invariant = { λ s. AllByRecursion IsFewOf (tests_seen (λ name. name.items) s.file.now s.marks.now.checksums.texts s.tests) };
+    ghost invariant = { λ s. AllByRecursion IsFewOf (tests_seen (λ name. name.items) s.file.now s.index.now.checksums.texts s.tests) };
 }
 
 impl<'a, A: Allocator> Iterator for FileSections<'a, A> {
@@ -50,7 +50,7 @@ impl<'a, A: Allocator> Iterator for FileSections<'a, A> {
                 return Some(Section {
                     file: self.file,
                     test: test.as_slice(),
-                    marks: self.marks,
+                    index: self.index,
                     points,
                 });
             }
@@ -63,7 +63,7 @@ impl<'a, A: Allocator> Iterator for FileSections<'a, A> {
 pub struct Section<'a, A: Allocator = Global> {
     file: &'a [u8],
     test: &'a [u8],
-    marks: &'a Marks<A>,
+    index: &'a FileIndex<A>,
     points: &'a Test<A>,
 }
 
@@ -71,13 +71,13 @@ impl<'a, A: Allocator> Model for Section<'a, A> {
     ghost use Rattle.covstore.specs.Content.{SectionData};
     ghost use Rattle.covstore.specs.SeenView.{IsFewOf};
     ghost use Rattle.covstore.specs.State.{section_with_points};
-    ghost use Rattle.covstore.specs.TestView.{test_held};
+    ghost use Rattle.covstore.specs.TestView.{test_committed};
 
     ghost Value = { SectionData };
 
-    ghost view = { λ s. section_with_points s.file.now s.marks.now.checksums.texts s.test.now (test_held s.points.now) };
+    ghost view = { λ s. section_with_points s.file.now s.index.now.checksums.texts s.test.now (test_committed s.points.now) };
 
-    ghost invariant = { λ s. IsFewOf (section_with_points s.file.now s.marks.now.checksums.texts s.test.now (test_held s.points.now)) };
+    ghost invariant = { λ s. IsFewOf (section_with_points s.file.now s.index.now.checksums.texts s.test.now (test_committed s.points.now)) };
 }
 
 impl<'a, A: Allocator> Section<'a, A> {
@@ -102,7 +102,7 @@ impl<'a, A: Allocator> Section<'a, A> {
         ensures value { result ≡ self.now.functions }
         ensures few { length result < 2 ^ 64 }
     {
-        Functions::of(self.points.functions.filled())
+        Functions::of(self.points.functions.entries())
     }
 
     /// The branches, ascending by line, block and number.
@@ -110,7 +110,7 @@ impl<'a, A: Allocator> Section<'a, A> {
         ensures value { result ≡ self.now.branches }
         ensures few { length result < 2 ^ 64 }
     {
-        Branches::of(self.points.branches.filled())
+        Branches::of(self.points.branches.entries())
     }
 
     /// The lines, ascending by number.
@@ -118,25 +118,25 @@ impl<'a, A: Allocator> Section<'a, A> {
         ensures value { result ≡ self.now.lines }
         ensures few { length result < 2 ^ 64 }
     {
-        Lines::of(self.points.lines.filled(), &self.marks.checksums)
+        Lines::of(self.points.lines.entries(), &self.index.checksums)
     }
 }
 
 impl<'a, A: Allocator> FileSections<'a, A> {
     ghost use Rattle.std.specs.Prelude.{◌≡◌};
     ghost use Rattle.std.specs.List.{AllByRecursion};
-    ghost use Rattle.covstore.specs.FileView.{file_held};
+    ghost use Rattle.covstore.specs.FileView.{file_committed};
     ghost use Rattle.covstore.specs.SeenView.{IsFewOf};
     ghost use Rattle.covstore.specs.State.{sections_of_file};
 
     /// The sections of a file.
     fn of(name: &'a [u8], file: &'a File<A>) -> FileSections<'a, A>
-        requires { AllByRecursion IsFewOf (sections_of_file (name.now, file_held file.now)) }
-        ensures { result ≡ sections_of_file (name.now, file_held file.now) }
+        requires { AllByRecursion IsFewOf (sections_of_file (name.now, file_committed file.now)) }
+        ensures { result ≡ sections_of_file (name.now, file_committed file.now) }
     {
         FileSections {
             file: name,
-            marks: &file.marks,
+            index: &file.index,
             tests: file.tests.iter(),
         }
     }
@@ -165,14 +165,14 @@ impl<'a, A: Allocator> Model for Sections<'a, A> {
 impl<'a, A: Allocator> Sections<'a, A> {
     ghost use Rattle.std.specs.Prelude.{◌≡◌};
     ghost use Rattle.std.specs.List.{AllByRecursion};
-    ghost use Rattle.covstore.specs.MapsView.{files_held};
+    ghost use Rattle.covstore.specs.MapsView.{files_committed};
     ghost use Rattle.covstore.specs.SeenView.{IsFewOf};
     ghost use Rattle.covstore.specs.State.{sections_of};
 
     /// The sections of these files.
     pub(crate) fn of(files: Iter<'a, Vec<u8, A>, File<A>>) -> Sections<'a, A>
-        requires { AllByRecursion IsFewOf (sections_of (files_held (λ name. name.items) files)) }
-        ensures { result ≡ sections_of (files_held (λ name. name.items) files.entry) }
+        requires { AllByRecursion IsFewOf (sections_of (files_committed (λ name. name.items) files)) }
+        ensures { result ≡ sections_of (files_committed (λ name. name.items) files.entry) }
     {
         Sections {
             current: None,

@@ -4,8 +4,8 @@ ghost use Rattle.std.specs.Prelude.{◌≡◌, ℕ, List, true, count_by, map, I
 ghost use Rattle.std.specs.List.{AllByRecursion};
 ghost use Rattle.covstore.specs.Dropped.{AreWithoutTest, IsWithoutTest};
 ghost use Rattle.covstore.specs.Exchanged.{FitTotals};
-ghost use Rattle.covstore.specs.FileView.{file_held};
-ghost use Rattle.covstore.specs.MapsView.{AreSettledBut, IsSettledBut, files_held};
+ghost use Rattle.covstore.specs.FileView.{file_committed};
+ghost use Rattle.covstore.specs.MapsView.{AreSettledBut, IsSettledBut, files_committed};
 ghost use Rattle.covstore.specs.Renaming.{names_with};
 ghost use Rattle.covstore.specs.State.{FileData, IsWholeFile, has_points_of, totals_in};
 
@@ -20,16 +20,16 @@ pub(crate) fn drop_from_files<K: Ord + Drop, A: Allocator + Copy>(
     files: &mut BTreeMap<K, File<A>, A>,
     test: &[u8],
 )
-    requires { AllByRecursion (λ pair. IsWholeFile (file_held pair.1)) files.old.entries }
-    ensures held { (name : K → List ℕ) → AreWithoutTest test.now (files_held name files.old.entries) (files_held name files.new.entries) }
+    requires { AllByRecursion (λ pair. IsWholeFile (file_committed pair.1)) files.old.entries }
+    ensures committed { (name : K → List ℕ) → AreWithoutTest test.now (files_committed name files.old.entries) (files_committed name files.new.entries) }
     ensures settled { (name : K → List ℕ) (touched : List (List ℕ × List ℕ)) → AreSettledBut name touched files.old.entries → AreSettledBut name touched files.new.entries }
 {
     // A walk over the values would not say what it leaves of them.
     files.retain(
         |_, file|
-            requires { IsWholeFile (file_held file.old) }
+            requires { IsWholeFile (file_committed file.old) }
             ensures stays { result ≡ true }
-            ensures held { IsWithoutTest test.entry.now (file_held file.old) (file_held file.new) }
+            ensures committed { IsWithoutTest test.entry.now (file_committed file.old) (file_committed file.new) }
             ensures settled { (tests : List (List ℕ)) → IsSettledBut tests file.old → IsSettledBut tests file.new }
         {
             file.drop_test(test);
@@ -43,10 +43,10 @@ pub(crate) fn count_without<A: Allocator + Copy>(
     files: &BTreeMap<Vec<u8, A>, File<A>, A>,
     test: &[u8],
 ) -> (u64, Totals)
-    requires whole { AllByRecursion (λ pair. IsWholeFile pair.1) (files_held (λ name. name.items) files.now.entries) }
-    requires fits { (after : List (List ℕ × FileData)) × AreWithoutTest test.now (files_held (λ name. name.items) files.now.entries) after × FitTotals (totals_in after) }
-    ensures sections { result.0 ≡ count_by (λ pair. has_points_of test.now pair.1) (files_held (λ name. name.items) files.now.entries) }
-    ensures totals { (after : List (List ℕ × FileData)) → AreWithoutTest test.now (files_held (λ name. name.items) files.now.entries) after → result.1 ≡ totals_in after }
+    requires whole { AllByRecursion (λ pair. IsWholeFile pair.1) (files_committed (λ name. name.items) files.now.entries) }
+    requires fits { (after : List (List ℕ × FileData)) × AreWithoutTest test.now (files_committed (λ name. name.items) files.now.entries) after × FitTotals (totals_in after) }
+    ensures sections { result.0 ≡ count_by (λ pair. has_points_of test.now pair.1) (files_committed (λ name. name.items) files.now.entries) }
+    ensures totals { (after : List (List ℕ × FileData)) → AreWithoutTest test.now (files_committed (λ name. name.items) files.now.entries) after → result.1 ≡ totals_in after }
 {
     let mut sections = 0;
     let mut totals = Totals::none();
@@ -64,7 +64,7 @@ pub(crate) fn names_with<A: Allocator + Copy>(
     alloc: A,
     test: &[u8],
 ) -> Result<Vec<Vec<u8, A>, A>, Memory>
-    ensures { IfOk result (λ names. map (λ name. name.items) names.items ≡ names_with test.now (files_held (λ name. name.items) files.now.entries)) }
+    ensures { IfOk result (λ names. map (λ name. name.items) names.items ≡ names_with test.now (files_committed (λ name. name.items) files.now.entries)) }
 {
     let mut names = Vec::new(alloc);
     for (name, file) in files.iter() {

@@ -3,7 +3,7 @@
 ghost use Rattle.std.specs.Prelude.{◌≡◌, ℕ, List, [], ◌∷◌, ◌++◌, map, IfErr, IfOk, OnErr, OnOk};
 
 use crate::copies::add_values;
-use crate::marks::Marks;
+use crate::index::FileIndex;
 use crate::refuse::Refuse;
 use crate::section::add_items;
 use crate::stop::Stop;
@@ -18,7 +18,7 @@ use std::mem;
 #[derive(Drop)]
 pub(crate) struct File<A: Allocator> {
     pub tests: BTreeMap<Vec<u8, A>, Test<A>, A>,
-    pub marks: Marks<A>,
+    pub index: FileIndex<A>,
 }
 
 impl<A: Allocator + Copy> File<A> {
@@ -30,9 +30,9 @@ impl<A: Allocator + Copy> File<A> {
     ghost use Rattle.covline.specs.Row.{item_data};
     ghost use Rattle.covstore.specs.Dropped.{IsWithoutTest};
     ghost use Rattle.covstore.specs.FileAdds.{AddsItems, ClashesIn, HasRoomIn};
-    ghost use Rattle.covstore.specs.FileView.{KeepsFile, file_coming, file_held, no_file, with_test};
+    ghost use Rattle.covstore.specs.FileView.{KeepsFile, file_staged, file_committed, no_file, with_test};
     ghost use Rattle.covstore.specs.MapsView.{IsSettledBut};
-    ghost use Rattle.covstore.specs.Puts.{value_of};
+    ghost use Rattle.covmap.specs.Puts.{value_of};
     ghost use Rattle.covstore.specs.RefuseView.{refuse_data};
     ghost use Rattle.covstore.specs.Renaming.{CopiesIn, HasRoomToCopyIn};
     ghost use Rattle.covstore.specs.SectionAdds.{RefusedIn};
@@ -40,22 +40,22 @@ impl<A: Allocator + Copy> File<A> {
 
     /// No tests.
     pub(crate) fn new(alloc: A) -> File<A>
-        ensures held { file_held result ≡ no_file }
-        ensures coming { file_coming result ≡ no_file }
+        ensures committed { file_committed result ≡ no_file }
+        ensures staged { file_staged result ≡ no_file }
         ensures settled { (tests : List (List ℕ)) → IsSettledBut tests result }
     {
         File {
             tests: BTreeMap::new(alloc),
-            marks: Marks::new(alloc),
+            index: FileIndex::new(alloc),
         }
     }
 
     /// Sees to it that the test is there.
     pub(crate) fn open(&mut self, alloc: A, test: &[u8]) -> Result<(), Memory>
-        ensures held { OnOk result (file_held self.new ≡ with_test test.now (file_held self.old)) }
-        ensures coming { OnOk result (file_coming self.new ≡ with_test test.now (file_coming self.old)) }
-        ensures err_held { OnErr result (file_held self.new ≡ file_held self.old) }
-        ensures err_coming { OnErr result (file_coming self.new ≡ file_coming self.old) }
+        ensures committed { OnOk result (file_committed self.new ≡ with_test test.now (file_committed self.old)) }
+        ensures staged { OnOk result (file_staged self.new ≡ with_test test.now (file_staged self.old)) }
+        ensures err_committed { OnErr result (file_committed self.new ≡ file_committed self.old) }
+        ensures err_staged { OnErr result (file_staged self.new ≡ file_staged self.old) }
         ensures settled { (tests : List (List ℕ)) → IsSettledBut tests self.old → IsSettledBut tests self.new }
     {
         if self.tests.contains_key(test) {
@@ -66,23 +66,23 @@ impl<A: Allocator + Copy> File<A> {
         Ok(())
     }
 
-    /// Takes the items of a test into what is to come, in order, up to the first that clashes.
+    /// Stages the items of a test, in order, up to the first that clashes.
     pub(crate) fn add(&mut self, alloc: A, test: &[u8], items: &[Item<A>]) -> Result<(), Stop<A>>
-        requires room { HasRoomIn (map item_data items.now) test.now (file_coming self.old) }
-        ensures held { KeepsFile (file_held self.old) (file_held self.new) }
-        ensures ok { OnOk result (AddsItems (map item_data items.now) test.now (file_coming self.old) (file_coming self.new)) }
-        ensures clash { IfErr result (ClashesIn (map item_data items.now) test.now (file_coming self.old)) }
+        requires room { HasRoomIn (map item_data items.now) test.now (file_staged self.old) }
+        ensures committed { KeepsFile (file_committed self.old) (file_committed self.new) }
+        ensures ok { OnOk result (AddsItems (map item_data items.now) test.now (file_staged self.old) (file_staged self.new)) }
+        ensures clash { IfErr result (ClashesIn (map item_data items.now) test.now (file_staged self.old)) }
         ensures settled { (tests : List (List ℕ)) → list_any (λ name. bytes_eq name test.now) tests ≡ true → IsSettledBut tests self.old → IsSettledBut tests self.new }
     {
         // Tells that a map has fewer than 2^63 entries.
         self.tests.len();
         match self.tests.get_mut(test) {
-            Some(points) => add_items(points, &mut self.marks, alloc, items),
+            Some(points) => add_items(points, &mut self.index, alloc, items),
             None => Ok(()),
         }
     }
 
-    /// Takes the items of a test of this file, and tells the file's totals as they were to be and as they are to be now.
+    /// Stages the items of a test of this file, and tells the file's staged totals before and after.
     pub(crate) fn exchange(
         &mut self,
         alloc: A,
@@ -90,11 +90,11 @@ impl<A: Allocator + Copy> File<A> {
         test: &[u8],
         items: &[Item<A>],
     ) -> Result<(Totals, Totals), Refuse<A>>
-        requires { HasRoomIn (map item_data items.now) test.now (file_coming self.old) }
-        ensures held { KeepsFile (file_held self.old) (file_held self.new) }
-        ensures ok { OnOk result (AddsItems (map item_data items.now) test.now (file_coming self.old) (file_coming self.new)) }
-        ensures totals { IfOk result (λ t. (t.0 ≡ file_totals (file_coming self.old)) × (t.1 ≡ file_totals (file_coming self.new))) }
-        ensures clash { IfErr result (λ e. RefusedIn (map item_data items.now) file.now test.now (file_coming self.old) (refuse_data e)) }
+        requires { HasRoomIn (map item_data items.now) test.now (file_staged self.old) }
+        ensures committed { KeepsFile (file_committed self.old) (file_committed self.new) }
+        ensures ok { OnOk result (AddsItems (map item_data items.now) test.now (file_staged self.old) (file_staged self.new)) }
+        ensures totals { IfOk result (λ t. (t.0 ≡ file_totals (file_staged self.old)) × (t.1 ≡ file_totals (file_staged self.new))) }
+        ensures clash { IfErr result (λ e. RefusedIn (map item_data items.now) file.now test.now (file_staged self.old) (refuse_data e)) }
         ensures settled { (tests : List (List ℕ)) → list_any (λ name. bytes_eq name test.now) tests ≡ true → IsSettledBut tests self.old → IsSettledBut tests self.new }
     {
         let before = self.totals();
@@ -110,13 +110,13 @@ impl<A: Allocator + Copy> File<A> {
         }
     }
 
-    /// Takes what a test has into what is to come of another test of the file. Both are there.
+    /// Stages what a test has for another test of the file. Both are there.
     pub(crate) fn copy_test(&mut self, alloc: A, old: &[u8], new: &[u8]) -> Result<(), Memory>
         requires apart { old.now ≢ new.now }
-        requires room { HasRoomToCopyIn old.now new.now (file_coming self.old) }
-        requires same { value_of (slice_cmp nat_cmp) old.now (file_coming self.old).tests ≡ value_of (slice_cmp nat_cmp) old.now (file_held self.old).tests }
-        ensures held { KeepsFile (file_held self.old) (file_held self.new) }
-        ensures ok { OnOk result (CopiesIn old.now new.now (file_coming self.old) (file_coming self.new)) }
+        requires room { HasRoomToCopyIn old.now new.now (file_staged self.old) }
+        requires same { value_of (slice_cmp nat_cmp) old.now (file_staged self.old).tests ≡ value_of (slice_cmp nat_cmp) old.now (file_committed self.old).tests }
+        ensures committed { KeepsFile (file_committed self.old) (file_committed self.new) }
+        ensures ok { OnOk result (CopiesIn old.now new.now (file_staged self.old) (file_staged self.new)) }
         ensures settled { (tests : List (List ℕ)) → list_any (λ name. bytes_eq name new.now) tests ≡ true → IsSettledBut tests self.old → IsSettledBut tests self.new }
     {
         // Tells that a map has fewer than 2^63 entries.
@@ -127,7 +127,7 @@ impl<A: Allocator + Copy> File<A> {
         // Lifted out while the other test is looked at.
         let mut points = mem::replace(place, Test::new(alloc));
         let added = match self.tests.get(old) {
-            Some(source) => add_values(&mut points, &mut self.marks, alloc, source),
+            Some(source) => add_values(&mut points, &mut self.index, alloc, source),
             None => Ok(()),
         };
         if let Some(place) = self.tests.get_mut(new) {
@@ -136,38 +136,38 @@ impl<A: Allocator + Copy> File<A> {
         added
     }
 
-    /// What was to come of a test, and of what is kept of the file, is there.
-    pub(crate) fn take(&mut self, test: &[u8])
-        ensures coming { file_coming self.new ≡ file_coming self.old }
+    /// Commits what is staged of a test and of the index of the file.
+    pub(crate) fn commit(&mut self, test: &[u8])
+        ensures staged { file_staged self.new ≡ file_staged self.old }
         ensures settled { (tests : List (List ℕ)) → IsSettledBut (tests ++ test.now ∷ []) self.old → IsSettledBut tests self.new }
     {
         if let Some(points) = self.tests.get_mut(test) {
-            points.take();
+            points.commit();
         }
-        self.marks.take();
+        self.index.commit();
     }
 
-    /// Nothing is to come of a test, nor of what is kept of the file.
-    pub(crate) fn forget(&mut self, test: &[u8])
-        ensures held { file_held self.new ≡ file_held self.old }
+    /// Forgets what is staged of a test and of the index of the file.
+    pub(crate) fn rollback(&mut self, test: &[u8])
+        ensures committed { file_committed self.new ≡ file_committed self.old }
         ensures settled { (tests : List (List ℕ)) → IsSettledBut (tests ++ test.now ∷ []) self.old → IsSettledBut tests self.new }
     {
         if let Some(points) = self.tests.get_mut(test) {
-            points.forget();
+            points.rollback();
         }
-        self.marks.forget();
+        self.index.rollback();
     }
 
-    /// The file's totals as they are to be.
+    /// The staged totals of the file.
     pub(crate) fn totals(&self) -> Totals
-        ensures { result ≡ file_totals (file_coming self.now) }
+        ensures { result ≡ file_totals (file_staged self.now) }
     {
-        self.marks.totals()
+        self.index.totals()
     }
 
     /// Whether the test has points now.
     pub(crate) fn has_test(&self, test: &[u8]) -> bool
-        ensures { result ≡ has_points_of test.now (file_held self.now) }
+        ensures { result ≡ has_points_of test.now (file_committed self.now) }
     {
         match self.tests.get(test) {
             Some(points) => !points.is_empty(),
@@ -177,24 +177,24 @@ impl<A: Allocator + Copy> File<A> {
 
     /// The test is gone, with its points. Takes no memory.
     pub(crate) fn drop_test(&mut self, test: &[u8])
-        requires { IsWholeFile (file_held self.old) }
-        ensures held { IsWithoutTest test.now (file_held self.old) (file_held self.new) }
+        requires { IsWholeFile (file_committed self.old) }
+        ensures committed { IsWithoutTest test.now (file_committed self.old) (file_committed self.new) }
         ensures settled { (tests : List (List ℕ)) → IsSettledBut tests self.old → IsSettledBut tests self.new }
     {
         if let Some(points) = self.tests.remove(test) {
-            self.marks.drop_points(&points);
+            self.index.drop_points(&points);
         }
     }
 
     /// Whether the test has points now, and the file's totals where it is gone. Takes no memory.
     pub(crate) fn without_test(&self, test: &[u8]) -> (bool, Totals)
-        requires { IsWholeFile (file_held self.now) }
-        ensures has_points { result.0 ≡ has_points_of test.now (file_held self.now) }
-        ensures totals { (after : FileData) → IsWithoutTest test.now (file_held self.now) after → result.1 ≡ file_totals after }
+        requires { IsWholeFile (file_committed self.now) }
+        ensures has_points { result.0 ≡ has_points_of test.now (file_committed self.now) }
+        ensures totals { (after : FileData) → IsWithoutTest test.now (file_committed self.now) after → result.1 ≡ file_totals after }
     {
         if let Some(points) = self.tests.get(test) {
-            return (!points.is_empty(), self.marks.totals_without(points));
+            return (!points.is_empty(), self.index.totals_without(points));
         }
-        (false, self.marks.totals_now())
+        (false, self.index.totals_now())
     }
 }

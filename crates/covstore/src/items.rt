@@ -2,36 +2,36 @@
 
 ghost use Rattle.std.specs.Prelude.{◌≡◌, option_map, IfErr, OnOk};
 ghost use Rattle.covline.specs.Row.{LineItem, FuncItem, BranchItem, item_data};
-ghost use Rattle.covstore.specs.MarksView.{marks_coming, marks_held};
-ghost use Rattle.covstore.specs.TestView.{test_coming, test_held};
+ghost use Rattle.covstore.specs.FileIndexView.{index_staged, index_committed};
+ghost use Rattle.covstore.specs.TestView.{test_staged, test_committed};
 ghost use Rattle.covstore.specs.Sums.{with_item};
 ghost use Rattle.covstore.specs.Steps.{HasRoom, IsClashOf, IsTextOf, KeepsCounts, KeepsTextsOf};
-ghost use Rattle.covstore.specs.MarksView.{KeepsHeld};
+ghost use Rattle.covstore.specs.FileIndexView.{KeepsCommitted};
 ghost use Rattle.covstore.specs.declared.stop.Stop.TheVariants as stops;
 
-use crate::kept::Change;
-use crate::marks::Marks;
+use crate::index::FileIndex;
+use crate::kind_index::PointChange;
 use crate::stop::Stop;
-use crate::sums::{FunctionMore, FunctionSum, LineMore, LineSum, Taken, TakenMore};
+use crate::sums::{BranchAddend, BranchSum, FunctionAddend, FunctionSum, LineAddend, LineSum};
 use crate::test::Test;
 use covline::{BranchPoint, Item};
 use std::alloc::Allocator;
 
-/// Takes an item into what is to come.
+/// Stages an item.
 pub(crate) fn add_item<A: Allocator + Copy>(
     test: &mut Test<A>,
-    marks: &mut Marks<A>,
+    index: &mut FileIndex<A>,
     alloc: A,
     item: &Item<A>,
 ) -> Result<(), Stop<A>>
-    requires room { HasRoom (test_coming test.old) (marks_coming marks.old) }
-    ensures test_held { test_held test.new ≡ test_held test.old }
-    ensures marks_held { KeepsHeld marks.old marks.new }
-    ensures test { OnOk result (test_coming test.new ≡ with_item (item_data item.now) (test_coming test.old)) }
-    ensures counts { OnOk result (KeepsCounts (test_coming test.old) (test_coming test.new) (marks_coming marks.old) (marks_coming marks.new)) }
-    ensures text { OnOk result (IsTextOf (item_data item.now) (marks_coming marks.new)) }
-    ensures others { OnOk result (KeepsTextsOf (marks_coming marks.old) (marks_coming marks.new)) }
-    ensures clash { IfErr result (IsClashOf (item_data item.now) (marks_coming marks.old)) }
+    requires room { HasRoom (test_staged test.old) (index_staged index.old) }
+    ensures test_committed { test_committed test.new ≡ test_committed test.old }
+    ensures index_committed { KeepsCommitted index.old index.new }
+    ensures test { OnOk result (test_staged test.new ≡ with_item (item_data item.now) (test_staged test.old)) }
+    ensures counts { OnOk result (KeepsCounts (test_staged test.old) (test_staged test.new) (index_staged index.old) (index_staged index.new)) }
+    ensures text { OnOk result (IsTextOf (item_data item.now) (index_staged index.new)) }
+    ensures others { OnOk result (KeepsTextsOf (index_staged index.old) (index_staged index.new)) }
+    ensures clash { IfErr result (IsClashOf (item_data item.now) (index_staged index.old)) }
 {
     match item {
         Item::Line {
@@ -43,10 +43,10 @@ pub(crate) fn add_item<A: Allocator + Copy>(
                 Some(text) => Some(text.get()),
                 None => None,
             };
-            add_line(test, marks, alloc, *line, *count, text)
+            add_line(test, index, alloc, *line, *count, text)
         }
         Item::Func { name, line, count } => {
-            add_function(test, marks, alloc, name.get(), *line, *count)
+            add_function(test, index, alloc, name.get(), *line, *count)
         }
         Item::Branch {
             line,
@@ -59,34 +59,34 @@ pub(crate) fn add_item<A: Allocator + Copy>(
                 block: *block,
                 branch: *branch,
             };
-            add_branch(test, marks, alloc, point, *taken)
+            add_branch(test, index, alloc, point, *taken)
         }
     }
 }
 
-/// Takes a line's item.
+/// Stages a line's item.
 pub(crate) fn add_line<A: Allocator + Copy>(
     test: &mut Test<A>,
-    marks: &mut Marks<A>,
+    index: &mut FileIndex<A>,
     alloc: A,
     line: u64,
     count: u128,
     checksum: Option<&[u8]>,
 ) -> Result<(), Stop<A>>
-    requires room { HasRoom (test_coming test.old) (marks_coming marks.old) }
-    ensures test_held { test_held test.new ≡ test_held test.old }
-    ensures marks_held { KeepsHeld marks.old marks.new }
-    ensures test { OnOk result (test_coming test.new ≡ with_item (LineItem line count (option_map (λ c. c.now) checksum.entry)) (test_coming test.old)) }
-    ensures counts { OnOk result (KeepsCounts (test_coming test.old) (test_coming test.new) (marks_coming marks.old) (marks_coming marks.new)) }
-    ensures text { OnOk result (IsTextOf (LineItem line count (option_map (λ c. c.now) checksum.entry)) (marks_coming marks.new)) }
-    ensures others { OnOk result (KeepsTextsOf (marks_coming marks.old) (marks_coming marks.new)) }
-    ensures clash { IfErr result (IsClashOf (LineItem line count (option_map (λ c. c.now) checksum.entry)) (marks_coming marks.old)) }
+    requires room { HasRoom (test_staged test.old) (index_staged index.old) }
+    ensures test_committed { test_committed test.new ≡ test_committed test.old }
+    ensures index_committed { KeepsCommitted index.old index.new }
+    ensures test { OnOk result (test_staged test.new ≡ with_item (LineItem line count (option_map (λ c. c.now) checksum.entry)) (test_staged test.old)) }
+    ensures counts { OnOk result (KeepsCounts (test_staged test.old) (test_staged test.new) (index_staged index.old) (index_staged index.new)) }
+    ensures text { OnOk result (IsTextOf (LineItem line count (option_map (λ c. c.now) checksum.entry)) (index_staged index.new)) }
+    ensures others { OnOk result (KeepsTextsOf (index_staged index.old) (index_staged index.new)) }
+    ensures clash { IfErr result (IsClashOf (LineItem line count (option_map (λ c. c.now) checksum.entry)) (index_staged index.old)) }
 {
     let has_checksum = checksum.is_some();
-    let added = test.lines.add(
+    let added = test.lines.stage_sum(
         alloc,
         line,
-        LineMore {
+        LineAddend {
             count,
             has_checksum,
         },
@@ -94,67 +94,67 @@ pub(crate) fn add_line<A: Allocator + Copy>(
     )?;
     if let Some(text) = checksum {
         let is_held = LineSum::is_checked(&added.before);
-        marks.checksums.hold(alloc, line, text, is_held)?;
+        index.checksums.hold(alloc, line, text, is_held)?;
     }
     let was_above = LineSum::is_hit(&added.before);
-    let change = Change::of(added.before.is_some(), was_above, added.after.is_above());
-    marks.lines.add(alloc, line, change, added.place)?;
+    let change = PointChange::of(added.before.is_some(), was_above, added.after.is_above());
+    index.lines.add(alloc, line, change, added.place)?;
     Ok(())
 }
 
-/// Takes a function's item.
+/// Stages a function's item.
 pub(crate) fn add_function<A: Allocator + Copy>(
     test: &mut Test<A>,
-    marks: &mut Marks<A>,
+    index: &mut FileIndex<A>,
     alloc: A,
     name: &[u8],
     line: u64,
     count: u128,
 ) -> Result<(), Stop<A>>
-    requires room { HasRoom (test_coming test.old) (marks_coming marks.old) }
-    ensures test_held { test_held test.new ≡ test_held test.old }
-    ensures marks_held { KeepsHeld marks.old marks.new }
-    ensures test { OnOk result (test_coming test.new ≡ with_item (FuncItem name.now line count) (test_coming test.old)) }
-    ensures counts { OnOk result (KeepsCounts (test_coming test.old) (test_coming test.new) (marks_coming marks.old) (marks_coming marks.new)) }
-    ensures others { OnOk result (KeepsTextsOf (marks_coming marks.old) (marks_coming marks.new)) }
+    requires room { HasRoom (test_staged test.old) (index_staged index.old) }
+    ensures test_committed { test_committed test.new ≡ test_committed test.old }
+    ensures index_committed { KeepsCommitted index.old index.new }
+    ensures test { OnOk result (test_staged test.new ≡ with_item (FuncItem name.now line count) (test_staged test.old)) }
+    ensures counts { OnOk result (KeepsCounts (test_staged test.old) (test_staged test.new) (index_staged index.old) (index_staged index.new)) }
+    ensures others { OnOk result (KeepsTextsOf (index_staged index.old) (index_staged index.new)) }
     ensures clash { IfErr result (λ stop. stop ≡ stops.Memory) }
 {
-    let added = test.functions.add(
+    let added = test.functions.stage_sum(
         alloc,
         name,
-        FunctionMore { line, count },
+        FunctionAddend { line, count },
         test.functions.cursor(),
     )?;
     let was_above = FunctionSum::is_hit(&added.before);
-    let change = Change::of(added.before.is_some(), was_above, added.after.is_above());
-    marks.functions.add(alloc, name, change, added.place)?;
+    let change = PointChange::of(added.before.is_some(), was_above, added.after.is_above());
+    index.functions.add(alloc, name, change, added.place)?;
     Ok(())
 }
 
-/// Takes a branch's item.
+/// Stages a branch's item.
 pub(crate) fn add_branch<A: Allocator + Copy>(
     test: &mut Test<A>,
-    marks: &mut Marks<A>,
+    index: &mut FileIndex<A>,
     alloc: A,
     point: BranchPoint,
     taken: Option<u128>,
 ) -> Result<(), Stop<A>>
-    requires room { HasRoom (test_coming test.old) (marks_coming marks.old) }
-    ensures test_held { test_held test.new ≡ test_held test.old }
-    ensures marks_held { KeepsHeld marks.old marks.new }
-    ensures test { OnOk result (test_coming test.new ≡ with_item (BranchItem point.line point.block point.branch taken) (test_coming test.old)) }
-    ensures counts { OnOk result (KeepsCounts (test_coming test.old) (test_coming test.new) (marks_coming marks.old) (marks_coming marks.new)) }
-    ensures others { OnOk result (KeepsTextsOf (marks_coming marks.old) (marks_coming marks.new)) }
+    requires room { HasRoom (test_staged test.old) (index_staged index.old) }
+    ensures test_committed { test_committed test.new ≡ test_committed test.old }
+    ensures index_committed { KeepsCommitted index.old index.new }
+    ensures test { OnOk result (test_staged test.new ≡ with_item (BranchItem point.line point.block point.branch taken) (test_staged test.old)) }
+    ensures counts { OnOk result (KeepsCounts (test_staged test.old) (test_staged test.new) (index_staged index.old) (index_staged index.new)) }
+    ensures others { OnOk result (KeepsTextsOf (index_staged index.old) (index_staged index.new)) }
     ensures clash { IfErr result (λ stop. stop ≡ stops.Memory) }
 {
-    let added = test.branches.add(
+    let added = test.branches.stage_sum(
         alloc,
         point,
-        TakenMore { times: taken },
+        BranchAddend { times: taken },
         test.branches.cursor(),
     )?;
-    let was_above = Taken::is_hit(&added.before);
-    let change = Change::of(added.before.is_some(), was_above, added.after.is_above());
-    marks.branches.add(alloc, point, change, added.place)?;
+    let was_above = BranchSum::is_hit(&added.before);
+    let change = PointChange::of(added.before.is_some(), was_above, added.after.is_above());
+    index.branches.add(alloc, point, change, added.place)?;
     Ok(())
 }

@@ -8,7 +8,7 @@
 //! memory.
 //!
 //! A store is nested ordered maps: for each file its tests, for each test its points, and for each point of a file how
-//! many tests have it and how many have it above 0; totals run along. `prepare` puts what is to come beside what is held,
+//! many tests have it and how many have it above 0; totals run along. `prepare` stages values beside those that are committed,
 //! at the same places, and `commit` exchanges it.
 //!
 //! A sketch: a submission is held, and the counts of all lines are passed over.
@@ -34,16 +34,15 @@ mod content;
 mod copies;
 mod drops;
 mod file;
+mod index;
 mod items;
-mod kept;
+mod keys;
+mod kind_index;
 pub mod laws;
-mod marks;
 mod plan;
-mod points;
 mod refuse;
 mod renaming;
 mod section;
-mod slots;
 mod stop;
 mod store;
 mod sums;

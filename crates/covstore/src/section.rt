@@ -3,31 +3,31 @@
 ghost use Rattle.std.specs.Prelude.{◌≡◌, map, IfErr, OnOk};
 ghost use Rattle.covline.specs.Row.{item_data};
 ghost use Rattle.covstore.specs.Adds.{Adds, Clashes, HasRoomFor};
-ghost use Rattle.covstore.specs.MarksView.{KeepsHeld, marks_coming};
-ghost use Rattle.covstore.specs.TestView.{test_coming, test_held};
+ghost use Rattle.covstore.specs.FileIndexView.{KeepsCommitted, index_staged};
+ghost use Rattle.covstore.specs.TestView.{test_staged, test_committed};
 
+use crate::index::FileIndex;
 use crate::items::add_item;
-use crate::marks::Marks;
 use crate::stop::Stop;
 use crate::test::Test;
 use covline::Item;
 use std::alloc::Allocator;
 
-/// Takes the items into what is to come, in order, up to the first that clashes.
+/// Stages the items, in order, up to the first that clashes.
 pub(crate) fn add_items<A: Allocator + Copy>(
     test: &mut Test<A>,
-    marks: &mut Marks<A>,
+    index: &mut FileIndex<A>,
     alloc: A,
     items: &[Item<A>],
 ) -> Result<(), Stop<A>>
-    requires room { HasRoomFor (map item_data items.now) (test_coming test.old) (marks_coming marks.old) }
-    ensures test_held { test_held test.new ≡ test_held test.old }
-    ensures marks_held { KeepsHeld marks.old marks.new }
-    ensures ok { OnOk result (Adds (map item_data items.now) (test_coming test.old) (marks_coming marks.old) (test_coming test.new) (marks_coming marks.new)) }
-    ensures clash { IfErr result (Clashes (map item_data items.now) (test_coming test.old) (marks_coming marks.old)) }
+    requires room { HasRoomFor (map item_data items.now) (test_staged test.old) (index_staged index.old) }
+    ensures test_committed { test_committed test.new ≡ test_committed test.old }
+    ensures index_committed { KeepsCommitted index.old index.new }
+    ensures ok { OnOk result (Adds (map item_data items.now) (test_staged test.old) (index_staged index.old) (test_staged test.new) (index_staged index.new)) }
+    ensures clash { IfErr result (Clashes (map item_data items.now) (test_staged test.old) (index_staged index.old)) }
 {
     for item in items {
-        add_item(test, marks, alloc, item)?;
+        add_item(test, index, alloc, item)?;
     }
     Ok(())
 }

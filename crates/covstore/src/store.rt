@@ -1,7 +1,7 @@
 //! The store.
 
 ghost use Rattle.std.specs.Prelude.{◌≡◌, ◌+◌, ◌≤◌, [], OnOk};
-ghost use Rattle.covstore.specs.MapsView.{AreSettledBut, files_coming, files_held, touched_data};
+ghost use Rattle.covstore.specs.MapsView.{AreSettledBut, files_staged, files_committed, touched_data};
 
 use crate::content::Sections;
 use crate::drops::{count_without, drop_from_files, names_with};
@@ -15,7 +15,7 @@ use std::alloc::{Allocator, Global};
 use std::collections::BTreeMap;
 use std::marker::Model;
 
-/// A test of a file of which something is to come.
+/// A test of a file of which something is staged.
 #[derive(Drop)]
 pub(crate) struct Touched<A: Allocator> {
     file: Vec<u8, A>,
@@ -26,7 +26,7 @@ impl<A: Allocator + Copy> Touched<A> {
     ghost use Rattle.std.specs.Prelude.{◌≡◌, ◌++◌, [], ◌∷◌, OnErr, OnOk};
     ghost use Rattle.covstore.specs.MapsView.{touched_data};
 
-    /// Adds a test to those of which something is to come.
+    /// Adds a test to those of which something is staged.
     fn push(
         touched: &mut Vec<Touched<A>, A>,
         alloc: A,
@@ -45,20 +45,20 @@ impl<A: Allocator + Copy> Touched<A> {
     }
 }
 
-/// Of each of these tests, what was to come is held now. The list of them is empty then.
-fn take_coming<A: Allocator + Copy>(
+/// Commits what is staged of each of these tests. The list of them is empty then.
+fn commit_staged<A: Allocator + Copy>(
     files: &mut BTreeMap<Vec<u8, A>, File<A>, A>,
     touched: &mut Vec<Touched<A>, A>,
 )
     requires { AreSettledBut (λ name. name.items) (touched_data touched.old.items) files.old.entries }
-    ensures held { files_held (λ name. name.items) files.new.entries ≡ files_coming (λ name. name.items) files.old.entries }
-    ensures coming { files_coming (λ name. name.items) files.new.entries ≡ files_coming (λ name. name.items) files.old.entries }
+    ensures committed { files_committed (λ name. name.items) files.new.entries ≡ files_staged (λ name. name.items) files.old.entries }
+    ensures staged { files_staged (λ name. name.items) files.new.entries ≡ files_staged (λ name. name.items) files.old.entries }
     ensures none { touched.new.items ≡ [] }
     ensures settled { AreSettledBut (λ name. name.items) [] files.new.entries }
 {
     while let Some(last) = touched.pop() {
         if let Some(file) = files.get_mut(last.file.as_slice()) {
-            file.take(last.test.as_slice());
+            file.commit(last.test.as_slice());
         }
     }
 }
@@ -71,21 +71,21 @@ fn take_coming<A: Allocator + Copy>(
 pub struct Store<A: Allocator = Global> {
     files: BTreeMap<Vec<u8, A>, File<A>, A>,
     touched: Vec<Touched<A>, A>,
-    held: Totals,
-    coming: Totals,
+    committed: Totals,
+    staged: Totals,
     members: u64,
 }
 
 impl<A: Allocator> Model for Store<A> {
     ghost use Rattle.covstore.specs.Stored.{StoreData};
-    ghost use Rattle.covstore.specs.MapsView.{AreSettledBut, IsStore, files_coming, files_held, touched_data};
+    ghost use Rattle.covstore.specs.MapsView.{AreSettledBut, IsStore, files_staged, files_committed, touched_data};
     ghost use Rattle.covstore.specs.State.{sections_of};
 
     ghost Value = { StoreData };
 
-    ghost view = { λ s. record { sections = sections_of (files_held (λ name. name.items) s.files.entries); members = s.members; held = files_held (λ name. name.items) s.files.entries; coming = files_coming (λ name. name.items) s.files.entries; after = s.coming } };
+    ghost view = { λ s. record { sections = sections_of (files_committed (λ name. name.items) s.files.entries); members = s.members; committed = files_committed (λ name. name.items) s.files.entries; staged = files_staged (λ name. name.items) s.files.entries; after = s.staged } };
 
-    ghost invariant = { λ s. IsStore s.members s.held (files_held (λ name. name.items) s.files.entries) × AreSettledBut (λ name. name.items) (touched_data s.touched.items) s.files.entries };
+    ghost invariant = { λ s. IsStore s.members s.committed (files_committed (λ name. name.items) s.files.entries) × AreSettledBut (λ name. name.items) (touched_data s.touched.items) s.files.entries };
 }
 
 impl<A: Allocator + Copy> Store<A> {
@@ -98,10 +98,10 @@ impl<A: Allocator + Copy> Store<A> {
     ghost use Rattle.covline.specs.Row.{SubmissionData, item_data, rows_of, rows_of_sect};
     ghost use Rattle.covline.specs.SectView.{sect_data};
     ghost use Rattle.covstore.specs.Content.{content_at};
-    ghost use Rattle.covstore.specs.Stored.{AddsRows, ClashesWith, HasRoomForRows, IsPlanOf, KeepsState, SameContent, SameHeld, StandsFor, IsRefusedAt, most_members};
-    ghost use Rattle.covstore.specs.Puts.{value_of};
+    ghost use Rattle.covstore.specs.Stored.{AddsRows, ClashesWith, HasRoomForRows, IsPlanOf, KeepsState, SameContent, SameCommitted, StandsFor, IsRefusedAt, most_members};
+    ghost use Rattle.covmap.specs.Puts.{value_of};
     ghost use Rattle.covstore.specs.SectionAdds.{HasPlace, rows_of_items};
-    ghost use Rattle.covstore.specs.StoreHeld.{IsKept};
+    ghost use Rattle.covstore.specs.StoreCommitted.{IsKept};
     ghost use Rattle.covstore.specs.RefuseView.{refuse_data};
     ghost use Rattle.covstore.specs.Renamed.{renamed};
     ghost use Rattle.covstore.specs.Renaming.{Copies, HasRoomToCopy, IsMoving, IsRenamingOf};
@@ -127,8 +127,8 @@ impl<A: Allocator + Copy> Store<A> {
         Store {
             files: BTreeMap::new(alloc),
             touched: Vec::new(alloc),
-            held: none,
-            coming: none,
+            committed: none,
+            staged: none,
             members: 0,
         }
     }
@@ -153,13 +153,13 @@ impl<A: Allocator + Copy> Store<A> {
     {
         // The contract of this call tells that few enough rows are held.
         self.kept();
-        // A plan that was dropped may have left something to come.
-        self.forget();
+        // A plan that was dropped may have left something staged.
+        self.rollback();
         let added = self.add_all(alloc, submission.sects());
         match added {
             Ok(()) => Ok(Plan::new(self.after())),
             Err(refusal) => {
-                self.forget();
+                self.rollback();
                 Err(refusal)
             }
         }
@@ -170,9 +170,9 @@ impl<A: Allocator + Copy> Store<A> {
         requires { (s : SubmissionData) × IsPlanOf self.old s plan }
         ensures stands { (s : SubmissionData) (table : Table) → IsPlanOf self.old s plan → StandsFor self.old table → StandsFor self.new (table ++ rows_of s ∷ []) }
     {
-        take_coming(&mut self.files, &mut self.touched);
-        self.coming = plan.after();
-        self.held = self.coming;
+        commit_staged(&mut self.files, &mut self.touched);
+        self.staged = plan.after();
+        self.committed = self.staged;
         self.members += 1;
     }
 
@@ -184,7 +184,7 @@ impl<A: Allocator + Copy> Store<A> {
     ///
     /// # Errors
     ///
-    /// `Memory` where a growth was refused.
+    /// `Memory` where a growth was refused. A rename that does nothing is never refused, since nothing grows for it.
     pub fn prepare_rename(
         &mut self,
         alloc: A,
@@ -194,9 +194,11 @@ impl<A: Allocator + Copy> Store<A> {
         ensures content { SameContent self.old self.new }
         ensures planned { IfOk result (λ renaming. IsRenamingOf self.new old.now new.now renaming) }
         ensures sections { IfOk result (λ renaming. (table : Table) → StandsFor self.old table → renaming.sections ≡ sections_of_test old.now table) }
+        ensures apart { OnErr result (old.now ≢ new.now) }
+        ensures some { OnErr result ((table : Table) → StandsFor self.old table → sections_of_test old.now table ≢ 0) }
     {
-        // A plan that was dropped may have left something to come.
-        self.forget();
+        // A plan that was dropped may have left something staged.
+        self.rollback();
         let (sections, _) = self.after_drop(old);
         if sections == 0 || old == new {
             return Ok(Renaming::none(sections));
@@ -205,7 +207,7 @@ impl<A: Allocator + Copy> Store<A> {
         match self.copy_all(alloc, old, new) {
             Ok(()) => Ok(Renaming::of(sections, leaves)),
             Err(refused) => {
-                self.forget();
+                self.rollback();
                 Err(refused)
             }
         }
@@ -218,45 +220,45 @@ impl<A: Allocator + Copy> Store<A> {
         ensures stands { (old new : List ℕ) (table : Table) → IsRenamingOf self.old old new renaming → StandsFor self.old table → StandsFor self.new (renamed old new table) }
     {
         if let Some(old) = renaming.leaves() {
-            take_coming(&mut self.files, &mut self.touched);
+            commit_staged(&mut self.files, &mut self.touched);
             drop_from_files(&mut self.files, old);
         }
     }
 
-    /// The totals of what is held. The contract tells that what is held is the state of the rows of some table.
+    /// The committed totals. The contract tells that what is committed is the state of the rows of some table.
     fn kept(&self) -> Totals
         ensures { IsKept self.now result }
     {
-        self.held
+        self.committed
     }
 
-    /// The totals as they are to be after the next commit.
+    /// The staged totals, which the next commit leaves.
     fn after(&self) -> Totals
         ensures { result ≡ self.now.after }
     {
-        self.coming
+        self.staged
     }
 
-    /// Forgets what was to come.
-    fn forget(&mut self)
+    /// Forgets what is staged. Takes no memory.
+    fn rollback(&mut self)
         ensures sections { self.new.sections ≡ self.old.sections }
         ensures members { self.new.members ≡ self.old.members }
-        ensures held { self.new.held ≡ self.old.held }
-        ensures coming { self.new.coming ≡ self.old.held }
-        ensures after { self.new.after ≡ totals_in self.old.held }
+        ensures committed { self.new.committed ≡ self.old.committed }
+        ensures staged { self.new.staged ≡ self.old.committed }
+        ensures after { self.new.after ≡ totals_in self.old.committed }
     {
         while let Some(touched) = self.touched.pop() {
             if let Some(file) = self.files.get_mut(touched.file.as_slice()) {
-                file.forget(touched.test.as_slice());
+                file.rollback(touched.test.as_slice());
             }
         }
-        self.coming = self.held;
+        self.staged = self.committed;
     }
 
-    /// Adds the sections to what is to come, in order, up to the first that is refused.
+    /// Stages the sections, in order, up to the first that is refused.
     fn add_all(&mut self, alloc: A, sects: &[Sect<A>]) -> Result<(), Refuse<A>>
         requires { HasRoomForRows (flat_map rows_of_sect (map sect_data sects.now)) self.old }
-        ensures held { SameHeld self.old self.new }
+        ensures committed { SameCommitted self.old self.new }
         ensures ok { OnOk result (AddsRows (flat_map rows_of_sect (map sect_data sects.now)) self.old self.new) }
         ensures clash { IfErr result (λ e. ClashesWith (flat_map rows_of_sect (map sect_data sects.now)) self.old (refuse_data e)) }
         ensures some { OnErr result (flat_map rows_of_sect (map sect_data sects.now) ≢ []) }
@@ -267,10 +269,10 @@ impl<A: Allocator + Copy> Store<A> {
         Ok(())
     }
 
-    /// Adds the items of a section to what is to come. For a section without items nothing grows.
+    /// Stages the items of a section. For a section without items nothing grows.
     fn add_section(&mut self, alloc: A, sect: &Sect<A>) -> Result<(), Refuse<A>>
         requires { HasRoomForRows (rows_of_sect (sect_data sect.now)) self.old }
-        ensures held { SameHeld self.old self.new }
+        ensures committed { SameCommitted self.old self.new }
         ensures ok { OnOk result (AddsRows (rows_of_sect (sect_data sect.now)) self.old self.new) }
         ensures clash { IfErr result (λ e. ClashesWith (rows_of_sect (sect_data sect.now)) self.old (refuse_data e)) }
         ensures some { OnErr result (rows_of_sect (sect_data sect.now) ≢ []) }
@@ -288,8 +290,8 @@ impl<A: Allocator + Copy> Store<A> {
 
     /// Makes the file, unless it is there.
     fn open(&mut self, alloc: A, file: &[u8]) -> Result<(), Memory>
-        ensures held { SameHeld self.old self.new }
-        ensures coming { OnOk result (self.new.coming ≡ with_file file.now self.old.coming) }
+        ensures committed { SameCommitted self.old self.new }
+        ensures staged { OnOk result (self.new.staged ≡ with_file file.now self.old.staged) }
         ensures after { OnOk result (self.new.after ≡ self.old.after) }
     {
         if self.files.contains_key(file) {
@@ -302,10 +304,10 @@ impl<A: Allocator + Copy> Store<A> {
 
     /// Makes the test of a file, unless it is there.
     fn open_test(&mut self, alloc: A, file: &[u8], test: &[u8]) -> Result<(), Memory>
-        requires { is_some (value_of (slice_cmp nat_cmp) file.now self.old.coming) ≡ true }
-        ensures held { SameHeld self.old self.new }
-        ensures coming { OnOk result (KeepsState self.old.coming self.new.coming) }
-        ensures place { OnOk result (HasPlace file.now test.now self.new.coming) }
+        requires { is_some (value_of (slice_cmp nat_cmp) file.now self.old.staged) ≡ true }
+        ensures committed { SameCommitted self.old self.new }
+        ensures staged { OnOk result (KeepsState self.old.staged self.new.staged) }
+        ensures place { OnOk result (HasPlace file.now test.now self.new.staged) }
         ensures after { OnOk result (self.new.after ≡ self.old.after) }
     {
         match self.files.get_mut(file) {
@@ -314,7 +316,7 @@ impl<A: Allocator + Copy> Store<A> {
         }
     }
 
-    /// Adds the items to what is to come of a test that is there, and notes that something is to come of it.
+    /// Stages the items of a test that is there, and notes that something is staged of it.
     fn add_items(
         &mut self,
         alloc: A,
@@ -323,8 +325,8 @@ impl<A: Allocator + Copy> Store<A> {
         items: &[Item<A>],
     ) -> Result<(), Refuse<A>>
         requires room { HasRoomForRows (rows_of_items file.now test.now (map item_data items.now)) self.old }
-        requires place { HasPlace file.now test.now self.old.coming }
-        ensures held { SameHeld self.old self.new }
+        requires place { HasPlace file.now test.now self.old.staged }
+        ensures committed { SameCommitted self.old self.new }
         ensures ok { OnOk result (AddsRows (rows_of_items file.now test.now (map item_data items.now)) self.old self.new) }
         ensures clash { IfErr result (λ e. ClashesWith (rows_of_items file.now test.now (map item_data items.now)) self.old (refuse_data e)) }
     {
@@ -333,15 +335,15 @@ impl<A: Allocator + Copy> Store<A> {
             return Ok(());
         };
         let totals = opened.exchange(alloc, file, test, items)?;
-        self.coming = self.coming.exchanged(totals.0, totals.1);
+        self.staged = self.staged.exchanged(totals.0, totals.1);
         Ok(())
     }
 
-    /// Adds the values of the old test to what is to come of the new one, file by file.
+    /// Stages the values of the old test for the new one, file by file.
     fn copy_all(&mut self, alloc: A, old: &[u8], new: &[u8]) -> Result<(), Memory>
         requires apart { old.now ≢ new.now }
-        requires still { self.old.coming ≡ self.old.held }
-        ensures held { SameHeld self.old self.new }
+        requires still { self.old.staged ≡ self.old.committed }
+        ensures committed { SameCommitted self.old self.new }
         ensures ok { OnOk result (IsMoving self.new old.now new.now old.now) }
     {
         // The contract of this call tells that few enough rows are held.
@@ -357,20 +359,20 @@ impl<A: Allocator + Copy> Store<A> {
     fn copy_file(&mut self, alloc: A, file: &[u8], old: &[u8], new: &[u8]) -> Result<(), Memory>
         requires apart { old.now ≢ new.now }
         requires room { HasRoomToCopy file.now old.now self.old }
-        ensures held { SameHeld self.old self.new }
-        ensures ok { OnOk result (Copies file.now old.now new.now self.old.coming self.new.coming) }
+        ensures committed { SameCommitted self.old self.new }
+        ensures ok { OnOk result (Copies file.now old.now new.now self.old.staged self.new.staged) }
     {
         self.open_test(alloc, file, new)?;
         self.copy_values(alloc, file, old, new)
     }
 
-    /// The same in one file, in which both tests are there. Notes that something is to come of the new one.
+    /// The same in one file, in which both tests are there. Notes that something is staged of the new one.
     fn copy_values(&mut self, alloc: A, file: &[u8], old: &[u8], new: &[u8]) -> Result<(), Memory>
         requires apart { old.now ≢ new.now }
         requires room { HasRoomToCopy file.now old.now self.old }
-        requires place { HasPlace file.now new.now self.old.coming }
-        ensures held { SameHeld self.old self.new }
-        ensures ok { OnOk result (Copies file.now old.now new.now self.old.coming self.new.coming) }
+        requires place { HasPlace file.now new.now self.old.staged }
+        ensures committed { SameCommitted self.old self.new }
+        ensures ok { OnOk result (Copies file.now old.now new.now self.old.staged self.new.staged) }
     {
         Touched::push(&mut self.touched, alloc, file, new)?;
         match self.files.get_mut(file) {
@@ -403,12 +405,12 @@ impl<A: Allocator + Copy> Store<A> {
         ensures sections { (table : Table) → StandsFor self.old table → result ≡ sections_of_test test.now table }
         ensures stands { (table : Table) → StandsFor self.old table → StandsFor self.new (without_test test.now table) }
     {
-        // A plan that was dropped may have left something to come.
-        self.forget();
+        // A plan that was dropped may have left something staged.
+        self.rollback();
         let (sections, totals) = count_without(&self.files, test);
         drop_from_files(&mut self.files, test);
-        self.held = totals;
-        self.coming = totals;
+        self.committed = totals;
+        self.staged = totals;
         sections
     }
 
@@ -417,7 +419,7 @@ impl<A: Allocator + Copy> Store<A> {
         ensures value { result ≡ totals_of self.now.sections }
         ensures bounds { AreTotals result }
     {
-        self.held
+        self.committed
     }
 
     /// The sections of the files and tests with a row, ascending by file and then by test. Takes no memory.

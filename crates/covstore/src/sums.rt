@@ -6,9 +6,9 @@ ghost use Rattle.covstore.specs.Counts.{is_above_at, tests_more};
 ghost use Rattle.covstore.specs.State.{branch_above, function_above, has_checksum, line_above};
 ghost use Rattle.covstore.specs.Sums.{branch_with, function_with, line_with};
 
-use crate::points::{More, Value};
 use crate::times::Times;
 use crate::wide::Wide;
+use covmap::{Addend, Value};
 
 /// A line: the sum of its execution counts, and whether an item has a checksum of it (geninfo(1): `DA:`).
 #[derive(Drop)]
@@ -26,85 +26,85 @@ pub(crate) struct FunctionSum {
 
 /// A branch: how often it was taken, none where its block was never executed (geninfo(1): `BRDA:`).
 #[derive(Drop)]
-pub(crate) struct Taken {
+pub(crate) struct BranchSum {
     pub times: Times,
 }
 
 /// A line's item: its count, and whether it has a checksum.
 #[derive(Clone, Copy)]
-pub(crate) struct LineMore {
+pub(crate) struct LineAddend {
     pub count: u128,
     pub has_checksum: bool,
 }
 
-impl More<LineSum> for LineMore {
-    ghost fits = { λ more held. Unit {0} };
+impl Addend<LineSum> for LineAddend {
+    ghost fits = { λ more value. Unit {0} };
 
-    ghost sum = { λ more held. line_with more.count more.has_checksum held };
+    ghost sum = { λ more value. line_with more.count more.has_checksum value };
 
-    fn with(self, held: &Option<LineSum>) -> LineSum
-        ensures { result ≡ line_with self.count self.has_checksum held.now }
+    fn plus(self, value: &Option<LineSum>) -> LineSum
+        ensures { result ≡ line_with self.count self.has_checksum value.now }
     {
-        LineSum::with(held, self.count, self.has_checksum)
+        LineSum::with(value, self.count, self.has_checksum)
     }
 }
 
 /// A function's item: its start line and its count.
 #[derive(Clone, Copy)]
-pub(crate) struct FunctionMore {
+pub(crate) struct FunctionAddend {
     pub line: u64,
     pub count: u128,
 }
 
-impl More<FunctionSum> for FunctionMore {
-    ghost fits = { λ more held. Unit {0} };
+impl Addend<FunctionSum> for FunctionAddend {
+    ghost fits = { λ more value. Unit {0} };
 
-    ghost sum = { λ more held. function_with more.line more.count held };
+    ghost sum = { λ more value. function_with more.line more.count value };
 
-    fn with(self, held: &Option<FunctionSum>) -> FunctionSum
-        ensures { result ≡ function_with self.line self.count held.now }
+    fn plus(self, value: &Option<FunctionSum>) -> FunctionSum
+        ensures { result ≡ function_with self.line self.count value.now }
     {
-        FunctionSum::with(held, self.line, self.count)
+        FunctionSum::with(value, self.line, self.count)
     }
 }
 
 /// A branch's item: how often it was taken, none where its block was never executed.
 #[derive(Clone, Copy)]
-pub(crate) struct TakenMore {
+pub(crate) struct BranchAddend {
     pub times: Option<u128>,
 }
 
-impl More<Taken> for TakenMore {
-    ghost fits = { λ more held. Unit {0} };
+impl Addend<BranchSum> for BranchAddend {
+    ghost fits = { λ more value. Unit {0} };
 
-    ghost sum = { λ more held. branch_with more.times held };
+    ghost sum = { λ more value. branch_with more.times value };
 
-    fn with(self, held: &Option<Taken>) -> Taken
-        ensures { result ≡ branch_with self.times held.now }
+    fn plus(self, value: &Option<BranchSum>) -> BranchSum
+        ensures { result ≡ branch_with self.times value.now }
     {
-        Taken::with(held, self.times)
+        BranchSum::with(value, self.times)
     }
 }
 
 /// What a test adds to the numbers of a point: whether it has the point now, and whether it has it above 0 for the first
 /// time.
 #[derive(Clone, Copy)]
-pub(crate) struct TestsMore {
+pub(crate) struct TestsAddend {
     pub is_new: bool,
     pub is_hit: bool,
 }
 
-impl More<Tests> for TestsMore {
-    ghost fits = { λ more held. IfSome held (λ tests. (tests.tests < 2 ^ 63) × (tests.hit < 2 ^ 63)) };
+impl Addend<Tests> for TestsAddend {
+    ghost fits = { λ more value. IfSome value (λ tests. (tests.tests < 2 ^ 63) × (tests.hit < 2 ^ 63)) };
 
-    ghost sum = { λ more held. tests_more more.is_new more.is_hit held };
+    ghost sum = { λ more value. tests_more more.is_new more.is_hit value };
 
-    fn with(self, held: &Option<Tests>) -> Tests
-        requires { IfSome held.now (λ tests. (tests.tests < 2 ^ 63) × (tests.hit < 2 ^ 63)) }
-        ensures { result ≡ tests_more self.is_new self.is_hit held.now }
+    fn plus(self, value: &Option<Tests>) -> Tests
+        requires { IfSome value.now (λ tests. (tests.tests < 2 ^ 63) × (tests.hit < 2 ^ 63)) }
+        ensures { result ≡ tests_more self.is_new self.is_hit value.now }
     {
-        let (tests, hit) = match held {
-            Some(held) => (held.tests, held.hit),
+        let (tests, hit) = match value {
+            Some(value) => (value.tests, value.hit),
             None => (0, 0),
         };
         Tests {
@@ -125,10 +125,10 @@ impl Tests {
     ghost use Rattle.covstore.specs.Fewer.{HaveOne, fewer_tests, is_hit};
 
     /// Whether there are tests, and one of them has the point above 0.
-    pub(crate) fn is_hit(held: Option<Tests>) -> bool
-        ensures { result ≡ is_hit held }
+    pub(crate) fn is_hit(value: Option<Tests>) -> bool
+        ensures { result ≡ is_hit value }
     {
-        held.is_some_and(|tests| tests.hit > 0)
+        value.is_some_and(|tests| tests.hit > 0)
     }
 
     /// The numbers where a test less has the point, above 0 or not; none where it was the only one.
@@ -169,11 +169,11 @@ impl Value for FunctionSum {
     }
 }
 
-impl Value for Taken {
-    fn copy(&self) -> Taken
+impl Value for BranchSum {
+    fn copy(&self) -> BranchSum
         ensures { result ≡ self.now }
     {
-        Taken {
+        BranchSum {
             times: self.times.copy(),
         }
     }
@@ -189,10 +189,10 @@ impl Value for Tests {
 
 impl LineSum {
     /// Whether the line is there, with a count above 0.
-    pub(crate) fn is_hit(held: &Option<LineSum>) -> bool
-        ensures { result ≡ is_above_at line_above held.now }
+    pub(crate) fn is_hit(value: &Option<LineSum>) -> bool
+        ensures { result ≡ is_above_at line_above value.now }
     {
-        match held {
+        match value {
             Some(sum) => sum.is_above(),
             None => false,
         }
@@ -206,20 +206,20 @@ impl LineSum {
     }
 
     /// Whether the line is there, with a checksum.
-    pub(crate) fn is_checked(held: &Option<LineSum>) -> bool
-        ensures { result ≡ is_above_at has_checksum held.now }
+    pub(crate) fn is_checked(value: &Option<LineSum>) -> bool
+        ensures { result ≡ is_above_at has_checksum value.now }
     {
-        match held {
+        match value {
             Some(sum) => sum.has_checksum,
             None => false,
         }
     }
 
     /// The sum with one count more.
-    pub(crate) fn with(held: &Option<LineSum>, count: u128, has_checksum: bool) -> LineSum
-        ensures { result ≡ line_with count has_checksum held.now }
+    pub(crate) fn with(value: &Option<LineSum>, count: u128, has_checksum: bool) -> LineSum
+        ensures { result ≡ line_with count has_checksum value.now }
     {
-        match held {
+        match value {
             Some(sum) => LineSum {
                 count: sum.count.plus(count),
                 has_checksum: sum.has_checksum || has_checksum,
@@ -234,10 +234,10 @@ impl LineSum {
 
 impl FunctionSum {
     /// Whether the function is there, with a count above 0.
-    pub(crate) fn is_hit(held: &Option<FunctionSum>) -> bool
-        ensures { result ≡ is_above_at function_above held.now }
+    pub(crate) fn is_hit(value: &Option<FunctionSum>) -> bool
+        ensures { result ≡ is_above_at function_above value.now }
     {
-        match held {
+        match value {
             Some(sum) => sum.is_above(),
             None => false,
         }
@@ -251,10 +251,10 @@ impl FunctionSum {
     }
 
     /// The sum with one count more.
-    pub(crate) fn with(held: &Option<FunctionSum>, line: u64, count: u128) -> FunctionSum
-        ensures { result ≡ function_with line count held.now }
+    pub(crate) fn with(value: &Option<FunctionSum>, line: u64, count: u128) -> FunctionSum
+        ensures { result ≡ function_with line count value.now }
     {
-        match held {
+        match value {
             Some(sum) => FunctionSum {
                 line: sum.line.min(line),
                 count: sum.count.plus(count),
@@ -267,28 +267,28 @@ impl FunctionSum {
     }
 }
 
-impl Taken {
+impl BranchSum {
     ghost use Rattle.covstore.specs.Value.{is_taken};
 
     /// Whether the branch is there, and was taken.
-    pub(crate) fn is_hit(held: &Option<Taken>) -> bool
-        ensures { result ≡ is_above_at branch_above held.now }
+    pub(crate) fn is_hit(value: &Option<BranchSum>) -> bool
+        ensures { result ≡ is_above_at branch_above value.now }
     {
-        match held {
+        match value {
             Some(sum) => sum.is_above(),
             None => false,
         }
     }
 
     /// The sum with one number more, which may be missing.
-    pub(crate) fn with(held: &Option<Taken>, times: Option<u128>) -> Taken
-        ensures { result ≡ branch_with times held.now }
+    pub(crate) fn with(value: &Option<BranchSum>, times: Option<u128>) -> BranchSum
+        ensures { result ≡ branch_with times value.now }
     {
-        match held {
-            Some(sum) => Taken {
+        match value {
+            Some(sum) => BranchSum {
                 times: sum.times.plus(times),
             },
-            None => Taken {
+            None => BranchSum {
                 times: Times::of(times),
             },
         }

@@ -2,63 +2,63 @@
 
 ghost use Rattle.std.specs.Prelude.{◌≡◌, []};
 
-use crate::points::Points;
-use crate::sums::{FunctionSum, LineSum, Taken};
-use covline::{BranchPoint, Bytes};
+use crate::keys::{Branch, FunctionName};
+use crate::sums::{BranchSum, FunctionSum, LineSum};
+use covmap::StagedMap;
 use std::alloc::Allocator;
 
-/// The points of a test of a file, as they are and as they are to be.
+/// The points of a test of a file, committed and staged.
 #[derive(Drop)]
 pub(crate) struct Test<A: Allocator> {
-    pub lines: Points<u64, LineSum, A>,
-    pub functions: Points<Bytes<A>, FunctionSum, A>,
-    pub branches: Points<BranchPoint, Taken, A>,
+    pub lines: StagedMap<u64, LineSum, A>,
+    pub functions: StagedMap<FunctionName<A>, FunctionSum, A>,
+    pub branches: StagedMap<Branch, BranchSum, A>,
 }
 
 impl<A: Allocator + Copy> Test<A> {
-    ghost use Rattle.covstore.specs.TestView.{test_coming, test_held};
+    ghost use Rattle.covstore.specs.TestView.{test_staged, test_committed};
     ghost use Rattle.covstore.specs.Sums.{test_of};
 
     /// No points.
     pub(crate) fn new(alloc: A) -> Test<A>
-        ensures held { test_held result ≡ test_of [] }
-        ensures coming { test_coming result ≡ test_of [] }
+        ensures committed { test_committed result ≡ test_of [] }
+        ensures staged { test_staged result ≡ test_of [] }
     {
         Test {
-            lines: Points::new(alloc),
-            functions: Points::new(alloc),
-            branches: Points::new(alloc),
+            lines: StagedMap::new(alloc),
+            functions: StagedMap::new(alloc),
+            branches: StagedMap::new(alloc),
         }
     }
 
-    /// What was to come is there.
-    pub(crate) fn take(&mut self)
-        ensures held { test_held self.new ≡ test_coming self.old }
-        ensures coming { test_coming self.new ≡ test_coming self.old }
+    /// Commits what is staged. Takes no memory.
+    pub(crate) fn commit(&mut self)
+        ensures committed { test_committed self.new ≡ test_staged self.old }
+        ensures staged { test_staged self.new ≡ test_staged self.old }
     {
-        self.lines.take();
-        self.functions.take();
-        self.branches.take();
+        self.lines.commit();
+        self.functions.commit();
+        self.branches.commit();
     }
 
-    /// Nothing is to come.
-    pub(crate) fn forget(&mut self)
-        ensures held { test_held self.new ≡ test_held self.old }
-        ensures coming { test_coming self.new ≡ test_held self.old }
+    /// Forgets what is staged. Takes no memory.
+    pub(crate) fn rollback(&mut self)
+        ensures committed { test_committed self.new ≡ test_committed self.old }
+        ensures staged { test_staged self.new ≡ test_committed self.old }
     {
-        self.lines.forget();
-        self.functions.forget();
-        self.branches.forget();
+        self.lines.rollback();
+        self.functions.rollback();
+        self.branches.rollback();
     }
 }
 
 impl<A: Allocator> Test<A> {
-    ghost use Rattle.covstore.specs.TestView.{test_held};
+    ghost use Rattle.covstore.specs.TestView.{test_committed};
     ghost use Rattle.covstore.specs.State.{has_no_points};
 
     /// Whether there are no points now.
     pub(crate) fn is_empty(&self) -> bool
-        ensures { result ≡ has_no_points (test_held self.now) }
+        ensures { result ≡ has_no_points (test_committed self.now) }
     {
         self.lines.is_empty() && self.functions.is_empty() && self.branches.is_empty()
     }

@@ -6,6 +6,7 @@ use std::test::*;
 mod calls;
 mod drops;
 mod held;
+mod maps;
 mod patterns;
 mod plans;
 mod renames;

@@ -1,17 +1,17 @@
 //! The functions, branches and lines of a section, each with its value.
 
 use crate::checksums::Checksums;
-use crate::points::Filled;
-use crate::sums::{FunctionSum, LineSum, Taken};
+use crate::keys::{Branch, FunctionName};
+use crate::sums::{BranchSum, FunctionSum, LineSum};
 use crate::values::{BranchValue, FunctionValue, LineValue};
-use covline::{BranchPoint, Bytes};
+use covmap::Entries;
 use std::alloc::{Allocator, Global};
 use std::marker::Model;
 
 /// Goes over the functions of a section, ascending by the bytes of their names. Contracts see those that are left.
 #[derive(Drop)]
 pub struct Functions<'a, A: Allocator = Global> {
-    rest: Filled<'a, Bytes<A>, FunctionSum, A>,
+    rest: Entries<'a, FunctionName<A>, FunctionSum, A>,
 }
 
 impl<'a, A: Allocator> Model for Functions<'a, A> {
@@ -29,7 +29,7 @@ impl<'a, A: Allocator> Functions<'a, A> {
     ghost use Rattle.covstore.specs.State.{function_seen};
 
     /// These functions.
-    pub(super) fn of(rest: Filled<'a, Bytes<A>, FunctionSum, A>) -> Functions<'a, A>
+    pub(super) fn of(rest: Entries<'a, FunctionName<A>, FunctionSum, A>) -> Functions<'a, A>
         ensures { result ≡ map function_seen rest.entry }
     {
         Functions { rest }
@@ -59,7 +59,7 @@ impl<'a, A: Allocator> Iterator for Functions<'a, A> {
 /// Goes over the branches of a section, ascending by line, block and number. Contracts see those that are left.
 #[derive(Drop)]
 pub struct Branches<'a, A: Allocator = Global> {
-    rest: Filled<'a, BranchPoint, Taken, A>,
+    rest: Entries<'a, Branch, BranchSum, A>,
 }
 
 impl<'a, A: Allocator> Model for Branches<'a, A> {
@@ -79,7 +79,7 @@ impl<'a, A: Allocator> Branches<'a, A> {
     ghost use Rattle.covstore.specs.TestView.{branches_data};
 
     /// These branches.
-    pub(super) fn of(rest: Filled<'a, BranchPoint, Taken, A>) -> Branches<'a, A>
+    pub(super) fn of(rest: Entries<'a, Branch, BranchSum, A>) -> Branches<'a, A>
         ensures { result ≡ map branch_seen (branches_data rest.entry) }
     {
         Branches { rest }
@@ -97,7 +97,8 @@ impl<'a, A: Allocator> Iterator for Branches<'a, A> {
     ghost remaining = { item_count (λ s. s) };
 
     fn next(&mut self) -> Option<BranchValue> {
-        let (point, sum) = self.rest.next()?;
+        let (branch, sum) = self.rest.next()?;
+        let point = branch.get();
         Some(BranchValue {
             line: point.line,
             block: point.block,
@@ -110,7 +111,7 @@ impl<'a, A: Allocator> Iterator for Branches<'a, A> {
 /// Goes over the lines of a section, ascending by number. Contracts see those that are left.
 #[derive(Drop)]
 pub struct Lines<'a, A: Allocator = Global> {
-    rest: Filled<'a, u64, LineSum, A>,
+    rest: Entries<'a, u64, LineSum, A>,
     checksums: &'a Checksums<A>,
 }
 
@@ -129,7 +130,10 @@ impl<'a, A: Allocator> Lines<'a, A> {
     ghost use Rattle.covstore.specs.State.{line_seen};
 
     /// These lines, with their checksums.
-    pub(super) fn of(rest: Filled<'a, u64, LineSum, A>, checksums: &'a Checksums<A>) -> Lines<'a, A>
+    pub(super) fn of(
+        rest: Entries<'a, u64, LineSum, A>,
+        checksums: &'a Checksums<A>,
+    ) -> Lines<'a, A>
         ensures { result ≡ map (line_seen checksums.now.texts) rest.entry }
     {
         Lines { rest, checksums }

@@ -2,4 +2,4 @@ use Rattle.covstore.proofs.CopiesLoop.{IsCopying, code_branch_item}
 use Rattle.covstore.proofs.copies.add_branches.Given as goal
 
 abbrev pub invariant-loop-point : goal.invariant-loop-point
-invariant-loop-point g l = IsCopying code_branch_item l.branches.held l.point-iterator l.initial.test l.initial.marks l.test l.marks
+invariant-loop-point g l = IsCopying code_branch_item l.branches.committed l.point-iterator l.initial.test l.initial.index l.test l.index

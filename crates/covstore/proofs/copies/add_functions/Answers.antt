@@ -7,12 +7,12 @@ use Rattle.covstore.proofs.StepsTexts.{ok_unless}
 use Rattle.covstore.proofs.copies.add_functions.Goals as goal
 
 pub loop-name-init : goal.loop-name-init
-loop-name-init g c = copying_first function_item c.args.functions.now.held c.args.test.now c.args.marks.now c.into_iter-name-iterator.result (c.into_iter-name-iterator.ensures.into_iter_gives ∙ c.filled-name-items.ensures) c.requires
+loop-name-init g c = copying_first function_item c.args.functions.now.committed c.args.test.now c.args.index.now c.into_iter-name-iterator.result (c.into_iter-name-iterator.ensures.into_iter_gives ∙ c.entries-name-items.ensures) c.requires
 
 pub add_function-requires : goal.add_function-requires
 add_function-requires g c = record {
-  room = copying_room function_item c.args.functions.now.held c.args.test.now c.args.marks.now (c.in-Some.name.now, c.in-Some.sum.now) c.loop-name.name-iterator c.next.new.self c.in-Some.ensures.steps
-      c.loop-name.test c.loop-name.marks c.loop-name.invariant;
+  room = copying_room function_item c.args.functions.now.committed c.args.test.now c.args.index.now (c.in-Some.name.now, c.in-Some.sum.now) c.loop-name.name-iterator c.next.new.self c.in-Some.ensures.steps
+      c.loop-name.test c.loop-name.index c.loop-name.invariant;
 }
 
 pub loop-name-preserved : goal.loop-name-preserved
@@ -21,24 +21,24 @@ loop-name-preserved g c =
     let is = c.is_err.ensures.value in
     let ok = c.if-is_err.false in
     let line = c.in-Some.sum.now.line in
-    copying_more function_item c.args.functions.now.held c.args.test.now c.args.marks.now (c.in-Some.name.now, c.in-Some.sum.now) c.loop-name.name-iterator c.next.new.self c.in-Some.ensures.steps
-    c.loop-name.test c.loop-name.marks c.loop-name.invariant (FuncItem c.get.result.now line c.get-in-loop-name.result)
+    copying_more function_item c.args.functions.now.committed c.args.test.now c.args.index.now (c.in-Some.name.now, c.in-Some.sum.now) c.loop-name.name-iterator c.next.new.self c.in-Some.ensures.steps
+    c.loop-name.test c.loop-name.index c.loop-name.invariant (FuncItem c.get.result.now line c.get-in-loop-name.result)
     (ap (λ (name : List ℕ). FuncItem name line c.get-in-loop-name.result) c.get.ensures ∙ ap (FuncItem c.in-Some.name.now line) c.get-in-loop-name.ensures)
-    c.add_function.new.test c.add_function.new.marks e.test_held e.marks_held (ok_unless c.add_function.result is ok e.test) (ok_unless c.add_function.result is ok e.counts) tt
+    c.add_function.new.test c.add_function.new.index e.test_committed e.index_committed (ok_unless c.add_function.result is ok e.test) (ok_unless c.add_function.result is ok e.counts) tt
     (ok_unless c.add_function.result is ok e.others)
 
-pub returns-then-is_err-clause-test_held : goal.returns-then-is_err-clause-test_held
-returns-then-is_err-clause-test_held g c = c.add_function.ensures.test_held ∙ c.loop-name.invariant.takes.same_test
+pub returns-then-is_err-clause-test_committed : goal.returns-then-is_err-clause-test_committed
+returns-then-is_err-clause-test_committed g c = c.add_function.ensures.test_committed ∙ c.loop-name.invariant.takes.same_test
 
-pub returns-then-is_err-clause-marks_held : goal.returns-then-is_err-clause-marks_held
-returns-then-is_err-clause-marks_held g c = held_both c.args.marks.now c.loop-name.marks c.add_function.new.marks c.loop-name.invariant.takes.same_marks c.add_function.ensures.marks_held
+pub returns-then-is_err-clause-index_committed : goal.returns-then-is_err-clause-index_committed
+returns-then-is_err-clause-index_committed g c = held_both c.args.index.now c.loop-name.index c.add_function.new.index c.loop-name.invariant.takes.same_index c.add_function.ensures.index_committed
 
-pub returns-clause-test_held : goal.returns-clause-test_held
-returns-clause-test_held g c = c.loop-name.invariant.takes.same_test
+pub returns-clause-test_committed : goal.returns-clause-test_committed
+returns-clause-test_committed g c = c.loop-name.invariant.takes.same_test
 
-pub returns-clause-marks_held : goal.returns-clause-marks_held
-returns-clause-marks_held g c = c.loop-name.invariant.takes.same_marks
+pub returns-clause-index_committed : goal.returns-clause-index_committed
+returns-clause-index_committed g c = c.loop-name.invariant.takes.same_index
 
 pub returns-clause-ok : goal.returns-clause-ok
 returns-clause-ok g c =
-    copying_all function_item c.args.functions.now.held c.args.test.now c.args.marks.now c.loop-name.name-iterator c.loop-name.test c.loop-name.marks c.in-None.ensures.steps.0 c.loop-name.invariant
+    copying_all function_item c.args.functions.now.committed c.args.test.now c.args.index.now c.loop-name.name-iterator c.loop-name.test c.loop-name.index c.in-None.ensures.steps.0 c.loop-name.invariant

@@ -3,4 +3,4 @@ use Rattle.covstore.proofs.CopiesLoop.{IsCopying}
 use Rattle.covstore.proofs.copies.add_functions.Given as goal
 
 abbrev pub invariant-loop-name : goal.invariant-loop-name
-invariant-loop-name g l = IsCopying function_item l.functions.held l.name-iterator l.initial.test l.initial.marks l.test l.marks
+invariant-loop-name g l = IsCopying function_item l.functions.committed l.name-iterator l.initial.test l.initial.index l.test l.index

@@ -2,4 +2,4 @@ use Rattle.covstore.proofs.CopiesLoop.{IsCopyingLines}
 use Rattle.covstore.proofs.copies.add_lines.Given as goal
 
 abbrev pub invariant-loop-line : goal.invariant-loop-line
-invariant-loop-line g l = IsCopyingLines l.lines.held l.line-iterator l.initial.test l.initial.marks l.test l.marks
+invariant-loop-line g l = IsCopyingLines l.lines.committed l.line-iterator l.initial.test l.initial.index l.test l.index

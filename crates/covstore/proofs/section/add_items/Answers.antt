@@ -3,14 +3,14 @@ use Rattle.std.proofs.lemmas.List.{take_all}
 use Rattle.std.proofs.lemmas.Result.{err_from_is_err_and}
 use Rattle.covline.specs.Row.{ItemData, item_data}
 use Rattle.covstore.specs.Adds.{Adds, Clashes}
-use Rattle.covstore.specs.MarksView.{marks_coming}
-use Rattle.covstore.specs.TestView.{test_coming}
+use Rattle.covstore.specs.FileIndexView.{index_staged}
+use Rattle.covstore.specs.TestView.{test_staged}
 use Rattle.covstore.proofs.AddsLoop.{HasTaken, all_at, left_at, next_clashes, next_has_room, none_taken, one_taken, taken_at}
 use Rattle.covstore.proofs.StepsMore.{held_both}
 use Rattle.covstore.proofs.section.add_items.Goals as goal
 
 pub loop-item-init : goal.loop-item-init
-loop-item-init g c = none_taken (map item_data c.args.items.now) c.args.test.now c.args.marks.now c.requires.room
+loop-item-init g c = none_taken (map item_data c.args.items.now) c.args.test.now c.args.index.now c.requires.room
 
 pub add_item-requires : goal.add_item-requires
 add_item-requires g c =
@@ -20,13 +20,13 @@ add_item-requires g c =
     let taken = map item_data (take l.item-index items) in
     let left = left_at item_data items l.item-index item c.loop-item-test.true c.item-item.is in
     record {
-      room = next_has_room taken (item_data item) (map item_data (drop (l.item-index + 1) items)) c.args.test.now c.args.marks.now l.test l.marks
-          (subst (λ (more : List ItemData). HasTaken taken more c.args.test.now c.args.marks.now l.test l.marks) left l.invariant);
+      room = next_has_room taken (item_data item) (map item_data (drop (l.item-index + 1) items)) c.args.test.now c.args.index.now l.test l.index
+          (subst (λ (more : List ItemData). HasTaken taken more c.args.test.now c.args.index.now l.test l.index) left l.invariant);
     }
 
-pub returns-in_err-add_item-clause-marks_held : goal.returns-in_err-add_item-clause-marks_held
-returns-in_err-add_item-clause-marks_held g c =
-    held_both c.args.marks.now c.loop-item.marks c.add_item.new.marks c.loop-item.invariant.same_marks c.add_item.ensures.marks_held
+pub returns-in_err-add_item-clause-index_committed : goal.returns-in_err-add_item-clause-index_committed
+returns-in_err-add_item-clause-index_committed g c =
+    held_both c.args.index.now c.loop-item.index c.add_item.new.index c.loop-item.invariant.same_index c.add_item.ensures.index_committed
 
 pub returns-in_err-add_item-clause-clash : goal.returns-in_err-add_item-clause-clash
 returns-in_err-add_item-clause-clash g c =
@@ -39,9 +39,9 @@ returns-in_err-add_item-clause-clash g c =
     let all = all_at item_data items l.item-index item c.loop-item-test.true c.item-item.is in
     let p = err_from_is_err_and c.from_residual.result c.from_residual.ensures.1 in
     rw (p.1, p.2)
-    (subst (λ (xs : List ItemData). Clashes xs (test_coming c.args.test.now) (marks_coming c.args.marks.now) c.in_err-add_item.field-0.0) (sym all)
-    (next_clashes taken (item_data item) rest c.args.test.now c.args.marks.now l.test l.marks
-    (subst (λ (more : List ItemData). HasTaken taken more c.args.test.now c.args.marks.now l.test l.marks) left l.invariant)
+    (subst (λ (xs : List ItemData). Clashes xs (test_staged c.args.test.now) (index_staged c.args.index.now) c.in_err-add_item.field-0.0) (sym all)
+    (next_clashes taken (item_data item) rest c.args.test.now c.args.index.now l.test l.index
+    (subst (λ (more : List ItemData). HasTaken taken more c.args.test.now c.args.index.now l.test l.index) left l.invariant)
     c.in_err-add_item.field-0.0 c.in_err-add_item.ensures.clash))
 
 pub loop-item-preserved : goal.loop-item-preserved
@@ -53,15 +53,15 @@ loop-item-preserved g c =
     let rest = map item_data (drop (l.item-index + 1) items) in
     let left = left_at item_data items l.item-index item c.loop-item-test.true c.item-item.is in
     let e = c.in_ok-add_item.ensures in
-    subst (λ (some : List ItemData). HasTaken some rest c.args.test.now c.args.marks.now c.add_item.new.test c.add_item.new.marks)
+    subst (λ (some : List ItemData). HasTaken some rest c.args.test.now c.args.index.now c.add_item.new.test c.add_item.new.index)
     (sym (taken_at item_data items l.item-index item c.loop-item-test.true c.item-item.is))
-    (one_taken taken (item_data item) rest c.args.test.now c.args.marks.now l.test l.marks
-    (subst (λ (more : List ItemData). HasTaken taken more c.args.test.now c.args.marks.now l.test l.marks) left l.invariant)
-    c.add_item.new.test c.add_item.new.marks c.add_item.ensures.test_held c.add_item.ensures.marks_held e.test e.counts e.text e.others)
+    (one_taken taken (item_data item) rest c.args.test.now c.args.index.now l.test l.index
+    (subst (λ (more : List ItemData). HasTaken taken more c.args.test.now c.args.index.now l.test l.index) left l.invariant)
+    c.add_item.new.test c.add_item.new.index c.add_item.ensures.test_committed c.add_item.ensures.index_committed e.test e.counts e.text e.others)
 
 pub returns-clause-ok : goal.returns-clause-ok
 returns-clause-ok g c =
     let l = c.loop-item in
     let items = c.args.items.now in
-    subst (λ (some : List ItemData). Adds some (test_coming c.args.test.now) (marks_coming c.args.marks.now) (test_coming l.test) (marks_coming l.marks))
+    subst (λ (some : List ItemData). Adds some (test_staged c.args.test.now) (index_staged c.args.index.now) (test_staged l.test) (index_staged l.index))
     (ap (map item_data) (take_all l.item-index items c.loop-item-test.false)) l.invariant.adds

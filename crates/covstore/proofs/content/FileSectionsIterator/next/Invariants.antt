@@ -4,8 +4,8 @@ use Rattle.covstore.proofs.content.FileSectionsIterator.next.Given as goal
 
 -- what is left is what was left
 abbrev pub invariant-loop-test : goal.invariant-loop-test
-invariant-loop-test g l = tests_seen (λ name. name.items) l.self-inside.file.now l.self-inside.marks.now.checksums.texts l.self-inside.tests
-    ≡ tests_seen (λ name. name.items) l.initial.self-inside.file.now l.initial.self-inside.marks.now.checksums.texts l.initial.self-inside.tests
+invariant-loop-test g l = tests_seen (λ name. name.items) l.self-inside.file.now l.self-inside.index.now.checksums.texts l.self-inside.tests
+    ≡ tests_seen (λ name. name.items) l.initial.self-inside.file.now l.initial.self-inside.index.now.checksums.texts l.initial.self-inside.tests
 
 abbrev pub decreases-loop-test : goal.decreases-loop-test
 decreases-loop-test g l = length l.self-inside.tests

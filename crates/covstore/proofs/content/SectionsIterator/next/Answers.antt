@@ -1,6 +1,6 @@
 use Rattle.std.proofs.Common.{Vec, ℕ, List, sym, ap, ◌∙◌, subst}
 use Rattle.std.specs.List.{AllByRecursion}
-use Rattle.covstore.specs.FileView.{file_held}
+use Rattle.covstore.specs.FileView.{file_committed}
 use Rattle.covstore.specs.State.{sections_of_file}
 use Rattle.covstore.specs.SeenView.{IsFewOf, sections_left}
 use Rattle.covstore.proofs.SeenTests.{all_of_next, next_at_hand, none_at_hand}
@@ -9,7 +9,7 @@ use Rattle.covstore.proofs.content.SectionsIterator.next.Goals as goal
 pub of-requires : goal.of-requires
 of-requires g c =
     let name = λ (key : Vec ℕ g.row.A.Denot). key.items in
-    subst (λ (n : List ℕ). AllByRecursion IsFewOf (sections_of_file (n, file_held c.in_ok-name.file.now))) (sym c.as_slice.ensures.value)
+    subst (λ (n : List ℕ). AllByRecursion IsFewOf (sections_of_file (n, file_committed c.in_ok-name.file.now))) (sym c.as_slice.ensures.value)
     (all_of_next IsFewOf name c.loop-next.self-inside.current c.loop-next.self-inside.files (sections_left name c.self.inside.current c.self.inside.files) c.in_ok-name.name.now c.in_ok-name.file.now c.next.new.self
     c.in_ok-name.ensures.steps c.loop-next.invariant c.self.invariant)
 
@@ -21,4 +21,4 @@ loop-next-preserved g c =
     next_at_hand name now.current now.files (sections_left name c.self.inside.current c.self.inside.files) c.in_ok-name.name.now file c.next.new.self c.of.result
     (none_at_hand c.next_of_file-next.result now.current c.next_of_file-next.new.current c.is_some.result c.is_some.ensures c.if-is_some.false c.next_of_file-next.ensures)
     c.in_ok-name.ensures.steps c.loop-next.invariant
-    (c.of.ensures ∙ ap (λ (n : List ℕ). sections_of_file (n, file_held file)) c.as_slice.ensures.value)
+    (c.of.ensures ∙ ap (λ (n : List ℕ). sections_of_file (n, file_committed file)) c.as_slice.ensures.value)

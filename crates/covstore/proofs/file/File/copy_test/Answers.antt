@@ -4,13 +4,13 @@ use Rattle.std.specs.Ordering.{nat_cmp}
 use Rattle.std.proofs.lemmas.List.{length-map}
 use Rattle.std.proofs.lemmas.Result.{on_ok_weaker}
 use Rattle.covstore.specs.declared.file.File.{File}
-use Rattle.covstore.specs.FileView.{file_coming}
-use Rattle.covstore.specs.MarksView.{KeepsHeld, marks_coming}
-use Rattle.covstore.specs.Puts.{put}
+use Rattle.covstore.specs.FileView.{file_staged}
+use Rattle.covstore.specs.FileIndexView.{KeepsCommitted, index_staged}
+use Rattle.covmap.specs.Puts.{put}
 use Rattle.covstore.specs.Renaming.{CopiesIn}
 use Rattle.covstore.specs.State.{FileData}
 use Rattle.covstore.specs.Sums.{TestData}
-use Rattle.covstore.specs.TestView.{branches_data, test_coming, test_held}
+use Rattle.covstore.specs.TestView.{branches_data, test_staged, test_committed}
 use Rattle.covstore.proofs.AddsFile.{no_test, test_value}
 use Rattle.covstore.proofs.AddsSettled.{test_settled}
 use Rattle.covstore.proofs.CopiesFile.{copies_holders, copies_in, copies_room}
@@ -26,7 +26,7 @@ use Rattle.covstore.proofs.file.File.copy_test.Goals.{in-Some-get, in-None}
 pub returns-in_default-clause-ok : goal.returns-in_default-clause-ok
 returns-in_default-clause-ok g c =
     let name = λ (key : Vec ℕ g.row.A.Denot). key.items in
-    absurd (no_test name test_coming c.args.new.now c.args.self.now.tests.entries c.requires.room.target (sym c.in_default.ensures.value) c.requires.room.its_target)
+    absurd (no_test name test_staged c.args.new.now c.args.self.now.tests.entries c.requires.room.target (sym c.in_default.ensures.value) c.requires.room.its_target)
 
 -- the values are added
 
@@ -34,37 +34,37 @@ pub add_values-added-requires-clause-room : goal.add_values-added-requires-claus
 add_values-added-requires-clause-room g c =
     let name = λ (key : Vec ℕ g.row.A.Denot). key.items in
     let pairs = c.args.self.now.tests.entries in
-    let tests = seen names_order name test_coming pairs in
+    let tests = seen names_order name test_staged pairs in
     let old = c.args.old.now in
     let new = c.args.new.now in
     let target = c.replace-points.result in
     let empty = c.replace-points.new.dest in
     let source = c.in-Some-get.source.now in
     let found = sym c.in-Some.ensures.value ∙ ap Some (sym c.replace-points.ensures.value) in
-    let its_source = c.requires.same ∙ other_found name test_held new pairs (c.get_mut.follows.lender empty).entries target empty c.get_mut.ensures.ordered found (c.get_mut.follows.holds empty).0 old c.requires.apart source
+    let its_source = c.requires.same ∙ other_found name test_committed new pairs (c.get_mut.follows.lender empty).entries target empty c.get_mut.ensures.ordered found (c.get_mut.follows.holds empty).0 old c.requires.apart source
     (sym c.in-Some-get.ensures.value) in
-    let few : length tests < 2 ^ 63 = omega (arith, length-map {B = List ℕ × TestData} pairs (λ pair. (name pair.0, test_coming pair.1)), c.len.ensures.len, c.len.ensures.small) in
-    copies_room old new tests (marks_coming c.args.self.now.marks) (test_held source) (test_coming target) its_source (test_value name test_coming new pairs target found) c.requires.room few
+    let few : length tests < 2 ^ 63 = omega (arith, length-map {B = List ℕ × TestData} pairs (λ pair. (name pair.0, test_staged pair.1)), c.len.ensures.len, c.len.ensures.small) in
+    copies_room old new tests (index_staged c.args.self.now.index) (test_committed source) (test_staged target) its_source (test_value name test_staged new pairs target found) c.requires.room few
 
 pub add_values-added-requires-clause-holders : goal.add_values-added-requires-clause-holders
 add_values-added-requires-clause-holders g c =
     let name = λ (key : Vec ℕ g.row.A.Denot). key.items in
     let pairs = c.args.self.now.tests.entries in
-    let tests = seen names_order name test_coming pairs in
+    let tests = seen names_order name test_staged pairs in
     let old = c.args.old.now in
     let new = c.args.new.now in
     let target = c.replace-points.result in
     let empty = c.replace-points.new.dest in
     let source = c.in-Some-get.source.now in
     let found = sym c.in-Some.ensures.value ∙ ap Some (sym c.replace-points.ensures.value) in
-    let its_source = c.requires.same ∙ other_found name test_held new pairs (c.get_mut.follows.lender empty).entries target empty c.get_mut.ensures.ordered found (c.get_mut.follows.holds empty).0 old c.requires.apart source
+    let its_source = c.requires.same ∙ other_found name test_committed new pairs (c.get_mut.follows.lender empty).entries target empty c.get_mut.ensures.ordered found (c.get_mut.follows.holds empty).0 old c.requires.apart source
     (sym c.in-Some-get.ensures.value) in
-    copies_holders old new tests (marks_coming c.args.self.now.marks) (test_held source) (test_coming target) its_source (test_value name test_coming new pairs target found) c.requires.room
+    copies_holders old new tests (index_staged c.args.self.now.index) (test_committed source) (test_staged target) its_source (test_value name test_staged new pairs target found) c.requires.room
 
 -- and the test is put back
 
-pub returns-in-Some-get_mut-clause-held : goal.returns-in-Some-get_mut-clause-held
-returns-in-Some-get_mut-clause-held g c =
+pub returns-in-Some-get_mut-clause-committed : goal.returns-in-Some-get_mut-clause-committed
+returns-in-Some-get_mut-clause-committed g c =
     let name = λ (key : Vec ℕ g.row.A.Denot). key.items in
     let pairs = c.args.self.now.tests.entries in
     let old = c.args.old.now in
@@ -77,21 +77,21 @@ returns-in-Some-get_mut-clause-held g c =
     elim c.match-get.branch [
       | in-Some-get w ↦
           let mid = ap (λ (f : File g.row.A.Denot). f.tests.entries) w.self-is ∙ lifted in
-          let marks : KeepsHeld c.args.self.now.marks c.match-get.self.marks =
-          subst (λ (f : File g.row.A.Denot). KeepsHeld c.args.self.now.marks f.marks) (sym w.self-is) w.add_values-added.ensures.marks_held in
+          let index : KeepsCommitted c.args.self.now.index c.match-get.self.index =
+          subst (λ (f : File g.row.A.Denot). KeepsCommitted c.args.self.now.index f.index) (sym w.self-is) w.add_values-added.ensures.index_committed in
           record {
-            tests = same_back name test_held new pairs c.match-get.self.tests.entries target empty c.get_mut.ensures.ordered found mid c.in-Some-get_mut.place.now points
+            tests = same_back name test_committed new pairs c.match-get.self.tests.entries target empty c.get_mut.ensures.ordered found mid c.in-Some-get_mut.place.now points
                 (c.get_mut-2.follows.lender points).entries c.get_mut-2.ensures.ordered (sym c.in-Some-get_mut.ensures.value) (c.get_mut-2.follows.holds points).0
-                (ap test_held w.points-is ∙ w.add_values-added.ensures.test_held);
-            lines = marks.lines;
-            functions = marks.functions;
-            branches = ap branches_data marks.branches;
-            holders = marks.holders;
-            texts = marks.texts;
+                (ap test_committed w.points-is ∙ w.add_values-added.ensures.test_committed);
+            lines = index.lines;
+            functions = index.functions;
+            branches = ap branches_data index.branches;
+            holders = index.holders;
+            texts = index.texts;
           }
       | in-None w ↦
           absurd
-          (other_there name test_coming new pairs (c.get_mut.follows.lender empty).entries target empty c.get_mut.ensures.ordered found lifted old c.requires.apart c.requires.room.source c.requires.room.its_source
+          (other_there name test_staged new pairs (c.get_mut.follows.lender empty).entries target empty c.get_mut.ensures.ordered found lifted old c.requires.apart c.requires.room.source c.requires.room.its_source
           (sym w.in-None.ensures.value))
     ]
 
@@ -100,7 +100,7 @@ returns-in-Some-get_mut-clause-ok g c =
     let name = λ (key : Vec ℕ g.row.A.Denot). key.items in
     let before = c.args.self.now in
     let pairs = before.tests.entries in
-    let tests = seen names_order name test_coming pairs in
+    let tests = seen names_order name test_staged pairs in
     let old = c.args.old.now in
     let new = c.args.new.now in
     let target = c.replace-points.result in
@@ -108,27 +108,27 @@ returns-in-Some-get_mut-clause-ok g c =
     let points = c.match-get.points in
     let found = sym c.in-Some.ensures.value ∙ ap Some (sym c.replace-points.ensures.value) in
     let lifted = (c.get_mut.follows.holds empty).0 in
-    let after : File g.row.A.Denot = record { tests = c.get_mut-2.follows.lender points; marks = c.match-get.self.marks } in
+    let after : File g.row.A.Denot = record { tests = c.get_mut-2.follows.lender points; index = c.match-get.self.index } in
     elim c.match-get.branch [
       | in-Some-get w ↦
           let mid = ap (λ (f : File g.row.A.Denot). f.tests.entries) w.self-is ∙ lifted in
           let source = w.in-Some-get.source.now in
-          let its_source = c.requires.same ∙ other_found name test_held new pairs (c.get_mut.follows.lender empty).entries target empty c.get_mut.ensures.ordered found lifted old c.requires.apart source
+          let its_source = c.requires.same ∙ other_found name test_committed new pairs (c.get_mut.follows.lender empty).entries target empty c.get_mut.ensures.ordered found lifted old c.requires.apart source
           (sym w.in-Some-get.ensures.value) in
           let is = same_file
-          (put_back name test_coming new pairs c.match-get.self.tests.entries target empty c.get_mut.ensures.ordered found mid c.in-Some-get_mut.place.now points
+          (put_back name test_staged new pairs c.match-get.self.tests.entries target empty c.get_mut.ensures.ordered found mid c.in-Some-get_mut.place.now points
           (c.get_mut-2.follows.lender points).entries c.get_mut-2.ensures.ordered (sym c.in-Some-get_mut.ensures.value) (c.get_mut-2.follows.holds points).0
-          ∙ ap (λ t. put (slice_cmp nat_cmp) new (test_coming t) tests) w.points-is)
-          (ap (λ (f : File g.row.A.Denot). marks_coming f.marks) w.self-is) in
+          ∙ ap (λ t. put (slice_cmp nat_cmp) new (test_staged t) tests) w.points-is)
+          (ap (λ (f : File g.row.A.Denot). index_staged f.index) w.self-is) in
           rw w.added-is
           (on_ok_weaker w.add_values-added.result
-          (λ adds. subst (λ (file : FileData). CopiesIn old new (file_coming before) file) (sym is)
-          (copies_in old new tests (marks_coming before.marks) (test_held source) (test_coming target) its_source (test_value name test_coming new pairs target found)
-          (test_coming w.add_values-added.new.test) (marks_coming w.add_values-added.new.marks) adds))
+          (λ adds. subst (λ (file : FileData). CopiesIn old new (file_staged before) file) (sym is)
+          (copies_in old new tests (index_staged before.index) (test_committed source) (test_staged target) its_source (test_value name test_staged new pairs target found)
+          (test_staged w.add_values-added.new.test) (index_staged w.add_values-added.new.index) adds))
           w.add_values-added.ensures.ok)
       | in-None w ↦
           absurd
-          (other_there name test_coming new pairs (c.get_mut.follows.lender empty).entries target empty c.get_mut.ensures.ordered found lifted old c.requires.apart c.requires.room.source c.requires.room.its_source
+          (other_there name test_staged new pairs (c.get_mut.follows.lender empty).entries target empty c.get_mut.ensures.ordered found lifted old c.requires.apart c.requires.room.source c.requires.room.its_source
           (sym w.in-None.ensures.value))
     ]
 
@@ -137,7 +137,7 @@ returns-in-Some-get_mut-clause-settled g c = λ tests among settled.
     let new = c.args.new.now in
     let empty = c.replace-points.new.dest in
     let points = c.match-get.points in
-    let after : File g.row.A.Denot = record { tests = c.get_mut-2.follows.lender points; marks = c.match-get.self.marks } in
+    let after : File g.row.A.Denot = record { tests = c.get_mut-2.follows.lender points; index = c.match-get.self.index } in
     elim c.match-get.branch [
       | in-Some-get w ↦
           let mid = ap (λ (f : File g.row.A.Denot). f.tests.entries) w.self-is ∙ (c.get_mut.follows.holds empty).0 in
@@ -151,8 +151,8 @@ returns-in-Some-get_mut-clause-settled g c = λ tests among settled.
 
 -- its place is there
 
-pub returns-in_default-get_mut-clause-held : goal.returns-in_default-get_mut-clause-held
-returns-in_default-get_mut-clause-held g c =
+pub returns-in_default-get_mut-clause-committed : goal.returns-in_default-get_mut-clause-committed
+returns-in_default-get_mut-clause-committed g c =
     let name = λ (key : Vec ℕ g.row.A.Denot). key.items in
     let pairs = c.args.self.now.tests.entries in
     let target = c.replace-points.result in
@@ -161,10 +161,10 @@ returns-in_default-get_mut-clause-held g c =
     elim c.match-get.branch [
       | in-Some-get w ↦
           let mid = ap (λ (f : File g.row.A.Denot). f.tests.entries) w.self-is ∙ (c.get_mut.follows.holds empty).0 in
-          absurd (place_there name test_coming c.args.new.now pairs c.match-get.self.tests.entries target empty c.get_mut.ensures.ordered found mid (sym c.in_default-get_mut.ensures.value))
+          absurd (place_there name test_staged c.args.new.now pairs c.match-get.self.tests.entries target empty c.get_mut.ensures.ordered found mid (sym c.in_default-get_mut.ensures.value))
       | in-None w ↦
           let mid = ap (λ (f : File g.row.A.Denot). f.tests.entries) w.self-is ∙ (c.get_mut.follows.holds empty).0 in
-          absurd (place_there name test_coming c.args.new.now pairs c.match-get.self.tests.entries target empty c.get_mut.ensures.ordered found mid (sym c.in_default-get_mut.ensures.value))
+          absurd (place_there name test_staged c.args.new.now pairs c.match-get.self.tests.entries target empty c.get_mut.ensures.ordered found mid (sym c.in_default-get_mut.ensures.value))
     ]
 
 pub returns-in_default-get_mut-clause-ok : goal.returns-in_default-get_mut-clause-ok
@@ -177,10 +177,10 @@ returns-in_default-get_mut-clause-ok g c =
     elim c.match-get.branch [
       | in-Some-get w ↦
           let mid = ap (λ (f : File g.row.A.Denot). f.tests.entries) w.self-is ∙ (c.get_mut.follows.holds empty).0 in
-          absurd (place_there name test_coming c.args.new.now pairs c.match-get.self.tests.entries target empty c.get_mut.ensures.ordered found mid (sym c.in_default-get_mut.ensures.value))
+          absurd (place_there name test_staged c.args.new.now pairs c.match-get.self.tests.entries target empty c.get_mut.ensures.ordered found mid (sym c.in_default-get_mut.ensures.value))
       | in-None w ↦
           let mid = ap (λ (f : File g.row.A.Denot). f.tests.entries) w.self-is ∙ (c.get_mut.follows.holds empty).0 in
-          absurd (place_there name test_coming c.args.new.now pairs c.match-get.self.tests.entries target empty c.get_mut.ensures.ordered found mid (sym c.in_default-get_mut.ensures.value))
+          absurd (place_there name test_staged c.args.new.now pairs c.match-get.self.tests.entries target empty c.get_mut.ensures.ordered found mid (sym c.in_default-get_mut.ensures.value))
     ]
 
 pub returns-in_default-get_mut-clause-settled : goal.returns-in_default-get_mut-clause-settled
@@ -193,8 +193,8 @@ returns-in_default-get_mut-clause-settled g c =
     elim c.match-get.branch [
       | in-Some-get w ↦
           let mid = ap (λ (f : File g.row.A.Denot). f.tests.entries) w.self-is ∙ (c.get_mut.follows.holds empty).0 in
-          absurd (place_there name test_coming c.args.new.now pairs c.match-get.self.tests.entries target empty c.get_mut.ensures.ordered found mid (sym c.in_default-get_mut.ensures.value))
+          absurd (place_there name test_staged c.args.new.now pairs c.match-get.self.tests.entries target empty c.get_mut.ensures.ordered found mid (sym c.in_default-get_mut.ensures.value))
       | in-None w ↦
           let mid = ap (λ (f : File g.row.A.Denot). f.tests.entries) w.self-is ∙ (c.get_mut.follows.holds empty).0 in
-          absurd (place_there name test_coming c.args.new.now pairs c.match-get.self.tests.entries target empty c.get_mut.ensures.ordered found mid (sym c.in_default-get_mut.ensures.value))
+          absurd (place_there name test_staged c.args.new.now pairs c.match-get.self.tests.entries target empty c.get_mut.ensures.ordered found mid (sym c.in_default-get_mut.ensures.value))
     ]

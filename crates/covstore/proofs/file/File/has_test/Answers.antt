@@ -1,7 +1,7 @@
 use Rattle.std.proofs.Common.{not, Option, option_map, sym, ap, ◌∙◌}
 use Rattle.covstore.specs.State.{has_no_points, points_or_none}
 use Rattle.covstore.specs.Sums.{TestData}
-use Rattle.covstore.specs.TestView.{test_held}
+use Rattle.covstore.specs.TestView.{test_committed}
 use Rattle.covstore.proofs.MapNames.{value_of_named}
 use Rattle.covstore.proofs.Settled.{file_name}
 use Rattle.covstore.proofs.file.File.has_test.Goals as goal
@@ -9,9 +9,9 @@ use Rattle.covstore.proofs.file.File.has_test.Goals as goal
 pub returns-in-Some : goal.returns-in-Some
 returns-in-Some g c =
     ap not (c.is_empty.ensures ∙ ap (λ (found : Option TestData). has_no_points (points_or_none found))
-    (ap (option_map test_held) c.in-Some.ensures.value ∙ sym (value_of_named file_name test_held c.args.test.now c.args.self.now.tests.entries)))
+    (ap (option_map test_committed) c.in-Some.ensures.value ∙ sym (value_of_named file_name test_committed c.args.test.now c.args.self.now.tests.entries)))
 
 pub returns-in-None : goal.returns-in-None
 returns-in-None g c =
     ap (λ (found : Option TestData). not (has_no_points (points_or_none found)))
-    (ap (option_map test_held) c.in-None.ensures.value ∙ sym (value_of_named file_name test_held c.args.test.now c.args.self.now.tests.entries))
+    (ap (option_map test_committed) c.in-None.ensures.value ∙ sym (value_of_named file_name test_committed c.args.test.now c.args.self.now.tests.entries))

@@ -9,7 +9,7 @@ use Rattle.covstore.specs.RefuseView.{refuse_data}
 use Rattle.covstore.proofs.AddsLoop.{all_at, left_at, taken_at}
 use Rattle.covstore.proofs.AddsSome.{some_of_them}
 use Rattle.covstore.proofs.AddsStore.{HasTakenSects, held_by_both, next_room, no_sects, one_sect, sect_clashes}
-use Rattle.covstore.proofs.SlotWrites.{on_err}
+use Rattle.covmap.proofs.SlotWrites.{on_err}
 use Rattle.covstore.proofs.store.Store.add_all.Goals as goal
 
 pub loop-sect-init : goal.loop-sect-init
@@ -24,8 +24,8 @@ add_section-requires g c =
     next_room taken (sect_data c.sect-item.result) (map sect_data (drop (l.sect-index + 1) sects)) c.args.self.now l.self
     (subst (λ (more : List SectData). HasTakenSects taken more c.args.self.now l.self) left l.invariant)
 
-pub returns-in_err-add_section-clause-held : goal.returns-in_err-add_section-clause-held
-returns-in_err-add_section-clause-held g c = held_by_both c.args.self.now c.loop-sect.self c.add_section.new.self c.loop-sect.invariant.held c.add_section.ensures.held
+pub returns-in_err-add_section-clause-committed : goal.returns-in_err-add_section-clause-committed
+returns-in_err-add_section-clause-committed g c = held_by_both c.args.self.now c.loop-sect.self c.add_section.new.self c.loop-sect.invariant.committed c.add_section.ensures.committed
 
 pub returns-in_err-add_section-clause-clash : goal.returns-in_err-add_section-clause-clash
 returns-in_err-add_section-clause-clash g c =
@@ -61,7 +61,7 @@ loop-sect-preserved g c =
     let left = left_at sect_data sects l.sect-index sect c.loop-sect-test.true c.sect-item.is in
     subst (λ (some : List SectData). HasTakenSects some rest c.args.self.now c.add_section.new.self) (sym (taken_at sect_data sects l.sect-index sect c.loop-sect-test.true c.sect-item.is))
     (one_sect taken (sect_data sect) rest c.args.self.now l.self (subst (λ (more : List SectData). HasTakenSects taken more c.args.self.now l.self) left l.invariant)
-    c.add_section.new.self c.add_section.ensures.held c.in_ok-add_section.ensures.ok)
+    c.add_section.new.self c.add_section.ensures.committed c.in_ok-add_section.ensures.ok)
 
 pub returns-clause-ok : goal.returns-clause-ok
 returns-clause-ok g c =

@@ -6,14 +6,14 @@ use Rattle.std.proofs.lemmas.Result.{IfErr-weaker, on_ok_weaker}
 use Rattle.covline.specs.Row.{Row, item_data, rows_of_sect}
 use Rattle.covline.specs.SectView.{sect_data}
 use Rattle.covstore.specs.Stored.{AddsRows, ClashesWith, HasRoomForRows}
-use Rattle.covstore.specs.Puts.{value_of}
+use Rattle.covmap.specs.Puts.{value_of}
 use Rattle.covstore.specs.RefuseView.{refuse_data}
 use Rattle.covstore.specs.SectionAdds.{rows_of_items}
 use Rattle.covstore.proofs.AddsMaps.{file_ready}
 use Rattle.covstore.proofs.AddsReady.{adds_kept, both_keep, clash_kept, file_opened_keeps, no_items, nothing_added, room_kept, same_rows}
 use Rattle.covstore.proofs.AddsSome.{some_rows}
 use Rattle.covstore.proofs.AddsStore.{held_by_both}
-use Rattle.covstore.proofs.SlotWrites.{on_err}
+use Rattle.covmap.proofs.SlotWrites.{on_err}
 use Rattle.covstore.proofs.store.Store.add_section.Goals as goal
 
 pub returns-then-is_empty-clause-ok : goal.returns-then-is_empty-clause-ok
@@ -25,10 +25,10 @@ returns-then-is_empty-clause-ok g c =
 pub open_test-requires : goal.open_test-requires
 open_test-requires g c =
     let file = c.get-file.result.now in
-    ap (λ files. is_some (value_of (slice_cmp nat_cmp) file files)) c.in_ok-open.ensures.coming ∙ file_ready file c.args.self.now.coming
+    ap (λ files. is_some (value_of (slice_cmp nat_cmp) file files)) c.in_ok-open.ensures.staged ∙ file_ready file c.args.self.now.staged
 
-pub returns-in_err-open_test-clause-held : goal.returns-in_err-open_test-clause-held
-returns-in_err-open_test-clause-held g c = held_by_both c.args.self.now c.open.new.self c.open_test.new.self c.open.ensures.held c.open_test.ensures.held
+pub returns-in_err-open_test-clause-committed : goal.returns-in_err-open_test-clause-committed
+returns-in_err-open_test-clause-committed g c = held_by_both c.args.self.now c.open.new.self c.open_test.new.self c.open.ensures.committed c.open_test.ensures.committed
 
 pub add_items-requires-clause-room : goal.add_items-requires-clause-room
 add_items-requires-clause-room g c =
@@ -40,14 +40,14 @@ add_items-requires-clause-room g c =
     let items = map item_data c.get-items.result.now in
     let rows = rows_of_sect (sect_data sect) in
     let same = same_rows file test sect.file sect.test items sect.items c.get-file.ensures c.get-test.ensures c.get-items.ensures.items in
-    let keeps = both_keep now.coming c.open.new.self.coming ready.coming (file_opened_keeps file rows now c.open.new.self.coming c.requires c.in_ok-open.ensures.coming) c.in_ok-open_test.ensures.coming in
+    let keeps = both_keep now.staged c.open.new.self.staged ready.staged (file_opened_keeps file rows now c.open.new.self.staged c.requires c.in_ok-open.ensures.staged) c.in_ok-open_test.ensures.staged in
     let after = c.in_ok-open_test.ensures.after ∙ c.in_ok-open.ensures.after in
     subst (λ (added : List Row). HasRoomForRows added ready) (sym same) (room_kept rows now ready keeps after c.requires)
 
-pub returns-clause-held : goal.returns-clause-held
-returns-clause-held g c =
+pub returns-clause-committed : goal.returns-clause-committed
+returns-clause-committed g c =
     held_by_both c.args.self.now c.open_test.new.self c.add_items.new.self
-    (held_by_both c.args.self.now c.open.new.self c.open_test.new.self c.open.ensures.held c.open_test.ensures.held) c.add_items.ensures.held
+    (held_by_both c.args.self.now c.open.new.self c.open_test.new.self c.open.ensures.committed c.open_test.ensures.committed) c.add_items.ensures.committed
 
 pub returns-clause-ok : goal.returns-clause-ok
 returns-clause-ok g c =
@@ -59,7 +59,7 @@ returns-clause-ok g c =
     let items = map item_data c.get-items.result.now in
     let rows = rows_of_sect (sect_data sect) in
     let same = same_rows file test sect.file sect.test items sect.items c.get-file.ensures c.get-test.ensures c.get-items.ensures.items in
-    let keeps = both_keep now.coming c.open.new.self.coming ready.coming (file_opened_keeps file rows now c.open.new.self.coming c.requires c.in_ok-open.ensures.coming) c.in_ok-open_test.ensures.coming in
+    let keeps = both_keep now.staged c.open.new.self.staged ready.staged (file_opened_keeps file rows now c.open.new.self.staged c.requires c.in_ok-open.ensures.staged) c.in_ok-open_test.ensures.staged in
     let after = c.in_ok-open_test.ensures.after ∙ c.in_ok-open.ensures.after in
     let later = c.add_items.new.self in
     on_ok_weaker c.add_items.result (λ adds. adds_kept rows now ready keeps after later (subst (λ (added : List Row). AddsRows added ready later) same adds)) c.add_items.ensures.ok
@@ -74,7 +74,7 @@ returns-clause-clash g c =
     let items = map item_data c.get-items.result.now in
     let rows = rows_of_sect (sect_data sect) in
     let same = same_rows file test sect.file sect.test items sect.items c.get-file.ensures c.get-test.ensures c.get-items.ensures.items in
-    let keeps = both_keep now.coming c.open.new.self.coming ready.coming (file_opened_keeps file rows now c.open.new.self.coming c.requires c.in_ok-open.ensures.coming) c.in_ok-open_test.ensures.coming in
+    let keeps = both_keep now.staged c.open.new.self.staged ready.staged (file_opened_keeps file rows now c.open.new.self.staged c.requires c.in_ok-open.ensures.staged) c.in_ok-open_test.ensures.staged in
     let after = c.in_ok-open_test.ensures.after ∙ c.in_ok-open.ensures.after in
     IfErr-weaker c.add_items.result (λ e. ClashesWith (rows_of_items file test items) ready (refuse_data e)) (λ e. ClashesWith rows now (refuse_data e))
     (λ e clash. clash_kept rows now ready keeps after (refuse_data e) (subst (λ (added : List Row). ClashesWith added ready (refuse_data e)) same clash)) c.add_items.ensures.clash

@@ -1,7 +1,7 @@
 use Rattle.std.proofs.Common.{◌≡◌, ℕ, Option, Some, List, sym, subst}
 use Rattle.covstore.specs.declared.store.Touched.{Touched}
 use Rattle.covstore.specs.Dropped.{AreWithoutTest}
-use Rattle.covstore.specs.MapsView.{AreSettledBut, files_coming, files_held, touched_data}
+use Rattle.covstore.specs.MapsView.{AreSettledBut, files_staged, files_committed, touched_data}
 use Rattle.covstore.specs.Renaming.{IsMoving, IsMovingIfAny}
 use Rattle.covstore.specs.State.{FileData, IsWholeFile}
 use Rattle.covstore.specs.Stored.{StandsFor, StoreData}
@@ -13,7 +13,7 @@ use Rattle.covstore.proofs.Stores.{store_of}
 use Rattle.covstore.proofs.WithoutStores.{whole_files}
 use Rattle.covstore.proofs.store.Store.commit_rename.Goals as goal
 
--- what is to come is the state of the rows with those that move
+-- what is staged is the state of the rows with those that move
 moving : (store inside : StoreData) → inside ≡ store → (old new leaves : List ℕ) (told : Option (List ℕ)) → Some leaves ≡ told → IsMovingIfAny store old new told → IsMoving inside old new leaves
 moving store inside view old new leaves told is given =
     subst (λ (s : StoreData). IsMoving s old new leaves) (sym view) (subst (IsMovingIfAny store old new) (sym is) given)
@@ -21,34 +21,34 @@ moving store inside view old new leaves told is given =
 pub drop_from_files-requires : goal.drop_from_files-requires
 drop_from_files-requires g c =
     let inside = c.self.inside in
-    let first = store_of inside.members (files_held file_name inside.files.entries) (files_coming file_name inside.files.entries) inside.coming in
+    let first = store_of inside.members (files_committed file_name inside.files.entries) (files_staged file_name inside.files.entries) inside.staged in
     let is = moving c.args.self.now first c.self.view_is c.requires.0 c.requires.1 c.in-Some.old.now c.args.renaming.leaves c.in-Some.ensures c.requires.2 in
-    whole_files file_name c.take_coming.new.files.entries
-    (subst (λ (files : List (List ℕ × FileData)). AllByRecursion (λ pair. IsWholeFile pair.1) files) (sym c.take_coming.ensures.held) (is.moves (all_rows c.self.invariant.0.own) c.self.invariant.0.state).whole)
+    whole_files file_name c.commit_staged.new.files.entries
+    (subst (λ (files : List (List ℕ × FileData)). AllByRecursion (λ pair. IsWholeFile pair.1) files) (sym c.commit_staged.ensures.committed) (is.moves (all_rows c.self.invariant.0.own) c.self.invariant.0.state).whole)
 
 pub invariant_of-self : goal.invariant_of-self
 invariant_of-self g c =
     let inside = c.self.inside in
-    let coming = files_coming file_name inside.files.entries in
-    let first = store_of inside.members (files_held file_name inside.files.entries) coming inside.coming in
-    let after = files_held file_name c.drop_from_files.new.files.entries in
-    let are = subst (λ (files : List (List ℕ × FileData)). AreWithoutTest c.in-Some.old.now files after) c.take_coming.ensures.held (c.drop_from_files.ensures.held file_name) in
-    let settled = subst (λ (left : List (Touched g.row.A.Denot)). AreSettledBut file_name (touched_data left) c.take_coming.new.files.entries) (sym c.take_coming.ensures.none) c.take_coming.ensures.settled in (
-      store_moved c.requires.0 c.requires.1 c.in-Some.old.now inside.members inside.held inside.coming (files_held file_name inside.files.entries) coming after c.self.invariant.0
+    let staged = files_staged file_name inside.files.entries in
+    let first = store_of inside.members (files_committed file_name inside.files.entries) staged inside.staged in
+    let after = files_committed file_name c.drop_from_files.new.files.entries in
+    let are = subst (λ (files : List (List ℕ × FileData)). AreWithoutTest c.in-Some.old.now files after) c.commit_staged.ensures.committed (c.drop_from_files.ensures.committed file_name) in
+    let settled = subst (λ (left : List (Touched g.row.A.Denot)). AreSettledBut file_name (touched_data left) c.commit_staged.new.files.entries) (sym c.commit_staged.ensures.none) c.commit_staged.ensures.settled in (
+      store_moved c.requires.0 c.requires.1 c.in-Some.old.now inside.members inside.committed inside.staged (files_committed file_name inside.files.entries) staged after c.self.invariant.0
           (moving c.args.self.now first c.self.view_is c.requires.0 c.requires.1 c.in-Some.old.now c.args.renaming.leaves c.in-Some.ensures c.requires.2) are,
-      c.drop_from_files.ensures.settled file_name (touched_data c.take_coming.new.touched.items) settled,
+      c.drop_from_files.ensures.settled file_name (touched_data c.commit_staged.new.touched.items) settled,
     )
 
 pub returns-in-Some : goal.returns-in-Some
 returns-in-Some g c =
     let inside = c.self.inside in
-    let coming = files_coming file_name inside.files.entries in
-    let first = store_of inside.members (files_held file_name inside.files.entries) coming inside.coming in
+    let staged = files_staged file_name inside.files.entries in
+    let first = store_of inside.members (files_committed file_name inside.files.entries) staged inside.staged in
     let later = c.drop_from_files.new.files.entries in
-    let after = files_held file_name later in
-    let are = subst (λ (files : List (List ℕ × FileData)). AreWithoutTest c.in-Some.old.now files after) c.take_coming.ensures.held (c.drop_from_files.ensures.held file_name) in
+    let after = files_committed file_name later in
+    let are = subst (λ (files : List (List ℕ × FileData)). AreWithoutTest c.in-Some.old.now files after) c.commit_staged.ensures.committed (c.drop_from_files.ensures.committed file_name) in
     record {
       stands = λ old new table given stands.
-          stands_moved old new c.in-Some.old.now inside.members inside.held inside.coming (files_held file_name inside.files.entries) coming after c.self.invariant.0 (moving c.args.self.now first c.self.view_is old new c.in-Some.old.now c.args.renaming.leaves c.in-Some.ensures given) are
-          (files_coming file_name later) inside.coming table (subst (λ (store : StoreData). StandsFor store table) (sym c.self.view_is) stands);
+          stands_moved old new c.in-Some.old.now inside.members inside.committed inside.staged (files_committed file_name inside.files.entries) staged after c.self.invariant.0 (moving c.args.self.now first c.self.view_is old new c.in-Some.old.now c.args.renaming.leaves c.in-Some.ensures given) are
+          (files_staged file_name later) inside.staged table (subst (λ (store : StoreData). StandsFor store table) (sym c.self.view_is) stands);
     }

@@ -12,7 +12,7 @@ pub loop-name-init : goal.loop-name-init
 loop-name-init g c =
     let items = c.as_slice-name-items.result.now in
     none_copied c.args.old.now c.args.new.now (map file_name items) c.args.self.now c.kept.result c.kept.ensures c.requires.still
-    (ap (map file_name) c.as_slice-name-items.ensures.value ∙ c.in_ok-names.ensures ∙ ap (λ (store : StoreData). names_with c.args.old.now store.held) c.self.view_is)
+    (ap (map file_name) c.as_slice-name-items.ensures.value ∙ c.in_ok-names.ensures ∙ ap (λ (store : StoreData). names_with c.args.old.now store.committed) c.self.view_is)
 
 pub copy_file-requires-clause-room : goal.copy_file-requires-clause-room
 copy_file-requires-clause-room g c =
@@ -23,24 +23,24 @@ copy_file-requires-clause-room g c =
     (subst (λ (more : List (List ℕ)). HasCopied c.args.old.now c.args.new.now (map file_name (take l.name-index items)) more c.args.self.now l.self)
     (left_at file_name items l.name-index c.name-item.result c.loop-name-test.true c.name-item.is) l.invariant))
 
-pub returns-in_err-copy_file-clause-held : goal.returns-in_err-copy_file-clause-held
-returns-in_err-copy_file-clause-held g c = held_by_both c.args.self.now c.loop-name.self c.copy_file.new.self c.loop-name.invariant.held c.copy_file.ensures.held
+pub returns-in_err-copy_file-clause-committed : goal.returns-in_err-copy_file-clause-committed
+returns-in_err-copy_file-clause-committed g c = held_by_both c.args.self.now c.loop-name.self c.copy_file.new.self c.loop-name.invariant.committed c.copy_file.ensures.committed
 
 pub loop-name-preserved : goal.loop-name-preserved
 loop-name-preserved g c =
     let l = c.loop-name in
     let items = c.as_slice-name-items.result.now in
     let rest = map file_name (drop (l.name-index + 1) items) in
-    let copies = subst (λ (file : List ℕ). Copies file c.args.old.now c.args.new.now l.self.coming c.copy_file.new.self.coming) c.as_slice.ensures.value c.in_ok-copy_file.ensures.ok in
+    let copies = subst (λ (file : List ℕ). Copies file c.args.old.now c.args.new.now l.self.staged c.copy_file.new.self.staged) c.as_slice.ensures.value c.in_ok-copy_file.ensures.ok in
     subst (λ (some : List (List ℕ)). HasCopied c.args.old.now c.args.new.now some rest c.args.self.now c.copy_file.new.self)
     (sym (taken_at file_name items l.name-index c.name-item.result c.loop-name-test.true c.name-item.is))
     (one_file_copied c.args.old.now c.args.new.now c.requires.apart (map file_name (take l.name-index items)) c.args.self.now l.self (file_name c.name-item.result) rest
     (subst (λ (more : List (List ℕ)). HasCopied c.args.old.now c.args.new.now (map file_name (take l.name-index items)) more c.args.self.now l.self)
     (left_at file_name items l.name-index c.name-item.result c.loop-name-test.true c.name-item.is) l.invariant)
-    c.copy_file.new.self c.copy_file.ensures.held copies)
+    c.copy_file.new.self c.copy_file.ensures.committed copies)
 
-pub returns-clause-held : goal.returns-clause-held
-returns-clause-held g c = c.loop-name.invariant.held
+pub returns-clause-committed : goal.returns-clause-committed
+returns-clause-committed g c = c.loop-name.invariant.committed
 
 pub returns-clause-ok : goal.returns-clause-ok
 returns-clause-ok g c =

@@ -1,5 +1,5 @@
 use Rattle.std.proofs.Common.{sym, ap, ◌∙◌, subst}
-use Rattle.covstore.specs.MapsView.{files_coming, files_held, touched_data}
+use Rattle.covstore.specs.MapsView.{files_staged, files_committed, touched_data}
 use Rattle.covstore.specs.Stored.{StandsFor, StoreData}
 use Rattle.covstore.proofs.Settled.{file_name}
 use Rattle.covstore.proofs.WithoutState.{store_without}
@@ -7,7 +7,7 @@ use Rattle.covstore.proofs.WithoutStores.{sections_with, some_left, stands_left,
 use Rattle.covstore.proofs.store.Store.drop_test.Goals as goal
 
 pub count_without-sections-requires-clause-fits : goal.count_without-sections-requires-clause-fits
-count_without-sections-requires-clause-fits g c = some_left c.args.test.now c.self.inside.members c.self.inside.held (files_held file_name c.self.inside.files.entries) c.self.invariant.0
+count_without-sections-requires-clause-fits g c = some_left c.args.test.now c.self.inside.members c.self.inside.committed (files_committed file_name c.self.inside.files.entries) c.self.invariant.0
 
 pub drop_from_files-requires : goal.drop_from_files-requires
 drop_from_files-requires g c = whole_files file_name c.self.inside.files.entries c.self.invariant.0.state.whole
@@ -15,26 +15,26 @@ drop_from_files-requires g c = whole_files file_name c.self.inside.files.entries
 pub invariant_of-self : goal.invariant_of-self
 invariant_of-self g c =
     let inside = c.self.inside in
-    let files = files_held file_name inside.files.entries in
-    let after = files_held file_name c.drop_from_files.new.files.entries in
-    let are = c.drop_from_files.ensures.held file_name in (
-      store_without c.args.test.now inside.members inside.held files after c.self.invariant.0 are c.count_without-sections.result.1 (c.count_without-sections.ensures.totals after are),
+    let files = files_committed file_name inside.files.entries in
+    let after = files_committed file_name c.drop_from_files.new.files.entries in
+    let are = c.drop_from_files.ensures.committed file_name in (
+      store_without c.args.test.now inside.members inside.committed files after c.self.invariant.0 are c.count_without-sections.result.1 (c.count_without-sections.ensures.totals after are),
       c.drop_from_files.ensures.settled file_name (touched_data inside.touched.items) c.self.invariant.1,
     )
 
 pub returns-clause-sections : goal.returns-clause-sections
 returns-clause-sections g c = λ table stands.
     c.count_without-sections.ensures.sections
-    ∙ sections_with c.args.test.now c.self.inside.members c.self.inside.held (files_held file_name c.self.inside.files.entries) c.self.invariant.0 table
-    (ap (λ (store : StoreData). store.sections) c.self.view_is ∙ c.forget.ensures.sections ∙ stands.content)
+    ∙ sections_with c.args.test.now c.self.inside.members c.self.inside.committed (files_committed file_name c.self.inside.files.entries) c.self.invariant.0 table
+    (ap (λ (store : StoreData). store.sections) c.self.view_is ∙ c.rollback.ensures.sections ∙ stands.content)
 
 pub returns-clause-stands : goal.returns-clause-stands
 returns-clause-stands g c = λ table stands.
     let inside = c.self.inside in
-    let before = files_held file_name inside.files.entries in
-    let after = files_held file_name c.drop_from_files.new.files.entries in
+    let before = files_committed file_name inside.files.entries in
+    let after = files_committed file_name c.drop_from_files.new.files.entries in
     let totals = c.count_without-sections.result.1 in
-    let forgotten = stands_too c.args.self.now c.forget.new.self table c.forget.ensures.sections c.forget.ensures.members stands in
-    stands_left c.args.test.now inside.members inside.held before c.self.invariant.0 after (c.drop_from_files.ensures.held file_name)
-    (files_coming file_name inside.files.entries) (files_coming file_name c.drop_from_files.new.files.entries) inside.coming totals table
+    let forgotten = stands_too c.args.self.now c.rollback.new.self table c.rollback.ensures.sections c.rollback.ensures.members stands in
+    stands_left c.args.test.now inside.members inside.committed before c.self.invariant.0 after (c.drop_from_files.ensures.committed file_name)
+    (files_staged file_name inside.files.entries) (files_staged file_name c.drop_from_files.new.files.entries) inside.staged totals table
     (subst (λ (store : StoreData). StandsFor store table) (sym c.self.view_is) forgotten)

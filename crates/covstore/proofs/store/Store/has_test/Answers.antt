@@ -5,9 +5,9 @@ use Rattle.std.proofs.lemmas.Iterator.Consumers.{YieldsList-from_rest}
 use Rattle.std.proofs.lemmas.Iterator.Search.{any_from_yields_List}
 use Rattle.covstore.specs.declared.file.File.{File}
 use Rattle.covstore.specs.Content.{SectionData}
-use Rattle.covstore.specs.FileView.{file_held}
+use Rattle.covstore.specs.FileView.{file_committed}
 use Rattle.covstore.specs.Stored.{StoreData}
-use Rattle.covstore.specs.MapsView.{files_held}
+use Rattle.covstore.specs.MapsView.{files_committed}
 use Rattle.covstore.specs.State.{has_points_of}
 use Rattle.covstore.specs.Table.{all_rows}
 use Rattle.covstore.proofs.Contents.{test_by_content}
@@ -19,12 +19,12 @@ pub returns-clause-value : goal.returns-clause-value
 returns-clause-value g c =
     let test = c.args.test.now in
     let pairs = c.self.inside.files.entries in
-    any_from_yields_List (λ (file : File g.row.A.Denot). has_points_of test (file_held file)) c.any.new.self _ c.any.result c.any.ensures.ran
+    any_from_yields_List (λ (file : File g.row.A.Denot). has_points_of test (file_committed file)) c.any.new.self _ c.any.result c.any.ensures.ran
     (YieldsList-from_rest c.values.result refl)
     (λ x b q k. search (rules, tests))
-    ∙ ap (list_any (λ (file : File g.row.A.Denot). has_points_of test (file_held file))) c.values.ensures.rest
-    ∙ any_named (has_points_of test) file_held file_name pairs
-    ∙ sym (any_in_files test (files_held file_name pairs) c.self.invariant.0.state.whole)
+    ∙ ap (list_any (λ (file : File g.row.A.Denot). has_points_of test (file_committed file))) c.values.ensures.rest
+    ∙ any_named (has_points_of test) file_committed file_name pairs
+    ∙ sym (any_in_files test (files_committed file_name pairs) c.self.invariant.0.state.whole)
     ∙ ap (λ (store : StoreData). list_any (λ (s : SectionData). bytes_eq s.key.test test) store.sections) c.self.view_is
 
 pub returns-clause-rows : goal.returns-clause-rows

@@ -2,57 +2,57 @@ use Rattle.std.proofs.Common.{Vec, ℕ, List, refl, sym, ap, subst}
 use Rattle.std.specs.Cmp.Lexicographic.{slice_cmp}
 use Rattle.std.specs.Ordering.{nat_cmp}
 use Rattle.covstore.specs.declared.file.File.{File}
-use Rattle.covstore.specs.FileView.{file_coming, file_held}
-use Rattle.covstore.specs.Stored.{KeepsState, SameHeld}
-use Rattle.covstore.specs.MapsView.{files_coming, files_held, touched_data}
+use Rattle.covstore.specs.FileView.{file_staged, file_committed}
+use Rattle.covstore.specs.Stored.{KeepsState, SameCommitted}
+use Rattle.covstore.specs.MapsView.{files_staged, files_committed, touched_data}
 use Rattle.covstore.proofs.AddsReady.{held_kept}
-use Rattle.covstore.proofs.AddsStore.{same_held}
+use Rattle.covstore.proofs.AddsStore.{same_committed}
 use Rattle.covstore.proofs.Keeps.{with_file_keeps}
 use Rattle.covstore.proofs.Opens.{file_there, file_opened}
 use Rattle.covstore.proofs.StoreKept.{settled_with, store_with_file}
 use Rattle.covstore.proofs.Stores.{store_of}
 use Rattle.covstore.proofs.store.Store.open.Goals as goal
 
-pub returns-then-contains_key-clause-held : goal.returns-then-contains_key-clause-held
-returns-then-contains_key-clause-held g c = same_held c.args.self.now
+pub returns-then-contains_key-clause-committed : goal.returns-then-contains_key-clause-committed
+returns-then-contains_key-clause-committed g c = same_committed c.args.self.now
 
-pub returns-in_err-name-clause-held : goal.returns-in_err-name-clause-held
-returns-in_err-name-clause-held g c = same_held c.args.self.now
+pub returns-in_err-name-clause-committed : goal.returns-in_err-name-clause-committed
+returns-in_err-name-clause-committed g c = same_committed c.args.self.now
 
-pub returns-in_err-insert-clause-held : goal.returns-in_err-insert-clause-held
-returns-in_err-insert-clause-held g c =
+pub returns-in_err-insert-clause-committed : goal.returns-in_err-insert-clause-committed
+returns-in_err-insert-clause-committed g c =
     let name = λ (key : Vec ℕ g.row.A.Denot). key.items in
     let first = c.self.inside in
-    let seen = λ (entries : List (Vec ℕ g.row.A.Denot × File g.row.A.Denot)). store_of first.members (files_held name entries) (files_coming name entries) first.coming in
-    subst (λ entries. SameHeld c.args.self.now (seen entries)) (sym c.in_err-insert.ensures.err) (subst (SameHeld c.args.self.now) (sym c.self.view_is) (same_held c.args.self.now))
+    let seen = λ (entries : List (Vec ℕ g.row.A.Denot × File g.row.A.Denot)). store_of first.members (files_committed name entries) (files_staged name entries) first.staged in
+    subst (λ entries. SameCommitted c.args.self.now (seen entries)) (sym c.in_err-insert.ensures.err) (subst (SameCommitted c.args.self.now) (sym c.self.view_is) (same_committed c.args.self.now))
 
-pub returns-then-contains_key-clause-coming : goal.returns-then-contains_key-clause-coming
-returns-then-contains_key-clause-coming g c =
+pub returns-then-contains_key-clause-staged : goal.returns-then-contains_key-clause-staged
+returns-then-contains_key-clause-staged g c =
     let name = λ (key : Vec ℕ g.row.A.Denot). key.items in
-    file_there name file_coming c.args.self.now.coming c.self.inside.files.entries (ap (λ s. s.coming) c.self.view_is) c.args.file.now c.contains_key.result c.contains_key.ensures c.if-contains_key.true
+    file_there name file_staged c.args.self.now.staged c.self.inside.files.entries (ap (λ s. s.staged) c.self.view_is) c.args.file.now c.contains_key.result c.contains_key.ensures c.if-contains_key.true
 
-pub returns-clause-held : goal.returns-clause-held
-returns-clause-held g c =
+pub returns-clause-committed : goal.returns-clause-committed
+returns-clause-committed g c =
     let name = λ (key : Vec ℕ g.row.A.Denot). key.items in
     let first = c.self.inside in
     let later = c.insert.new.self.entries in
-    let opened = file_opened name file_held (files_held name first.files.entries) first.files.entries refl c.args.file.now c.contains_key.result c.contains_key.ensures c.if-contains_key.false
-    c.in_ok-name.name c.in_ok-name.ensures.items c.new.result c.new.ensures.held later c.in_ok-insert.ensures.entries in
-    held_kept first.members first.held (files_held name first.files.entries) (files_held name later) (files_coming name first.files.entries) (files_coming name later) first.coming first.coming c.args.self.now c.self.invariant.0
-    (subst (KeepsState (files_held name first.files.entries)) (sym opened) (with_file_keeps c.args.file.now (files_held name first.files.entries) c.self.invariant.0.state.ascending)) c.self.view_is
+    let opened = file_opened name file_committed (files_committed name first.files.entries) first.files.entries refl c.args.file.now c.contains_key.result c.contains_key.ensures c.if-contains_key.false
+    c.in_ok-name.name c.in_ok-name.ensures.items c.new.result c.new.ensures.committed later c.in_ok-insert.ensures.entries in
+    held_kept first.members first.committed (files_committed name first.files.entries) (files_committed name later) (files_staged name first.files.entries) (files_staged name later) first.staged first.staged c.args.self.now c.self.invariant.0
+    (subst (KeepsState (files_committed name first.files.entries)) (sym opened) (with_file_keeps c.args.file.now (files_committed name first.files.entries) c.self.invariant.0.state.ascending)) c.self.view_is
 
-pub returns-clause-coming : goal.returns-clause-coming
-returns-clause-coming g c =
+pub returns-clause-staged : goal.returns-clause-staged
+returns-clause-staged g c =
     let name = λ (key : Vec ℕ g.row.A.Denot). key.items in
-    file_opened name file_coming c.args.self.now.coming c.self.inside.files.entries (ap (λ s. s.coming) c.self.view_is) c.args.file.now c.contains_key.result c.contains_key.ensures c.if-contains_key.false
-    c.in_ok-name.name c.in_ok-name.ensures.items c.new.result c.new.ensures.coming c.insert.new.self.entries c.in_ok-insert.ensures.entries
+    file_opened name file_staged c.args.self.now.staged c.self.inside.files.entries (ap (λ s. s.staged) c.self.view_is) c.args.file.now c.contains_key.result c.contains_key.ensures c.if-contains_key.false
+    c.in_ok-name.name c.in_ok-name.ensures.items c.new.result c.new.ensures.staged c.insert.new.self.entries c.in_ok-insert.ensures.entries
 
 pub invariant_of-self-2 : goal.invariant_of-self-2
 invariant_of-self-2 g c =
     let name = λ (key : Vec ℕ g.row.A.Denot). key.items in (
-      store_with_file c.self.inside.members c.self.inside.held c.args.file.now (files_held name c.self.inside.files.entries) (files_held name c.insert.new.self.entries)
-          (file_opened name file_held (files_held name c.self.inside.files.entries) c.self.inside.files.entries refl c.args.file.now c.contains_key.result c.contains_key.ensures c.if-contains_key.false
-          c.in_ok-name.name c.in_ok-name.ensures.items c.new.result c.new.ensures.held c.insert.new.self.entries c.in_ok-insert.ensures.entries)
+      store_with_file c.self.inside.members c.self.inside.committed c.args.file.now (files_committed name c.self.inside.files.entries) (files_committed name c.insert.new.self.entries)
+          (file_opened name file_committed (files_committed name c.self.inside.files.entries) c.self.inside.files.entries refl c.args.file.now c.contains_key.result c.contains_key.ensures c.if-contains_key.false
+          c.in_ok-name.name c.in_ok-name.ensures.items c.new.result c.new.ensures.committed c.insert.new.self.entries c.in_ok-insert.ensures.entries)
           c.self.invariant.0,
       settled_with name (λ a b. slice_cmp nat_cmp (name a) (name b)) (touched_data c.self.inside.touched.items) c.in_ok-name.name c.new.result c.self.inside.files.entries c.insert.new.self.entries c.new.ensures.settled c.in_ok-insert.ensures.entries c.self.invariant.1,
     )

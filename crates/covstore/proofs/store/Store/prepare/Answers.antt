@@ -9,49 +9,49 @@ use Rattle.covstore.proofs.store.Store.prepare.Goals as goal
 
 pub add_all-added-requires : goal.add_all-added-requires
 add_all-added-requires g c =
-    let settled = c.forget.ensures in
-    subst (λ (sects : List SectData). HasRoomForRows (flat_map rows_of_sect sects) c.forget.new.self) (sym c.sects.ensures.sects)
-    (room_for_submission c.args.self.now c.kept.result c.kept.ensures c.requires c.args.submission.now c.sects.ensures.lawful c.forget.new.self settled.sections settled.members settled.held settled.coming settled.after)
+    let settled = c.rollback.ensures in
+    subst (λ (sects : List SectData). HasRoomForRows (flat_map rows_of_sect sects) c.rollback.new.self) (sym c.sects.ensures.sects)
+    (room_for_submission c.args.self.now c.kept.result c.kept.ensures c.requires c.args.submission.now c.sects.ensures.lawful c.rollback.new.self settled.sections settled.members settled.committed settled.staged settled.after)
 
 pub new-requires : goal.new-requires
 new-requires g c =
-    let settled = c.forget.ensures in
+    let settled = c.rollback.ensures in
     let later = c.add_all-added.new.self in
-    let added = subst (λ (sects : List SectData). AddsRows (flat_map rows_of_sect sects) c.forget.new.self later) c.sects.ensures.sects c.in-Ok.ensures.ok in
+    let added = subst (λ (sects : List SectData). AddsRows (flat_map rows_of_sect sects) c.rollback.new.self later) c.sects.ensures.sects c.in-Ok.ensures.ok in
     subst AreTotals (sym c.after.ensures)
-    (later_bounds c.args.self.now c.kept.result c.kept.ensures c.requires c.args.submission.now c.sects.ensures.lawful c.forget.new.self settled.sections settled.members settled.held settled.coming settled.after later c.add_all-added.ensures.held added)
+    (later_bounds c.args.self.now c.kept.result c.kept.ensures c.requires c.args.submission.now c.sects.ensures.lawful c.rollback.new.self settled.sections settled.members settled.committed settled.staged settled.after later c.add_all-added.ensures.committed added)
 
 pub returns-in-Ok-clause-planned : goal.returns-in-Ok-clause-planned
 returns-in-Ok-clause-planned g c =
-    let settled = c.forget.ensures in
+    let settled = c.rollback.ensures in
     let later = c.add_all-added.new.self in
-    let added = subst (λ (sects : List SectData). AddsRows (flat_map rows_of_sect sects) c.forget.new.self later) c.sects.ensures.sects c.in-Ok.ensures.ok in
-    is_planned c.args.self.now c.kept.result c.kept.ensures c.requires c.args.submission.now c.sects.ensures.lawful c.forget.new.self settled.sections settled.members settled.held settled.coming settled.after later c.add_all-added.ensures.held added
+    let added = subst (λ (sects : List SectData). AddsRows (flat_map rows_of_sect sects) c.rollback.new.self later) c.sects.ensures.sects c.in-Ok.ensures.ok in
+    is_planned c.args.self.now c.kept.result c.kept.ensures c.requires c.args.submission.now c.sects.ensures.lawful c.rollback.new.self settled.sections settled.members settled.committed settled.staged settled.after later c.add_all-added.ensures.committed added
     c.new.result (c.new.ensures ∙ c.after.ensures)
 
 pub returns-in-Ok-clause-after : goal.returns-in-Ok-clause-after
 returns-in-Ok-clause-after g c = λ table stands.
-    let settled = c.forget.ensures in
+    let settled = c.rollback.ensures in
     let later = c.add_all-added.new.self in
-    let added = subst (λ (sects : List SectData). AddsRows (flat_map rows_of_sect sects) c.forget.new.self later) c.sects.ensures.sects c.in-Ok.ensures.ok in
+    let added = subst (λ (sects : List SectData). AddsRows (flat_map rows_of_sect sects) c.rollback.new.self later) c.sects.ensures.sects c.in-Ok.ensures.ok in
     c.new.ensures ∙ c.after.ensures
-    ∙ planned_totals c.args.self.now c.kept.result c.kept.ensures c.requires c.args.submission.now c.sects.ensures.lawful c.forget.new.self settled.sections settled.members settled.held settled.coming settled.after later c.add_all-added.ensures.held added
+    ∙ planned_totals c.args.self.now c.kept.result c.kept.ensures c.requires c.args.submission.now c.sects.ensures.lawful c.rollback.new.self settled.sections settled.members settled.committed settled.staged settled.after later c.add_all-added.ensures.committed added
     table stands
 
 pub returns-in-Ok-clause-agrees : goal.returns-in-Ok-clause-agrees
 returns-in-Ok-clause-agrees g c = λ table stands.
-    let settled = c.forget.ensures in
+    let settled = c.rollback.ensures in
     let later = c.add_all-added.new.self in
-    let added = subst (λ (sects : List SectData). AddsRows (flat_map rows_of_sect sects) c.forget.new.self later) c.sects.ensures.sects c.in-Ok.ensures.ok in
-    planned_agrees c.args.self.now c.kept.result c.kept.ensures c.requires c.args.submission.now c.sects.ensures.lawful c.forget.new.self settled.sections settled.members settled.held settled.coming settled.after later c.add_all-added.ensures.held added
+    let added = subst (λ (sects : List SectData). AddsRows (flat_map rows_of_sect sects) c.rollback.new.self later) c.sects.ensures.sects c.in-Ok.ensures.ok in
+    planned_agrees c.args.self.now c.kept.result c.kept.ensures c.requires c.args.submission.now c.sects.ensures.lawful c.rollback.new.self settled.sections settled.members settled.committed settled.staged settled.after later c.add_all-added.ensures.committed added
     table stands
 
 pub returns-in-Err-clause-refused : goal.returns-in-Err-clause-refused
 returns-in-Err-clause-refused g c = λ table stands.
-    let settled = c.forget.ensures in
+    let settled = c.rollback.ensures in
     let later = c.add_all-added.new.self in
-    let clash = subst (λ (sects : List SectData). ClashesWith (flat_map rows_of_sect sects) c.forget.new.self (refuse_data c.in-Err.refusal)) c.sects.ensures.sects c.in-Err.ensures.clash in
-    refused_too c.args.self.now c.kept.result c.kept.ensures c.requires c.args.submission.now c.sects.ensures.lawful c.forget.new.self settled.sections settled.members settled.held settled.coming settled.after later c.add_all-added.ensures.held
+    let clash = subst (λ (sects : List SectData). ClashesWith (flat_map rows_of_sect sects) c.rollback.new.self (refuse_data c.in-Err.refusal)) c.sects.ensures.sects c.in-Err.ensures.clash in
+    refused_too c.args.self.now c.kept.result c.kept.ensures c.requires c.args.submission.now c.sects.ensures.lawful c.rollback.new.self settled.sections settled.members settled.committed settled.staged settled.after later c.add_all-added.ensures.committed
     (refuse_data c.in-Err.refusal) clash table stands
 
 pub returns-in-Err-clause-some : goal.returns-in-Err-clause-some

@@ -1,6 +1,6 @@
 use Rattle.std.proofs.Common.{Vec, ℕ, sym, subst}
 use Rattle.std.specs.List.{AllByRecursion}
-use Rattle.covstore.specs.MapsView.{files_held}
+use Rattle.covstore.specs.MapsView.{files_committed}
 use Rattle.covstore.specs.SeenView.{IsFewOf}
 use Rattle.covstore.specs.State.{sections_of}
 use Rattle.covstore.proofs.SeenStore.{few_of_store}
@@ -9,4 +9,4 @@ use Rattle.covstore.proofs.store.Store.sections.Goals as goal
 pub of-requires : goal.of-requires
 of-requires g c =
     let name = λ (key : Vec ℕ g.row.A.Denot). key.items in
-    subst (λ pairs. AllByRecursion IsFewOf (sections_of (files_held name pairs))) (sym c.iter.ensures.rest) (few_of_store c.self.inside.members c.self.inside.held (files_held name c.self.inside.files.entries) c.self.invariant.0)
+    subst (λ pairs. AllByRecursion IsFewOf (sections_of (files_committed name pairs))) (sym c.iter.ensures.rest) (few_of_store c.self.inside.members c.self.inside.committed (files_committed name c.self.inside.files.entries) c.self.invariant.0)

@@ -1,6 +1,6 @@
 use Rattle.std.proofs.Common.{ap, ◌∙◌}
 use Rattle.covstore.specs.Stored.{StoreData}
-use Rattle.covstore.specs.MapsView.{files_held}
+use Rattle.covstore.specs.MapsView.{files_committed}
 use Rattle.covstore.specs.Totals.{totals_of}
 use Rattle.covstore.proofs.Settled.{file_name}
 use Rattle.covstore.proofs.Stores.{store_bounds, store_totals}
@@ -9,10 +9,10 @@ use Rattle.covstore.proofs.store.Store.totals.Goals as goal
 pub returns-clause-value : goal.returns-clause-value
 returns-clause-value g c =
     let inside = c.self.inside in
-    store_totals inside.members inside.held (files_held file_name inside.files.entries) c.self.invariant.0
+    store_totals inside.members inside.committed (files_committed file_name inside.files.entries) c.self.invariant.0
     ∙ ap (λ (store : StoreData). totals_of store.sections) c.self.view_is
 
 pub returns-clause-bounds : goal.returns-clause-bounds
 returns-clause-bounds g c =
     let inside = c.self.inside in
-    store_bounds inside.members inside.held (files_held file_name inside.files.entries) c.self.invariant.0
+    store_bounds inside.members inside.committed (files_committed file_name inside.files.entries) c.self.invariant.0

@@ -1,0 +1,111 @@
+-- What is staged into the slots: the columns of values of some pages, which stand beside the slots.
+use Rattle.std.specs.Prelude.{◌≡◌, ℕ, suc, ◌<◌, eqb, nat_lt, if◌then◌else◌, Option, Some, None, option_map, List, [], ◌∷◌, ◌++◌, length, take, drop, slice_set, map}
+use Rattle.std.specs.List.{AllByRecursion, insert}
+use Rattle.covmap.specs.Slots.{page_at, At}
+
+-- the values of a page
+abbrev pub column_of : {K V : Type 0} → List (K × Option V) → List (Option V)
+column_of page = map (λ slot. slot.1) page
+
+-- the page with these values; its keys stay
+abbrev pub with_column : {K V : Type 0} → List (K × Option V) → List (Option V) → List (K × Option V)
+with_column [] column = []
+with_column (slot ∷ page) [] = slot ∷ page
+with_column (slot ∷ page) (value ∷ column) = (slot.0, value) ∷ with_column page column
+
+-- the pages with these values on one of them
+abbrev pub with_page : {K V : Type 0} → ℕ → List (Option V) → List (List (K × Option V)) → List (List (K × Option V))
+with_page number column pages = slice_set pages number (with_column (page_at pages number) column)
+
+-- the staged column of this page
+abbrev pub column_at : {V : Type 0} → ℕ → List (ℕ × List (Option V)) → Option (List (Option V))
+column_at page [] = None
+column_at page (column ∷ columns) = if eqb column.0 page then Some column.1 else column_at page columns
+
+-- the page with what is staged on it
+abbrev pub page_staged : {K V : Type 0} → List (K × Option V) → Option (List (Option V)) → List (K × Option V)
+page_staged page None = page
+page_staged page (Some column) = with_column page column
+
+-- the pages from this number on, with what is staged
+abbrev pub staged_from : {K V : Type 0} → ℕ → List (List (K × Option V)) → List (ℕ × List (Option V)) → List (List (K × Option V))
+staged_from number [] columns = []
+staged_from number (page ∷ pages) columns = page_staged page (column_at number columns) ∷ staged_from (suc number) pages columns
+
+-- the pages with what is staged: what the slots are once it is taken in
+abbrev pub staged_of : {K V : Type 0} → List (List (K × Option V)) → List (ℕ × List (Option V)) → List (List (K × Option V))
+staged_of pages columns = staged_from 0 pages columns
+
+-- this value in the slot at a place
+abbrev pub with_value_at : {K V : Type 0} → At → V → List (List (K × Option V)) → List (List (K × Option V))
+with_value_at at value pages = slice_set pages at.0 (with_column (page_at pages at.0) (slice_set (column_of (page_at pages at.0)) at.1 (Some value)))
+
+-- columns with ascending numbers, each of a page that is there and as long as it
+abbrev pub AreBehind : {V : Type 0} → ℕ → List (ℕ × List (Option V)) → Type 0
+AreBehind number columns = AllByRecursion (λ column. number < column.0) columns
+
+abbrev pub AreAscending : {V : Type 0} → List (ℕ × List (Option V)) → Type 0
+AreAscending [] = Unit {0}
+AreAscending (column ∷ columns) = AreBehind column.0 columns × AreAscending columns
+
+abbrev pub IsColumnOf : {K V : Type 0} → List (List (K × Option V)) → ℕ × List (Option V) → Type 0
+IsColumnOf pages column = (column.0 < length pages) × (length column.1 ≡ length (page_at pages column.0))
+
+-- the columns are of these pages
+abbrev pub AreColumnsOf : {K V : Type 0} → List (List (K × Option V)) → List (ℕ × List (Option V)) → Type 0
+AreColumnsOf pages columns = AllByRecursion (IsColumnOf pages) columns
+
+-- a page has a column at this place among the columns; what is staged is as before
+pub record IsTouched {K V : Type 0} (pages : List (List (K × Option V))) (old new : List (ℕ × List (Option V))) (page index : ℕ) : Type 0 where
+  pub front : List (ℕ × List (Option V))
+  pub column : List (Option V)
+  pub back : List (ℕ × List (Option V))
+  pub is : new ≡ front ++ (page, column) ∷ back
+  pub at : index ≡ length front
+  pub below : AllByRecursion (λ other. other.0 < page) front
+  pub fits : length column ≡ length (page_at pages page)
+  pub columns : AreColumnsOf pages new
+  pub staged : staged_of pages new ≡ staged_of pages old
+
+-- ---- a slot more
+
+-- the column that a page has, if any
+abbrev pub own_of : {V : Type 0} → ℕ → Option (List (Option V)) → List (ℕ × List (Option V))
+own_of page None = []
+own_of page (Some column) = (page, column) ∷ []
+
+-- the column of a page among the others
+pub record IsAmong {V : Type 0} (page : ℕ) (columns front : List (ℕ × List (Option V))) (here : Option (List (Option V))) (back : List (ℕ × List (Option V))) : Type 0 where
+  pub is : columns ≡ front ++ (own_of page here ++ back)
+  pub below : AllByRecursion (λ other. other.0 < page) front
+  pub above : AllByRecursion (λ other. page < other.0) back
+
+-- the page's column, if any, has an empty value more
+pub record IsWidened {V : Type 0} (page index : ℕ) (old new : List (ℕ × List (Option V))) : Type 0 where
+  pub front : List (ℕ × List (Option V))
+  pub here : Option (List (Option V))
+  pub back : List (ℕ × List (Option V))
+  pub was : IsAmong page old front here back
+  pub is : new ≡ front ++ (own_of page (option_map (λ column. insert column index None) here) ++ back)
+
+-- ---- a page cut in two
+
+-- the number of a page once the page of this number is cut
+abbrev pub number_after : ℕ → ℕ → ℕ
+number_after page number = if nat_lt page number then suc number else number
+
+abbrev pub moved : {V : Type 0} → ℕ → ℕ × List (Option V) → ℕ × List (Option V)
+moved page column = (number_after page column.0, column.1)
+
+-- the columns of the two halves
+abbrev pub halves_of : {V : Type 0} → ℕ → Option (List (Option V)) → List (ℕ × List (Option V))
+halves_of page None = []
+halves_of page (Some column) = (page, take 256 column) ∷ (suc page, drop 256 column) ∷ []
+
+-- the columns behind the page have a number more, and its own, if any, is cut in two
+pub record IsSplit {V : Type 0} (page : ℕ) (old new : List (ℕ × List (Option V))) : Type 0 where
+  pub front : List (ℕ × List (Option V))
+  pub here : Option (List (Option V))
+  pub back : List (ℕ × List (Option V))
+  pub was : IsAmong page (map (moved page) old) front here back
+  pub is : new ≡ front ++ (halves_of page here ++ back)

@@ -1,0 +1,310 @@
+//! Slots in the order of their keys, each with a committed value or empty.
+//!
+//! The slots are cut into pages of at most 512, so that a key that is put in moves few others. A page is found by its
+//! last key, and a slot on it, by a binary search; a walk in order costs no search, where each place is the guess for
+//! the next one. What stands above knows the list of all slots and what a place is, and not how the pages are cut.
+
+ghost use Rattle.std.specs.Prelude.{◌≡◌, ◌+◌, ◌^◌, ◌<◌, None, [], ◌∷◌, ◌++◌, IfErr, IfNone, IfOk, IfSome, OnErr, OnOk, true, is_some, length, option_map};
+ghost use Rattle.std.specs.declared.cmp.Ordering.TheVariants.{Less};
+ghost use Rattle.std.specs.List.{AllByRecursion};
+ghost use Rattle.covmap.specs.Slots.{AreSlots, IsAscending, IsCut, IsGap, IsPlace, behind, ends_before, filled, lead, order_at, page_at, slot_at, slots_of, value_at, with_empty, with_page_split};
+ghost use Rattle.covmap.specs.Staged.{column_of, with_page};
+ghost use Rattle.covmap.specs.Assigned.{with_slot};
+ghost use Rattle.covmap.specs.SlotPlace.{at};
+
+pub(crate) mod growth;
+pub(crate) mod page;
+pub(crate) mod staged;
+
+use crate::entries::Entries;
+use crate::key::{Key, Query, Value};
+use crate::slots::page::Page;
+use std::alloc::{AllocError, Allocator};
+use std::cmp::Ordering;
+use std::marker::Model;
+
+/// How many slots fit on a page.
+const PAGE: usize = 512;
+
+/// How many slots a full page keeps where it is split.
+const HALF: usize = 256;
+
+/// Where a key stands: the number of a page, and of a slot on it.
+#[derive(Clone, Copy)]
+pub struct Place {
+    page: usize,
+    index: usize,
+}
+
+impl Place {
+    /// The place of the first slot.
+    pub fn first() -> Place {
+        Place { page: 0, index: 0 }
+    }
+}
+
+/// Slots in the order of their keys, each with a committed value or empty. Contracts see the pages of slots.
+#[derive(Drop)]
+pub(crate) struct Slots<K: Key, V, A: Allocator> {
+    pages: Vec<Page<K, V, A>, A>,
+}
+
+impl<K: Key, V, A: Allocator> Model for Slots<K, V, A> {
+    ghost use Rattle.std.specs.Prelude.{List, Option};
+
+    ghost Value = { List (List (K × Option V)) };
+
+    ghost use Rattle.covmap.specs.Slots.{AreSlots};
+
+    ghost view = { λ slots. slots.pages.items };
+
+    ghost invariant = { λ slots. AreSlots K.cmp slots.pages.items };
+}
+
+impl<K: Key, V, A: Allocator> Slots<K, V, A> {
+    /// No slots.
+    pub(crate) fn new(alloc: A) -> Slots<K, V, A>
+        ensures { result ≡ [] }
+    {
+        Slots {
+            pages: Vec::new(alloc),
+        }
+    }
+
+    /// The first page that doesn't end before what is asked for.
+    fn page_of<Q: Query<K, A>>(&self, query: Q) -> usize
+        ensures { result ≡ lead (ends_before (λ key. K.cmp key (Q.named query))) self.now }
+    {
+        let mut low = 0;
+        let mut high = self.pages.len();
+        while low < high {
+            let middle = low + (high - low) / 2;
+            if self.pages[middle].ends_before(query) {
+                low = middle + 1;
+            } else {
+                high = middle;
+            }
+        }
+        low
+    }
+}
+
+impl<K: Key, V, A: Allocator> Slots<K, V, A> {
+    /// Where what is asked for would stand: what is before the place comes before it, and nothing from the place on.
+    fn cut<Q: Query<K, A>>(&self, query: Q) -> Place
+        ensures cut { IsCut (λ key. K.cmp key (Q.named query)) self.now (at result) }
+        ensures whole { AreSlots K.cmp self.now }
+    {
+        let page = self.page_of(query);
+        let index = match self.page(page) {
+            Some(page) => page.index_of(query),
+            None => 0,
+        };
+        Place { page, index }
+    }
+
+    /// Where what is asked for stands, or would go. Costs no search where that is the guess or just behind it.
+    pub(crate) fn find<Q: Query<K, A>>(&self, query: Q, guess: Place) -> Result<Place, Place>
+        ensures found { IfOk result (λ place. IsPlace (λ key. K.cmp key (Q.named query)) self.now (at place)) }
+        ensures absent { IfErr result (λ place. IsGap (λ key. K.cmp key (Q.named query)) self.now (at place)) }
+        ensures whole { AreSlots K.cmp self.now }
+    {
+        match self.compare_at(guess, query) {
+            Ordering::Less => self.find_behind(query, guess),
+            Ordering::Equal => Ok(guess),
+            Ordering::Greater => self.search(query),
+        }
+    }
+
+    /// The same as `find`, where the slot at a place comes before what is asked for.
+    fn find_behind<Q: Query<K, A>>(&self, query: Q, place: Place) -> Result<Place, Place>
+        requires { order_at (λ key. K.cmp key (Q.named query)) (slot_at self.now (at place)) ≡ Less }
+        ensures found { IfOk result (λ place. IsPlace (λ key. K.cmp key (Q.named query)) self.now (at place)) }
+        ensures absent { IfErr result (λ place. IsGap (λ key. K.cmp key (Q.named query)) self.now (at place)) }
+    {
+        let next = self.behind(place);
+        match self.compare_at(next, query) {
+            Ordering::Less => self.search(query),
+            Ordering::Equal => Ok(next),
+            Ordering::Greater => Err(next),
+        }
+    }
+
+    /// The same as `find`, by a search among all slots.
+    fn search<Q: Query<K, A>>(&self, query: Q) -> Result<Place, Place>
+        ensures found { IfOk result (λ place. IsPlace (λ key. K.cmp key (Q.named query)) self.now (at place)) }
+        ensures absent { IfErr result (λ place. IsGap (λ key. K.cmp key (Q.named query)) self.now (at place)) }
+    {
+        let place = self.cut(query);
+        if self.compare_at(place, query).is_eq() {
+            return Ok(place);
+        }
+        Err(place)
+    }
+
+    /// How the key of the slot at a place stands to what is asked for. Where there is no slot, all keys come before it.
+    fn compare_at<Q: Query<K, A>>(&self, place: Place, query: Q) -> Ordering
+        ensures order { result ≡ order_at (λ key. K.cmp key (Q.named query)) (slot_at self.now (at place)) }
+        ensures whole { AreSlots K.cmp self.now }
+    {
+        match self.key_at(place) {
+            Some(key) => query.compare(key),
+            None => Ordering::Greater,
+        }
+    }
+
+    /// The place just behind that of a slot.
+    fn behind(&self, place: Place) -> Place
+        requires { place.index < length (page_at self.now place.page) }
+        ensures next { at result ≡ behind self.now (at place) }
+        ensures whole { AreSlots K.cmp self.now }
+    {
+        let len = self.len_of(place.page);
+        let index = place.index + 1;
+        if index < len {
+            return Place {
+                page: place.page,
+                index,
+            };
+        }
+        Place {
+            page: place.page + 1,
+            index: 0,
+        }
+    }
+
+    /// The key of the slot at a place.
+    fn key_at(&self, place: Place) -> Option<&K>
+        ensures key { option_map (λ key. key.now) result ≡ option_map (λ slot. slot.0) (slot_at self.now (at place)) }
+        ensures whole { AreSlots K.cmp self.now }
+    {
+        match self.page(place.page) {
+            Some(page) => page.key(place.index),
+            None => None,
+        }
+    }
+
+    /// Tells, for a proof alone, that the slots are whole: no page is empty, and all keys ascend.
+    pub(crate) fn are_whole(&self)
+        ensures { AreSlots K.cmp self.now }
+    {
+        let _ = &self.pages;
+    }
+
+    /// How many pages there are.
+    fn count(&self) -> usize
+        ensures { result ≡ length self.now }
+    {
+        self.pages.len()
+    }
+
+    /// How many slots the page of this number has: none where there is no such page.
+    pub(crate) fn len_of(&self, number: usize) -> usize
+        ensures long { result ≡ length (page_at self.now number) }
+        ensures whole { AreSlots K.cmp self.now }
+        ensures fits { length self.now < 2 ^ 64 }
+    {
+        match self.page(number) {
+            Some(page) => page.len(),
+            None => 0,
+        }
+    }
+
+    /// The page of this number, where there is one.
+    fn page(&self, number: usize) -> Option<&Page<K, V, A>>
+        ensures some { IfSome result (λ page. page_at self.now number ≡ page.now) }
+        ensures none { IfNone result (page_at self.now number ≡ []) }
+        ensures ascending { IsAscending K.cmp (page_at self.now number) }
+        ensures whole { AreSlots K.cmp self.now }
+        ensures fits { length self.now < 2 ^ 64 }
+    {
+        self.pages.get(number)
+    }
+}
+
+impl<K: Key, V, A: Allocator> Slots<K, V, A> {
+    /// The filled slots in order, each key with its value.
+    pub(crate) fn entries(&self) -> Entries<'_, K, V, A>
+        ensures { result ≡ filled (slots_of self.now) }
+    {
+        Entries::of(&self.pages)
+    }
+}
+
+impl<K: Key, V: Value, A: Allocator> Slots<K, V, A> {
+    /// The value in the slot at a place.
+    pub(crate) fn value_at(&self, place: Place) -> Option<V>
+        ensures { result ≡ value_at self.now (at place) }
+    {
+        match self.page(place.page) {
+            Some(page) => page.value(place.index),
+            None => None,
+        }
+    }
+
+    /// A copy of the values of a page.
+    fn column(&self, alloc: A, number: usize) -> Result<Vec<Option<V>, A>, AllocError>
+        ensures { IfOk result (λ column. column.items ≡ column_of (page_at self.now number)) }
+    {
+        match self.page(number) {
+            Some(page) => page.column(alloc),
+            None => Ok(Vec::new(alloc)),
+        }
+    }
+
+    /// Takes these values in place of those of a page.
+    pub(crate) fn fill(&mut self, number: usize, column: Vec<Option<V>, A>)
+        requires there { number < length self.old }
+        requires fits { length column.items ≡ length (page_at self.old number) }
+        ensures { self.new ≡ with_page number column.items self.old }
+    {
+        self.pages[number].fill(column);
+    }
+
+    /// Writes a value, or none, into the slot at a place, which has one.
+    pub(crate) fn write(&mut self, place: Place, value: Option<V>)
+        requires page { place.page < length self.old }
+        requires slot { is_some (value_at self.old (at place)) ≡ true }
+        ensures { self.new ≡ with_slot (at place) value self.old }
+    {
+        self.pages[place.page].write(place.index, value);
+    }
+}
+
+impl<K: Key + Drop, V: Value, A: Allocator + Copy> Slots<K, V, A> {
+    /// Puts an empty slot on a page that has room for it.
+    fn insert(&mut self, place: Place, key: K) -> Result<(), AllocError>
+        requires there { place.page < length self.old }
+        requires room { length (page_at self.old place.page) < 512 }
+        requires gap { IsGap (λ other. K.cmp other key) self.old (at place) }
+        ensures ok { OnOk result (self.new ≡ with_empty (at place) key self.old) }
+        ensures err { OnErr result (self.new ≡ self.old) }
+    {
+        self.pages[place.page].insert(place.index, key)
+    }
+
+    /// Puts an empty slot on a new page, behind all others.
+    fn push_page(&mut self, alloc: A, key: K) -> Result<(), AllocError>
+        requires { AllByRecursion (λ slot. K.cmp slot.0 key ≡ Less) (slots_of self.old) }
+        ensures ok { OnOk result (self.new ≡ self.old ++ ((key, None) ∷ []) ∷ []) }
+        ensures err { OnErr result (self.new ≡ self.old) }
+    {
+        let page = Page::of(alloc, key)?;
+        self.pages.push(page)?;
+        Ok(())
+    }
+
+    /// Moves the second half of a full page to a page of its own.
+    fn split(&mut self, alloc: A, number: usize) -> Result<(), AllocError>
+        requires there { number < length self.old }
+        requires full { length (page_at self.old number) ≡ 512 }
+        ensures ok { OnOk result (self.new ≡ with_page_split number self.old) }
+        ensures fits { length self.old < 2 ^ 64 }
+        ensures err { OnErr result (self.new ≡ self.old) }
+    {
+        self.pages.reserve(1)?;
+        let behind = self.pages[number].split(alloc)?;
+        self.pages.insert(number + 1, behind)?;
+        Ok(())
+    }
+}

@@ -1,0 +1,251 @@
+//! Staged values, which stand beside the slots until they are committed.
+
+ghost use Rattle.std.specs.Prelude.{◌≡◌, ◌↔◌, ◌+◌, ◌^◌, ◌<◌, ◌≤◌, nat_lt, [], ◌∷◌, ◌++◌, IfNone, IfOk, IfSome, IsTrue, OnErr, OnOk, length, map, option_map, slice_get};
+ghost use Rattle.std.specs.List.{AllByRecursion};
+ghost use Rattle.covmap.specs.Staged.{AreAscending, AreColumnsOf, IsSplit, IsTouched, IsWidened, staged_of, moved, number_after, with_value_at};
+ghost use Rattle.covmap.specs.SlotPlace.{at};
+ghost use Rattle.covmap.specs.Slots.{lead, page_at, value_at, value_in};
+
+use crate::key::{Addend, Key, Value, copy_of};
+use crate::map::Sum;
+use crate::slots::{HALF, Place, Slots};
+use std::alloc::{AllocError, Allocator};
+use std::marker::Model;
+
+/// The columns of staged values, each with the number of its page. Pages on which nothing is staged have none. Contracts
+/// see the numbers and the columns.
+#[derive(Drop)]
+pub(crate) struct StagedColumns<V, A: Allocator> {
+    columns: Vec<(usize, Vec<Option<V>, A>), A>,
+}
+
+impl<V, A: Allocator> Model for StagedColumns<V, A> {
+    ghost use Rattle.std.specs.Prelude.{ℕ, List, Option, map};
+    ghost use Rattle.covmap.specs.Staged.{AreAscending};
+
+    ghost Value = { List (ℕ × List (Option V)) };
+
+    ghost view = { λ staged. map (λ column. (column.0, column.1.items)) staged.columns.items };
+
+    ghost invariant = { λ staged. AreAscending (map (λ column. (column.0, column.1.items)) staged.columns.items) };
+}
+
+impl<V, A: Allocator> StagedColumns<V, A> {
+    /// Nothing is staged. Takes no memory.
+    pub(crate) fn new(alloc: A) -> StagedColumns<V, A>
+        ensures { result ≡ [] }
+    {
+        StagedColumns {
+            columns: Vec::new(alloc),
+        }
+    }
+
+    /// Takes out the column of the greatest number.
+    pub(crate) fn pop(&mut self) -> Option<(usize, Vec<Option<V>, A>)>
+        ensures some { IfSome result (λ column. self.old ≡ self.new ++ (column.0, column.1.items) ∷ []) }
+        ensures none { IfNone result (self.new ≡ []) }
+        ensures same { IfNone result (self.old ≡ []) }
+        ensures ascending { AreAscending self.old }
+    {
+        self.columns.pop()
+    }
+
+    /// How many columns have a smaller number.
+    fn index_of(&self, page: usize) -> usize
+        ensures { result ≡ lead (λ column. nat_lt column.0 page) self.now }
+    {
+        let mut low = 0;
+        let mut high = self.columns.len();
+        while low < high {
+            let middle = low + (high - low) / 2;
+            if self.columns[middle].0 < page {
+                low = middle + 1;
+            } else {
+                high = middle;
+            }
+        }
+        low
+    }
+
+    /// Whether the column there is of this page.
+    fn has(&self, index: usize, page: usize) -> bool
+        ensures there { IsTrue result ↔ (option_map (λ column. column.0) (slice_get self.now index) ≡ Some page) }
+        ensures ascending { AreAscending self.now }
+    {
+        match self.columns.get(index) {
+            Some(column) => column.0 == page,
+            None => false,
+        }
+    }
+}
+
+impl<V: Drop, A: Allocator> StagedColumns<V, A> {
+    /// Forgets all of them.
+    pub(crate) fn clear(&mut self)
+        ensures { self.new ≡ [] }
+    {
+        self.columns.clear();
+    }
+}
+
+impl<V: Value, A: Allocator> StagedColumns<V, A> {
+    /// Sees to it that the page has a column, and tells which one. Nothing else is staged by that.
+    fn touch<K: Key>(
+        &mut self,
+        alloc: A,
+        slots: &Slots<K, V, A>,
+        page: usize,
+    ) -> Result<usize, AllocError>
+        requires there { page < length slots.now }
+        requires columns { AreColumnsOf slots.now self.old }
+        ensures ok { IfOk result (IsTouched slots.now self.old self.new page) }
+        ensures err { OnErr result (self.new ≡ self.old) }
+    {
+        // A walk in order touches the last column again and again.
+        let last = self.columns.len().saturating_sub(1);
+        if self.has(last, page) {
+            return Ok(last);
+        }
+        let index = self.index_of(page);
+        if self.has(index, page) {
+            return Ok(index);
+        }
+        let column = slots.column(alloc, page)?;
+        self.columns.insert(index, (page, column))?;
+        Ok(index)
+    }
+
+    /// Stages a value at the place of a slot.
+    pub(crate) fn put<K: Key>(
+        &mut self,
+        alloc: A,
+        slots: &Slots<K, V, A>,
+        place: Place,
+        value: V,
+    ) -> Result<(), AllocError>
+        requires page { place.page < length slots.now }
+        requires slot { place.index < length (page_at slots.now place.page) }
+        requires columns { AreColumnsOf slots.now self.old }
+        ensures columns { AreColumnsOf slots.now self.new }
+        ensures ok { OnOk result (staged_of slots.now self.new ≡ with_value_at (at place) value (staged_of slots.now self.old)) }
+        ensures err { OnErr result (self.new ≡ self.old) }
+    {
+        let index = self.touch(alloc, slots, place.page)?;
+        self.columns[index].1[place.index] = Some(value);
+        Ok(())
+    }
+
+    /// Adds to the staged value at the place of a slot, and tells it before and after.
+    pub(crate) fn add<K: Key, M: Addend<V>>(
+        &mut self,
+        alloc: A,
+        slots: &Slots<K, V, A>,
+        place: Place,
+        addend: M,
+    ) -> Result<Sum<V>, AllocError>
+        requires page { place.page < length slots.now }
+        requires slot { place.index < length (page_at slots.now place.page) }
+        requires columns { AreColumnsOf slots.now self.old }
+        requires fits { M.fits addend (value_at (staged_of slots.now self.old) (at place)) }
+        ensures columns { AreColumnsOf slots.now self.new }
+        ensures before { IfOk result (λ sum. sum.before ≡ value_at (staged_of slots.now self.old) (at place)) }
+        ensures after { IfOk result (λ sum. sum.after ≡ M.sum addend sum.before) }
+        ensures ok { IfOk result (λ sum. staged_of slots.now self.new ≡ with_value_at (at place) sum.after (staged_of slots.now self.old)) }
+        ensures err { OnErr result (self.new ≡ self.old) }
+    {
+        let index = self.touch(alloc, slots, place.page)?;
+        let before = self.value_of(index, place.index);
+        let after = addend.plus(&before);
+        self.columns[index].1[place.index] = Some(after.copy());
+        Ok(Sum {
+            before,
+            after,
+            place,
+        })
+    }
+
+    /// The staged value at the place of a slot.
+    pub(crate) fn value_at<K: Key>(&self, slots: &Slots<K, V, A>, place: Place) -> Option<V>
+        requires page { place.page < length slots.now }
+        requires columns { AreColumnsOf slots.now self.now }
+        ensures { result ≡ value_at (staged_of slots.now self.now) (at place) }
+    {
+        let index = self.index_of(place.page);
+        if self.has(index, place.page) {
+            return self.value_of(index, place.index);
+        }
+        slots.value_at(place)
+    }
+
+    /// A value of a column.
+    fn value_of(&self, index: usize, at: usize) -> Option<V>
+        ensures { (column : _) → slice_get self.now index ≡ Some column → result ≡ value_in (slice_get column.1 at) }
+    {
+        match self.columns.get(index) {
+            Some(column) => match column.1.get(at) {
+                Some(value) => copy_of(value),
+                None => None,
+            },
+            None => None,
+        }
+    }
+}
+
+impl<V: Value, A: Allocator + Copy> StagedColumns<V, A> {
+    /// Makes room for a slot that is put in at a place: nothing is staged into it.
+    pub(crate) fn insert_empty(&mut self, place: Place) -> Result<(), AllocError>
+        requires { AllByRecursion (λ column. column.0 ≡ place.page → place.index ≤ length column.1) self.old }
+        ensures ok { OnOk result (IsWidened place.page place.index self.old self.new) }
+    {
+        let index = self.index_of(place.page);
+        if !self.has(index, place.page) {
+            return Ok(());
+        }
+        self.columns[index].1.insert(place.index, None)?;
+        Ok(())
+    }
+
+    /// Follows the cut of a page in two: the pages behind it have a number more.
+    pub(crate) fn split(&mut self, page: usize) -> Result<(), AllocError>
+        requires numbers { AllByRecursion (λ column. column.0 + 1 < 2 ^ 64) self.old }
+        requires full { AllByRecursion (λ column. column.0 ≡ page → length column.1 ≡ 512) self.old }
+        requires fits { page + 1 < 2 ^ 64 }
+        ensures ok { OnOk result (IsSplit page self.old self.new) }
+    {
+        self.renumber(page);
+        let index = self.index_of(page);
+        if !self.has(index, page) {
+            return Ok(());
+        }
+        self.columns.reserve(1)?;
+        let behind = self.columns[index].1.split_off(HALF)?;
+        self.columns.insert(index + 1, (page + 1, behind))?;
+        Ok(())
+    }
+
+    /// Gives the columns of the pages behind this one a number more.
+    fn renumber(&mut self, page: usize)
+        requires { AllByRecursion (λ column. column.0 + 1 < 2 ^ 64) self.old }
+        ensures { self.new ≡ map (moved page) self.old }
+    {
+        renumber(&mut self.columns, page);
+    }
+}
+
+/// Gives the columns of the pages behind this one a number more.
+fn renumber<V, A: Allocator>(columns: &mut [(usize, Vec<Option<V>, A>)], page: usize)
+    requires { AllByRecursion (λ column. column.0 + 1 < 2 ^ 64) columns.old }
+    ensures { columns.new ≡ map (λ column. (number_after page column.0, column.1)) columns.old }
+{
+    for index in 0..columns.len() {
+        columns[index].0 = number_after(page, columns[index].0);
+    }
+}
+
+/// The number of a page once another one is cut in two.
+fn number_after(page: usize, number: usize) -> usize
+    requires { number + 1 < 2 ^ 64 }
+    ensures { result ≡ number_after page number }
+{
+    if page < number { number + 1 } else { number }
+}

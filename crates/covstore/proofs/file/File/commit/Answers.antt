@@ -1,0 +1,40 @@
+use Rattle.std.proofs.Common.{◌≡◌, ℕ, sym, ap, ◌∙◌, Vec, BTreeMap}
+use Rattle.covstore.specs.declared.file.File.{File}
+use Rattle.covstore.specs.declared.test.Test.{Test}
+use Rattle.covstore.specs.FileIndexView.{index_staged, index_committed}
+use Rattle.covstore.specs.TestView.{test_staged}
+use Rattle.covstore.proofs.MapNames.{names_with}
+use Rattle.covstore.proofs.Settled.{same_file, settled_found, settled_unfound, tests_written}
+use Rattle.covstore.proofs.file.File.commit.Goals as goal
+use Rattle.covstore.proofs.file.File.commit.Goals.{in-Some, in_default}
+
+pub returns-clause-staged : goal.returns-clause-staged
+returns-clause-staged g c =
+    let before = c.args.self.now in
+    elim c.match-get_mut.branch [
+      | in-Some w ↦
+          let written = ap (λ (f : File g.row.A.Denot). f.tests.entries) w.self-is ∙ (c.get_mut.follows.holds w.commit.new.self).0 in
+          same_file
+          (tests_written test_staged c.args.test.now before.tests.entries c.match-get_mut.self.tests.entries w.in-Some.points.now w.commit.new.self written (sym w.in-Some.ensures.value) w.commit.ensures.staged)
+          (c.commit-2.ensures.staged ∙ ap (λ (f : File g.row.A.Denot). index_staged f.index) w.self-is)
+      | in_default w ↦
+          same_file
+          (ap (λ (f : File g.row.A.Denot). names_with (λ (k : Vec ℕ g.row.A.Denot). k.items) test_staged f.tests.entries) w.self-is
+          ∙ ap (λ (m : BTreeMap (Vec ℕ g.row.A.Denot) (Test g.row.A.Denot)). names_with (λ (k : Vec ℕ g.row.A.Denot). k.items) test_staged m.entries) c.get_mut.follows.holds-at-none)
+          (c.commit-2.ensures.staged ∙ ap (λ (f : File g.row.A.Denot). index_staged f.index) w.self-is)
+    ]
+
+pub returns-clause-settled : goal.returns-clause-settled
+returns-clause-settled g c = λ tests was.
+    let before = c.args.self.now in
+    let after : File g.row.A.Denot = record { tests = c.match-get_mut.self.tests; index = c.commit-2.new.self } in
+    let index : index_staged after.index ≡ index_committed after.index = c.commit-2.ensures.staged ∙ sym c.commit-2.ensures.committed in
+    elim c.match-get_mut.branch [
+      | in-Some w ↦
+          let written = ap (λ (f : File g.row.A.Denot). f.tests.entries) w.self-is ∙ (c.get_mut.follows.holds w.commit.new.self).0 in
+          settled_found tests c.args.test.now before after was index w.in-Some.points.now w.commit.new.self c.get_mut.ensures.ordered written (sym w.in-Some.ensures.value) (w.commit.ensures.staged ∙ sym w.commit.ensures.committed)
+      | in_default w ↦
+          let same = ap (λ (f : File g.row.A.Denot). f.tests.entries) w.self-is
+          ∙ ap (λ (m : BTreeMap (Vec ℕ g.row.A.Denot) (Test g.row.A.Denot)). m.entries) c.get_mut.follows.holds-at-none in
+          settled_unfound tests c.args.test.now before after was index (sym w.in_default.ensures.value) same
+    ]

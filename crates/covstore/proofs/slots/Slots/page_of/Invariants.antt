@@ -1,9 +1,0 @@
-use Rattle.std.proofs.Common.{◌-◌, ◌≤◌, length}
-use Rattle.covstore.specs.Slots.{ends_before, lead}
-use Rattle.covstore.proofs.slots.Slots.page_of.Given as goal
-
-abbrev pub invariant-loop-low : goal.invariant-loop-low
-invariant-loop-low g l = (l.low ≤ lead (ends_before (λ (key : g.row.K.Denot). g.K.Key.cmp key (g.Q.Asked.named l.fn.asked))) l.self) × (lead (ends_before (λ (key : g.row.K.Denot). g.K.Key.cmp key (g.Q.Asked.named l.fn.asked))) l.self ≤ l.high) × (l.high ≤ length l.self)
-
-abbrev pub decreases-loop-low : goal.decreases-loop-low
-decreases-loop-low g l = l.high - l.low

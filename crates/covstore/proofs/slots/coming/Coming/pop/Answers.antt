@@ -1,5 +1,0 @@
-use Rattle.covstore.proofs.PointTakes.{seen_front}
-use Rattle.covstore.proofs.slots.coming.Coming.pop.Goals as goal
-
-pub invariant_of-self : goal.invariant_of-self
-invariant_of-self g c = seen_front (λ column. (column.0, column.1.items)) c.self.inside.columns.items c.pop.new.self.items _ c.pop.ensures.items c.self.invariant

@@ -1,0 +1,131 @@
+//! What is kept of a file beside its tests.
+
+ghost use Rattle.std.specs.Prelude.{◌≡◌};
+ghost use Rattle.covstore.specs.Fewer.{totals_by};
+
+mod drops;
+
+use crate::checksums::Checksums;
+use crate::index::drops::{
+    branches_without, drop_branches, drop_checksums, drop_functions, drop_lines, functions_without,
+    lines_without,
+};
+use crate::keys::{Branch, FunctionName};
+use crate::kind_index::{KindIndex, KindTotals};
+use crate::test::Test;
+use crate::totals::Totals;
+use std::alloc::Allocator;
+
+/// In how many tests of a file each of its points is, and the checksums of its lines.
+#[derive(Drop)]
+pub(crate) struct FileIndex<A: Allocator> {
+    pub lines: KindIndex<u64, A>,
+    pub functions: KindIndex<FunctionName<A>, A>,
+    pub branches: KindIndex<Branch, A>,
+    pub checksums: Checksums<A>,
+}
+
+impl<A: Allocator + Copy> FileIndex<A> {
+    ghost use Rattle.covstore.specs.FileIndexView.{index_staged, index_committed, empty_index};
+    ghost use Rattle.std.specs.Prelude.{List, ◌∷◌};
+    ghost use Rattle.covstore.specs.Drops.{IsIndexOf};
+    ghost use Rattle.covstore.specs.FileIndex.{FileIndexData, index_totals};
+    ghost use Rattle.covstore.specs.Sums.{TestData};
+    ghost use Rattle.covstore.specs.TestView.{test_committed};
+
+    /// No tests, and no points.
+    pub(crate) fn new(alloc: A) -> FileIndex<A>
+        ensures committed { index_committed result ≡ empty_index }
+        ensures staged { index_staged result ≡ empty_index }
+    {
+        FileIndex {
+            lines: KindIndex::new(alloc),
+            functions: KindIndex::new(alloc),
+            branches: KindIndex::new(alloc),
+            checksums: Checksums::new(alloc),
+        }
+    }
+
+    /// Commits what is staged. Takes no memory.
+    pub(crate) fn commit(&mut self)
+        ensures committed { index_committed self.new ≡ index_staged self.old }
+        ensures staged { index_staged self.new ≡ index_staged self.old }
+    {
+        self.lines.commit();
+        self.functions.commit();
+        self.branches.commit();
+        self.checksums.commit();
+    }
+
+    /// Forgets what is staged. Takes no memory.
+    pub(crate) fn rollback(&mut self)
+        ensures committed { index_committed self.new ≡ index_committed self.old }
+        ensures staged { index_staged self.new ≡ index_committed self.old }
+    {
+        self.lines.rollback();
+        self.functions.rollback();
+        self.branches.rollback();
+        self.checksums.rollback();
+    }
+
+    /// The staged totals of the file.
+    pub(crate) fn totals(&self) -> Totals
+        ensures { result ≡ index_totals (index_staged self.now) }
+    {
+        totals_of(
+            self.lines.staged(),
+            self.functions.staged(),
+            self.branches.staged(),
+        )
+    }
+
+    /// A test with these points is gone. Nothing else is staged after it. Takes no memory.
+    pub(crate) fn drop_points(&mut self, points: &Test<A>)
+        requires { (others : List TestData) × IsIndexOf (test_committed points.now ∷ others) (index_committed self.old) }
+        ensures committed { (others : List TestData) → IsIndexOf (test_committed points.now ∷ others) (index_committed self.old) → IsIndexOf others (index_committed self.new) }
+        ensures texts { (index_committed self.new).texts ≡ (index_committed self.old).texts }
+        ensures staged { index_staged self.new ≡ index_committed self.new }
+    {
+        drop_lines(&mut self.lines, &points.lines);
+        drop_functions(&mut self.functions, &points.functions);
+        drop_branches(&mut self.branches, &points.branches);
+        drop_checksums(&mut self.checksums, &points.lines);
+    }
+
+    /// The committed totals of the file.
+    pub(crate) fn totals_now(&self) -> Totals
+        ensures { result ≡ index_totals (index_committed self.now) }
+    {
+        totals_of(
+            self.lines.committed(),
+            self.functions.committed(),
+            self.branches.committed(),
+        )
+    }
+
+    /// The file's totals where a test with these points is gone. Takes no memory.
+    pub(crate) fn totals_without(&self, points: &Test<A>) -> Totals
+        requires { (others : List TestData) × IsIndexOf (test_committed points.now ∷ others) (index_committed self.now) }
+        ensures { (others : List TestData) (rest : FileIndexData) → IsIndexOf (test_committed points.now ∷ others) (index_committed self.now) → IsIndexOf others rest → result ≡ index_totals rest }
+    {
+        totals_of(
+            lines_without(&self.lines, &points.lines),
+            functions_without(&self.functions, &points.functions),
+            branches_without(&self.branches, &points.branches),
+        )
+    }
+}
+
+/// The totals of a file, by the tallies of its points.
+fn totals_of(lines: KindTotals, functions: KindTotals, branches: KindTotals) -> Totals
+    ensures { result ≡ totals_by lines functions branches }
+{
+    Totals {
+        lf: lines.found,
+        lh: lines.hit,
+        ff: functions.found,
+        fh: functions.hit,
+        bf: branches.found,
+        bh: branches.hit,
+    }
+}

@@ -1,0 +1,110 @@
+//! What functions and branches are told apart by, as keys of a map.
+
+ghost use Rattle.std.specs.Prelude.{◌≡◌};
+ghost use Rattle.std.specs.Cmp.Lexicographic.{slice_cmp};
+ghost use Rattle.std.specs.Ordering.{nat_cmp};
+ghost use Rattle.std.proofs.lemmas.Cmp.{nat_list_cmp_total};
+ghost use Rattle.std.proofs.lemmas.Map.Lookups.{exact_bytes};
+ghost use Rattle.covstore.specs.KeyOrders.{code_branch_cmp, code_branch_exact, code_branch_total};
+
+use covline::{BranchPoint, Bytes};
+use covmap::{Key, Query};
+use std::alloc::{AllocError, Allocator};
+use std::cmp::Ordering;
+use std::marker::Model;
+
+/// The name of a function. Names ascend by their bytes.
+#[derive(Drop)]
+pub(crate) struct FunctionName<A: Allocator> {
+    name: Bytes<A>,
+}
+
+impl<A: Allocator> Model for FunctionName<A> {
+    ghost use Rattle.std.specs.Prelude.{List, ℕ};
+
+    ghost Value = { List ℕ };
+
+    ghost view = { λ f. f.name };
+}
+
+impl<A: Allocator> FunctionName<A> {
+    /// Its bytes.
+    pub(crate) fn get(&self) -> &[u8]
+        ensures { result.now ≡ self.now }
+    {
+        self.name.get()
+    }
+}
+
+impl<A: Allocator> Key for FunctionName<A> {
+    ghost cmp = { slice_cmp nat_cmp };
+
+    ghost total = { nat_list_cmp_total };
+
+    ghost exact = { exact_bytes };
+}
+
+impl<A: Allocator> Query<FunctionName<A>, A> for &[u8] {
+    ghost named = { λ query. query.now };
+
+    fn compare(&self, key: &FunctionName<A>) -> Ordering {
+        compare_names(key.get(), *self)
+    }
+
+    fn key(self, alloc: A) -> Result<FunctionName<A>, AllocError> {
+        match Bytes::of(alloc, self) {
+            Ok(name) => Ok(FunctionName { name }),
+            Err(_refused) => Err(AllocError),
+        }
+    }
+}
+
+/// How one name stands to another. Both have one lifetime, which is the form of this call that is covered.
+fn compare_names<'a>(name: &'a [u8], other: &'a [u8]) -> Ordering
+    ensures { result ≡ slice_cmp nat_cmp name.now other.now }
+{
+    Ord::cmp(&name, &other)
+}
+
+/// A branch. Branches ascend by line, block and number.
+#[derive(Drop)]
+pub(crate) struct Branch {
+    point: BranchPoint,
+}
+
+impl Model for Branch {
+    ghost use Rattle.covline.specs.declared.point.BranchPoint.{BranchPoint};
+
+    ghost Value = { BranchPoint };
+
+    ghost view = { λ b. b.point };
+}
+
+impl Branch {
+    /// Its line, block and number.
+    pub(crate) fn get(&self) -> BranchPoint
+        ensures { result ≡ self.now }
+    {
+        self.point
+    }
+}
+
+impl Key for Branch {
+    ghost cmp = { code_branch_cmp };
+
+    ghost total = { code_branch_total };
+
+    ghost exact = { code_branch_exact };
+}
+
+impl<A: Allocator> Query<Branch, A> for BranchPoint {
+    ghost named = { λ query. query };
+
+    fn compare(&self, key: &Branch) -> Ordering {
+        key.get().cmp(self)
+    }
+
+    fn key(self, _alloc: A) -> Result<Branch, AllocError> {
+        Ok(Branch { point: self })
+    }
+}
