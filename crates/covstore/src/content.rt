@@ -8,7 +8,7 @@ mod points;
 pub use self::points::{Branches, Functions, Lines};
 use crate::file::File;
 use crate::index::FileIndex;
-use crate::test::Test;
+use crate::test::{BoxedTest, Test};
 use std::alloc::{Allocator, Global};
 use std::collections::btree_map::Iter;
 use std::marker::Model;
@@ -18,7 +18,7 @@ use std::marker::Model;
 pub(crate) struct FileSections<'a, A: Allocator> {
     file: &'a [u8],
     index: &'a FileIndex<A>,
-    tests: Iter<'a, Vec<u8, A>, Test<A>>,
+    tests: Iter<'a, Vec<u8, A>, BoxedTest<A>>,
 }
 
 impl<'a, A: Allocator> Model for FileSections<'a, A> {
@@ -51,7 +51,7 @@ impl<'a, A: Allocator> Iterator for FileSections<'a, A> {
                     file: self.file,
                     test: test.as_slice(),
                     index: self.index,
-                    points,
+                    points: points.get(),
                 });
             }
         }

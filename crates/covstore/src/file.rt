@@ -2,12 +2,10 @@
 
 ghost use Rattle.std.specs.Prelude.{◌≡◌, ℕ, List, [], ◌∷◌, ◌++◌, map, IfErr, IfOk, OnErr, OnOk};
 
-use crate::copies::add_values;
 use crate::index::FileIndex;
 use crate::refuse::Refuse;
-use crate::section::add_items;
 use crate::stop::Stop;
-use crate::test::Test;
+use crate::test::BoxedTest;
 use crate::totals::Totals;
 use covline::{Bytes, Item, Memory};
 use std::alloc::Allocator;
@@ -17,7 +15,7 @@ use std::mem;
 /// The tests of a file, each with its points, and what is kept of them.
 #[derive(Drop)]
 pub(crate) struct File<A: Allocator> {
-    pub tests: BTreeMap<Vec<u8, A>, Test<A>, A>,
+    pub tests: BTreeMap<Vec<u8, A>, BoxedTest<A>, A>,
     pub index: FileIndex<A>,
 }
 
@@ -62,7 +60,8 @@ impl<A: Allocator + Copy> File<A> {
             return Ok(());
         }
         let name = Vec::from_slice(alloc, test)?;
-        self.tests.insert(name, Test::new(alloc))?;
+        let points = BoxedTest::new(alloc)?;
+        self.tests.insert(name, points)?;
         Ok(())
     }
 
@@ -77,7 +76,7 @@ impl<A: Allocator + Copy> File<A> {
         // Tells that a map has fewer than 2^63 entries.
         self.tests.len();
         match self.tests.get_mut(test) {
-            Some(points) => add_items(points, &mut self.index, alloc, items),
+            Some(points) => points.add_items(&mut self.index, alloc, items),
             None => Ok(()),
         }
     }
@@ -119,15 +118,16 @@ impl<A: Allocator + Copy> File<A> {
         ensures ok { OnOk result (CopiesIn old.now new.now (file_staged self.old) (file_staged self.new)) }
         ensures settled { (tests : List (List ℕ)) → list_any (λ name. bytes_eq name new.now) tests ≡ true → IsSettledBut tests self.old → IsSettledBut tests self.new }
     {
+        let empty = BoxedTest::new(alloc)?;
         // Tells that a map has fewer than 2^63 entries.
         self.tests.len();
         let Some(place) = self.tests.get_mut(new) else {
             return Ok(());
         };
         // Lifted out while the other test is looked at.
-        let mut points = mem::replace(place, Test::new(alloc));
+        let mut points = mem::replace(place, empty);
         let added = match self.tests.get(old) {
-            Some(source) => add_values(&mut points, &mut self.index, alloc, source),
+            Some(source) => points.add_values(&mut self.index, alloc, source),
             None => Ok(()),
         };
         if let Some(place) = self.tests.get_mut(new) {
@@ -182,7 +182,7 @@ impl<A: Allocator + Copy> File<A> {
         ensures settled { (tests : List (List ℕ)) → IsSettledBut tests self.old → IsSettledBut tests self.new }
     {
         if let Some(points) = self.tests.remove(test) {
-            self.index.drop_points(&points);
+            self.index.drop_points(points.get());
         }
     }
 
@@ -193,7 +193,7 @@ impl<A: Allocator + Copy> File<A> {
         ensures totals { (after : FileData) → IsWithoutTest test.now (file_committed self.now) after → result.1 ≡ file_totals after }
     {
         if let Some(points) = self.tests.get(test) {
-            return (!points.is_empty(), self.index.totals_without(points));
+            return (!points.is_empty(), self.index.totals_without(points.get()));
         }
         (false, self.index.totals_now())
     }

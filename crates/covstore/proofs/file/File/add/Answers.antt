@@ -28,7 +28,7 @@ pub returns-in-Some-clause-committed : goal.returns-in-Some-clause-committed
 returns-in-Some-clause-committed g c =
     let name = λ (key : Vec ℕ g.row.A.Denot). key.items in
     let pairs = c.args.self.now.tests.entries in
-    let after = c.add_items.new.test in
+    let after = c.add_items.new.self in
     let index = c.add_items.ensures.index_committed in
     record {
       tests = test_kept name test_committed c.args.test.now pairs c.in-Some.points.now after (c.get_mut.follows.lender after).entries c.get_mut.ensures.ordered (sym c.in-Some.ensures.value) (c.get_mut.follows.holds after).0 c.add_items.ensures.test_committed;
@@ -45,7 +45,7 @@ returns-in-Some-clause-ok g c =
     let pairs = c.args.self.now.tests.entries in
     let tests = seen names_order name test_staged pairs in
     let points = c.in-Some.points.now in
-    let after = c.add_items.new.test in
+    let after = c.add_items.new.self in
     let items = map item_data c.args.items.now in
     let test = c.args.test.now in
     let found = sym c.in-Some.ensures.value in
@@ -75,7 +75,7 @@ returns-in-None-clause-ok g c =
 pub returns-in-Some-clause-settled : goal.returns-in-Some-clause-settled
 returns-in-Some-clause-settled g c = λ tests among settled.
     let name = λ (key : Vec ℕ g.row.A.Denot). key.items in
-    let after = c.add_items.new.test in
+    let after = c.add_items.new.self in
     test_settled tests c.args.test.now among c.args.self.now (record { tests = c.get_mut.follows.lender after; index = c.add_items.new.index }) after (c.get_mut.follows.holds after).0 settled
 
 pub returns-in-None-clause-settled : goal.returns-in-None-clause-settled

@@ -124,7 +124,7 @@ returns-in-Some-get_mut-clause-ok g c =
           (on_ok_weaker w.add_values-added.result
           (λ adds. subst (λ (file : FileData). CopiesIn old new (file_staged before) file) (sym is)
           (copies_in old new tests (index_staged before.index) (test_committed source) (test_staged target) its_source (test_value name test_staged new pairs target found)
-          (test_staged w.add_values-added.new.test) (index_staged w.add_values-added.new.index) adds))
+          (test_staged w.add_values-added.new.self) (index_staged w.add_values-added.new.index) adds))
           w.add_values-added.ensures.ok)
       | in-None w ↦
           absurd

@@ -18,7 +18,7 @@ drop_points-requires g c =
     let tests = names_with file_name test_committed entries in
     let test = c.args.test.now in
     let found = value_of_named file_name test_committed test entries ∙ ap (option_map test_committed) (sym c.in-Some.ensures.value) in
-    (points_of_all (tests_without test tests), index_first test (test_committed c.in-Some.points) tests (index_committed c.args.self.now.index) c.requires found)
+    rw c.get.ensures (points_of_all (tests_without test tests), index_first test (test_committed c.in-Some.points) tests (index_committed c.args.self.now.index) c.requires found)
 
 pub returns-in-Some-clause-committed : goal.returns-in-Some-clause-committed
 returns-in-Some-clause-committed g c =
@@ -31,7 +31,7 @@ returns-in-Some-clause-committed g c =
     let found = value_of_named file_name test_committed test entries ∙ ap (option_map test_committed) (sym c.in-Some.ensures.value) in
     let left : names_with file_name test_committed c.remove.new.self.entries ≡ tests_without test tests =
     ap (names_with file_name test_committed) c.in-Some.ensures.entries ∙ removed file_name test_committed test entries c.requires.ascending in
-    let counted = c.drop_points.ensures.committed (points_of_all (tests_without test tests)) (index_first test points tests index c.requires found) in
+    let counted = c.drop_points.ensures.committed (points_of_all (tests_without test tests)) (rw c.get.ensures (index_first test points tests index c.requires found)) in
     subst (λ (list : List (List ℕ × TestData)). IsWithoutTest test (file_committed c.args.self.now) (file_with list rest)) (sym left)
     (without_found test points tests index c.requires found rest c.drop_points.ensures.texts counted)
 

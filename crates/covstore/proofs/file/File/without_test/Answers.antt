@@ -1,4 +1,4 @@
-use Rattle.std.proofs.Common.{not, Option, option_map, sym, ap, ◌∙◌}
+use Rattle.std.proofs.Common.{◌≡◌, not, Option, option_map, sym, ap, ◌∙◌}
 use Rattle.covstore.specs.Dropped.{tests_without}
 use Rattle.covstore.specs.FileView.{file_committed}
 use Rattle.covstore.specs.FileIndexView.{index_committed}
@@ -16,7 +16,8 @@ totals_without-requires g c =
     let tests = names_with file_name test_committed entries in
     let test = c.args.test.now in
     let found = value_of_named file_name test_committed test entries ∙ ap (option_map test_committed) (sym c.in-Some.ensures.value) in
-    (points_of_all (tests_without test tests), index_first test (test_committed c.in-Some.points.now) tests (index_committed c.args.self.now.index) c.requires found)
+    let same : c.get-in-Some.result.now ≡ c.in-Some.points.now = c.get-in-Some.ensures in
+    rw same (points_of_all (tests_without test tests), index_first test (test_committed c.in-Some.points.now) tests (index_committed c.args.self.now.index) c.requires found)
 
 pub returns-in-Some-clause-has_points : goal.returns-in-Some-clause-has_points
 returns-in-Some-clause-has_points g c =
@@ -29,7 +30,8 @@ returns-in-Some-clause-totals g c = λ after is.
     let tests = names_with file_name test_committed entries in
     let test = c.args.test.now in
     let found = value_of_named file_name test_committed test entries ∙ ap (option_map test_committed) (sym c.in-Some.ensures.value) in
-    c.totals_without.ensures (points_of_all (tests_without test tests)) (index_in after) (index_first test (test_committed c.in-Some.points.now) tests (index_committed c.args.self.now.index) c.requires found)
+    let same : c.get-in-Some.result.now ≡ c.in-Some.points.now = c.get-in-Some.ensures in
+    c.totals_without.ensures (points_of_all (tests_without test tests)) (index_in after) (rw same (index_first test (test_committed c.in-Some.points.now) tests (index_committed c.args.self.now.index) c.requires found))
     (index_after test (file_committed c.args.self.now) after is)
 
 pub returns-clause-has_points : goal.returns-clause-has_points
