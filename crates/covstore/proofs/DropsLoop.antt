@@ -11,17 +11,17 @@ use Rattle.covstore.proofs.TotalsKinds.{same_totals}
 
 -- ---- totals of files
 
-no_totals_more : (totals : Totals) → together no_totals totals ≡ totals
+pub no_totals_more : (totals : Totals) → together no_totals totals ≡ totals
 no_totals_more totals = same_totals (together no_totals totals) totals (omega arith) (omega arith) (omega arith) (omega arith) (omega arith) (omega arith)
 
-no_totals_behind : (totals : Totals) → together totals (totals_in []) ≡ totals
+pub no_totals_behind : (totals : Totals) → together totals (totals_in []) ≡ totals
 no_totals_behind totals = same_totals (together totals (totals_in [])) totals (omega arith) (omega arith) (omega arith) (omega arith) (omega arith) (omega arith)
 
 -- the first of the files that are left is taken
 one_more : (f : List ℕ × FileData → ℕ) (pair : List ℕ × FileData) (files : List (List ℕ × FileData)) (n : ℕ) → (n + f pair) + sum_by f files ≡ n + sum_by f (pair ∷ files)
 one_more f pair files n = omega (arith, sum_by-cons f pair files)
 
-totals_taken : (totals : Totals) (pair : List ℕ × FileData) (files : List (List ℕ × FileData)) → together (together totals (file_totals pair.1)) (totals_in files) ≡ together totals (totals_in (pair ∷ files))
+pub totals_taken : (totals : Totals) (pair : List ℕ × FileData) (files : List (List ℕ × FileData)) → together (together totals (file_totals pair.1)) (totals_in files) ≡ together totals (totals_in (pair ∷ files))
 totals_taken totals pair files =
     same_totals (together (together totals (file_totals pair.1)) (totals_in files)) (together totals (totals_in (pair ∷ files)))
     (one_more (λ p. found_of p.1.lines) pair files totals.lf) (one_more (λ p. hit_of p.1.lines) pair files totals.lh)

@@ -83,6 +83,7 @@ pub mod AlikeContents
 pub mod DropsRetain
 pub mod DropsMaps
 pub mod DropsTests
+mod DropsTotals
 pub mod DropsKept
 pub mod WithoutContent
 pub mod WithoutState

@@ -58,6 +58,32 @@ pub(crate) fn count_without<A: Allocator + Copy>(
     (sections, totals)
 }
 
+/// In how many files the test has points. Takes no memory.
+pub(crate) fn count_sections<A: Allocator + Copy>(
+    files: &BTreeMap<Vec<u8, A>, File<A>, A>,
+    test: &[u8],
+) -> u64
+    ensures { result ≡ count_by (λ pair. has_points_of test.now pair.1) (files_committed (λ name. name.items) files.now.entries) }
+{
+    let mut sections = 0;
+    for (_, file) in files.iter() {
+        sections += u64::from(file.has_test(test));
+    }
+    sections
+}
+
+/// The totals of all files, by what each keeps of its own. Takes no memory.
+pub(crate) fn add_up<A: Allocator + Copy>(files: &BTreeMap<Vec<u8, A>, File<A>, A>) -> Totals
+    requires { FitTotals (totals_in (files_committed (λ name. name.items) files.now.entries)) }
+    ensures { result ≡ totals_in (files_committed (λ name. name.items) files.now.entries) }
+{
+    let mut totals = Totals::none();
+    for (_, file) in files.iter() {
+        totals = totals.plus(file.totals_now());
+    }
+    totals
+}
+
 /// The names of the files in which the test has points.
 pub(crate) fn names_with<A: Allocator + Copy>(
     files: &BTreeMap<Vec<u8, A>, File<A>, A>,

@@ -165,6 +165,13 @@ impl<A: Allocator + Copy> File<A> {
         self.index.totals()
     }
 
+    /// The committed totals of the file.
+    pub(crate) fn totals_now(&self) -> Totals
+        ensures { result ≡ file_totals (file_committed self.now) }
+    {
+        self.index.totals_now()
+    }
+
     /// Whether the test has points now.
     pub(crate) fn has_test(&self, test: &[u8]) -> bool
         ensures { result ≡ has_points_of test.now (file_committed self.now) }

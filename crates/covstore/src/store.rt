@@ -4,7 +4,7 @@ ghost use Rattle.std.specs.Prelude.{◌≡◌, ◌+◌, ◌≤◌, [], OnOk};
 ghost use Rattle.covstore.specs.MapsView.{AreSettledBut, files_staged, files_committed, touched_data};
 
 use crate::content::Sections;
-use crate::drops::{count_without, drop_from_files, names_with};
+use crate::drops::{add_up, count_sections, count_without, drop_from_files, names_with};
 use crate::file::File;
 use crate::plan::Plan;
 use crate::refuse::Refuse;
@@ -407,8 +407,9 @@ impl<A: Allocator + Copy> Store<A> {
     {
         // A plan that was dropped may have left something staged.
         self.rollback();
-        let (sections, totals) = count_without(&self.files, test);
+        let sections = count_sections(&self.files, test);
         drop_from_files(&mut self.files, test);
+        let totals = add_up(&self.files);
         self.committed = totals;
         self.staged = totals;
         sections

@@ -3,14 +3,17 @@ use Rattle.covstore.specs.MapsView.{files_staged, files_committed, touched_data}
 use Rattle.covstore.specs.Stored.{StandsFor, StoreData}
 use Rattle.covstore.proofs.Settled.{file_name}
 use Rattle.covstore.proofs.WithoutState.{store_without}
-use Rattle.covstore.proofs.WithoutStores.{sections_with, some_left, stands_left, stands_too, whole_files}
+use Rattle.covstore.proofs.WithoutStores.{sections_with, stands_left, stands_too, totals_fit, whole_files}
 use Rattle.covstore.proofs.store.Store.drop_test.Goals as goal
-
-pub count_without-sections-requires-clause-fits : goal.count_without-sections-requires-clause-fits
-count_without-sections-requires-clause-fits g c = some_left c.args.test.now c.self.inside.members c.self.inside.committed (files_committed file_name c.self.inside.files.entries) c.self.invariant.0
 
 pub drop_from_files-requires : goal.drop_from_files-requires
 drop_from_files-requires g c = whole_files file_name c.self.inside.files.entries c.self.invariant.0.state.whole
+
+pub add_up-totals-requires : goal.add_up-totals-requires
+add_up-totals-requires g c =
+    let inside = c.self.inside in
+    totals_fit c.args.test.now inside.members inside.committed (files_committed file_name inside.files.entries) c.self.invariant.0 (files_committed file_name c.drop_from_files.new.files.entries)
+    (c.drop_from_files.ensures.committed file_name)
 
 pub invariant_of-self : goal.invariant_of-self
 invariant_of-self g c =
@@ -18,13 +21,13 @@ invariant_of-self g c =
     let files = files_committed file_name inside.files.entries in
     let after = files_committed file_name c.drop_from_files.new.files.entries in
     let are = c.drop_from_files.ensures.committed file_name in (
-      store_without c.args.test.now inside.members inside.committed files after c.self.invariant.0 are c.count_without-sections.result.1 (c.count_without-sections.ensures.totals after are),
+      store_without c.args.test.now inside.members inside.committed files after c.self.invariant.0 are c.add_up-totals.result c.add_up-totals.ensures,
       c.drop_from_files.ensures.settled file_name (touched_data inside.touched.items) c.self.invariant.1,
     )
 
 pub returns-clause-sections : goal.returns-clause-sections
 returns-clause-sections g c = λ table stands.
-    c.count_without-sections.ensures.sections
+    c.count_sections-sections.ensures
     ∙ sections_with c.args.test.now c.self.inside.members c.self.inside.committed (files_committed file_name c.self.inside.files.entries) c.self.invariant.0 table
     (ap (λ (store : StoreData). store.sections) c.self.view_is ∙ c.rollback.ensures.sections ∙ stands.content)
 
@@ -33,7 +36,7 @@ returns-clause-stands g c = λ table stands.
     let inside = c.self.inside in
     let before = files_committed file_name inside.files.entries in
     let after = files_committed file_name c.drop_from_files.new.files.entries in
-    let totals = c.count_without-sections.result.1 in
+    let totals = c.add_up-totals.result in
     let forgotten = stands_too c.args.self.now c.rollback.new.self table c.rollback.ensures.sections c.rollback.ensures.members stands in
     stands_left c.args.test.now inside.members inside.committed before c.self.invariant.0 after (c.drop_from_files.ensures.committed file_name)
     (files_staged file_name inside.files.entries) (files_staged file_name c.drop_from_files.new.files.entries) inside.staged totals table
