@@ -2,6 +2,7 @@
 
 ghost use Rattle.std.specs.Prelude.{◌≡◌, ◌↔◌, ◌+◌, ◌^◌, ◌<◌, ◌≤◌, nat_lt, [], ◌∷◌, ◌++◌, IfNone, IfOk, IfSome, IsTrue, OnErr, OnOk, length, map, option_map, slice_get};
 ghost use Rattle.std.specs.List.{AllByRecursion};
+ghost use Rattle.std.specs.Option.{option_to_list};
 ghost use Rattle.covmap.specs.Staged.{AreAscending, AreColumnsOf, IsSplit, IsTouched, IsWidened, staged_of, moved, number_after, with_value_at};
 ghost use Rattle.covmap.specs.SlotPlace.{at};
 ghost use Rattle.covmap.specs.Slots.{lead, page_at, value_at, value_in};
@@ -40,14 +41,14 @@ impl<V, A: Allocator> StagedColumns<V, A> {
         }
     }
 
-    /// Takes out the column of the greatest number.
+    /// Takes out the column of the greatest number. Where there is none, the list gives its memory back.
     pub(crate) fn pop(&mut self) -> Option<(usize, Vec<Option<V>, A>)>
         ensures some { IfSome result (λ column. self.old ≡ self.new ++ (column.0, column.1.items) ∷ []) }
         ensures none { IfNone result (self.new ≡ []) }
         ensures same { IfNone result (self.old ≡ []) }
         ensures ascending { AreAscending self.old }
     {
-        self.columns.pop()
+        pop_last(&mut self.columns)
     }
 
     /// How many columns have a smaller number.
@@ -80,11 +81,12 @@ impl<V, A: Allocator> StagedColumns<V, A> {
 }
 
 impl<V: Drop, A: Allocator> StagedColumns<V, A> {
-    /// Forgets all of them.
+    /// Forgets all of them, and gives their memory back.
     pub(crate) fn clear(&mut self)
         ensures { self.new ≡ [] }
     {
         self.columns.clear();
+        self.columns.shrink_to_fit();
     }
 }
 
@@ -230,6 +232,19 @@ impl<V: Value, A: Allocator + Copy> StagedColumns<V, A> {
     {
         renumber(&mut self.columns, page);
     }
+}
+
+/// Takes out the last item. Where there is none, the list gives its memory back.
+fn pop_last<T, A: Allocator>(list: &mut Vec<T, A>) -> Option<T>
+    ensures items { list.old.items ≡ list.new.items ++ option_to_list result }
+    ensures some { IfSome result (λ last. list.old.items ≡ list.new.items ++ last ∷ []) }
+    ensures none { IfNone result (list.new.items ≡ []) }
+    ensures same { IfNone result (list.old.items ≡ []) }
+{
+    if list.is_empty() {
+        list.shrink_to_fit();
+    }
+    list.pop()
 }
 
 /// Gives the columns of the pages behind this one a number more.
