@@ -1,7 +1,7 @@
 //! Staged values, which stand beside the slots until they are committed.
 
-ghost use Rattle.std.specs.Prelude.{◌≡◌, ◌↔◌, ◌+◌, ◌^◌, ◌<◌, ◌≤◌, nat_lt, [], ◌∷◌, ◌++◌, IfNone, IfOk, IfSome, IsTrue, OnErr, OnOk, length, map, option_map, slice_get};
-ghost use Rattle.std.specs.List.{AllByRecursion};
+ghost use Rattle.std.specs.Prelude.{◌≡◌, ◌↔◌, ◌+◌, ◌^◌, ◌<◌, ◌≤◌, nat_lt, None, [], ◌∷◌, ◌++◌, IfNone, IfOk, IfSome, IsTrue, OnErr, OnOk, length, map, option_map, slice_get};
+ghost use Rattle.std.specs.List.{AllByRecursion, insert};
 ghost use Rattle.std.specs.Option.{option_to_list};
 ghost use Rattle.covmap.specs.Staged.{AreAscending, AreColumnsOf, IsSplit, IsTouched, IsWidened, staged_of, moved, number_after, with_value_at};
 ghost use Rattle.covmap.specs.SlotPlace.{at};
@@ -51,8 +51,20 @@ impl<V, A: Allocator> StagedColumns<V, A> {
         pop_last(&mut self.columns)
     }
 
-    /// How many columns have a smaller number.
+    /// How many columns have a smaller number. Costs no search where the last one has this number.
     fn index_of(&self, page: usize) -> usize
+        ensures { result ≡ lead (λ column. nat_lt column.0 page) self.now }
+    {
+        // A walk in order asks for the last column again and again.
+        let last = self.columns.len().saturating_sub(1);
+        if self.has(last, page) {
+            return last;
+        }
+        self.search(page)
+    }
+
+    /// The same as `index_of`, by a search among all columns.
+    fn search(&self, page: usize) -> usize
         ensures { result ≡ lead (λ column. nat_lt column.0 page) self.now }
     {
         let mut low = 0;
@@ -103,11 +115,6 @@ impl<V: Value, A: Allocator> StagedColumns<V, A> {
         ensures ok { IfOk result (IsTouched slots.now self.old self.new page) }
         ensures err { OnErr result (self.new ≡ self.old) }
     {
-        // A walk in order touches the last column again and again.
-        let last = self.columns.len().saturating_sub(1);
-        if self.has(last, page) {
-            return Ok(last);
-        }
         let index = self.index_of(page);
         if self.has(index, page) {
             return Ok(index);
@@ -203,7 +210,7 @@ impl<V: Value, A: Allocator + Copy> StagedColumns<V, A> {
         if !self.has(index, place.page) {
             return Ok(());
         }
-        self.columns[index].1.insert(place.index, None)?;
+        insert_empty(&mut self.columns[index].1, place.index)?;
         Ok(())
     }
 
@@ -245,6 +252,23 @@ fn pop_last<T, A: Allocator>(list: &mut Vec<T, A>) -> Option<T>
         list.shrink_to_fit();
     }
     list.pop()
+}
+
+/// Puts an empty value in.
+fn insert_empty<V: Drop, A: Allocator>(
+    column: &mut Vec<Option<V>, A>,
+    index: usize,
+) -> Result<(), AllocError>
+    requires { index ≤ length column.old.items }
+    ensures ok { OnOk result (column.new.items ≡ insert column.old.items index None) }
+    ensures err { OnErr result (column.new.items ≡ column.old.items) }
+{
+    if index == column.len() {
+        column.push(None)?;
+        return Ok(());
+    }
+    column.insert(index, None)?;
+    Ok(())
 }
 
 /// Gives the columns of the pages behind this one a number more.
