@@ -308,7 +308,7 @@ impl<K: Key + Drop, V: Value, A: Allocator + Copy> Slots<K, V, A> {
         ensures err { OnErr result (self.new ≡ self.old) }
     {
         let page = Page::of(alloc, key)?;
-        self.pages.push(page)?;
+        push(&mut self.pages, page)?;
         Ok(())
     }
 
@@ -325,4 +325,16 @@ impl<K: Key + Drop, V: Value, A: Allocator + Copy> Slots<K, V, A> {
         self.pages.insert(number + 1, behind)?;
         Ok(())
     }
+}
+
+/// Puts an item behind the others. The first one takes room for itself alone, as most lists of pages have one.
+fn push<T: Drop, A: Allocator>(list: &mut Vec<T, A>, item: T) -> Result<(), AllocError>
+    ensures ok { OnOk result (list.new.items ≡ list.old.items ++ item ∷ []) }
+    ensures err { OnErr result (list.new.items ≡ list.old.items) }
+{
+    if list.is_empty() {
+        list.reserve_exact(1)?;
+    }
+    list.push(item)?;
+    Ok(())
 }
