@@ -55,7 +55,6 @@ impl<V, A: Allocator> StagedColumns<V, A> {
     fn index_of(&self, page: usize) -> usize
         ensures { result ≡ lead (λ column. nat_lt column.0 page) self.now }
     {
-        // A walk in order asks for the last column again and again.
         let last = self.columns.len().saturating_sub(1);
         if self.has(last, page) {
             return last;
@@ -115,7 +114,12 @@ impl<V: Value, A: Allocator> StagedColumns<V, A> {
         ensures ok { IfOk result (IsTouched slots.now self.old self.new page) }
         ensures err { OnErr result (self.new ≡ self.old) }
     {
-        let index = self.index_of(page);
+        // A walk in order touches the last column again and again.
+        let last = self.columns.len().saturating_sub(1);
+        if self.has(last, page) {
+            return Ok(last);
+        }
+        let index = self.search(page);
         if self.has(index, page) {
             return Ok(index);
         }
