@@ -103,7 +103,8 @@ impl<K: Key, V, A: Allocator> Slots<K, V, A> {
         Place { page, index }
     }
 
-    /// Where what is asked for stands, or would go. Costs no search where that is the guess or just behind it.
+    /// Where what is asked for stands, or would go. Costs no search where that is the guess or just behind it, or where it
+    /// would go to the guess.
     pub(crate) fn find<Q: Query<K, A>>(&self, query: Q, guess: Place) -> Result<Place, Place>
         ensures found { IfOk result (λ place. IsPlace (λ key. K.cmp key (Q.named query)) self.now (at place)) }
         ensures absent { IfErr result (λ place. IsGap (λ key. K.cmp key (Q.named query)) self.now (at place)) }
@@ -112,8 +113,25 @@ impl<K: Key, V, A: Allocator> Slots<K, V, A> {
         match self.compare_at(guess, query) {
             Ordering::Less => self.find_behind(query, guess),
             Ordering::Equal => Ok(guess),
-            Ordering::Greater => self.search(query),
+            Ordering::Greater => self.find_before(query, guess),
         }
+    }
+
+    /// The same as `find`. Costs no search where it would go right behind the slot before the guess.
+    fn find_before<Q: Query<K, A>>(&self, query: Q, guess: Place) -> Result<Place, Place>
+        ensures found { IfOk result (λ place. IsPlace (λ key. K.cmp key (Q.named query)) self.now (at place)) }
+        ensures absent { IfErr result (λ place. IsGap (λ key. K.cmp key (Q.named query)) self.now (at place)) }
+    {
+        if guess.index > 0 {
+            let before = Place {
+                page: guess.page,
+                index: guess.index - 1,
+            };
+            if self.compare_at(before, query).is_lt() {
+                return self.find_behind(query, before);
+            }
+        }
+        self.search(query)
     }
 
     /// The same as `find`, where the slot at a place comes before what is asked for.
@@ -290,7 +308,7 @@ impl<K: Key + Drop, V: Value, A: Allocator + Copy> Slots<K, V, A> {
         ensures err { OnErr result (self.new ≡ self.old) }
     {
         let page = Page::of(alloc, key)?;
-        self.pages.push(page)?;
+        push(&mut self.pages, page)?;
         Ok(())
     }
 
@@ -307,4 +325,16 @@ impl<K: Key + Drop, V: Value, A: Allocator + Copy> Slots<K, V, A> {
         self.pages.insert(number + 1, behind)?;
         Ok(())
     }
+}
+
+/// Puts an item behind the others. The first one takes room for itself alone, as most lists of pages have one.
+fn push<T: Drop, A: Allocator>(list: &mut Vec<T, A>, item: T) -> Result<(), AllocError>
+    ensures ok { OnOk result (list.new.items ≡ list.old.items ++ item ∷ []) }
+    ensures err { OnErr result (list.new.items ≡ list.old.items) }
+{
+    if list.is_empty() {
+        list.reserve_exact(1)?;
+    }
+    list.push(item)?;
+    Ok(())
 }

@@ -48,7 +48,7 @@ impl<'a, K, V> Model for Rest<'a, K, V> {
 }
 
 impl<K, V, A: Allocator> Page<K, V, A> {
-    /// A page with one empty slot.
+    /// A page with one empty slot, and no room for more.
     pub(crate) fn of(alloc: A, key: K) -> Result<Page<K, V, A>, AllocError>
     where
         K: Drop,
@@ -56,7 +56,7 @@ impl<K, V, A: Allocator> Page<K, V, A> {
         A: Copy,
         ensures { IfOk result (λ page. page ≡ (key, None) ∷ []) }
     {
-        let mut keys = Vec::new(alloc);
+        let mut keys = Vec::with_capacity(alloc, 1)?;
         keys.push(key)?;
         Ok(Page {
             keys,
@@ -229,14 +229,14 @@ impl<K, V: Value, A: Allocator> Page<K, V, A> {
     }
 }
 
-/// Puts empty values behind, until there are so many.
+/// Puts empty values behind, until there are so many. Takes room for no more.
 fn fill_up<V: Drop, A: Allocator>(
     column: &mut Vec<Option<V>, A>,
     len: usize,
 ) -> Result<(), AllocError>
     ensures { OnOk result (column.new.items ≡ column.old.items ++ empty (len - length column.old.items)) }
 {
-    column.reserve(len.saturating_sub(column.len()))?;
+    column.reserve_exact(len.saturating_sub(column.len()))?;
     while column.len() < len {
         column.push(None)?;
     }

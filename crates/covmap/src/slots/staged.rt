@@ -1,7 +1,8 @@
 //! Staged values, which stand beside the slots until they are committed.
 
-ghost use Rattle.std.specs.Prelude.{◌≡◌, ◌↔◌, ◌+◌, ◌^◌, ◌<◌, ◌≤◌, nat_lt, [], ◌∷◌, ◌++◌, IfNone, IfOk, IfSome, IsTrue, OnErr, OnOk, length, map, option_map, slice_get};
-ghost use Rattle.std.specs.List.{AllByRecursion};
+ghost use Rattle.std.specs.Prelude.{◌≡◌, ◌↔◌, ◌+◌, ◌^◌, ◌<◌, ◌≤◌, nat_lt, None, [], ◌∷◌, ◌++◌, IfNone, IfOk, IfSome, IsTrue, OnErr, OnOk, length, map, option_map, slice_get};
+ghost use Rattle.std.specs.List.{AllByRecursion, insert};
+ghost use Rattle.std.specs.Option.{option_to_list};
 ghost use Rattle.covmap.specs.Staged.{AreAscending, AreColumnsOf, IsSplit, IsTouched, IsWidened, staged_of, moved, number_after, with_value_at};
 ghost use Rattle.covmap.specs.SlotPlace.{at};
 ghost use Rattle.covmap.specs.Slots.{lead, page_at, value_at, value_in};
@@ -40,18 +41,29 @@ impl<V, A: Allocator> StagedColumns<V, A> {
         }
     }
 
-    /// Takes out the column of the greatest number.
+    /// Takes out the column of the greatest number. Where there is none, the list gives its memory back.
     pub(crate) fn pop(&mut self) -> Option<(usize, Vec<Option<V>, A>)>
         ensures some { IfSome result (λ column. self.old ≡ self.new ++ (column.0, column.1.items) ∷ []) }
         ensures none { IfNone result (self.new ≡ []) }
         ensures same { IfNone result (self.old ≡ []) }
         ensures ascending { AreAscending self.old }
     {
-        self.columns.pop()
+        pop_last(&mut self.columns)
     }
 
-    /// How many columns have a smaller number.
+    /// How many columns have a smaller number. Costs no search where the last one has this number.
     fn index_of(&self, page: usize) -> usize
+        ensures { result ≡ lead (λ column. nat_lt column.0 page) self.now }
+    {
+        let last = self.columns.len().saturating_sub(1);
+        if self.has(last, page) {
+            return last;
+        }
+        self.search(page)
+    }
+
+    /// The same as `index_of`, by a search among all columns.
+    fn search(&self, page: usize) -> usize
         ensures { result ≡ lead (λ column. nat_lt column.0 page) self.now }
     {
         let mut low = 0;
@@ -80,11 +92,12 @@ impl<V, A: Allocator> StagedColumns<V, A> {
 }
 
 impl<V: Drop, A: Allocator> StagedColumns<V, A> {
-    /// Forgets all of them.
+    /// Forgets all of them, and gives their memory back.
     pub(crate) fn clear(&mut self)
         ensures { self.new ≡ [] }
     {
         self.columns.clear();
+        self.columns.shrink_to_fit();
     }
 }
 
@@ -106,7 +119,7 @@ impl<V: Value, A: Allocator> StagedColumns<V, A> {
         if self.has(last, page) {
             return Ok(last);
         }
-        let index = self.index_of(page);
+        let index = self.search(page);
         if self.has(index, page) {
             return Ok(index);
         }
@@ -201,7 +214,7 @@ impl<V: Value, A: Allocator + Copy> StagedColumns<V, A> {
         if !self.has(index, place.page) {
             return Ok(());
         }
-        self.columns[index].1.insert(place.index, None)?;
+        insert_empty(&mut self.columns[index].1, place.index)?;
         Ok(())
     }
 
@@ -230,6 +243,36 @@ impl<V: Value, A: Allocator + Copy> StagedColumns<V, A> {
     {
         renumber(&mut self.columns, page);
     }
+}
+
+/// Takes out the last item. Where there is none, the list gives its memory back.
+fn pop_last<T, A: Allocator>(list: &mut Vec<T, A>) -> Option<T>
+    ensures items { list.old.items ≡ list.new.items ++ option_to_list result }
+    ensures some { IfSome result (λ last. list.old.items ≡ list.new.items ++ last ∷ []) }
+    ensures none { IfNone result (list.new.items ≡ []) }
+    ensures same { IfNone result (list.old.items ≡ []) }
+{
+    if list.is_empty() {
+        list.shrink_to_fit();
+    }
+    list.pop()
+}
+
+/// Puts an empty value in.
+fn insert_empty<V: Drop, A: Allocator>(
+    column: &mut Vec<Option<V>, A>,
+    index: usize,
+) -> Result<(), AllocError>
+    requires { index ≤ length column.old.items }
+    ensures ok { OnOk result (column.new.items ≡ insert column.old.items index None) }
+    ensures err { OnErr result (column.new.items ≡ column.old.items) }
+{
+    if index == column.len() {
+        column.push(None)?;
+        return Ok(());
+    }
+    column.insert(index, None)?;
+    Ok(())
 }
 
 /// Gives the columns of the pages behind this one a number more.

@@ -5,11 +5,11 @@ use Rattle.covmap.proofs.PageParts.{filled_more, filled_none}
 use Rattle.covmap.proofs.slots.page.fill_up.Goals as goal
 
 pub loop-column-init : goal.loop-column-init
-loop-column-init g c = (filled_none c.reserve.new.self.items, omega arith, omega arith)
+loop-column-init g c = (filled_none c.reserve_exact.new.self.items, omega arith, omega arith)
 
 pub loop-column-preserved : goal.loop-column-preserved
 loop-column-preserved g c =
-    let old = c.reserve.new.self.items in
+    let old = c.reserve_exact.new.self.items in
     let now = c.loop-column.column.items in
     let more = c.push.new.self.items in
     let pushed = c.in_ok-push.ensures.items in
@@ -28,7 +28,7 @@ loop-column-smaller g c =
 
 pub returns : goal.returns
 returns g c =
-    let old = c.reserve.new.self.items in
+    let old = c.reserve_exact.new.self.items in
     let now = c.loop-column.column.items in
     let count : length now - length old ≡ c.args.len - length old = omega (arith, c.loop-column-test.false, c.len-in-loop-column.ensures, c.loop-column.column.ok.0, c.loop-column.invariant.1, c.loop-column.invariant.2) in
-    c.loop-column.invariant.0 ∙ ap (λ n. old ++ empty n) count ∙ ap (λ old. old ++ empty (c.args.len - length old)) c.in_ok-reserve.ensures.items
+    c.loop-column.invariant.0 ∙ ap (λ n. old ++ empty n) count ∙ ap (λ old. old ++ empty (c.args.len - length old)) c.in_ok-reserve_exact.ensures.items

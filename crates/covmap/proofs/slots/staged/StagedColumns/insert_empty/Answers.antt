@@ -21,8 +21,8 @@ index_mut-requires g c =
     let within = index_within (λ column. (column.0, column.1.items)) c.self.inside.columns.items c.args.self.now (take index c.args.self.now) (c.args.place.page, t.0) (drop (suc index) c.args.self.now) index c.self.view_is t.1.is at in
     omega (arith, within, c.self.inside.columns.ok.0)
 
-pub insert-requires : goal.insert-requires
-insert-requires g c =
+pub insert_empty-requires : goal.insert_empty-requires
+insert_empty-requires g c =
     let index = c.index_of-index.result in
     let a = c.has.ensures.ascending in
     let t = one_among c.args.self.now c.args.place.page index c.index_of-index.ensures a (c.has.ensures.there.0 c.if-not-has.false) in
@@ -42,7 +42,7 @@ invariant_of-self g c =
     let column = c.index_mut.result.now in
     let same = seen_column (λ column. (column.0, column.1.items)) c.self.inside.columns.items c.args.self.now (take index c.args.self.now) (c.args.place.page, t.0) (drop (suc index) c.args.self.now) index c.self.view_is t.1.is at column c.index_mut.ensures.value in
     let view = seen_written (λ column. (column.0, column.1.items)) c.self.inside.columns.items c.args.self.now (take index c.args.self.now) (c.args.place.page, t.0) (drop (suc index) c.args.self.now) index c.self.view_is t.1.is at
-    _ (c.args.place.page, t.0) (ap (λ items. (column.0, items)) c.in_err-insert.ensures.items ∙ same) in
+    _ (c.args.place.page, t.0) (ap (λ items. (column.0, items)) c.in_err-insert_empty.ensures.err ∙ same) in
     subst AreAscending (t.1.is ∙ sym view) a
 
 pub returns : goal.returns
@@ -54,7 +54,7 @@ returns g c =
     let column = c.index_mut.result.now in
     let same = seen_column (λ column. (column.0, column.1.items)) c.self.inside.columns.items c.args.self.now (take index c.args.self.now) (c.args.place.page, t.0) (drop (suc index) c.args.self.now) index c.self.view_is t.1.is at column c.index_mut.ensures.value in
     let view = seen_written (λ column. (column.0, column.1.items)) c.self.inside.columns.items c.args.self.now (take index c.args.self.now) (c.args.place.page, t.0) (drop (suc index) c.args.self.now) index c.self.view_is t.1.is at
-    _ (c.args.place.page, insert t.0 c.args.place.index None) (ap (λ items. (column.0, items)) c.in_ok-insert.ensures.items ∙ ap (λ column. (column.0, insert column.1 c.args.place.index None)) same) in
+    _ (c.args.place.page, insert t.0 c.args.place.index None) (ap (λ items. (column.0, items)) c.in_ok-insert_empty.ensures.ok ∙ ap (λ column. (column.0, insert column.1 c.args.place.index None)) same) in
     record { ok = record { front = take index c.args.self.now; here = Some t.0; back = drop (suc index) c.args.self.now; was = t.1; is = view } }
 
 pub invariant_of-self-2 : goal.invariant_of-self-2

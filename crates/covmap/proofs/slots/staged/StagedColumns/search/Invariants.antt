@@ -1,7 +1,7 @@
 use Rattle.std.proofs.Common.{◌-◌, ◌≤◌, length}
 use Rattle.std.specs.Prelude.{nat_lt}
 use Rattle.covmap.specs.Slots.{lead}
-use Rattle.covmap.proofs.slots.staged.StagedColumns.index_of.Given as goal
+use Rattle.covmap.proofs.slots.staged.StagedColumns.search.Given as goal
 
 -- the place is between the two
 abbrev pub invariant-loop-low : goal.invariant-loop-low
