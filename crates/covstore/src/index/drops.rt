@@ -10,7 +10,7 @@ ghost use Rattle.covstore.specs.State.{branch_above, function_above, line_above}
 use crate::checksums::Checksums;
 use crate::keys::{Branch, FunctionName};
 use crate::kind_index::{KindIndex, KindTotals};
-use crate::sums::{BranchSum, FunctionSum, LineSum};
+use crate::sums::{BranchSum, FunctionSum, LineSum, PointSum};
 use covmap::StagedMap;
 use std::alloc::Allocator;
 
