@@ -12,16 +12,12 @@ use Rattle.covstore.specs.declared.kind_index.KindTotals.{KindTotals}
 use Rattle.covstore.specs.declared.sums.Tests.{Tests}
 use Rattle.covstore.specs.Counts.{AreCounts, hit_of, is_above_at, tests_at}
 use Rattle.covstore.specs.Fewer.{AreWith, IsTallyWithout, LosesTest}
-use Rattle.covstore.specs.KeyOrders.{code_branch_cmp, code_branch_exact, code_branch_total}
+use Rattle.covstore.specs.KeyOrders.{code_branch_cmp}
 use Rattle.covmap.specs.Puts.{ArePairs, value_of}
 use Rattle.covstore.specs.Value.{branch_cmp}
-use Rattle.covstore.proofs.Ascend.{IsExactOrder}
 use Rattle.covstore.proofs.Counts.{same_tests}
 use Rattle.covstore.proofs.CountsMapped.{count_by-map}
 use Rattle.covstore.proofs.StepsCounts.{value_of-seen}
-
-pub points_order : IsExactOrder code_branch_cmp
-points_order = record { total = code_branch_total; exact = code_branch_exact }
 
 module _ {K L : Type 0} (cmp : L → L → Ordering) (f : K → L) (back : L → K) (same : (l : L) → f (back l) ≡ l) where
   abbrev own : K → K → Ordering

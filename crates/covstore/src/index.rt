@@ -6,10 +6,7 @@ ghost use Rattle.covstore.specs.Fewer.{totals_by};
 mod drops;
 
 use crate::checksums::Checksums;
-use crate::index::drops::{
-    branches_without, drop_branches, drop_checksums, drop_functions, drop_lines, functions_without,
-    lines_without,
-};
+use crate::index::drops::{drop_checksums, drop_kind, tally_without};
 use crate::keys::{Branch, FunctionName};
 use crate::kind_index::{KindIndex, KindTotals};
 use crate::test::Test;
@@ -86,9 +83,9 @@ impl<A: Allocator + Copy> FileIndex<A> {
         ensures texts { (index_committed self.new).texts ≡ (index_committed self.old).texts }
         ensures staged { index_staged self.new ≡ index_committed self.new }
     {
-        drop_lines(&mut self.lines, &points.lines);
-        drop_functions(&mut self.functions, &points.functions);
-        drop_branches(&mut self.branches, &points.branches);
+        drop_kind(&mut self.lines, &points.lines);
+        drop_kind(&mut self.functions, &points.functions);
+        drop_kind(&mut self.branches, &points.branches);
         drop_checksums(&mut self.checksums, &points.lines);
     }
 
@@ -109,9 +106,9 @@ impl<A: Allocator + Copy> FileIndex<A> {
         ensures { (others : List TestData) (rest : FileIndexData) → IsIndexOf (test_committed points.now ∷ others) (index_committed self.now) → IsIndexOf others rest → result ≡ index_totals rest }
     {
         totals_of(
-            lines_without(&self.lines, &points.lines),
-            functions_without(&self.functions, &points.functions),
-            branches_without(&self.branches, &points.branches),
+            tally_without(&self.lines, &points.lines),
+            tally_without(&self.functions, &points.functions),
+            tally_without(&self.branches, &points.branches),
         )
     }
 }

@@ -12,7 +12,7 @@ ghost use Rattle.covstore.specs.declared.stop.Stop.TheVariants as stops;
 use crate::index::FileIndex;
 use crate::kind_index::PointChange;
 use crate::stop::Stop;
-use crate::sums::{BranchAddend, BranchSum, FunctionAddend, FunctionSum, LineAddend, LineSum};
+use crate::sums::{BranchAddend, FunctionAddend, LineAddend, LineSum, PointSum, is_hit};
 use crate::test::Test;
 use covline::{BranchPoint, Item};
 use std::alloc::Allocator;
@@ -96,7 +96,7 @@ pub(crate) fn add_line<A: Allocator + Copy>(
         let is_held = LineSum::is_checked(&added.before);
         index.checksums.hold(alloc, line, text, is_held)?;
     }
-    let was_above = LineSum::is_hit(&added.before);
+    let was_above = is_hit(&added.before);
     let change = PointChange::of(added.before.is_some(), was_above, added.after.is_above());
     index.lines.add(alloc, line, change, added.place)?;
     Ok(())
@@ -125,7 +125,7 @@ pub(crate) fn add_function<A: Allocator + Copy>(
         FunctionAddend { line, count },
         test.functions.cursor(),
     )?;
-    let was_above = FunctionSum::is_hit(&added.before);
+    let was_above = is_hit(&added.before);
     let change = PointChange::of(added.before.is_some(), was_above, added.after.is_above());
     index.functions.add(alloc, name, change, added.place)?;
     Ok(())
@@ -153,7 +153,7 @@ pub(crate) fn add_branch<A: Allocator + Copy>(
         BranchAddend { times: taken },
         test.branches.cursor(),
     )?;
-    let was_above = BranchSum::is_hit(&added.before);
+    let was_above = is_hit(&added.before);
     let change = PointChange::of(added.before.is_some(), was_above, added.after.is_above());
     index.branches.add(alloc, point, change, added.place)?;
     Ok(())

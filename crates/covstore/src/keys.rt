@@ -13,6 +13,24 @@ use std::alloc::{AllocError, Allocator};
 use std::cmp::Ordering;
 use std::marker::Model;
 
+/// A key of the points of a kind.
+pub(crate) trait PointKey<'a, A: Allocator>: Key {
+    /// What names a key in a look-up.
+    type Name: Query<Self, A>;
+
+    /// What names this key.
+    fn name(&'a self) -> Self::Name
+        ensures { Self.Name.named result ≡ self.now };
+}
+
+impl<'a, A: Allocator> PointKey<'a, A> for u64 {
+    type Name = u64;
+
+    fn name(&'a self) -> u64 {
+        *self
+    }
+}
+
 /// The name of a function. Names ascend by their bytes.
 #[derive(Drop)]
 pub(crate) struct FunctionName<A: Allocator> {
@@ -42,6 +60,14 @@ impl<A: Allocator> Key for FunctionName<A> {
     ghost total = { nat_list_cmp_total };
 
     ghost exact = { exact_bytes };
+}
+
+impl<'a, A: Allocator> PointKey<'a, A> for FunctionName<A> {
+    type Name = &'a [u8];
+
+    fn name(&'a self) -> &'a [u8] {
+        self.get()
+    }
 }
 
 impl<A: Allocator> Query<FunctionName<A>, A> for &[u8] {
@@ -95,6 +121,14 @@ impl Key for Branch {
     ghost total = { code_branch_total };
 
     ghost exact = { code_branch_exact };
+}
+
+impl<'a, A: Allocator> PointKey<'a, A> for Branch {
+    type Name = BranchPoint;
+
+    fn name(&'a self) -> BranchPoint {
+        self.get()
+    }
 }
 
 impl<A: Allocator> Query<Branch, A> for BranchPoint {

@@ -1,7 +1,7 @@
 //! What the items of a file and a test add up to at a point, and in how many tests a file has a point. A sum stops at
 //! 2^128 - 1.
 
-ghost use Rattle.std.specs.Prelude.{◌≡◌, ◌^◌, ◌<◌, IfSome};
+ghost use Rattle.std.specs.Prelude.{◌≡◌, ◌^◌, ◌<◌, Bool, IfSome};
 ghost use Rattle.covstore.specs.Counts.{is_above_at, tests_more};
 ghost use Rattle.covstore.specs.State.{branch_above, function_above, has_checksum, line_above};
 ghost use Rattle.covstore.specs.Sums.{branch_with, function_with, line_with};
@@ -9,6 +9,25 @@ ghost use Rattle.covstore.specs.Sums.{branch_with, function_with, line_with};
 use crate::times::Times;
 use crate::wide::Wide;
 use covmap::{Addend, Value};
+
+/// What the items of a test add up to at a point.
+pub(crate) trait PointSum: Value {
+    ghost above: { Self → Bool };
+
+    /// Whether it is above 0.
+    fn is_above(&self) -> bool
+        ensures { result ≡ above self.now };
+}
+
+/// Whether the point is there, above 0.
+pub(crate) fn is_hit<S: PointSum>(value: &Option<S>) -> bool
+    ensures { result ≡ is_above_at S.above value.now }
+{
+    match value {
+        Some(sum) => sum.is_above(),
+        None => false,
+    }
+}
 
 /// A line: the sum of its execution counts, and whether an item has a checksum of it (geninfo(1): `DA:`).
 #[derive(Drop)]
@@ -187,24 +206,31 @@ impl Value for Tests {
     }
 }
 
-impl LineSum {
-    /// Whether the line is there, with a count above 0.
-    pub(crate) fn is_hit(value: &Option<LineSum>) -> bool
-        ensures { result ≡ is_above_at line_above value.now }
-    {
-        match value {
-            Some(sum) => sum.is_above(),
-            None => false,
-        }
-    }
+impl PointSum for LineSum {
+    ghost above = { line_above };
 
-    /// Whether the count is above 0.
-    pub(crate) fn is_above(&self) -> bool
-        ensures { result ≡ line_above self.now }
-    {
+    fn is_above(&self) -> bool {
         self.count.is_above()
     }
+}
 
+impl PointSum for FunctionSum {
+    ghost above = { function_above };
+
+    fn is_above(&self) -> bool {
+        self.count.is_above()
+    }
+}
+
+impl PointSum for BranchSum {
+    ghost above = { branch_above };
+
+    fn is_above(&self) -> bool {
+        self.times.is_above()
+    }
+}
+
+impl LineSum {
     /// Whether the line is there, with a checksum.
     pub(crate) fn is_checked(value: &Option<LineSum>) -> bool
         ensures { result ≡ is_above_at has_checksum value.now }
@@ -233,23 +259,6 @@ impl LineSum {
 }
 
 impl FunctionSum {
-    /// Whether the function is there, with a count above 0.
-    pub(crate) fn is_hit(value: &Option<FunctionSum>) -> bool
-        ensures { result ≡ is_above_at function_above value.now }
-    {
-        match value {
-            Some(sum) => sum.is_above(),
-            None => false,
-        }
-    }
-
-    /// Whether the count is above 0.
-    pub(crate) fn is_above(&self) -> bool
-        ensures { result ≡ function_above self.now }
-    {
-        self.count.is_above()
-    }
-
     /// The sum with one count more.
     pub(crate) fn with(value: &Option<FunctionSum>, line: u64, count: u128) -> FunctionSum
         ensures { result ≡ function_with line count value.now }
@@ -268,18 +277,6 @@ impl FunctionSum {
 }
 
 impl BranchSum {
-    ghost use Rattle.covstore.specs.Value.{is_taken};
-
-    /// Whether the branch is there, and was taken.
-    pub(crate) fn is_hit(value: &Option<BranchSum>) -> bool
-        ensures { result ≡ is_above_at branch_above value.now }
-    {
-        match value {
-            Some(sum) => sum.is_above(),
-            None => false,
-        }
-    }
-
     /// The sum with one number more, which may be missing.
     pub(crate) fn with(value: &Option<BranchSum>, times: Option<u128>) -> BranchSum
         ensures { result ≡ branch_with times value.now }
@@ -292,12 +289,5 @@ impl BranchSum {
                 times: Times::of(times),
             },
         }
-    }
-
-    /// Whether the branch was taken.
-    pub(crate) fn is_above(&self) -> bool
-        ensures { result ≡ is_taken self.now.times }
-    {
-        self.times.is_above()
     }
 }
