@@ -116,7 +116,9 @@ fn add_functions<A: Allocator + Copy>(
     ensures ok { OnOk result (Adds (map function_item functions.now.committed) (test_staged test.old) (index_staged index.old) (test_staged test.new) (index_staged index.new)) }
 {
     for (name, sum) in functions.entries() {
-        if add_function(test, index, alloc, name.get(), sum.line, sum.count.get()).is_err() {
+        let line = sum.line.get();
+        let count = sum.count.get();
+        if add_function(test, index, alloc, name.get(), line, count).is_err() {
             return Err(Memory);
         }
     }

@@ -52,29 +52,29 @@ impl KindTotals {
     ghost use Rattle.covstore.specs.Fewer.{CanBeLess, IsLess};
 
     /// The tally where a point's numbers rise: it is found where it had none, and hit where it is for the first time.
-    fn more(self, before: Option<Tests>, after: Tests) -> KindTotals
+    fn more(self, before: &Option<Tests>, after: &Tests) -> KindTotals
         requires found { self.found < 2 ^ 63 }
         requires hit { self.hit < 2 ^ 63 }
-        requires rises { IfSome before (λ committed. committed.hit ≤ after.hit) }
-        ensures found { result.found ≡ self.found + one_if (is_new before) }
-        ensures hit { result.hit + one_if (is_above_at (λ committed. nat_lt 0 committed.hit) before) ≡ self.hit + one_if (nat_lt 0 after.hit) }
+        requires rises { IfSome before.now (λ committed. committed.hit ≤ after.now.hit) }
+        ensures found { result.found ≡ self.found + one_if (is_new before.now) }
+        ensures hit { result.hit + one_if (is_above_at (λ committed. nat_lt 0 committed.hit) before.now) ≡ self.hit + one_if (nat_lt 0 after.now.hit) }
     {
         let was_hit = Tests::is_hit(before);
         let is_new = before.is_none();
         KindTotals {
             found: self.found + u64::from(is_new),
-            hit: self.hit + u64::from(after.hit > 0 && !was_hit),
+            hit: self.hit + u64::from(after.hit.get() > 0 && !was_hit),
         }
     }
 
     /// The tally where a point's numbers fall: it is found and hit no more where it was.
-    fn less(self, before: Tests, after: Option<Tests>) -> KindTotals
-        requires { CanBeLess self before after }
-        ensures { IsLess self before after result }
+    fn less(self, before: &Tests, after: &Option<Tests>) -> KindTotals
+        requires { CanBeLess self before.now after.now }
+        ensures { IsLess self before.now after.now result }
     {
         // No point is hit for the first time by that, so hit or not differs only where it is hit no more.
         let stays = after.is_some();
-        let stays_hit = Tests::is_hit(Some(before)) == Tests::is_hit(after);
+        let stays_hit = (before.hit.get() > 0) == Tests::is_hit(after);
         KindTotals {
             found: if stays { self.found } else { self.found - 1 },
             hit: if stays_hit { self.hit } else { self.hit - 1 },
@@ -160,7 +160,7 @@ impl<K: Key + Drop, A: Allocator + Copy> KindIndex<K, A> {
                 return Err(refused);
             }
         };
-        self.staged = self.staged.more(added.before, added.after);
+        self.staged = self.staged.more(&added.before, &added.after);
         Ok(())
     }
 
@@ -213,7 +213,7 @@ impl<K: Key, A: Allocator> KindIndex<K, A> {
     {
         if let Some(before) = self.counts.lookup(query) {
             let after = before.fewer(was_above);
-            self.committed = self.committed.less(before, after);
+            self.committed = self.committed.less(&before, &after);
             self.staged = self.committed;
             self.counts.replace(query, after);
         }
@@ -241,7 +241,7 @@ impl<K: Key, A: Allocator> KindIndex<K, A> {
         };
         let after = before.fewer(was_above);
         Walk {
-            tally: walk.tally.less(before, after),
+            tally: walk.tally.less(&before, &after),
             place,
         }
     }

@@ -43,6 +43,7 @@ mod plan;
 mod refuse;
 mod renaming;
 mod section;
+mod split;
 mod stop;
 mod store;
 mod sums;

@@ -6,6 +6,7 @@ ghost use Rattle.covstore.specs.Counts.{is_above_at, tests_more};
 ghost use Rattle.covstore.specs.State.{branch_above, function_above, has_checksum, line_above};
 ghost use Rattle.covstore.specs.Sums.{branch_with, function_with, line_with};
 
+use crate::split::Split;
 use crate::times::Times;
 use crate::wide::Wide;
 use covmap::{Addend, Value};
@@ -39,7 +40,7 @@ pub(crate) struct LineSum {
 /// A function: its least start line and the sum of its execution counts (geninfo(1): `FN:`, `FNDA:`).
 #[derive(Drop)]
 pub(crate) struct FunctionSum {
-    pub line: u64,
+    pub line: Split,
     pub count: Wide,
 }
 
@@ -48,6 +49,15 @@ pub(crate) struct FunctionSum {
 pub(crate) struct BranchSum {
     pub times: Times,
 }
+
+// A map has an option of these for each point.
+const _: () = prove!(size_of::<Option<LineSum>>() <= 24);
+
+const _: () = prove!(size_of::<Option<FunctionSum>>() <= 28);
+
+const _: () = prove!(size_of::<Option<BranchSum>>() <= 24);
+
+const _: () = prove!(size_of::<Option<Tests>>() <= 20);
 
 /// A line's item: its count, and whether it has a checksum.
 #[derive(Clone, Copy)]
@@ -123,45 +133,48 @@ impl Addend<Tests> for TestsAddend {
         ensures { result ≡ tests_more self.is_new self.is_hit value.now }
     {
         let (tests, hit) = match value {
-            Some(value) => (value.tests, value.hit),
+            Some(value) => (value.tests.get(), value.hit.get()),
             None => (0, 0),
         };
         Tests {
-            tests: if self.is_new { tests + 1 } else { tests },
-            hit: if self.is_hit { hit + 1 } else { hit },
+            tests: Split::of(if self.is_new { tests + 1 } else { tests }),
+            hit: Split::of(if self.is_hit { hit + 1 } else { hit }),
         }
     }
 }
 
 /// How many tests of a file have a point, and how many have it above 0.
-#[derive(Clone, Copy)]
+#[derive(Drop)]
 pub(crate) struct Tests {
-    pub tests: u64,
-    pub hit: u64,
+    pub tests: Split,
+    pub hit: Split,
 }
 
 impl Tests {
     ghost use Rattle.covstore.specs.Fewer.{HaveOne, fewer_tests, is_hit};
 
     /// Whether there are tests, and one of them has the point above 0.
-    pub(crate) fn is_hit(value: Option<Tests>) -> bool
-        ensures { result ≡ is_hit value }
+    pub(crate) fn is_hit(value: &Option<Tests>) -> bool
+        ensures { result ≡ is_hit value.now }
     {
-        value.is_some_and(|tests| tests.hit > 0)
+        match value {
+            Some(value) => value.hit.get() > 0,
+            None => false,
+        }
     }
 
     /// The numbers where a test less has the point, above 0 or not; none where it was the only one.
-    pub(crate) fn fewer(self, was_above: bool) -> Option<Tests>
-        requires { HaveOne was_above self }
-        ensures { result ≡ fewer_tests was_above self }
+    pub(crate) fn fewer(&self, was_above: bool) -> Option<Tests>
+        requires { HaveOne was_above self.now }
+        ensures { result ≡ fewer_tests was_above self.now }
     {
-        if self.tests <= 1 {
+        let (tests, hit) = (self.tests.get(), self.hit.get());
+        if tests <= 1 {
             return None;
         }
-        let hit = if was_above { self.hit - 1 } else { self.hit };
         Some(Tests {
-            tests: self.tests - 1,
-            hit,
+            tests: Split::of(tests - 1),
+            hit: Split::of(if was_above { hit - 1 } else { hit }),
         })
     }
 }
@@ -182,7 +195,7 @@ impl Value for FunctionSum {
         ensures { result ≡ self.now }
     {
         FunctionSum {
-            line: self.line,
+            line: self.line.copy(),
             count: self.count.copy(),
         }
     }
@@ -202,7 +215,10 @@ impl Value for Tests {
     fn copy(&self) -> Tests
         ensures { result ≡ self.now }
     {
-        *self
+        Tests {
+            tests: self.tests.copy(),
+            hit: self.hit.copy(),
+        }
     }
 }
 
@@ -265,11 +281,11 @@ impl FunctionSum {
     {
         match value {
             Some(sum) => FunctionSum {
-                line: sum.line.min(line),
+                line: Split::of(sum.line.get().min(line)),
                 count: sum.count.plus(count),
             },
             None => FunctionSum {
-                line,
+                line: Split::of(line),
                 count: Wide::of(count),
             },
         }

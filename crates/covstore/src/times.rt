@@ -1,5 +1,5 @@
-//! How often a branch was taken, which may be missing, in three words. An `Option<u128>` takes four, and six where it is
-//! an option's value once more.
+//! How often a branch was taken, which may be missing, in 20 bytes. An `Option<u128>` takes 32, and 48 where it is an
+//! option's value once more.
 
 ghost use Rattle.std.specs.Prelude.{◌≡◌, None};
 ghost use Rattle.covstore.specs.Sums.{sum_taken};

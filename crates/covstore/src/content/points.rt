@@ -49,7 +49,7 @@ impl<'a, A: Allocator> Iterator for Functions<'a, A> {
     fn next(&mut self) -> Option<FunctionValue<'a>> {
         let (name, sum) = self.rest.next()?;
         Some(FunctionValue {
-            line: sum.line,
+            line: sum.line.get(),
             name: name.get(),
             count: sum.count.get(),
         })

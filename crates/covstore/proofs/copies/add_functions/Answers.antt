@@ -20,10 +20,12 @@ loop-name-preserved g c =
     let e = c.add_function.ensures in
     let is = c.is_err.ensures.value in
     let ok = c.if-is_err.false in
-    let line = c.in-Some.sum.now.line in
+    let line = c.get-line in
+    let count = c.get-count in
     copying_more function_item c.args.functions.now.committed c.args.test.now c.args.index.now (c.in-Some.name.now, c.in-Some.sum.now) c.loop-name.name-iterator c.next.new.self c.in-Some.ensures.steps
-    c.loop-name.test c.loop-name.index c.loop-name.invariant (FuncItem c.get.result.now line c.get-in-loop-name.result)
-    (ap (λ (name : List ℕ). FuncItem name line c.get-in-loop-name.result) c.get.ensures ∙ ap (FuncItem c.in-Some.name.now line) c.get-in-loop-name.ensures)
+    c.loop-name.test c.loop-name.index c.loop-name.invariant (FuncItem c.get.result.now line.result count.result)
+    (ap (λ (name : List ℕ). FuncItem name line.result count.result) c.get.ensures ∙ ap (λ n. FuncItem c.in-Some.name.now n count.result) line.ensures
+    ∙ ap (FuncItem c.in-Some.name.now c.in-Some.sum.now.line) count.ensures)
     c.add_function.new.test c.add_function.new.index e.test_committed e.index_committed (ok_unless c.add_function.result is ok e.test) (ok_unless c.add_function.result is ok e.counts) tt
     (ok_unless c.add_function.result is ok e.others)
 
