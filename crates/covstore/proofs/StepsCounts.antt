@@ -6,13 +6,12 @@ use Rattle.std.specs.Option.{is_some}
 use Rattle.std.specs.Ordering.{is_eq, match_ordering}
 use Rattle.std.proofs.lemmas.Bool.{false≢true, lt-ltb, ltb-true}
 use Rattle.covstore.specs.declared.kind_index.PointChange.{PointChange}
-use Rattle.covstore.specs.declared.kind_index.PointChange.TheVariants.{Same, Hit, Found, FoundAndHit}
 use Rattle.covstore.specs.declared.sums.FunctionSum.{FunctionSum}
 use Rattle.covstore.specs.declared.sums.LineSum.{LineSum}
 use Rattle.covstore.specs.declared.sums.BranchSum.{BranchSum}
 use Rattle.covstore.specs.declared.sums.Tests.{Tests}
 use Rattle.covstore.specs.Changes.{change_by, change_of, changed}
-use Rattle.covstore.specs.Counts.{counts_with, is_above_at, tests_more}
+use Rattle.covstore.specs.Counts.{counts_with, is_above_at, is_new, is_newly_hit, tests_more}
 use Rattle.covmap.specs.Puts.{put, value_of}
 use Rattle.covstore.specs.State.{branch_above, function_above, has_checksum, line_above}
 use Rattle.covstore.specs.Sums.{branch_with, function_with, line_with, sum_taken}
@@ -112,8 +111,13 @@ module _ {K L : Type 0} (cmp : L → L → Ordering) (f : K → L) where
       seen-put key (tests_more new newly (value_of own key counts)) counts
       ∙ ap (λ (committed : Option Tests). put cmp (f key) (tests_more new newly committed) (seen counts)) (sym (value_of-seen key counts))
 
-  pub seen-changed : (key : K) (change : PointChange) (counts : List (K × Tests)) → seen (changed own key change counts) ≡ changed cmp (f key) change (seen counts)
-  seen-changed key Same counts = refl
-  seen-changed key Hit counts = seen-put_more key false true counts
-  seen-changed key Found counts = seen-put_more key true false counts
-  seen-changed key FoundAndHit counts = seen-put_more key true true counts
+  seen-counted : (key : K) (new newly : Bool) (counts : List (K × Tests))
+      → seen (cond new (put own key (tests_more true newly (value_of own key counts)) counts) (cond newly (put own key (tests_more false true (value_of own key counts)) counts) counts))
+      ≡ cond new (put cmp (f key) (tests_more true newly (value_of cmp (f key) (seen counts))) (seen counts)) (cond newly (put cmp (f key) (tests_more false true (value_of cmp (f key) (seen counts))) (seen counts)) (seen counts))
+  seen-counted key true newly counts = seen-put_more key true newly counts
+  seen-counted key false true counts = seen-put_more key false true counts
+  seen-counted key false false counts = refl
+
+  pub seen-counts_with : {V : Type 0} (is_above : V → Bool) (key : K) (before : Option V) (after : V) (counts : List (K × Tests))
+      → seen (counts_with own is_above key before after counts) ≡ counts_with cmp is_above (f key) before after (seen counts)
+  seen-counts_with is_above key before after counts = seen-counted key (is_new before) (is_newly_hit is_above before after) counts

@@ -1,14 +1,12 @@
--- What an item's step asks for and tells: the room for it, and what stays where memory is refused.
+-- What an item's step asks for: the room for it.
 use Rattle.std.proofs.Common.{◌≡◌, ℕ, ◌+◌, ◌<◌, ◌^◌, Bool, true, false, cond, nat_lt, Some, None, List, ◌∷◌, ◌++◌, refl, sym, ap, ◌∙◌, subst, arith}
 use Rattle.std.specs.Option.{IfSome, is_some}
 use Rattle.std.specs.Ordering.{nat_cmp}
 use Rattle.std.proofs.lemmas.Bool.{cond-true, lt-ltb}
 use Rattle.std.proofs.lemmas.List.Sums.{count_by-le-length}
-use Rattle.covstore.specs.declared.index.FileIndex.{FileIndex}
 use Rattle.covstore.specs.declared.sums.LineSum.{LineSum}
 use Rattle.covstore.specs.Counts.{one_if}
 use Rattle.covstore.specs.FileIndex.{FileIndexData}
-use Rattle.covstore.specs.FileIndexView.{KeepsCommitted}
 use Rattle.covmap.specs.Puts.{value_of}
 use Rattle.covstore.specs.State.{holding}
 use Rattle.covstore.specs.Steps.{HasRoom}
@@ -40,11 +38,6 @@ module _ (test : TestData) (index : FileIndexData) (room : HasRoom test index) (
   holders_few =
       let few : holding line tests < 2 ^ 63 = omega (arith, room.few, count_by-le-length (is_holding line) tests) in
       subst (λ committed. IfSome committed (λ n. n < 2 ^ 63)) (sym (room.kept.holders line)) (few_where (nat_lt 0 (holding line tests)) (holding line tests) few)
-
--- ---- where memory is refused
-
-pub held_as_before : {A : Type 0} (index : FileIndex A) → KeepsCommitted index index
-held_as_before index = record { lines = refl; functions = refl; branches = refl; holders = refl; texts = λ line e. refl }
 
 -- the test with other lines
 abbrev pub with_lines : TestData → List (ℕ × LineSum) → TestData

@@ -1,7 +1,9 @@
 //! One item more: of its test, and of what is kept of the file.
 
-ghost use Rattle.std.specs.Prelude.{◌≡◌, option_map, IfErr, OnOk};
+ghost use Rattle.std.specs.Prelude.{◌≡◌, ◌<◌, ◌^◌, length, option_map, IfErr, IfOk, IfSome, OnOk};
+ghost use Rattle.covmap.specs.Puts.{put, value_of};
 ghost use Rattle.covline.specs.Row.{LineItem, FuncItem, BranchItem, item_data};
+ghost use Rattle.covstore.specs.Counts.{counts_with};
 ghost use Rattle.covstore.specs.FileIndexView.{index_staged, index_committed};
 ghost use Rattle.covstore.specs.TestView.{test_staged, test_committed};
 ghost use Rattle.covstore.specs.Sums.{with_item};
@@ -10,12 +12,13 @@ ghost use Rattle.covstore.specs.FileIndexView.{KeepsCommitted};
 ghost use Rattle.covstore.specs.declared.stop.Stop.TheVariants as stops;
 
 use crate::index::FileIndex;
-use crate::kind_index::PointChange;
+use crate::kind_index::{KindIndex, PointChange};
 use crate::stop::Stop;
 use crate::sums::{BranchAddend, FunctionAddend, LineAddend, LineSum, PointSum, is_hit};
 use crate::test::Test;
 use covline::{BranchPoint, Item};
-use std::alloc::Allocator;
+use covmap::{Addend, Key, Query, StagedMap};
+use std::alloc::{AllocError, Allocator};
 
 /// Stages an item.
 pub(crate) fn add_item<A: Allocator + Copy>(
@@ -82,23 +85,15 @@ pub(crate) fn add_line<A: Allocator + Copy>(
     ensures others { OnOk result (KeepsTextsOf (index_staged index.old) (index_staged index.new)) }
     ensures clash { IfErr result (IsClashOf (LineItem line count (option_map (λ c. c.now) checksum.entry)) (index_staged index.old)) }
 {
-    let has_checksum = checksum.is_some();
-    let added = test.lines.stage_sum(
-        alloc,
-        line,
-        LineAddend {
-            count,
-            has_checksum,
-        },
-        test.lines.cursor(),
-    )?;
+    let addend = LineAddend {
+        count,
+        has_checksum: checksum.is_some(),
+    };
+    let before = add_to_point(&mut test.lines, &mut index.lines, alloc, line, addend)?;
     if let Some(text) = checksum {
-        let is_held = LineSum::is_checked(&added.before);
+        let is_held = LineSum::is_checked(&before);
         index.checksums.hold(alloc, line, text, is_held)?;
     }
-    let was_above = is_hit(&added.before);
-    let change = PointChange::of(added.before.is_some(), was_above, added.after.is_above());
-    index.lines.add(alloc, line, change, added.place)?;
     Ok(())
 }
 
@@ -119,15 +114,14 @@ pub(crate) fn add_function<A: Allocator + Copy>(
     ensures others { OnOk result (KeepsTextsOf (index_staged index.old) (index_staged index.new)) }
     ensures clash { IfErr result (λ stop. stop ≡ stops.Memory) }
 {
-    let added = test.functions.stage_sum(
+    let addend = FunctionAddend { line, count };
+    add_to_point(
+        &mut test.functions,
+        &mut index.functions,
         alloc,
         name,
-        FunctionAddend { line, count },
-        test.functions.cursor(),
+        addend,
     )?;
-    let was_above = is_hit(&added.before);
-    let change = PointChange::of(added.before.is_some(), was_above, added.after.is_above());
-    index.functions.add(alloc, name, change, added.place)?;
     Ok(())
 }
 
@@ -147,14 +141,38 @@ pub(crate) fn add_branch<A: Allocator + Copy>(
     ensures others { OnOk result (KeepsTextsOf (index_staged index.old) (index_staged index.new)) }
     ensures clash { IfErr result (λ stop. stop ≡ stops.Memory) }
 {
-    let added = test.branches.stage_sum(
+    let addend = BranchAddend { times: taken };
+    add_to_point(
+        &mut test.branches,
+        &mut index.branches,
         alloc,
         point,
-        BranchAddend { times: taken },
-        test.branches.cursor(),
+        addend,
     )?;
+    Ok(())
+}
+
+/// Stages the sum of a test's point and an addend, and what that changes in the file's numbers of the point. Tells the sum
+/// before.
+fn add_to_point<K: Key + Drop, S: PointSum, A: Allocator + Copy, Q: Query<K, A>, M: Addend<S>>(
+    points: &mut StagedMap<K, S, A>,
+    kept: &mut KindIndex<K, A>,
+    alloc: A,
+    query: Q,
+    addend: M,
+) -> Result<Option<S>, AllocError>
+    requires fits { M.fits addend (value_of K.cmp (Q.named query) points.old.staged) }
+    requires few { length kept.old.staged < 2 ^ 63 }
+    requires room { IfSome (value_of K.cmp (Q.named query) kept.old.staged) (λ committed. (committed.tests < 2 ^ 63) × (committed.hit < 2 ^ 63)) }
+    ensures test_committed { points.new.committed ≡ points.old.committed }
+    ensures index_committed { kept.new.committed ≡ kept.old.committed }
+    ensures before { IfOk result (λ before. before ≡ value_of K.cmp (Q.named query) points.old.staged) }
+    ensures test { OnOk result (points.new.staged ≡ put K.cmp (Q.named query) (M.sum addend (value_of K.cmp (Q.named query) points.old.staged)) points.old.staged) }
+    ensures index { OnOk result (kept.new.staged ≡ counts_with K.cmp S.above (Q.named query) (value_of K.cmp (Q.named query) points.old.staged) (M.sum addend (value_of K.cmp (Q.named query) points.old.staged)) kept.old.staged) }
+{
+    let added = points.stage_sum(alloc, query, addend, points.cursor())?;
     let was_above = is_hit(&added.before);
     let change = PointChange::of(added.before.is_some(), was_above, added.after.is_above());
-    index.branches.add(alloc, point, change, added.place)?;
-    Ok(())
+    kept.add(alloc, query, change, added.place)?;
+    Ok(added.before)
 }
