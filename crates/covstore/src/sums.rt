@@ -74,7 +74,16 @@ impl Addend<LineSum> for LineAddend {
     fn plus(self, value: &Option<LineSum>) -> LineSum
         ensures { result ≡ line_with self.count self.has_checksum value.now }
     {
-        LineSum::with(value, self.count, self.has_checksum)
+        match value {
+            Some(sum) => LineSum {
+                count: sum.count.plus(self.count),
+                has_checksum: sum.has_checksum || self.has_checksum,
+            },
+            None => LineSum {
+                count: Wide::of(self.count),
+                has_checksum: self.has_checksum,
+            },
+        }
     }
 }
 
@@ -93,7 +102,14 @@ impl Addend<FunctionSum> for FunctionAddend {
     fn plus(self, value: &Option<FunctionSum>) -> FunctionSum
         ensures { result ≡ function_with self.line self.count value.now }
     {
-        FunctionSum::with(value, self.line, self.count)
+        let (line, count) = match value {
+            Some(sum) => (sum.line.get().min(self.line), sum.count.plus(self.count)),
+            None => (self.line, Wide::of(self.count)),
+        };
+        FunctionSum {
+            line: Split::of(line),
+            count,
+        }
     }
 }
 
@@ -111,7 +127,11 @@ impl Addend<BranchSum> for BranchAddend {
     fn plus(self, value: &Option<BranchSum>) -> BranchSum
         ensures { result ≡ branch_with self.times value.now }
     {
-        BranchSum::with(value, self.times)
+        let times = match value {
+            Some(sum) => sum.times.plus(self.times),
+            None => Times::of(self.times),
+        };
+        BranchSum { times }
     }
 }
 
@@ -254,56 +274,6 @@ impl LineSum {
         match value {
             Some(sum) => sum.has_checksum,
             None => false,
-        }
-    }
-
-    /// The sum with one count more.
-    pub(crate) fn with(value: &Option<LineSum>, count: u128, has_checksum: bool) -> LineSum
-        ensures { result ≡ line_with count has_checksum value.now }
-    {
-        match value {
-            Some(sum) => LineSum {
-                count: sum.count.plus(count),
-                has_checksum: sum.has_checksum || has_checksum,
-            },
-            None => LineSum {
-                count: Wide::of(count),
-                has_checksum,
-            },
-        }
-    }
-}
-
-impl FunctionSum {
-    /// The sum with one count more.
-    pub(crate) fn with(value: &Option<FunctionSum>, line: u64, count: u128) -> FunctionSum
-        ensures { result ≡ function_with line count value.now }
-    {
-        match value {
-            Some(sum) => FunctionSum {
-                line: Split::of(sum.line.get().min(line)),
-                count: sum.count.plus(count),
-            },
-            None => FunctionSum {
-                line: Split::of(line),
-                count: Wide::of(count),
-            },
-        }
-    }
-}
-
-impl BranchSum {
-    /// The sum with one number more, which may be missing.
-    pub(crate) fn with(value: &Option<BranchSum>, times: Option<u128>) -> BranchSum
-        ensures { result ≡ branch_with times value.now }
-    {
-        match value {
-            Some(sum) => BranchSum {
-                times: sum.times.plus(times),
-            },
-            None => BranchSum {
-                times: Times::of(times),
-            },
         }
     }
 }
