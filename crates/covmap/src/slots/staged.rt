@@ -221,7 +221,7 @@ impl<V: Value, A: Allocator + Copy> StagedColumns<V, A> {
     /// Follows the cut of a page in two: the pages behind it have a number more.
     pub(crate) fn split(&mut self, page: usize) -> Result<(), AllocError>
         requires numbers { AllByRecursion (λ column. column.0 + 1 < 2 ^ 64) self.old }
-        requires full { AllByRecursion (λ column. column.0 ≡ page → length column.1 ≡ 512) self.old }
+        requires full { AllByRecursion (λ column. column.0 ≡ page → length column.1 ≡ 256) self.old }
         requires fits { page + 1 < 2 ^ 64 }
         ensures ok { OnOk result (IsSplit page self.old self.new) }
     {
