@@ -124,7 +124,7 @@ impl<V: Value, A: Allocator> StagedColumns<V, A> {
             return Ok(index);
         }
         let column = slots.column(alloc, page)?;
-        self.columns.insert(index, (page, column))?;
+        insert_first(&mut self.columns, index, (page, column))?;
         Ok(index)
     }
 
@@ -256,6 +256,23 @@ fn pop_last<T, A: Allocator>(list: &mut Vec<T, A>) -> Option<T>
         list.shrink_to_fit();
     }
     list.pop()
+}
+
+/// Puts an item in. The first one takes room for itself alone, as most lists of columns have one.
+fn insert_first<T: Drop, A: Allocator>(
+    list: &mut Vec<T, A>,
+    index: usize,
+    item: T,
+) -> Result<(), AllocError>
+    requires { index ≤ length list.old.items }
+    ensures ok { OnOk result (list.new.items ≡ insert list.old.items index item) }
+    ensures err { OnErr result (list.new.items ≡ list.old.items) }
+{
+    if list.is_empty() {
+        list.reserve_exact(1)?;
+    }
+    list.insert(index, item)?;
+    Ok(())
 }
 
 /// Puts an empty value in.
