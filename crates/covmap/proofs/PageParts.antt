@@ -174,6 +174,6 @@ page_here (first ∷ pages) (suc i) page l e = page_here pages i page (omega ari
 
 -- slots stay slots where a page has a key more, or stays as it is
 pub insert_whole : {K V E : Type 0} {cmp : K → K → Ordering} → IsTotalOrder cmp → (pages : List (List (K × Option V))) (i j : ℕ) (key : K) (page : List (K × Option V)) (r : Result (Unit {0}) E) → AreSlots cmp pages
-    → IsGap (λ other. cmp other key) pages (i, j) → i < length pages → length (page_at pages i) < 512 → OnOk r (page ≡ insert (page_at pages i) j (key, None)) → OnErr r (page ≡ page_at pages i) → AreSlots cmp (set pages i page)
+    → IsGap (λ other. cmp other key) pages (i, j) → i < length pages → length (page_at pages i) < 256 → OnOk r (page ≡ insert (page_at pages i) j (key, None)) → OnErr r (page ≡ page_at pages i) → AreSlots cmp (set pages i page)
 insert_whole {K} {V} {E} {cmp} t pages i j key page (Ok u) slots gap there room ok err = subst (λ page. AreSlots cmp (set pages i page)) (sym ok) (put_whole t pages i j key slots gap there room)
 insert_whole {K} {V} {E} {cmp} t pages i j key page (Err e) slots gap there room ok err = subst (λ page. AreSlots cmp (set pages i page)) (sym err) (subst (AreSlots cmp) (sym (set_same pages i)) slots)

@@ -97,7 +97,7 @@ set_same (page ∷ pages) (suc i) = ap (λ rest. page ∷ rest) (set_same pages 
 
 -- slots stay slots where a key is put at its gap on a page with room
 pub put_whole : {K V : Type 0} {cmp : K → K → Ordering} → IsTotalOrder cmp → (pages : List (List (K × Option V))) (i j : ℕ) (key : K) → AreSlots cmp pages
-    → IsGap (λ other. cmp other key) pages (i, j) → i < length pages → length (page_at pages i) < 512 → AreSlots cmp (set pages i (insert (page_at pages i) j (key, None)))
+    → IsGap (λ other. cmp other key) pages (i, j) → i < length pages → length (page_at pages i) < 256 → AreSlots cmp (set pages i (insert (page_at pages i) j (key, None)))
 put_whole {K} {V} {cmp} t pages i j key slots gap there room =
     let length_new = length-insert (page_at pages i) j (key, None) gap.on_page in
     record {
@@ -118,7 +118,7 @@ pub on_ok_more : {T E P Q : Type 0} (r : Result T E) → (P → Q) → OnOk r P 
 on_ok_more (Ok x) f p = f p
 on_ok_more (Err x) f p = tt
 
-pub page_le : {K V : Type 0} (pages : List (List (K × Option V))) (i : ℕ) → AllByRecursion IsPage pages → length (page_at pages i) ≤ 512
+pub page_le : {K V : Type 0} (pages : List (List (K × Option V))) (i : ℕ) → AllByRecursion IsPage pages → length (page_at pages i) ≤ 256
 page_le [] i a = omega arith
 page_le (page ∷ pages) zero a = a.0.1
 page_le (page ∷ pages) (suc i) a = page_le pages i a.1

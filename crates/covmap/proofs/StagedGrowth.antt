@@ -251,13 +251,13 @@ drop_given [] column (suc n) = refl
 drop_given (slot ∷ page) [] (suc n) = sym (none_given (drop n page))
 drop_given (slot ∷ page) (value ∷ column) (suc n) = drop_given page column n
 
-take_staged : {K V : Type 0} (page : List (K × Option V)) (here : Option (List (Option V))) → page_staged (take 256 page) (option_map (λ column. take 256 column) here) ≡ take 256 (page_staged page here)
+take_staged : {K V : Type 0} (page : List (K × Option V)) (here : Option (List (Option V))) → page_staged (take 128 page) (option_map (λ column. take 128 column) here) ≡ take 128 (page_staged page here)
 take_staged page None = refl
-take_staged page (Some column) = sym (take_given page column 256)
+take_staged page (Some column) = sym (take_given page column 128)
 
-drop_staged : {K V : Type 0} (page : List (K × Option V)) (here : Option (List (Option V))) → page_staged (drop 256 page) (option_map (λ column. drop 256 column) here) ≡ drop 256 (page_staged page here)
+drop_staged : {K V : Type 0} (page : List (K × Option V)) (here : Option (List (Option V))) → page_staged (drop 128 page) (option_map (λ column. drop 128 column) here) ≡ drop 128 (page_staged page here)
 drop_staged page None = refl
-drop_staged page (Some column) = sym (drop_given page column 256)
+drop_staged page (Some column) = sym (drop_given page column 128)
 
 -- pages that have moved by one
 next_staged : {K V : Type 0} (n : ℕ) (pages : List (List (K × Option V))) (old new : List (ℕ × List (Option V))) → ((m : ℕ) → n ≤ m → column_at (suc m) new ≡ column_at m old)
@@ -268,19 +268,19 @@ next_staged n (page ∷ pages) old new f =
     ∙ ap (λ rest. page_staged page (column_at n old) ∷ rest) (next_staged (suc n) pages old new (λ m l. f m (omega arith)))
 
 split_staged : {K V : Type 0} (n i k : ℕ) (pages : List (List (K × Option V))) (old new : List (ℕ × List (Option V))) → n + i ≡ k → i < length pages
-    → ((m : ℕ) → m < k → column_at m new ≡ column_at m old) → column_at k new ≡ option_map (λ column. take 256 column) (column_at k old)
-    → column_at (suc k) new ≡ option_map (λ column. drop 256 column) (column_at k old) → ((m : ℕ) → k < m → column_at (suc m) new ≡ column_at m old)
+    → ((m : ℕ) → m < k → column_at m new ≡ column_at m old) → column_at k new ≡ option_map (λ column. take 128 column) (column_at k old)
+    → column_at (suc k) new ≡ option_map (λ column. drop 128 column) (column_at k old) → ((m : ℕ) → k < m → column_at (suc m) new ≡ column_at m old)
     → staged_from n (with_page_split i pages) new ≡ with_page_split i (staged_from n pages old)
 split_staged n i k [] old new e l low first second high = absurd (omega arith)
 split_staged n zero k (page ∷ pages) old new e l low first second high =
     let same : n ≡ k = omega arith in
-    ap (λ m. page_staged (take 256 page) (column_at m new) ∷ page_staged (drop 256 page) (column_at (suc m) new) ∷ staged_from (suc (suc n)) pages new) same
-    ∙ ap (λ column. page_staged (take 256 page) column ∷ page_staged (drop 256 page) (column_at (suc k) new) ∷ staged_from (suc (suc n)) pages new) first
-    ∙ ap (λ column. page_staged (take 256 page) (option_map (λ column. take 256 column) (column_at k old)) ∷ page_staged (drop 256 page) column ∷ staged_from (suc (suc n)) pages new) second
-    ∙ ap (λ half. half ∷ page_staged (drop 256 page) (option_map (λ column. drop 256 column) (column_at k old)) ∷ staged_from (suc (suc n)) pages new) (take_staged page (column_at k old))
-    ∙ ap (λ half. take 256 (page_staged page (column_at k old)) ∷ half ∷ staged_from (suc (suc n)) pages new) (drop_staged page (column_at k old))
-    ∙ ap (λ rest. take 256 (page_staged page (column_at k old)) ∷ drop 256 (page_staged page (column_at k old)) ∷ rest) (next_staged (suc n) pages old new (λ m l. high m (omega arith)))
-    ∙ ap (λ m. take 256 (page_staged page (column_at m old)) ∷ drop 256 (page_staged page (column_at m old)) ∷ staged_from (suc n) pages old) (sym same)
+    ap (λ m. page_staged (take 128 page) (column_at m new) ∷ page_staged (drop 128 page) (column_at (suc m) new) ∷ staged_from (suc (suc n)) pages new) same
+    ∙ ap (λ column. page_staged (take 128 page) column ∷ page_staged (drop 128 page) (column_at (suc k) new) ∷ staged_from (suc (suc n)) pages new) first
+    ∙ ap (λ column. page_staged (take 128 page) (option_map (λ column. take 128 column) (column_at k old)) ∷ page_staged (drop 128 page) column ∷ staged_from (suc (suc n)) pages new) second
+    ∙ ap (λ half. half ∷ page_staged (drop 128 page) (option_map (λ column. drop 128 column) (column_at k old)) ∷ staged_from (suc (suc n)) pages new) (take_staged page (column_at k old))
+    ∙ ap (λ half. take 128 (page_staged page (column_at k old)) ∷ half ∷ staged_from (suc (suc n)) pages new) (drop_staged page (column_at k old))
+    ∙ ap (λ rest. take 128 (page_staged page (column_at k old)) ∷ drop 128 (page_staged page (column_at k old)) ∷ rest) (next_staged (suc n) pages old new (λ m l. high m (omega arith)))
+    ∙ ap (λ m. take 128 (page_staged page (column_at m old)) ∷ drop 128 (page_staged page (column_at m old)) ∷ staged_from (suc n) pages old) (sym same)
 split_staged n (suc i) k (page ∷ pages) old new e l low first second high =
     ap (λ column. page_staged page column ∷ staged_from (suc n) (with_page_split i pages) new) (low n (omega arith))
     ∙ ap (λ rest. page_staged page (column_at n old) ∷ rest) (split_staged (suc n) i k pages old new (omega arith) (omega arith) low first second high)
@@ -289,21 +289,21 @@ split_staged n (suc i) k (page ∷ pages) old new e l low first second high =
 
 second_half : {V : Type 0} (page : ℕ) (front : List (ℕ × List (Option V))) (here : Option (List (Option V))) (back : List (ℕ × List (Option V)))
     → AllByRecursion (λ other. other.0 < page) front → AllByRecursion (λ other. suc page < other.0) back
-    → column_at (suc page) (front ++ (halves_of page here ++ back)) ≡ option_map (λ column. drop 256 column) here
+    → column_at (suc page) (front ++ (halves_of page here ++ back)) ≡ option_map (λ column. drop 128 column) here
 second_half page front None back a b = column_missing (suc page) front back (all_weaker (λ other. other.0 < page) (λ other. other.0 < suc page) front (λ other l. omega (arith, l)) a) b
 second_half {V} page front (Some column) back a b =
-    let half : ℕ × List (Option V) = (page, take 256 column) in
-    let next : ℕ × List (Option V) = (suc page, drop 256 column) in
+    let half : ℕ × List (Option V) = (page, take 128 column) in
+    let next : ℕ × List (Option V) = (suc page, drop 128 column) in
     column_passed (suc page) front half (next ∷ back) (λ e. omega arith)
     ∙ column_found front next back (all_weaker (λ other. other.0 < page) (λ other. other.0 < suc page) front (λ other l. omega (arith, l)) a)
 
 first_half : {V : Type 0} (page : ℕ) (front : List (ℕ × List (Option V))) (here : Option (List (Option V))) (back : List (ℕ × List (Option V)))
     → AllByRecursion (λ other. other.0 < page) front → AllByRecursion (λ other. page < other.0) back
-    → column_at page (front ++ (halves_of page here ++ back)) ≡ option_map (λ column. take 256 column) here
+    → column_at page (front ++ (halves_of page here ++ back)) ≡ option_map (λ column. take 128 column) here
 first_half page front None back a b = column_missing page front back a b
 first_half {V} page front (Some column) back a b =
-    let half : ℕ × List (Option V) = (page, take 256 column) in
-    let next : ℕ × List (Option V) = (suc page, drop 256 column) in
+    let half : ℕ × List (Option V) = (page, take 128 column) in
+    let next : ℕ × List (Option V) = (suc page, drop 128 column) in
     column_found front half (next ∷ back) a
 
 other_half : {V : Type 0} (page m : ℕ) (front : List (ℕ × List (Option V))) (here : Option (List (Option V))) (back : List (ℕ × List (Option V))) → (m ≡ page → ⊥) → (m ≡ suc page → ⊥)
@@ -311,8 +311,8 @@ other_half : {V : Type 0} (page m : ℕ) (front : List (ℕ × List (Option V)))
 other_half page m front None back f s = refl
 other_half {V} page m front (Some column) back f s =
     let own : ℕ × List (Option V) = (page, column) in
-    let half : ℕ × List (Option V) = (page, take 256 column) in
-    let next : ℕ × List (Option V) = (suc page, drop 256 column) in
+    let half : ℕ × List (Option V) = (page, take 128 column) in
+    let next : ℕ × List (Option V) = (suc page, drop 128 column) in
     column_passed m front half (next ∷ back) f ∙ column_passed m front next back s ∙ sym (column_passed m front own back f)
 
 all_away : {V : Type 0} (page : ℕ) (back : List (ℕ × List (Option V))) → AllByRecursion (λ other. page < other.0) back → AllByRecursion (λ other. other.0 ≡ suc page → ⊥) back
@@ -337,8 +337,8 @@ staged_split pages old new i there s =
     let here : column_at i old ≡ s.here = sym (at_low i i old (omega arith)) ∙ ap (column_at i) s.was.is ∙ here_among i s.front s.here s.back s.was.below s.was.above in
     split_staged 0 i i pages old new (omega arith) there
     (λ m l. ap (column_at m) s.is ∙ other_half i m s.front s.here s.back (λ e. omega arith) (λ e. omega arith) ∙ sym (ap (column_at m) s.was.is) ∙ at_low i m old (omega arith))
-    (ap (column_at i) s.is ∙ first_half i s.front s.here s.back s.was.below s.was.above ∙ ap (option_map (λ column. take 256 column)) (sym here))
-    (ap (column_at (suc i)) s.is ∙ second_half i s.front s.here s.back s.was.below behind ∙ ap (option_map (λ column. drop 256 column)) (sym here))
+    (ap (column_at i) s.is ∙ first_half i s.front s.here s.back s.was.below s.was.above ∙ ap (option_map (λ column. take 128 column)) (sym here))
+    (ap (column_at (suc i)) s.is ∙ second_half i s.front s.here s.back s.was.below behind ∙ ap (option_map (λ column. drop 128 column)) (sym here))
     (λ m l. ap (column_at (suc m)) s.is ∙ other_half i (suc m) s.front s.here s.back (λ e. omega arith) (λ e. omega arith) ∙ sym (ap (column_at (suc m)) s.was.is) ∙ at_high i m old (omega arith))
 
 -- ---- the columns of the halves
@@ -374,16 +374,16 @@ module _ {K V : Type 0} (pages : List (List (K × Option V))) (i : ℕ) (there :
             λ f. a.0.1 ∙ ap (λ m. length (page_at pages m)) f,
           )
 
-  halves_fit : (here : Option (List (Option V))) → length (page_at pages i) ≡ 512 → AllByRecursion MovesTo (own_of i here) → AreColumnsOf (with_page_split i pages) (halves_of i here)
+  halves_fit : (here : Option (List (Option V))) → length (page_at pages i) ≡ 256 → AllByRecursion MovesTo (own_of i here) → AreColumnsOf (with_page_split i pages) (halves_of i here)
   halves_fit None full a = tt
   halves_fit (Some column) full a =
       let count = split_length pages i there in
       let long = a.0.1 refl in (
-        (omega (arith, count, there), omega (arith, length-take 256 column, length-take 256 (page_at pages i), long, ap length (page_low pages i there))),
-        ((omega (arith, count, there), omega (arith, length-drop 256 column, length-drop 256 (page_at pages i), long, ap length (page_high pages i there))), tt),
+        (omega (arith, count, there), omega (arith, length-take 128 column, length-take 128 (page_at pages i), long, ap length (page_low pages i there))),
+        ((omega (arith, count, there), omega (arith, length-drop 128 column, length-drop 128 (page_at pages i), long, ap length (page_high pages i there))), tt),
       )
 
-  pub columns_split : (old new : List (ℕ × List (Option V))) → length (page_at pages i) ≡ 512 → AreColumnsOf pages old → IsSplit i old new → AreColumnsOf (with_page_split i pages) new
+  pub columns_split : (old new : List (ℕ × List (Option V))) → length (page_at pages i) ≡ 256 → AreColumnsOf pages old → IsSplit i old new → AreColumnsOf (with_page_split i pages) new
   columns_split old new full fit s =
       let after = with_page_split i pages in
       let parts = subst (AllByRecursion MovesTo) s.was.is (moves_to old fit) in

@@ -46,7 +46,7 @@ slots_of pages = flat_map (λ page. page) pages
 
 -- a page has at least one slot, and at most as many as fit on one
 abbrev pub IsPage : {K V : Type 0} → List (K × Option V) → Type 0
-IsPage page = (0 < length page) × (length page ≤ 512)
+IsPage page = (0 < length page) × (length page ≤ 256)
 
 -- pages of slots whose keys ascend
 pub record AreSlots {K V : Type 0} (cmp : K → K → Ordering) (pages : List (List (K × Option V))) : Type 0 where
@@ -87,7 +87,7 @@ from pages at = drop at.1 (page_at pages at.0) ++ slots_of (drop (suc at.0) page
 
 -- the page of this number cut in two
 abbrev pub with_page_split : {K V : Type 0} → ℕ → List (List (K × Option V)) → List (List (K × Option V))
-with_page_split page pages = take page pages ++ take 256 (page_at pages page) ∷ drop 256 (page_at pages page) ∷ drop (suc page) pages
+with_page_split page pages = take page pages ++ take 128 (page_at pages page) ∷ drop 128 (page_at pages page) ∷ drop (suc page) pages
 
 -- an empty slot put in at a place
 abbrev pub with_empty : {K V : Type 0} → At → K → List (List (K × Option V)) → List (List (K × Option V))

@@ -100,7 +100,7 @@ moved page column = (number_after page column.0, column.1)
 -- the columns of the two halves
 abbrev pub halves_of : {V : Type 0} → ℕ → Option (List (Option V)) → List (ℕ × List (Option V))
 halves_of page None = []
-halves_of page (Some column) = (page, take 256 column) ∷ (suc page, drop 256 column) ∷ []
+halves_of page (Some column) = (page, take 128 column) ∷ (suc page, drop 128 column) ∷ []
 
 -- the columns behind the page have a number more, and its own, if any, is cut in two
 pub record IsSplit {V : Type 0} (page : ℕ) (old new : List (ℕ × List (Option V))) : Type 0 where

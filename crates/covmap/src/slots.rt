@@ -1,6 +1,6 @@
 //! Slots in the order of their keys, each with a committed value or empty.
 //!
-//! The slots are cut into pages of at most 512, so that a key that is put in moves few others. A page is found by its
+//! The slots are cut into pages of at most 256, so that a key that is put in moves few others. A page is found by its
 //! last key, and a slot on it, by a binary search; a walk in order costs no search, where each place is the guess for
 //! the next one. What stands above knows the list of all slots and what a place is, and not how the pages are cut.
 
@@ -24,10 +24,10 @@ use std::cmp::Ordering;
 use std::marker::Model;
 
 /// How many slots fit on a page.
-const PAGE: usize = 512;
+const PAGE: usize = 256;
 
 /// How many slots a full page keeps where it is split.
-const HALF: usize = 256;
+const HALF: usize = 128;
 
 /// Where a key stands: the number of a page, and of a slot on it.
 #[derive(Clone, Copy)]
@@ -293,7 +293,7 @@ impl<K: Key + Drop, V: Value, A: Allocator + Copy> Slots<K, V, A> {
     /// Puts an empty slot on a page that has room for it.
     fn insert(&mut self, place: Place, key: K) -> Result<(), AllocError>
         requires there { place.page < length self.old }
-        requires room { length (page_at self.old place.page) < 512 }
+        requires room { length (page_at self.old place.page) < 256 }
         requires gap { IsGap (λ other. K.cmp other key) self.old (at place) }
         ensures ok { OnOk result (self.new ≡ with_empty (at place) key self.old) }
         ensures err { OnErr result (self.new ≡ self.old) }
@@ -315,7 +315,7 @@ impl<K: Key + Drop, V: Value, A: Allocator + Copy> Slots<K, V, A> {
     /// Moves the second half of a full page to a page of its own.
     fn split(&mut self, alloc: A, number: usize) -> Result<(), AllocError>
         requires there { number < length self.old }
-        requires full { length (page_at self.old number) ≡ 512 }
+        requires full { length (page_at self.old number) ≡ 256 }
         ensures ok { OnOk result (self.new ≡ with_page_split number self.old) }
         ensures fits { length self.old < 2 ^ 64 }
         ensures err { OnErr result (self.new ≡ self.old) }

@@ -125,7 +125,7 @@ fn put_at<K: Key + Drop, V: Value, A: Allocator + Copy>(
     key: K,
 ) -> Result<Place, AllocError>
     requires there { place.page < length slots.old }
-    requires room { length (page_at slots.old place.page) < 512 }
+    requires room { length (page_at slots.old place.page) < 256 }
     requires columns { AreColumnsOf slots.old staged.old }
     requires gap { IsGap (λ other. K.cmp other key) slots.old (at place) }
     ensures columns { AreColumnsOf slots.new staged.new }
@@ -151,7 +151,7 @@ fn split<K: Key + Drop, V: Value, A: Allocator + Copy>(
     number: usize,
 ) -> Result<(), AllocError>
     requires there { number < length slots.old }
-    requires full { length (page_at slots.old number) ≡ 512 }
+    requires full { length (page_at slots.old number) ≡ 256 }
     requires columns { AreColumnsOf slots.old staged.old }
     ensures columns { AreColumnsOf slots.new staged.new }
     ensures committed { filled (slots_of slots.new) ≡ filled (slots_of slots.old) }

@@ -204,9 +204,9 @@ impl<K: Drop, V: Value, A: Allocator + Copy> Page<K, V, A> {
 
     /// Moves the second half of a full page to one of its own.
     pub(crate) fn split(&mut self, alloc: A) -> Result<Page<K, V, A>, AllocError>
-        requires { length self.old ≡ 512 }
-        ensures front { OnOk result (self.new ≡ take 256 self.old) }
-        ensures back { IfOk result (λ page. page ≡ drop 256 self.old) }
+        requires { length self.old ≡ 256 }
+        ensures front { OnOk result (self.new ≡ take 128 self.old) }
+        ensures back { IfOk result (λ page. page ≡ drop 128 self.old) }
         ensures err { OnErr result (self.new ≡ self.old) }
     {
         let values = self.values_from(alloc, HALF)?;

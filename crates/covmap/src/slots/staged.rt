@@ -124,7 +124,7 @@ impl<V: Value, A: Allocator> StagedColumns<V, A> {
             return Ok(index);
         }
         let column = slots.column(alloc, page)?;
-        self.columns.insert(index, (page, column))?;
+        insert_first(&mut self.columns, index, (page, column))?;
         Ok(index)
     }
 
@@ -221,7 +221,7 @@ impl<V: Value, A: Allocator + Copy> StagedColumns<V, A> {
     /// Follows the cut of a page in two: the pages behind it have a number more.
     pub(crate) fn split(&mut self, page: usize) -> Result<(), AllocError>
         requires numbers { AllByRecursion (λ column. column.0 + 1 < 2 ^ 64) self.old }
-        requires full { AllByRecursion (λ column. column.0 ≡ page → length column.1 ≡ 512) self.old }
+        requires full { AllByRecursion (λ column. column.0 ≡ page → length column.1 ≡ 256) self.old }
         requires fits { page + 1 < 2 ^ 64 }
         ensures ok { OnOk result (IsSplit page self.old self.new) }
     {
@@ -256,6 +256,23 @@ fn pop_last<T, A: Allocator>(list: &mut Vec<T, A>) -> Option<T>
         list.shrink_to_fit();
     }
     list.pop()
+}
+
+/// Puts an item in. The first one takes room for itself alone, as most lists of columns have one.
+fn insert_first<T: Drop, A: Allocator>(
+    list: &mut Vec<T, A>,
+    index: usize,
+    item: T,
+) -> Result<(), AllocError>
+    requires { index ≤ length list.old.items }
+    ensures ok { OnOk result (list.new.items ≡ insert list.old.items index item) }
+    ensures err { OnErr result (list.new.items ≡ list.old.items) }
+{
+    if list.is_empty() {
+        list.reserve_exact(1)?;
+    }
+    list.insert(index, item)?;
+    Ok(())
 }
 
 /// Puts an empty value in.

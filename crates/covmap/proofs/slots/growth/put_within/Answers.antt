@@ -9,27 +9,27 @@ use Rattle.covmap.proofs.slots.growth.put_within.Goals as goal
 pub put_at-requires-then-place-le-HALF-clause-room : goal.put_at-requires-then-place-le-HALF-clause-room
 put_at-requires-then-place-le-HALF-clause-room g c =
     let page = ap (λ pages. length (page_at pages c.args.place.page)) c.in_ok-split.ensures.ok ∙ ap length (page_low c.args.slots.now c.args.place.page c.requires.there) in
-    omega (arith, page, length-take 256 (page_at c.args.slots.now c.args.place.page))
+    omega (arith, page, length-take 128 (page_at c.args.slots.now c.args.place.page))
 
 pub put_at-requires-then-place-le-HALF-clause-gap : goal.put_at-requires-then-place-le-HALF-clause-gap
 put_at-requires-then-place-le-HALF-clause-gap g c =
     let at_most = page_le c.args.slots.now c.args.place.page c.len_of.ensures.whole.pages_fit in
-    let full : length (page_at c.args.slots.now c.args.place.page) ≡ 512 = omega (arith, at_most, c.len_of.ensures.long, c.if-len_of-lt-PAGE.false) in
+    let full : length (page_at c.args.slots.now c.args.place.page) ≡ 256 = omega (arith, at_most, c.len_of.ensures.long, c.if-len_of-lt-PAGE.false) in
     subst (λ pages. IsGap (λ other. g.K.Key.cmp other c.args.key) pages (c.args.place.page, c.args.place.index)) (sym c.in_ok-split.ensures.ok)
     (gap_low (λ other. g.K.Key.cmp other c.args.key) c.args.slots.now c.args.place.page c.args.place.index c.requires.there full c.if-place-le-HALF.true c.requires.gap)
 
 pub put_at-requires-2-clause-room : goal.put_at-requires-2-clause-room
 put_at-requires-2-clause-room g c =
     let at_most = page_le c.args.slots.now c.args.place.page c.len_of.ensures.whole.pages_fit in
-    subst (λ pages. length (page_at pages (c.args.place.page + 1)) < 512) (sym c.in_ok-split.ensures.ok) (length_high c.args.slots.now c.args.place.page (c.args.place.page + 1) c.requires.there (omega arith) at_most)
+    subst (λ pages. length (page_at pages (c.args.place.page + 1)) < 256) (sym c.in_ok-split.ensures.ok) (length_high c.args.slots.now c.args.place.page (c.args.place.page + 1) c.requires.there (omega arith) at_most)
 
 pub put_at-requires-2-clause-gap : goal.put_at-requires-2-clause-gap
 put_at-requires-2-clause-gap g c =
     let at_most = page_le c.args.slots.now c.args.place.page c.len_of.ensures.whole.pages_fit in
-    let full : length (page_at c.args.slots.now c.args.place.page) ≡ 512 = omega (arith, at_most, c.len_of.ensures.long, c.if-len_of-lt-PAGE.false) in
+    let full : length (page_at c.args.slots.now c.args.place.page) ≡ 256 = omega (arith, at_most, c.len_of.ensures.long, c.if-len_of-lt-PAGE.false) in
     let order = λ (other : g.row.K.Denot). g.K.Key.cmp other c.args.key in
-    subst (λ pages. IsGap order pages (c.args.place.page + 1, c.args.place.index - 256)) (sym c.in_ok-split.ensures.ok)
-    (gap_behind_half order c.args.slots.now c.args.place.page (c.args.place.page + 1) (c.args.place.index - 256) c.args.place.index c.requires.there full (omega arith) (omega (arith, c.if-place-le-HALF.false)) c.requires.gap)
+    subst (λ pages. IsGap order pages (c.args.place.page + 1, c.args.place.index - 128)) (sym c.in_ok-split.ensures.ok)
+    (gap_behind_half order c.args.slots.now c.args.place.page (c.args.place.page + 1) (c.args.place.index - 128) c.args.place.index c.requires.there full (omega arith) (omega (arith, c.if-place-le-HALF.false)) c.requires.gap)
 
 pub split-requires-clause-full : goal.split-requires-clause-full
 split-requires-clause-full g c =

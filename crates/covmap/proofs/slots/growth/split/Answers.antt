@@ -9,7 +9,7 @@ pub split-requires-2-clause-numbers : goal.split-requires-2-clause-numbers
 split-requires-2-clause-numbers g c = numbers_fit c.args.slots.now c.args.staged.now (2 ^ 64) c.requires.columns c.in_ok-split.ensures.fits
 
 pub split-requires-2-clause-full : goal.split-requires-2-clause-full
-split-requires-2-clause-full g c = long_as c.args.slots.now c.args.staged.now c.args.number 512 c.requires.columns c.requires.full
+split-requires-2-clause-full g c = long_as c.args.slots.now c.args.staged.now c.args.number 256 c.requires.columns c.requires.full
 
 pub returns-in-Ok-clause-columns : goal.returns-in-Ok-clause-columns
 returns-in-Ok-clause-columns g c =

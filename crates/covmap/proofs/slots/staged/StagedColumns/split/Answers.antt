@@ -43,8 +43,8 @@ split_off-requires g c =
     let column = c.index_mut.result.now in
     let same = seen_column (λ column. (column.0, column.1.items)) c.reserve.new.self.items now (take index now) (c.args.page, t.0) (drop (suc index) now) index view t.1.is at column c.index_mut.ensures.value in
     let long = ap (λ column. length column.1) same in
-    let full = here_is (λ column. column.0 ≡ c.args.page → length column.1 ≡ 512) c.args.page now (take index now) t.0 (drop (suc index) now) t.1
-    (subst (AllByRecursion (λ column. column.0 ≡ c.args.page → length column.1 ≡ 512)) (sym c.renumber.ensures) (moved_full c.args.page 512 c.args.self.now c.requires.full)) refl in
+    let full = here_is (λ column. column.0 ≡ c.args.page → length column.1 ≡ 256) c.args.page now (take index now) t.0 (drop (suc index) now) t.1
+    (subst (AllByRecursion (λ column. column.0 ≡ c.args.page → length column.1 ≡ 256)) (sym c.renumber.ensures) (moved_full c.args.page 256 c.args.self.now c.requires.full)) refl in
     omega (arith, long, full, column.1.ok.0)
 
 pub overflow_add-index : goal.overflow_add-index
@@ -81,8 +81,8 @@ returns g c =
     let column = c.index_mut.result.now in
     let same = seen_column (λ column. (column.0, column.1.items)) c.reserve.new.self.items now (take index now) (page, t.0) (drop (suc index) now) index view t.1.is at column c.index_mut.ensures.value in
     let next : page + 1 ≡ suc page = omega arith in
-    let first = ap (λ items. (column.0, items)) c.in_ok-behind.ensures.items ∙ ap (λ column. (column.0, take 256 column.1)) same in
-    let second = ap (λ items. (page + 1, items)) c.in_ok-behind.ensures.tail ∙ ap (λ column. (page + 1, drop 256 column.1)) same ∙ ap (λ next. (next, drop 256 t.0)) next in
+    let first = ap (λ items. (column.0, items)) c.in_ok-behind.ensures.items ∙ ap (λ column. (column.0, take 128 column.1)) same in
+    let second = ap (λ items. (page + 1, items)) c.in_ok-behind.ensures.tail ∙ ap (λ column. (page + 1, drop 128 column.1)) same ∙ ap (λ next. (next, drop 128 t.0)) next in
     record {
       ok = record {
         front = take index now;
@@ -91,7 +91,7 @@ returns g c =
         was = subst (λ columns. IsAmong page columns (take index now) (Some t.0) (drop (suc index) now)) c.renumber.ensures t.1;
         is = ap (map (λ column. (column.0, column.1.items))) c.in_ok-insert.ensures.items
             ∙ seen_halves (λ column. (column.0, column.1.items)) c.reserve.new.self.items now (take index now) (page, t.0) (drop (suc index) now) index view t.1.is at (column.0, c.split_off.new.self)
-            (page + 1, c.in_ok-behind.behind) (page, take 256 t.0) (suc page, drop 256 t.0) first second;
+            (page + 1, c.in_ok-behind.behind) (page, take 128 t.0) (suc page, drop 128 t.0) first second;
       };
     }
 
@@ -105,4 +105,4 @@ invariant_of-self-2 g c =
     let t = one_among now page index c.index_of-index.ensures a (c.has.ensures.there.0 c.if-not-has.false) in
     let split = (returns g c).ok in
     let behind = behind_halves page c.args.self.now (take index now) (Some t.0) (drop (suc index) now) split.was in
-    subst AreAscending (sym split.is) (halves_ascending page t.0 (take index now) (drop (suc index) now) (take 256 t.0) (drop 256 t.0) t.1.below behind (subst AreAscending t.1.is a))
+    subst AreAscending (sym split.is) (halves_ascending page t.0 (take index now) (drop (suc index) now) (take 128 t.0) (drop 128 t.0) t.1.below behind (subst AreAscending t.1.is a))
