@@ -3,7 +3,7 @@ use Rattle.std.proofs.Common.{◌≡◌, ℕ, Bool, true, List, length, sym, ap,
 use Rattle.covstore.specs.declared.totals.Totals.{Totals}
 use Rattle.covstore.specs.Renamed.{renamed}
 use Rattle.covstore.specs.Renaming.{RenamingData, IsRenamingOf}
-use Rattle.covstore.specs.Stored.{StoreData}
+use Rattle.covstore.specs.Store.{StoreData}
 use Rattle.covstore.specs.Table.{Table}
 use Rattle.covstore.specs.Totals.{totals_of}
 use Rattle.covstore.specs.Without.{sections_of_test, without_test}

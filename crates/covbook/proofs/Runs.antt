@@ -5,7 +5,7 @@ use Rattle.covstore.specs.declared.totals.Totals.{Totals}
 use Rattle.covline.specs.Row.{SubmissionData, items_in, rows_of}
 use Rattle.covstore.specs.Renamed.{renamed}
 use Rattle.covstore.specs.Renaming.{RenamingData, IsRenamingOf}
-use Rattle.covstore.specs.Stored.{StoreData, PlanData, IsPlanOf, SameContent, StandsFor}
+use Rattle.covstore.specs.Store.{StoreData, PlanData, IsPlanOf, SameContent, StandsFor}
 use Rattle.covstore.specs.Table.{Table, clash_at}
 use Rattle.covstore.specs.Without.{without_test}
 use Rattle.covbook.proofs.Members.{members_kept, members_stay}

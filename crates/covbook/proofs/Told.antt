@@ -2,7 +2,7 @@
 use Rattle.std.proofs.Common.{◌≡◌, ℕ, List, Result, Ok, Err, IfOk, sym, ap, ◌∙◌}
 use Rattle.covstore.specs.declared.totals.Totals.{Totals}
 use Rattle.covstore.specs.Content.{SectionData, content_at}
-use Rattle.covstore.specs.Stored.{StoreData, StandsFor}
+use Rattle.covstore.specs.Store.{StoreData, StandsFor}
 use Rattle.covstore.specs.Table.{Table}
 use Rattle.covstore.specs.Totals.{totals_of}
 use Rattle.covreport.specs.Choice.{ChoiceData}

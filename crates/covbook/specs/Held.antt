@@ -1,6 +1,6 @@
 -- What a book is to its callers, and its history with the store of what it holds.
 use Rattle.std.specs.Prelude.{◌≡◌, ℕ, ◌≤◌, List, length}
-use Rattle.covstore.specs.Stored.{StoreData, StandsFor, SameContent}
+use Rattle.covstore.specs.Store.{StoreData, StandsFor, SameContent}
 use Rattle.covbook.specs.Op.{EntryData, AreLawfulOps}
 use Rattle.covbook.specs.Step.{IsLegal, table_of, ops_in, most_entries}
 

@@ -2,7 +2,7 @@
 use Rattle.std.specs.Prelude.{◌≡◌, ℕ, ◌<◌, List, [], ◌∷◌, ◌++◌, length}
 use Rattle.covline.specs.Row.{SubmissionData, rows_of}
 use Rattle.covstore.specs.declared.totals.Totals.{Totals}
-use Rattle.covstore.specs.Stored.{StoreData, PlanData, IsPlanOf}
+use Rattle.covstore.specs.Store.{StoreData, PlanData, IsPlanOf}
 use Rattle.covstore.specs.Renamed.{renamed}
 use Rattle.covstore.specs.Renaming.{RenamingData, IsRenamingOf}
 use Rattle.covstore.specs.Table.{Table}

@@ -1,6 +1,6 @@
 -- What a book answers where its store can't hold a submission.
 use Rattle.std.specs.Prelude.{Option, Some, None}
-use Rattle.covstore.specs.Stored.{RefuseData, ClashRefuse, MemoryRefuse}
+use Rattle.covstore.specs.Store.{RefuseData, ClashRefuse, MemoryRefuse}
 use Rattle.covbook.specs.Op.{AnswerData, ClashAnswer}
 
 -- a clash is an answer, and a want of memory is none

@@ -68,7 +68,7 @@ impl<A: Allocator> Model for Book<A> {
 
 impl<A: Allocator + Copy> Book<A> {
     ghost use Rattle.std.specs.Prelude.{◌≡◌, ◌↔◌, ◌+◌, ◌<◌, ◌++◌, [], ◌∷◌, length, IfOk, OnOk, OnErr, Err, map};
-    ghost use Rattle.covstore.specs.Stored.{SameContent, StandsFor};
+    ghost use Rattle.covstore.specs.Store.{SameContent, StandsFor};
     ghost use Rattle.covstore.specs.Totals.{AreTotals};
     ghost use Rattle.covstore.specs.Without.{sections_of_test, without_test};
     ghost use Rattle.covbook.specs.ChangeView.{change_data};

@@ -16,7 +16,7 @@ use Rattle.covstore.specs.declared.sums.LineSum.{LineSum}
 use Rattle.covstore.specs.declared.sums.BranchSum.{BranchSum}
 use Rattle.covstore.specs.declared.sums.Tests.{Tests}
 use Rattle.covstore.specs.Ascending.{ascending}
-use Rattle.covstore.specs.Counts.{AreCounts}
+use Rattle.covstore.specs.KindIndexCounts.{AreCounts}
 use Rattle.covmap.specs.Puts.{value_of}
 use Rattle.covstore.specs.State.{FileData, IsStateOf, IsWholeFile, points_in, tests_in}
 use Rattle.covstore.specs.Sums.{TestData, branch_sum, function_sum, line_sum, test_of}

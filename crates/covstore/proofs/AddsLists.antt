@@ -9,7 +9,7 @@ use Rattle.std.proofs.lemmas.Cmp.{tied_itself}
 use Rattle.std.proofs.lemmas.List.{append-nil}
 use Rattle.std.proofs.lemmas.Option.{none-some, same_Some}
 use Rattle.covstore.specs.Clash.{Checksum, ClashData, clash_with, differs, first_clash, or_later}
-use Rattle.covstore.specs.Counts.{is_new, one_if}
+use Rattle.covstore.specs.KindIndexCounts.{is_new, one_if}
 use Rattle.covmap.specs.Puts.{ArePairs, put, value_of}
 use Rattle.covstore.proofs.Ascend.{IsExactOrder, All-weaker, flips}
 use Rattle.covstore.proofs.Puts.{length-put, value_of_before}

@@ -6,9 +6,9 @@ use Rattle.covstore.specs.declared.index.FileIndex.{FileIndex}
 use Rattle.covstore.specs.declared.stop.Stop.{Stop}
 use Rattle.covstore.specs.declared.stop.Stop.TheVariants.{Clash, Memory}
 use Rattle.covstore.specs.declared.test.Test.{Test}
-use Rattle.covstore.specs.Adds.{Adds, Clashes, HasRoomFor}
+use Rattle.covstore.specs.Section.{Adds, Clashes, HasRoomFor}
 use Rattle.covstore.specs.FileIndexView.{KeepsCommitted, index_staged}
-use Rattle.covstore.specs.Steps.{HasRoom, IsClashOf, IsTextOf, KeepsCounts, KeepsTextsOf}
+use Rattle.covstore.specs.Items.{HasRoom, IsClashOf, IsTextOf, KeepsCounts, KeepsTextsOf}
 use Rattle.covstore.specs.Sums.{with_item}
 use Rattle.covstore.specs.TestView.{test_staged, test_committed}
 use Rattle.covstore.proofs.AddsItem.{item_adds}

@@ -13,10 +13,10 @@ use Rattle.std.proofs.lemmas.Bool.{false≢true}
 use Rattle.std.proofs.lemmas.Option.{none-some}
 use Rattle.covstore.specs.declared.file.File.{File}
 use Rattle.covstore.specs.FileView.{KeepsFile, no_file, with_file, with_test}
-use Rattle.covstore.specs.Stored.{KeepsState}
-use Rattle.covstore.specs.MapsView.{AreSettledBut, IsSettledBut, tests_of}
+use Rattle.covstore.specs.Store.{KeepsState}
+use Rattle.covstore.specs.StoreView.{AreSettledBut, IsSettledBut, tests_of}
 use Rattle.covmap.specs.Puts.{ArePairs, put, value_of}
-use Rattle.covstore.specs.SectionAdds.{HasPlace}
+use Rattle.covstore.specs.StoreSection.{HasPlace}
 use Rattle.covstore.specs.State.{FileData}
 use Rattle.covstore.specs.Sums.{TestData, test_of}
 use Rattle.covstore.proofs.AddsLists.{put_there}

@@ -14,13 +14,13 @@ use Rattle.std.proofs.lemmas.Slice.Eq.{bytes_eq-Decides}
 use Rattle.covline.specs.Points.{line_point, line_points}
 use Rattle.covline.specs.Row.{ItemData, LineItem, FuncItem, BranchItem, Row}
 use Rattle.covstore.specs.declared.sums.LineSum.{LineSum}
-use Rattle.covstore.specs.Adds.{IsIn}
+use Rattle.covstore.specs.Section.{IsIn}
 use Rattle.covstore.specs.Clash.{Agree, Checksum, checksum_of_row, checksums_in}
-use Rattle.covstore.specs.Counts.{is_above_at}
+use Rattle.covstore.specs.KindIndexCounts.{is_above_at}
 use Rattle.covstore.specs.FileIndex.{FileIndexData, file_with}
 use Rattle.covmap.specs.Puts.{put, value_of}
 use Rattle.covstore.specs.State.{AreKept, FileData, IsStateOf, IsWholeFile, has_checksum, holders_at, holding, points_in, tests_in, text_in}
-use Rattle.covstore.specs.Steps.{KeepsCounts}
+use Rattle.covstore.specs.Items.{KeepsCounts}
 use Rattle.covstore.specs.Sums.{TestData, line_sum, test_of}
 use Rattle.covstore.specs.Value.{Key, checksum_said, first_of, items_at, key_of_row, has_key, line_checksum}
 use Rattle.covstore.proofs.AddsLists.{IsPlaceOf, place_of}

@@ -7,13 +7,13 @@ use Rattle.std.proofs.lemmas.Bool.{eqb-true}
 use Rattle.std.proofs.lemmas.Option.{same_Some}
 use Rattle.covline.specs.Row.{ItemData, Row}
 use Rattle.covstore.specs.declared.totals.Totals.{Totals}
-use Rattle.covstore.specs.Exchanged.{FitTogether, IsAmong, exchanged}
-use Rattle.covstore.specs.FileAdds.{AddsItems, HasRoomIn}
+use Rattle.covstore.specs.TotalsExchanged.{FitTogether, IsAmong, exchanged}
+use Rattle.covstore.specs.FileSection.{AddsItems, HasRoomIn}
 use Rattle.covstore.specs.FileView.{with_file}
-use Rattle.covstore.specs.Stored.{AddsRows, AddsTo, ClashesWith, HasRoomForRows, KeepsState, SameCommitted, StoreData, RefuseData, ClashRefuse, MemoryRefuse}
-use Rattle.covstore.specs.MapsView.{IsStore}
+use Rattle.covstore.specs.Store.{AddsRows, AddsTo, ClashesWith, HasRoomForRows, KeepsState, SameCommitted, StoreData, RefuseData, ClashRefuse, MemoryRefuse}
+use Rattle.covstore.specs.StoreView.{IsStore}
 use Rattle.covmap.specs.Puts.{put, value_of}
-use Rattle.covstore.specs.SectionAdds.{HasPlace, RefusedIn, rows_of_items}
+use Rattle.covstore.specs.StoreSection.{HasPlace, RefusedIn, rows_of_items}
 use Rattle.covstore.specs.State.{FileData, file_totals, totals_in}
 use Rattle.covstore.specs.Table.{all_rows}
 use Rattle.covstore.proofs.AddsSection.{room_in, section_adds, section_fits, section_totals}

@@ -4,10 +4,10 @@ use Rattle.std.specs.Cmp.Lexicographic.{slice_cmp}
 use Rattle.std.specs.Ordering.{nat_cmp}
 use Rattle.std.proofs.lemmas.List.{length-append}
 use Rattle.covline.specs.Row.{ItemData, Row}
-use Rattle.covstore.specs.Adds.{Adds, HasRoomFor, files_with}
+use Rattle.covstore.specs.Section.{Adds, HasRoomFor, files_with}
 use Rattle.covstore.specs.FileIndex.{FileIndexData, file_with}
 use Rattle.covmap.specs.Puts.{put}
-use Rattle.covstore.specs.Steps.{HasRoom}
+use Rattle.covstore.specs.Items.{HasRoom}
 use Rattle.covstore.specs.Sums.{TestData}
 use Rattle.covstore.proofs.AddsFew.{kept_few}
 use Rattle.covstore.proofs.AddsLists.{length-put_there}

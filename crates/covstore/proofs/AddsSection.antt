@@ -6,11 +6,11 @@ use Rattle.std.proofs.lemmas.List.{length-append, length-map}
 use Rattle.covline.specs.Row.{ItemData, Row, rows_of_sect}
 use Rattle.covstore.specs.declared.stop.Stop.TheVariants.{Clash}
 use Rattle.covstore.specs.declared.totals.Totals.{Totals}
-use Rattle.covstore.specs.Adds.{clash_told, section_of_items}
+use Rattle.covstore.specs.Section.{clash_told, section_of_items}
 use Rattle.covstore.specs.Clash.{Agree, checksums_in}
-use Rattle.covstore.specs.Exchanged.{FitTogether, exchanged}
-use Rattle.covstore.specs.FileAdds.{AddsItems, ClashesIn, HasFile, HasRoomIn}
-use Rattle.covstore.specs.Stored.{AddsTo, ClashesWith, StoreData, ClashRefuse}
+use Rattle.covstore.specs.TotalsExchanged.{FitTogether, exchanged}
+use Rattle.covstore.specs.FileSection.{AddsItems, ClashesIn, HasFile, HasRoomIn}
+use Rattle.covstore.specs.Store.{AddsTo, ClashesWith, StoreData, ClashRefuse}
 use Rattle.covmap.specs.Puts.{put, value_of}
 use Rattle.covstore.specs.State.{FileData, IsStateOf, file_totals, totals_in}
 use Rattle.covstore.specs.Sums.{TestData}

@@ -13,7 +13,7 @@ use Rattle.std.proofs.lemmas.Option.{none-some, same_Some}
 use Rattle.std.proofs.lemmas.Slice.Eq.{bytes_eq-Decides}
 use Rattle.covstore.specs.declared.file.File.{File}
 use Rattle.covstore.specs.declared.test.Test.{Test}
-use Rattle.covstore.specs.MapsView.{AreSettledBut, IsSettledBut, tests_of}
+use Rattle.covstore.specs.StoreView.{AreSettledBut, IsSettledBut, tests_of}
 use Rattle.covstore.specs.FileIndexView.{index_staged, index_committed}
 use Rattle.covstore.specs.TestView.{test_staged, test_committed}
 use Rattle.covstore.proofs.Orders.{names_order}

@@ -11,13 +11,13 @@ use Rattle.std.specs.Str.{bytes_eq}
 use Rattle.covline.specs.Row.{ItemData}
 use Rattle.covstore.specs.declared.file.File.{File}
 use Rattle.covstore.specs.declared.totals.Totals.{Totals}
-use Rattle.covstore.specs.Exchanged.{FitTogether, IsAmong, exchanged}
-use Rattle.covstore.specs.FileAdds.{AddsItems, HasRoomIn}
+use Rattle.covstore.specs.TotalsExchanged.{FitTogether, IsAmong, exchanged}
+use Rattle.covstore.specs.FileSection.{AddsItems, HasRoomIn}
 use Rattle.covstore.specs.FileView.{KeepsFile, file_staged, file_committed}
-use Rattle.covstore.specs.Stored.{AddsRows, ClashesWith, HasRoomForRows, KeepsState, SameCommitted, StoreData, RefuseData}
-use Rattle.covstore.specs.MapsView.{AreSettledBut, IsSettledBut, IsStore, files_staged, files_committed}
+use Rattle.covstore.specs.Store.{AddsRows, ClashesWith, HasRoomForRows, KeepsState, SameCommitted, StoreData, RefuseData}
+use Rattle.covstore.specs.StoreView.{AreSettledBut, IsSettledBut, IsStore, files_staged, files_committed}
 use Rattle.covmap.specs.Puts.{value_of}
-use Rattle.covstore.specs.SectionAdds.{HasPlace, RefusedIn, rows_of_items}
+use Rattle.covstore.specs.StoreSection.{HasPlace, RefusedIn, rows_of_items}
 use Rattle.covstore.specs.State.{file_totals}
 use Rattle.covstore.specs.TestView.{test_staged, test_committed}
 use Rattle.covstore.proofs.AddsMaps.{file_value, file_written, kept_written, no_place, test_too, written_settled}

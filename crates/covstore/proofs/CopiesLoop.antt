@@ -13,14 +13,14 @@ use Rattle.covstore.specs.declared.index.FileIndex.{FileIndex}
 use Rattle.covstore.specs.declared.sums.LineSum.{LineSum}
 use Rattle.covstore.specs.declared.sums.BranchSum.{BranchSum}
 use Rattle.covstore.specs.declared.test.Test.{Test}
-use Rattle.covstore.specs.Adds.{Adds, HasRoomFor, files_with, section_of_items}
-use Rattle.covstore.specs.Counts.{is_above_at}
+use Rattle.covstore.specs.Section.{Adds, HasRoomFor, files_with, section_of_items}
+use Rattle.covstore.specs.KindIndexCounts.{is_above_at}
 use Rattle.covstore.specs.FileIndex.{FileIndexData}
 use Rattle.covstore.specs.FileIndexView.{KeepsCommitted, index_staged}
 use Rattle.covmap.specs.Puts.{ArePairs, put, value_of}
 use Rattle.covstore.specs.Renaming.{HasHolders, branch_item, line_item}
 use Rattle.covstore.specs.State.{has_checksum, text_at}
-use Rattle.covstore.specs.Steps.{HasRoom, IsTextOf, KeepsCounts, KeepsTextsOf}
+use Rattle.covstore.specs.Items.{HasRoom, IsTextOf, KeepsCounts, KeepsTextsOf}
 use Rattle.covstore.specs.Sums.{TestData, with_item}
 use Rattle.covstore.specs.TestView.{branches_data, test_staged, test_committed}
 use Rattle.covstore.proofs.AddsLists.{length-put_there}

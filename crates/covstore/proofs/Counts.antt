@@ -7,7 +7,7 @@ use Rattle.std.proofs.lemmas.Bool.{ltb-true}
 use Rattle.std.proofs.lemmas.List.Sums.{count_by-le-length, sum_by-append, sum_by-cons, sum_by-le-sum_by}
 use Rattle.std.proofs.lemmas.Option.{none-some, same_Some}
 use Rattle.covstore.specs.declared.sums.Tests.{Tests}
-use Rattle.covstore.specs.Counts.{AreCounts, count_above, count_with, is_above_at, one_if, tests_at}
+use Rattle.covstore.specs.KindIndexCounts.{AreCounts, count_above, count_with, is_above_at, one_if, tests_at}
 use Rattle.covmap.specs.Puts.{value_of}
 use Rattle.covstore.proofs.Puts.{counted_one}
 

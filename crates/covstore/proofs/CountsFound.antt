@@ -12,7 +12,7 @@ use Rattle.std.proofs.lemmas.List.Sums.{sum_by-cons}
 use Rattle.std.proofs.lemmas.Option.{cond_some}
 use Rattle.covstore.specs.declared.sums.Tests.{Tests}
 use Rattle.covstore.specs.Ascending.{ascending}
-use Rattle.covstore.specs.Counts.{AreCounts, count_above, count_with, found_of, hit_of, is_above_at}
+use Rattle.covstore.specs.KindIndexCounts.{AreCounts, count_above, count_with, found_of, hit_of, is_above_at}
 use Rattle.covmap.specs.Puts.{ArePairs, value_of}
 use Rattle.covstore.proofs.Ascend.{IsExactOrder, In-ascending, In-to_ascending, ascending_sorted, one_sorted}
 use Rattle.covstore.proofs.CountsMapped.{count_by-map}

@@ -15,7 +15,7 @@ use Rattle.covline.specs.Points.{BranchPoint, line_points, func_points, branch_p
 use Rattle.covline.specs.Row.{Row}
 use Rattle.covstore.specs.declared.sums.Tests.{Tests}
 use Rattle.covstore.specs.Content.{BranchValueData, FunctionValueData, LineValueData, SectionData, branch_at, content_of, function_at, line_at, section_of}
-use Rattle.covstore.specs.Counts.{AreCounts, found_of, hit_of}
+use Rattle.covstore.specs.KindIndexCounts.{AreCounts, found_of, hit_of}
 use Rattle.covmap.specs.Puts.{ArePairs}
 use Rattle.covstore.specs.Totals.{branches_found, functions_found, is_branch_hit, is_function_hit, is_line_hit, lines_found, sections_of}
 use Rattle.covstore.specs.Value.{Key, branch_cmp, is_branch, is_taken, items_at, keys_of}

@@ -5,9 +5,9 @@ use Rattle.std.specs.declared.cmp.Ordering.{Ordering}
 use Rattle.std.specs.Ordering.{nat_cmp}
 use Rattle.std.proofs.lemmas.List.{map-append}
 use Rattle.covstore.specs.declared.sums.Tests.{Tests}
-use Rattle.covstore.specs.Counts.{AreCounts, found_of, hit_of, is_above_at}
-use Rattle.covstore.specs.Drops.{IsIndexOf}
-use Rattle.covstore.specs.Dropped.{IsWithoutTest, tests_without}
+use Rattle.covstore.specs.KindIndexCounts.{AreCounts, found_of, hit_of, is_above_at}
+use Rattle.covstore.specs.FileIndexDrops.{IsIndexOf}
+use Rattle.covstore.specs.FileDrops.{IsWithoutTest, tests_without}
 use Rattle.covstore.specs.FileIndex.{FileIndexData, file_with}
 use Rattle.covmap.specs.Puts.{value_of}
 use Rattle.covstore.specs.State.{AreKept, FileData, IsWholeFile, branch_above, file_totals, function_above, has_checksum, holders_at, line_above, tests_in}

@@ -3,9 +3,9 @@ use Rattle.std.proofs.Common.{◌≡◌, ℕ, ◌+◌, ◌<◌, ◌^◌, Bool, c
 use Rattle.std.specs.List.{AllByRecursion, count_by, sum_by}
 use Rattle.std.proofs.lemmas.List.Sums.{count_by-le-length, sum_by-cons}
 use Rattle.covstore.specs.declared.totals.Totals.{Totals}
-use Rattle.covstore.specs.Counts.{found_of, hit_of}
-use Rattle.covstore.specs.Dropped.{AreWithoutTest, IsWithoutTest}
-use Rattle.covstore.specs.Exchanged.{FitTogether, FitTotals, no_totals, together}
+use Rattle.covstore.specs.KindIndexCounts.{found_of, hit_of}
+use Rattle.covstore.specs.FileDrops.{AreWithoutTest, IsWithoutTest}
+use Rattle.covstore.specs.TotalsExchanged.{FitTogether, FitTotals, no_totals, together}
 use Rattle.covstore.specs.State.{FileData, IsWholeFile, file_totals, has_points_of, totals_in}
 use Rattle.covstore.proofs.TotalsKinds.{same_totals}
 

@@ -5,9 +5,9 @@ use Rattle.std.specs.Map.{remove_entry}
 use Rattle.std.specs.Str.{bytes_eq}
 use Rattle.covstore.specs.declared.file.File.{File}
 use Rattle.covstore.specs.declared.test.Test.{Test}
-use Rattle.covstore.specs.Dropped.{AreWithoutTest, IsWithoutTest}
+use Rattle.covstore.specs.FileDrops.{AreWithoutTest, IsWithoutTest}
 use Rattle.covstore.specs.FileView.{file_committed}
-use Rattle.covstore.specs.MapsView.{AreSettledBut, IsSettledBut, files_committed, tests_of}
+use Rattle.covstore.specs.StoreView.{AreSettledBut, IsSettledBut, files_committed, tests_of}
 use Rattle.covstore.specs.FileIndexView.{index_staged, index_committed}
 use Rattle.covstore.specs.TestView.{test_staged, test_committed}
 use Rattle.covstore.proofs.DropsRetain.{AreWritten}

@@ -11,9 +11,9 @@ use Rattle.std.proofs.lemmas.List.Sums.{sum_by-cons}
 use Rattle.std.proofs.lemmas.Map.Views.{tells_apart}
 use Rattle.std.proofs.lemmas.Option.{none-some}
 use Rattle.covstore.specs.declared.sums.Tests.{Tests}
-use Rattle.covstore.specs.Counts.{AreCounts, count_above, count_with, is_above_at, tests_at}
-use Rattle.covstore.specs.Drops.{IsIndexOf}
-use Rattle.covstore.specs.Dropped.{AreWithoutTest, IsWithoutTest, tests_without}
+use Rattle.covstore.specs.KindIndexCounts.{AreCounts, count_above, count_with, is_above_at, tests_at}
+use Rattle.covstore.specs.FileIndexDrops.{IsIndexOf}
+use Rattle.covstore.specs.FileDrops.{AreWithoutTest, IsWithoutTest, tests_without}
 use Rattle.covstore.specs.FileIndex.{FileIndexData, file_with}
 use Rattle.covmap.specs.Puts.{ArePairs, value_of}
 use Rattle.covstore.specs.State.{FileData, IsWholeFile, branch_above, function_above, has_checksum, holders_at, holding, line_above}

@@ -3,7 +3,7 @@ use Rattle.std.proofs.Common.{◌≡◌, ℕ, ◌+◌, ◌<◌, ◌^◌, Bool, c
 use Rattle.std.specs.List.{count_by}
 use Rattle.std.proofs.lemmas.List.Sums.{count_by-le-length, sum_by-cons}
 use Rattle.covstore.specs.declared.totals.Totals.{Totals}
-use Rattle.covstore.specs.Exchanged.{FitTogether, FitTotals, no_totals, together}
+use Rattle.covstore.specs.TotalsExchanged.{FitTogether, FitTotals, no_totals, together}
 use Rattle.covstore.specs.State.{FileData, file_totals, has_points_of, totals_in}
 use Rattle.covstore.proofs.DropsLoop.{no_totals_behind, no_totals_more, totals_taken}
 

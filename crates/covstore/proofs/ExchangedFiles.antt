@@ -10,8 +10,8 @@ use Rattle.covline.specs.Row.{ItemData, Row}
 use Rattle.covstore.specs.declared.totals.Totals.{Totals}
 use Rattle.covstore.specs.Content.{content_of}
 use Rattle.covstore.specs.Counted.{Kind, branches, found, functions, in_file, is_same, lines, points_of}
-use Rattle.covstore.specs.Counts.{found_of, hit_of}
-use Rattle.covstore.specs.Exchanged.{FitTogether, IsAmong, exchanged}
+use Rattle.covstore.specs.KindIndexCounts.{found_of, hit_of}
+use Rattle.covstore.specs.TotalsExchanged.{FitTogether, IsAmong, exchanged}
 use Rattle.covmap.specs.Puts.{ArePairs, put, value_of}
 use Rattle.covstore.specs.State.{FileData, IsStateOf, file_totals, totals_in}
 use Rattle.covstore.specs.Totals.{totals_of}

@@ -4,8 +4,8 @@ use Rattle.std.specs.declared.cmp.Ordering.{Ordering}
 use Rattle.std.specs.Ordering.{is_eq}
 use Rattle.std.proofs.lemmas.Bool.{cond-true, cond-false, lt-ltb, ltb-true, ltb-false}
 use Rattle.covstore.specs.declared.sums.Tests.{Tests}
-use Rattle.covstore.specs.Counts.{AreCounts, count_above, count_with, one_if, tests_at}
-use Rattle.covstore.specs.Fewer.{CanLose, counts_without, fewer_of, fewer_tests}
+use Rattle.covstore.specs.KindIndexCounts.{AreCounts, count_above, count_with, one_if, tests_at}
+use Rattle.covstore.specs.KindIndexDrops.{CanLose, counts_without, fewer_of, fewer_tests}
 use Rattle.covmap.specs.Puts.{ArePairs, value_of}
 use Rattle.covstore.proofs.Ascend.{IsExactOrder}
 use Rattle.covstore.proofs.Assigned.{ArePairs-assigned, any_key, apart_assigned, own_assigned}

@@ -5,8 +5,8 @@ use Rattle.std.specs.Ordering.{is_eq, nat_cmp}
 use Rattle.std.proofs.lemmas.Bool.{cond-true, cond-false, lt-ltb, ltb-true, ltb-false}
 use Rattle.covstore.specs.declared.sums.LineSum.{LineSum}
 use Rattle.covmap.specs.Assigned.{assigned}
-use Rattle.covstore.specs.Counts.{is_above_at, one_if}
-use Rattle.covstore.specs.Fewer.{AreHolders, AreHoldersWith, LosesHolders, held_less, less_of, one_less, with_lines}
+use Rattle.covstore.specs.KindIndexCounts.{is_above_at, one_if}
+use Rattle.covstore.specs.KindIndexDrops.{AreHolders, AreHoldersWith, LosesHolders, held_less, less_of, one_less, with_lines}
 use Rattle.covmap.specs.Puts.{ArePairs, value_of}
 use Rattle.covstore.specs.State.{has_checksum, holders_at, holding}
 use Rattle.covstore.specs.Sums.{TestData}

@@ -2,8 +2,8 @@
 use Rattle.std.proofs.Common.{◌≡◌, ℕ, List, ◌∷◌, ◌∙◌}
 use Rattle.std.specs.Ordering.{nat_cmp}
 use Rattle.covstore.specs.declared.kind_index.KindTotals.{KindTotals}
-use Rattle.covstore.specs.Changes.{IsTallyOf}
-use Rattle.covstore.specs.Fewer.{AreHolders, totals_by, with_lines}
+use Rattle.covstore.specs.KindIndex.{IsTallyOf}
+use Rattle.covstore.specs.KindIndexDrops.{AreHolders, totals_by, with_lines}
 use Rattle.covstore.specs.FileIndex.{FileIndexData, index_totals}
 use Rattle.covmap.specs.Puts.{value_of}
 use Rattle.covstore.specs.State.{holders_at}

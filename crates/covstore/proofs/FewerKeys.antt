@@ -10,9 +10,9 @@ use Rattle.covline.specs.PointView.{branch_point_data}
 use Rattle.covline.specs.declared.point.BranchPoint as code
 use Rattle.covstore.specs.declared.kind_index.KindTotals.{KindTotals}
 use Rattle.covstore.specs.declared.sums.Tests.{Tests}
-use Rattle.covstore.specs.Counts.{AreCounts, hit_of, is_above_at, tests_at}
-use Rattle.covstore.specs.Fewer.{AreWith, IsTallyWithout, LosesTest}
-use Rattle.covstore.specs.KeyOrders.{code_branch_cmp}
+use Rattle.covstore.specs.KindIndexCounts.{AreCounts, hit_of, is_above_at, tests_at}
+use Rattle.covstore.specs.KindIndexDrops.{AreWith, IsTallyWithout, LosesTest}
+use Rattle.covstore.specs.Keys.{code_branch_cmp}
 use Rattle.covmap.specs.Puts.{ArePairs, value_of}
 use Rattle.covstore.specs.Value.{branch_cmp}
 use Rattle.covstore.proofs.Counts.{same_tests}

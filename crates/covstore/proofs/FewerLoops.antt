@@ -4,9 +4,9 @@ use Rattle.std.specs.declared.cmp.Ordering.{Ordering}
 use Rattle.std.proofs.lemmas.Option.{none-some}
 use Rattle.covstore.specs.declared.kind_index.KindTotals.{KindTotals}
 use Rattle.covstore.specs.declared.sums.Tests.{Tests}
-use Rattle.covstore.specs.Changes.{IsTallyOf}
-use Rattle.covstore.specs.Counts.{AreCounts}
-use Rattle.covstore.specs.Fewer.{AreWith, CanLose, IsTallyAt, IsTallyWithout, LosesTest, counts_without}
+use Rattle.covstore.specs.KindIndex.{IsTallyOf}
+use Rattle.covstore.specs.KindIndexCounts.{AreCounts}
+use Rattle.covstore.specs.KindIndexDrops.{AreWith, CanLose, IsTallyAt, IsTallyWithout, LosesTest, counts_without}
 use Rattle.covmap.specs.Puts.{ArePairs, value_of}
 use Rattle.covstore.proofs.Ascend.{IsExactOrder}
 use Rattle.covstore.proofs.Assigned.{any_key}

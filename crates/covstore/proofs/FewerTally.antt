@@ -6,9 +6,9 @@ use Rattle.std.proofs.lemmas.Bool.{false≢true, lt-ltb, ltb-true}
 use Rattle.covstore.specs.declared.kind_index.KindTotals.{KindTotals}
 use Rattle.covstore.specs.declared.sums.Tests.{Tests}
 use Rattle.covmap.specs.Assigned.{assigned}
-use Rattle.covstore.specs.Changes.{IsTallyOf}
-use Rattle.covstore.specs.Counts.{found_of, hit_of, one_if}
-use Rattle.covstore.specs.Fewer.{CanBeLess, IsLess, IsTallyAt, counts_without, fewer_of, fewer_tests, is_hit}
+use Rattle.covstore.specs.KindIndex.{IsTallyOf}
+use Rattle.covstore.specs.KindIndexCounts.{found_of, hit_of, one_if}
+use Rattle.covstore.specs.KindIndexDrops.{CanBeLess, IsLess, IsTallyAt, counts_without, fewer_of, fewer_tests, is_hit}
 use Rattle.covmap.specs.Puts.{ArePairs, value_of}
 use Rattle.covstore.proofs.Ascend.{IsExactOrder}
 use Rattle.covstore.proofs.Assigned.{sum_assigned}

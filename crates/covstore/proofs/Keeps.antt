@@ -7,9 +7,9 @@ use Rattle.std.specs.Ordering.{nat_cmp}
 use Rattle.std.proofs.lemmas.Bool.{cases_Bool, cond-true, cond-false, false≢true}
 use Rattle.std.proofs.Common.{⊎_elim}
 use Rattle.covstore.specs.declared.totals.Totals.{Totals}
-use Rattle.covstore.specs.Counts.{found_of, hit_of}
+use Rattle.covstore.specs.KindIndexCounts.{found_of, hit_of}
 use Rattle.covstore.specs.FileView.{no_file, with_file}
-use Rattle.covstore.specs.Stored.{KeepsState}
+use Rattle.covstore.specs.Store.{KeepsState}
 use Rattle.covmap.specs.Puts.{ArePairs, put, value_of}
 use Rattle.covstore.specs.State.{FileData}
 use Rattle.covstore.proofs.Orders.{names_order}

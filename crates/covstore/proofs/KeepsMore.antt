@@ -6,11 +6,11 @@ use Rattle.std.specs.Option.{is_some}
 use Rattle.std.specs.Ordering.{nat_cmp}
 use Rattle.std.proofs.lemmas.Bool.{cases_Bool, cond-true, cond-false, false≢true}
 use Rattle.covline.specs.Row.{Row}
-use Rattle.covstore.specs.Adds.{IsIn}
+use Rattle.covstore.specs.Section.{IsIn}
 use Rattle.covstore.specs.Clash.{checksums_in}
-use Rattle.covstore.specs.Counts.{AreCounts, found_of, hit_of}
+use Rattle.covstore.specs.KindIndexCounts.{AreCounts, found_of, hit_of}
 use Rattle.covstore.specs.FileView.{KeepsFile, with_test}
-use Rattle.covstore.specs.Stored.{KeepsState}
+use Rattle.covstore.specs.Store.{KeepsState}
 use Rattle.covstore.specs.FileIndex.{FileIndexData}
 use Rattle.covmap.specs.Puts.{ArePairs, put, value_of}
 use Rattle.covstore.specs.State.{AreKept, FileData, IsStateOf, IsWholeFile, branch_above, function_above, line_above, points_in, tests_in, totals_in}

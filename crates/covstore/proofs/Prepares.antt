@@ -7,9 +7,9 @@ use Rattle.covline.specs.Lawful.{IsLawful, most_items}
 use Rattle.covstore.specs.declared.totals.Totals.{Totals}
 use Rattle.covstore.specs.Clash.{Agree, checksums_in, clash_of}
 use Rattle.covstore.specs.Content.{content_at, content_of}
-use Rattle.covstore.specs.Stored.{AddsRows, ClashesWith, HasRoomForRows, IsPlanOf, PlanData, SameContent, SameCommitted, StandsFor, StoreData, IsRefusedAt, RefuseData, ClashRefuse, MemoryRefuse, most_members}
+use Rattle.covstore.specs.Store.{AddsRows, ClashesWith, HasRoomForRows, IsPlanOf, PlanData, SameContent, SameCommitted, StandsFor, StoreData, IsRefusedAt, RefuseData, ClashRefuse, MemoryRefuse, most_members}
 use Rattle.covstore.specs.State.{IsStateOf, sections_of, totals_in}
-use Rattle.covstore.specs.StoreCommitted.{IsKept}
+use Rattle.covstore.specs.StoreKept.{IsKept}
 use Rattle.covstore.specs.Table.{Table, all_rows, clash_at}
 use Rattle.covstore.specs.Totals.{AreTotals, totals_of}
 use Rattle.covstore.proofs.Contents.{clash_by_content, content-append}

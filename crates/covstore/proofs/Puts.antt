@@ -11,7 +11,7 @@ use Rattle.std.proofs.lemmas.Cmp.{on_total, tied_itself}
 use Rattle.std.proofs.lemmas.List.Sums.{sum_by-cons}
 use Rattle.std.proofs.lemmas.Map.Views.{tells_apart}
 use Rattle.std.proofs.lemmas.Option.{none-some, same_Some}
-use Rattle.covstore.specs.Counts.{is_above_at, is_new, one_if}
+use Rattle.covstore.specs.KindIndexCounts.{is_above_at, is_new, one_if}
 use Rattle.covmap.specs.Puts.{value_of, put, ArePairs}
 use Rattle.covstore.proofs.Ascend.{IsExactOrder, All-match, All-weaker, flips, one_sorted}
 use Rattle.covstore.proofs.Members.{In, All-in}

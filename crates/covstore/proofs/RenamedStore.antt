@@ -13,12 +13,12 @@ use Rattle.std.proofs.lemmas.Option.{same_Some}
 use Rattle.covstore.specs.declared.file.File.{File}
 use Rattle.covstore.specs.declared.totals.Totals.{Totals}
 use Rattle.covstore.specs.FileView.{KeepsFile, file_staged, file_committed}
-use Rattle.covstore.specs.MapsView.{AreSettledBut, IsSettledBut, IsStore, files_staged, files_committed}
+use Rattle.covstore.specs.StoreView.{AreSettledBut, IsSettledBut, IsStore, files_staged, files_committed}
 use Rattle.covmap.specs.Puts.{value_of}
 use Rattle.covstore.specs.Renaming.{Copies, CopiesIn, HasRoomToCopy, HasRoomToCopyIn, copied_rows, key_of}
-use Rattle.covstore.specs.SectionAdds.{HasPlace}
+use Rattle.covstore.specs.StoreSection.{HasPlace}
 use Rattle.covstore.specs.State.{FileData, IsStateOf, has_no_points, points_in, points_or_none}
-use Rattle.covstore.specs.Stored.{KeepsState, SameCommitted, StoreData}
+use Rattle.covstore.specs.Store.{KeepsState, SameCommitted, StoreData}
 use Rattle.covstore.specs.Sums.{TestData}
 use Rattle.covstore.specs.TestView.{test_staged, test_committed}
 use Rattle.covstore.proofs.AddsMaps.{file_value, file_written, kept_written, no_place, test_too, written_settled}

@@ -14,7 +14,7 @@ use Rattle.covstore.specs.Clash.{Checksum, checksum_of_row, checksums_in}
 use Rattle.covmap.specs.Puts.{ArePairs, value_of}
 use Rattle.covstore.specs.Renamed.{moved_rows, renamed_row}
 use Rattle.covstore.specs.Renaming.{Copies, copied_rows, key_of, names_with}
-use Rattle.covstore.specs.SectionAdds.{rows_of_items}
+use Rattle.covstore.specs.StoreSection.{rows_of_items}
 use Rattle.covstore.specs.State.{FileData, IsStateOf, has_no_points, has_none, has_points_of, points_at, points_in}
 use Rattle.covstore.specs.Sums.{TestData, test_of}
 use Rattle.covstore.specs.Value.{Key, has_key, items_at}

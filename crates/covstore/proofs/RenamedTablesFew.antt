@@ -12,7 +12,7 @@ use Rattle.std.proofs.lemmas.Slice.Eq.{bytes_eq-Decides}
 use Rattle.covline.specs.Row.{ItemData, Row}
 use Rattle.covmap.specs.Puts.{ArePairs}
 use Rattle.covstore.specs.Renaming.{copied_rows, key_of, names_with}
-use Rattle.covstore.specs.SectionAdds.{rows_of_items}
+use Rattle.covstore.specs.StoreSection.{rows_of_items}
 use Rattle.covstore.specs.State.{FileData, has_points_of}
 use Rattle.covstore.specs.Value.{has_key, items_at}
 use Rattle.covstore.proofs.Orders.{names_order}

@@ -12,8 +12,8 @@ use Rattle.covmap.specs.Puts.{ArePairs, value_of}
 use Rattle.covstore.specs.Renamed.{moved_rows}
 use Rattle.covstore.specs.Renaming.{Copies, HasRoomToCopy, IsMoving, key_of, names_with}
 use Rattle.covstore.specs.State.{FileData, IsStateOf, has_no_points, has_points_of, points_at, points_in}
-use Rattle.covstore.specs.Stored.{SameCommitted, StoreData}
-use Rattle.covstore.specs.StoreCommitted.{IsKept}
+use Rattle.covstore.specs.Store.{SameCommitted, StoreData}
+use Rattle.covstore.specs.StoreKept.{IsKept}
 use Rattle.covstore.specs.Sums.{test_of}
 use Rattle.covstore.specs.Table.{all_rows}
 use Rattle.covstore.specs.Value.{items_at}

@@ -17,12 +17,12 @@ use Rattle.covstore.specs.declared.sums.BranchSum.{BranchSum}
 use Rattle.covstore.specs.declared.totals.Totals.{Totals}
 use Rattle.covstore.specs.Clash.{Agree, checksum_of_row, checksums_in}
 use Rattle.covstore.specs.Content.{BranchValueData, FunctionValueData, LineValueData, SectionData, branch_at, content_of, function_at, line_at, section_with}
-use Rattle.covstore.specs.Dropped.{AreWithoutTest}
-use Rattle.covstore.specs.MapsView.{IsStore}
+use Rattle.covstore.specs.FileDrops.{AreWithoutTest}
+use Rattle.covstore.specs.StoreView.{IsStore}
 use Rattle.covstore.specs.Renamed.{moved_rows, renamed, renamed_row}
 use Rattle.covstore.specs.Renaming.{IsMoving}
 use Rattle.covstore.specs.State.{FileData, IsStateOf, has_points_of, totals_in}
-use Rattle.covstore.specs.Stored.{StandsFor}
+use Rattle.covstore.specs.Store.{StandsFor}
 use Rattle.covstore.specs.Sums.{branch_sum, function_sum, line_sum, test_of}
 use Rattle.covstore.specs.Table.{Table, all_rows}
 use Rattle.covstore.specs.Totals.{totals_of}

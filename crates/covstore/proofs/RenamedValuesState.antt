@@ -9,10 +9,10 @@ use Rattle.std.proofs.lemmas.List.Concat.{flat_map-append}
 use Rattle.covline.specs.Row.{ItemData, LineItem, Row}
 use Rattle.covstore.specs.declared.sums.LineSum.{LineSum}
 use Rattle.covstore.specs.Clash.{Checksum, checksum_of, checksum_of_row, checksums_in}
-use Rattle.covstore.specs.Counts.{is_above_at}
+use Rattle.covstore.specs.KindIndexCounts.{is_above_at}
 use Rattle.covmap.specs.Puts.{value_of}
 use Rattle.covstore.specs.Renaming.{key_of, copied_rows, line_item, function_item, branch_item, items_of_test}
-use Rattle.covstore.specs.SectionAdds.{rows_of_items}
+use Rattle.covstore.specs.StoreSection.{rows_of_items}
 use Rattle.covstore.specs.State.{FileData, IsStateOf, IsWholeFile, has_checksum, points_in, tests_in, text_at}
 use Rattle.covstore.specs.Sums.{TestData, test_of, line_sum, function_sum, branch_sum}
 use Rattle.covstore.specs.Value.{Key, has_key, items_at, lines_in, names_in, branches_in, line_value, line_checksum}

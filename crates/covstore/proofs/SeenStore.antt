@@ -6,8 +6,8 @@ use Rattle.covline.specs.Lawful.{most_items}
 use Rattle.covline.specs.Row.{Row}
 use Rattle.covstore.specs.declared.totals.Totals.{Totals}
 use Rattle.covstore.specs.Content.{section_of}
-use Rattle.covstore.specs.MapsView.{IsStore}
-use Rattle.covstore.specs.SeenView.{IsFewOf}
+use Rattle.covstore.specs.StoreView.{IsStore}
+use Rattle.covstore.specs.ContentView.{IsFewOf}
 use Rattle.covstore.specs.State.{FileData, sections_of}
 use Rattle.covstore.specs.Table.{Table, all_rows}
 use Rattle.covstore.specs.Value.{Key, keys_of}

@@ -9,8 +9,8 @@ use Rattle.covstore.specs.declared.file.File.{File}
 use Rattle.covstore.specs.declared.test.Test.{Test}
 use Rattle.covstore.specs.Content.{SectionData}
 use Rattle.covstore.specs.FileView.{file_committed}
-use Rattle.covstore.specs.MapsView.{files_committed}
-use Rattle.covstore.specs.SeenView.{or_none, sections_left, tests_seen}
+use Rattle.covstore.specs.StoreView.{files_committed}
+use Rattle.covstore.specs.ContentView.{or_none, sections_left, tests_seen}
 use Rattle.covstore.specs.Sums.{TestData}
 use Rattle.covstore.specs.State.{FileData, section_seen, sections_of, sections_of_file}
 use Rattle.covstore.specs.TestView.{test_committed}

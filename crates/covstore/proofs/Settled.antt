@@ -17,7 +17,7 @@ use Rattle.covstore.specs.FileIndex.{FileIndexData, file_with}
 use Rattle.covstore.specs.State.{FileData}
 use Rattle.covstore.specs.Sums.{TestData}
 use Rattle.covstore.specs.FileView.{file_staged, file_committed}
-use Rattle.covstore.specs.MapsView.{AreSettledBut, IsSettledBut, files_staged, files_committed, tests_of, touched_data}
+use Rattle.covstore.specs.StoreView.{AreSettledBut, IsSettledBut, files_staged, files_committed, tests_of, touched_data}
 use Rattle.covstore.specs.FileIndexView.{index_staged, index_committed}
 use Rattle.covstore.specs.TestView.{test_staged, test_committed}
 use Rattle.covstore.proofs.Ascend.{All-weaker}

@@ -9,7 +9,7 @@ use Rattle.std.proofs.lemmas.List.{map-append}
 use Rattle.std.proofs.lemmas.Option.{none-some}
 use Rattle.covline.specs.Row.{Row}
 use Rattle.covstore.specs.declared.sums.Tests.{Tests}
-use Rattle.covstore.specs.Counts.{AreCounts, is_above_at}
+use Rattle.covstore.specs.KindIndexCounts.{AreCounts, is_above_at}
 use Rattle.covmap.specs.Puts.{put, value_of}
 use Rattle.covstore.specs.State.{AreKept, FileData, IsStateOf, IsWholeFile, branch_above, function_above, has_checksum, holders_at, holding, line_above, points_in, tests_in, text_in}
 use Rattle.covstore.specs.Sums.{TestData, test_of}

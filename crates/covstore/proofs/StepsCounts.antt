@@ -10,8 +10,8 @@ use Rattle.covstore.specs.declared.sums.FunctionSum.{FunctionSum}
 use Rattle.covstore.specs.declared.sums.LineSum.{LineSum}
 use Rattle.covstore.specs.declared.sums.BranchSum.{BranchSum}
 use Rattle.covstore.specs.declared.sums.Tests.{Tests}
-use Rattle.covstore.specs.Changes.{change_by, change_of, changed}
-use Rattle.covstore.specs.Counts.{counts_with, is_above_at, is_new, is_newly_hit, tests_more}
+use Rattle.covstore.specs.KindIndex.{change_by, change_of, changed}
+use Rattle.covstore.specs.KindIndexCounts.{counts_with, is_above_at, is_new, is_newly_hit, tests_more}
 use Rattle.covmap.specs.Puts.{put, value_of}
 use Rattle.covstore.specs.State.{branch_above, function_above, has_checksum, line_above}
 use Rattle.covstore.specs.Sums.{branch_with, function_with, line_with, sum_taken}

@@ -5,11 +5,11 @@ use Rattle.std.specs.Ordering.{nat_cmp}
 use Rattle.std.proofs.lemmas.Bool.{cond-true, lt-ltb}
 use Rattle.std.proofs.lemmas.List.Sums.{count_by-le-length}
 use Rattle.covstore.specs.declared.sums.LineSum.{LineSum}
-use Rattle.covstore.specs.Counts.{one_if}
+use Rattle.covstore.specs.KindIndexCounts.{one_if}
 use Rattle.covstore.specs.FileIndex.{FileIndexData}
 use Rattle.covmap.specs.Puts.{value_of}
 use Rattle.covstore.specs.State.{holding}
-use Rattle.covstore.specs.Steps.{HasRoom}
+use Rattle.covstore.specs.Items.{HasRoom}
 use Rattle.covstore.specs.Sums.{TestData}
 use Rattle.covstore.proofs.Counts.{count_by-between}
 use Rattle.covstore.proofs.StepsKept.{is_holding}

@@ -13,11 +13,11 @@ use Rattle.covstore.specs.declared.sums.LineSum.{LineSum}
 use Rattle.covstore.specs.declared.sums.BranchSum.{BranchSum}
 use Rattle.covstore.specs.declared.sums.Tests.{Tests}
 use Rattle.covstore.specs.Checksums.{held_more, one_more}
-use Rattle.covstore.specs.Counts.{AreCounts, counts_with, is_above_at, one_if}
+use Rattle.covstore.specs.KindIndexCounts.{AreCounts, counts_with, is_above_at, one_if}
 use Rattle.covstore.specs.FileIndex.{FileIndexData, file_with}
 use Rattle.covmap.specs.Puts.{put, value_of}
 use Rattle.covstore.specs.State.{AreKept, branch_above, function_above, has_checksum, holders_at, holding, line_above}
-use Rattle.covstore.specs.Steps.{KeepsCounts}
+use Rattle.covstore.specs.Items.{KeepsCounts}
 use Rattle.covstore.specs.Sums.{TestData}
 use Rattle.covstore.specs.Value.{branch_cmp}
 use Rattle.covstore.proofs.Ascend.{IsExactOrder}

@@ -8,8 +8,8 @@ use Rattle.std.specs.Ordering.{is_eq, match_ordering}
 use Rattle.std.proofs.lemmas.List.Sums.{sum_by-cons}
 use Rattle.covstore.specs.declared.kind_index.KindTotals.{KindTotals}
 use Rattle.covstore.specs.declared.sums.Tests.{Tests}
-use Rattle.covstore.specs.Changes.{IsTallyOf}
-use Rattle.covstore.specs.Counts.{found_of, hit_of, is_above_at, is_new, one_if}
+use Rattle.covstore.specs.KindIndex.{IsTallyOf}
+use Rattle.covstore.specs.KindIndexCounts.{found_of, hit_of, is_above_at, is_new, one_if}
 use Rattle.covmap.specs.MapData.{MapData}
 use Rattle.covmap.specs.Puts.{ArePairs, put, value_of}
 use Rattle.covstore.proofs.Ascend.{All-weaker, flips}

@@ -8,8 +8,8 @@ use Rattle.std.specs.Ordering.{match_ordering}
 use Rattle.covstore.specs.declared.file.File.{File}
 use Rattle.covstore.specs.declared.totals.Totals.{Totals}
 use Rattle.covstore.specs.FileView.{with_file}
-use Rattle.covstore.specs.Stored.{KeepsState}
-use Rattle.covstore.specs.MapsView.{AreSettledBut, IsSettledBut, IsStore, tests_of}
+use Rattle.covstore.specs.Store.{KeepsState}
+use Rattle.covstore.specs.StoreView.{AreSettledBut, IsSettledBut, IsStore, tests_of}
 use Rattle.covstore.specs.State.{FileData}
 use Rattle.covstore.specs.Table.{all_rows}
 use Rattle.covstore.proofs.Keeps.{with_file_keeps}

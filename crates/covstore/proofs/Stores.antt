@@ -9,8 +9,8 @@ use Rattle.covline.specs.Lawful.{IsLawful, most_items}
 use Rattle.covstore.specs.declared.totals.Totals.{Totals}
 use Rattle.covstore.specs.Clash.{Agree, checksums_in, clash_of}
 use Rattle.covstore.specs.Content.{content_of}
-use Rattle.covstore.specs.Stored.{IsPlanOf, PlanData, StandsFor, StoreData}
-use Rattle.covstore.specs.MapsView.{IsStore}
+use Rattle.covstore.specs.Store.{IsPlanOf, PlanData, StandsFor, StoreData}
+use Rattle.covstore.specs.StoreView.{IsStore}
 use Rattle.covstore.specs.State.{FileData, IsStateOf, sections_of}
 use Rattle.covstore.specs.Table.{Table, all_rows, clash_at}
 use Rattle.covstore.specs.Totals.{AreTotals, totals_of}

@@ -14,8 +14,8 @@ use Rattle.covline.specs.Lawful.{most_items}
 use Rattle.covline.specs.Row.{Row}
 use Rattle.covstore.specs.declared.totals.Totals.{Totals}
 use Rattle.covstore.specs.Clash.{Agree, Checksum, checksum_of_row, checksums_in}
-use Rattle.covstore.specs.Dropped.{AreWithoutTest, IsWithoutTest}
-use Rattle.covstore.specs.MapsView.{IsStore}
+use Rattle.covstore.specs.FileDrops.{AreWithoutTest, IsWithoutTest}
+use Rattle.covstore.specs.StoreView.{IsStore}
 use Rattle.covmap.specs.Puts.{ArePairs, value_of}
 use Rattle.covstore.specs.State.{FileData, IsStateOf, IsWholeFile, points_at, points_in, points_or_none, text_in, totals_in}
 use Rattle.covstore.specs.Sums.{TestData, test_of}

@@ -6,12 +6,12 @@ use Rattle.std.proofs.lemmas.List.{length-map}
 use Rattle.covstore.specs.declared.file.File.{File}
 use Rattle.covstore.specs.declared.totals.Totals.{Totals}
 use Rattle.covstore.specs.Content.{SectionData, content_at}
-use Rattle.covstore.specs.Dropped.{AreWithoutTest}
-use Rattle.covstore.specs.Exchanged.{FitTotals}
+use Rattle.covstore.specs.FileDrops.{AreWithoutTest}
+use Rattle.covstore.specs.TotalsExchanged.{FitTotals}
 use Rattle.covstore.specs.FileView.{file_committed}
-use Rattle.covstore.specs.MapsView.{IsStore, files_committed}
+use Rattle.covstore.specs.StoreView.{IsStore, files_committed}
 use Rattle.covstore.specs.State.{FileData, IsWholeFile, has_points_of, sections_of, totals_in}
-use Rattle.covstore.specs.Stored.{StandsFor, StoreData}
+use Rattle.covstore.specs.Store.{StandsFor, StoreData}
 use Rattle.covstore.specs.Table.{Table, all_rows}
 use Rattle.covstore.specs.Totals.{AreTotals, totals_of}
 use Rattle.covstore.specs.Without.{is_of_test, sections_of_test, without_test}

@@ -9,17 +9,17 @@ use Rattle.covline.specs.Points.{BranchPoint}
 use Rattle.covstore.specs.declared.sums.LineSum.{LineSum}
 use Rattle.covstore.specs.declared.sums.FunctionSum.{FunctionSum}
 use Rattle.covstore.specs.declared.sums.BranchSum.{BranchSum}
-use Rattle.covstore.specs.FileAdds.{HasFile}
+use Rattle.covstore.specs.FileSection.{HasFile}
 use Rattle.covstore.specs.FileIndex.{FileIndexData}
 use Rattle.covmap.specs.Puts.{put, value_of}
 use Rattle.covstore.specs.Renamed.{moved_rows, renamed}
-use Rattle.covstore.specs.SectionAdds.{rows_of_items}
+use Rattle.covstore.specs.StoreSection.{rows_of_items}
 use Rattle.covstore.specs.State.{FileData, IsStateOf, has_checksum, has_no_points, has_points_of, points_at, text_at}
-use Rattle.covstore.specs.Stored.{StandsFor, StoreData}
+use Rattle.covstore.specs.Store.{StandsFor, StoreData}
 use Rattle.covstore.specs.Sums.{TestData}
 use Rattle.covstore.specs.Table.{Table}
 use Rattle.covstore.specs.Value.{Key, items_at}
-use Rattle.covstore.specs.Counts.{is_above_at}
+use Rattle.covstore.specs.KindIndexCounts.{is_above_at}
 
 -- what is planned: in how many sections the test stands, and the test that goes, where one does
 pub record RenamingData : Type 0 where

@@ -13,7 +13,7 @@ use Rattle.covstore.specs.declared.sums.Tests.{Tests}
 use Rattle.covstore.specs.declared.totals.Totals.{Totals}
 use Rattle.covstore.specs.Clash.{Checksum, checksums_in}
 use Rattle.covstore.specs.Content.{FunctionValueData, BranchValueData, LineValueData, SectionData}
-use Rattle.covstore.specs.Counts.{AreCounts, found_of, hit_of, is_above_at}
+use Rattle.covstore.specs.KindIndexCounts.{AreCounts, found_of, hit_of, is_above_at}
 use Rattle.covmap.specs.Puts.{ArePairs, value_of}
 use Rattle.covstore.specs.Sums.{TestData, test_of}
 use Rattle.covstore.specs.Value.{Key, branch_cmp, items_at, is_taken}

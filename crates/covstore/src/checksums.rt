@@ -2,7 +2,7 @@
 
 ghost use Rattle.std.specs.Prelude.{◌≡◌, ◌<◌, ◌^◌, [], true, Some, is_some, option_map, IfErr, IfSome, OnOk};
 ghost use Rattle.covstore.specs.Checksums.{IsToldOf, IsHeldToo, KeepsTexts, StayTexts, held_more};
-ghost use Rattle.covstore.specs.Fewer.{held_less, one_less};
+ghost use Rattle.covstore.specs.KindIndexDrops.{held_less, one_less};
 ghost use Rattle.covmap.specs.Puts.{put, value_of};
 ghost use Rattle.covstore.specs.declared.stop.Stop.TheVariants as stops;
 ghost use Rattle.std.specs.Ordering.{nat_cmp};

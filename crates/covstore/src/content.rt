@@ -1,7 +1,7 @@
 //! The sections of a store, one after another, and the points of a section. They take no memory.
 
 ghost use Rattle.std.specs.Iterator.{YieldsFirstBy};
-ghost use Rattle.covstore.specs.SeenView.{or_none};
+ghost use Rattle.covstore.specs.ContentView.{or_none};
 
 mod points;
 
@@ -25,7 +25,7 @@ impl<'a, A: Allocator> Model for FileSections<'a, A> {
     ghost use Rattle.std.specs.Prelude.{List};
     ghost use Rattle.std.specs.List.{AllByRecursion};
     ghost use Rattle.covstore.specs.Content.{SectionData};
-    ghost use Rattle.covstore.specs.SeenView.{IsFewOf, tests_seen};
+    ghost use Rattle.covstore.specs.ContentView.{IsFewOf, tests_seen};
 
     ghost Value = { List SectionData };
 
@@ -69,7 +69,7 @@ pub struct Section<'a, A: Allocator = Global> {
 
 impl<'a, A: Allocator> Model for Section<'a, A> {
     ghost use Rattle.covstore.specs.Content.{SectionData};
-    ghost use Rattle.covstore.specs.SeenView.{IsFewOf};
+    ghost use Rattle.covstore.specs.ContentView.{IsFewOf};
     ghost use Rattle.covstore.specs.State.{section_with_points};
     ghost use Rattle.covstore.specs.TestView.{test_committed};
 
@@ -126,7 +126,7 @@ impl<'a, A: Allocator> FileSections<'a, A> {
     ghost use Rattle.std.specs.Prelude.{◌≡◌};
     ghost use Rattle.std.specs.List.{AllByRecursion};
     ghost use Rattle.covstore.specs.FileView.{file_committed};
-    ghost use Rattle.covstore.specs.SeenView.{IsFewOf};
+    ghost use Rattle.covstore.specs.ContentView.{IsFewOf};
     ghost use Rattle.covstore.specs.State.{sections_of_file};
 
     /// The sections of a file.
@@ -153,7 +153,7 @@ impl<'a, A: Allocator> Model for Sections<'a, A> {
     ghost use Rattle.std.specs.Prelude.{List};
     ghost use Rattle.std.specs.List.{AllByRecursion};
     ghost use Rattle.covstore.specs.Content.{SectionData};
-    ghost use Rattle.covstore.specs.SeenView.{IsFewOf, sections_left};
+    ghost use Rattle.covstore.specs.ContentView.{IsFewOf, sections_left};
 
     ghost Value = { List SectionData };
 
@@ -165,8 +165,8 @@ impl<'a, A: Allocator> Model for Sections<'a, A> {
 impl<'a, A: Allocator> Sections<'a, A> {
     ghost use Rattle.std.specs.Prelude.{◌≡◌};
     ghost use Rattle.std.specs.List.{AllByRecursion};
-    ghost use Rattle.covstore.specs.MapsView.{files_committed};
-    ghost use Rattle.covstore.specs.SeenView.{IsFewOf};
+    ghost use Rattle.covstore.specs.StoreView.{files_committed};
+    ghost use Rattle.covstore.specs.ContentView.{IsFewOf};
     ghost use Rattle.covstore.specs.State.{sections_of};
 
     /// The sections of these files.

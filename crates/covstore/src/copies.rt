@@ -1,11 +1,11 @@
 //! What a test has, for another test of the same file: each value is an item more of the other test.
 
 ghost use Rattle.std.specs.Prelude.{◌≡◌, map, option_map, IfOk, OnOk};
-ghost use Rattle.covstore.specs.Adds.{Adds, HasRoomFor};
+ghost use Rattle.covstore.specs.Section.{Adds, HasRoomFor};
 ghost use Rattle.covstore.specs.FileIndexView.{KeepsCommitted, index_staged};
 ghost use Rattle.covstore.specs.Renaming.{HasHolders, branch_item, function_item, items_of_test, line_item};
 ghost use Rattle.covstore.specs.State.{text_at};
-ghost use Rattle.covstore.specs.Steps.{HasRoom, IsTextOf, KeepsCounts, KeepsTextsOf};
+ghost use Rattle.covstore.specs.Items.{HasRoom, IsTextOf, KeepsCounts, KeepsTextsOf};
 ghost use Rattle.covstore.specs.Sums.{with_item};
 ghost use Rattle.covstore.specs.TestView.{branches_data, test_staged, test_committed};
 

@@ -2,10 +2,10 @@
 
 ghost use Rattle.std.specs.Prelude.{◌≡◌, ℕ, List, true, count_by, map, IfOk};
 ghost use Rattle.std.specs.List.{AllByRecursion};
-ghost use Rattle.covstore.specs.Dropped.{AreWithoutTest, IsWithoutTest};
-ghost use Rattle.covstore.specs.Exchanged.{FitTotals};
+ghost use Rattle.covstore.specs.FileDrops.{AreWithoutTest, IsWithoutTest};
+ghost use Rattle.covstore.specs.TotalsExchanged.{FitTotals};
 ghost use Rattle.covstore.specs.FileView.{file_committed};
-ghost use Rattle.covstore.specs.MapsView.{AreSettledBut, IsSettledBut, files_committed};
+ghost use Rattle.covstore.specs.StoreView.{AreSettledBut, IsSettledBut, files_committed};
 ghost use Rattle.covstore.specs.Renaming.{names_with};
 ghost use Rattle.covstore.specs.State.{FileData, IsWholeFile, has_points_of, totals_in};
 

@@ -26,14 +26,14 @@ impl<A: Allocator + Copy> File<A> {
     ghost use Rattle.std.specs.Ordering.{nat_cmp};
     ghost use Rattle.std.specs.Str.{bytes_eq};
     ghost use Rattle.covline.specs.Row.{item_data};
-    ghost use Rattle.covstore.specs.Dropped.{IsWithoutTest};
-    ghost use Rattle.covstore.specs.FileAdds.{AddsItems, ClashesIn, HasRoomIn};
+    ghost use Rattle.covstore.specs.FileDrops.{IsWithoutTest};
+    ghost use Rattle.covstore.specs.FileSection.{AddsItems, ClashesIn, HasRoomIn};
     ghost use Rattle.covstore.specs.FileView.{KeepsFile, file_staged, file_committed, no_file, with_test};
-    ghost use Rattle.covstore.specs.MapsView.{IsSettledBut};
+    ghost use Rattle.covstore.specs.StoreView.{IsSettledBut};
     ghost use Rattle.covmap.specs.Puts.{value_of};
     ghost use Rattle.covstore.specs.RefuseView.{refuse_data};
     ghost use Rattle.covstore.specs.Renaming.{CopiesIn, HasRoomToCopyIn};
-    ghost use Rattle.covstore.specs.SectionAdds.{RefusedIn};
+    ghost use Rattle.covstore.specs.StoreSection.{RefusedIn};
     ghost use Rattle.covstore.specs.State.{FileData, IsWholeFile, file_totals, has_points_of};
 
     /// No tests.

@@ -3,11 +3,11 @@
 ghost use Rattle.std.specs.Prelude.{◌≡◌, ◌<◌, ◌^◌, length, option_map, IfErr, IfOk, IfSome, OnOk};
 ghost use Rattle.covmap.specs.Puts.{put, value_of};
 ghost use Rattle.covline.specs.Row.{LineItem, FuncItem, BranchItem, item_data};
-ghost use Rattle.covstore.specs.Counts.{counts_with};
+ghost use Rattle.covstore.specs.KindIndexCounts.{counts_with};
 ghost use Rattle.covstore.specs.FileIndexView.{index_staged, index_committed};
 ghost use Rattle.covstore.specs.TestView.{test_staged, test_committed};
 ghost use Rattle.covstore.specs.Sums.{with_item};
-ghost use Rattle.covstore.specs.Steps.{HasRoom, IsClashOf, IsTextOf, KeepsCounts, KeepsTextsOf};
+ghost use Rattle.covstore.specs.Items.{HasRoom, IsClashOf, IsTextOf, KeepsCounts, KeepsTextsOf};
 ghost use Rattle.covstore.specs.FileIndexView.{KeepsCommitted};
 ghost use Rattle.covstore.specs.declared.stop.Stop.TheVariants as stops;
 

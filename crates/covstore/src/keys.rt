@@ -5,7 +5,7 @@ ghost use Rattle.std.specs.Cmp.Lexicographic.{slice_cmp};
 ghost use Rattle.std.specs.Ordering.{nat_cmp};
 ghost use Rattle.std.proofs.lemmas.Cmp.{nat_list_cmp_total};
 ghost use Rattle.std.proofs.lemmas.Map.Lookups.{exact_bytes};
-ghost use Rattle.covstore.specs.KeyOrders.{code_branch_cmp, code_branch_exact, code_branch_total};
+ghost use Rattle.covstore.specs.Keys.{code_branch_cmp, code_branch_exact, code_branch_total};
 
 use covline::{BranchPoint, Bytes};
 use covmap::{Key, Query};

@@ -1,8 +1,8 @@
 //! In how many tests of a file the points of a kind are, and how many points there are.
 
 ghost use Rattle.std.specs.Prelude.{◌≡◌, ◌<◌, ◌^◌, [], IfSome, OnOk, length};
-ghost use Rattle.covstore.specs.Changes.{changed};
-ghost use Rattle.covstore.specs.Counts.{found_of, hit_of};
+ghost use Rattle.covstore.specs.KindIndex.{changed};
+ghost use Rattle.covstore.specs.KindIndexCounts.{found_of, hit_of};
 ghost use Rattle.covmap.specs.Puts.{value_of};
 
 use crate::sums::{Tests, TestsAddend};
@@ -24,7 +24,7 @@ pub(crate) enum PointChange {
 }
 
 impl PointChange {
-    ghost use Rattle.covstore.specs.Changes.{change_of};
+    ghost use Rattle.covstore.specs.KindIndex.{change_of};
 
     /// The change of a point that was there or not, above 0 or not.
     pub(crate) fn of(was_there: bool, was_above: bool, is_above: bool) -> PointChange
@@ -48,8 +48,8 @@ pub(crate) struct KindTotals {
 
 impl KindTotals {
     ghost use Rattle.std.specs.Prelude.{◌+◌, ◌≤◌, nat_lt};
-    ghost use Rattle.covstore.specs.Counts.{is_above_at, is_new, one_if};
-    ghost use Rattle.covstore.specs.Fewer.{CanBeLess, IsLess};
+    ghost use Rattle.covstore.specs.KindIndexCounts.{is_above_at, is_new, one_if};
+    ghost use Rattle.covstore.specs.KindIndexDrops.{CanBeLess, IsLess};
 
     /// The tally where a point's numbers rise: it is found where it had none, and hit where it is for the first time.
     fn more(self, before: &Option<Tests>, after: &Tests) -> KindTotals
@@ -100,7 +100,7 @@ pub(crate) struct KindIndex<K: Key, A: Allocator> {
 impl<K: Key, A: Allocator> Model for KindIndex<K, A> {
     ghost use Rattle.covstore.specs.declared.sums.Tests.{Tests};
     ghost use Rattle.covmap.specs.MapData.{MapData};
-    ghost use Rattle.covstore.specs.Changes.{IsTallyOf};
+    ghost use Rattle.covstore.specs.KindIndex.{IsTallyOf};
 
     ghost Value = { MapData K Tests };
 
@@ -202,8 +202,8 @@ impl<K: Key + Drop, A: Allocator + Copy> KindIndex<K, A> {
 impl<K: Key, A: Allocator> KindIndex<K, A> {
     ghost use Rattle.std.specs.Prelude.{List};
     ghost use Rattle.covstore.specs.declared.sums.Tests.{Tests};
-    ghost use Rattle.covstore.specs.Changes.{IsTallyOf};
-    ghost use Rattle.covstore.specs.Fewer.{CanLose, IsTallyAt, counts_without};
+    ghost use Rattle.covstore.specs.KindIndex.{IsTallyOf};
+    ghost use Rattle.covstore.specs.KindIndexDrops.{CanLose, IsTallyAt, counts_without};
 
     /// A test less has the point, above 0 or not. Nothing else is staged then. Takes no memory.
     pub(crate) fn remove<Q: Query<K, A>>(&mut self, query: Q, was_above: bool)

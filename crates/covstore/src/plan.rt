@@ -11,7 +11,7 @@ pub struct Plan {
 }
 
 impl Model for Plan {
-    ghost use Rattle.covstore.specs.Stored.{PlanData};
+    ghost use Rattle.covstore.specs.Store.{PlanData};
     ghost use Rattle.covstore.specs.Totals.{AreTotals};
 
     ghost Value = { PlanData };

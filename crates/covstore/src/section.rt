@@ -2,7 +2,7 @@
 
 ghost use Rattle.std.specs.Prelude.{◌≡◌, map, IfErr, OnOk};
 ghost use Rattle.covline.specs.Row.{item_data};
-ghost use Rattle.covstore.specs.Adds.{Adds, Clashes, HasRoomFor};
+ghost use Rattle.covstore.specs.Section.{Adds, Clashes, HasRoomFor};
 ghost use Rattle.covstore.specs.FileIndexView.{KeepsCommitted, index_staged};
 ghost use Rattle.covstore.specs.TestView.{test_staged, test_committed};
 

@@ -1,7 +1,7 @@
 //! The store.
 
 ghost use Rattle.std.specs.Prelude.{◌≡◌, ◌+◌, ◌≤◌, [], OnOk};
-ghost use Rattle.covstore.specs.MapsView.{AreSettledBut, files_staged, files_committed, touched_data};
+ghost use Rattle.covstore.specs.StoreView.{AreSettledBut, files_staged, files_committed, touched_data};
 
 use crate::content::Sections;
 use crate::drops::{add_up, count_sections, count_without, drop_from_files, names_with};
@@ -24,7 +24,7 @@ pub(crate) struct Touched<A: Allocator> {
 
 impl<A: Allocator + Copy> Touched<A> {
     ghost use Rattle.std.specs.Prelude.{◌≡◌, ◌++◌, [], ◌∷◌, OnErr, OnOk};
-    ghost use Rattle.covstore.specs.MapsView.{touched_data};
+    ghost use Rattle.covstore.specs.StoreView.{touched_data};
 
     /// Adds a test to those of which something is staged.
     fn push(
@@ -77,8 +77,8 @@ pub struct Store<A: Allocator = Global> {
 }
 
 impl<A: Allocator> Model for Store<A> {
-    ghost use Rattle.covstore.specs.Stored.{StoreData};
-    ghost use Rattle.covstore.specs.MapsView.{AreSettledBut, IsStore, files_staged, files_committed, touched_data};
+    ghost use Rattle.covstore.specs.Store.{StoreData};
+    ghost use Rattle.covstore.specs.StoreView.{AreSettledBut, IsStore, files_staged, files_committed, touched_data};
     ghost use Rattle.covstore.specs.State.{sections_of};
 
     ghost Value = { StoreData };
@@ -98,14 +98,14 @@ impl<A: Allocator + Copy> Store<A> {
     ghost use Rattle.covline.specs.Row.{SubmissionData, item_data, rows_of, rows_of_sect};
     ghost use Rattle.covline.specs.SectView.{sect_data};
     ghost use Rattle.covstore.specs.Content.{content_at};
-    ghost use Rattle.covstore.specs.Stored.{AddsRows, ClashesWith, HasRoomForRows, IsPlanOf, KeepsState, SameContent, SameCommitted, StandsFor, IsRefusedAt, most_members};
+    ghost use Rattle.covstore.specs.Store.{AddsRows, ClashesWith, HasRoomForRows, IsPlanOf, KeepsState, SameContent, SameCommitted, StandsFor, IsRefusedAt, most_members};
     ghost use Rattle.covmap.specs.Puts.{value_of};
-    ghost use Rattle.covstore.specs.SectionAdds.{HasPlace, rows_of_items};
-    ghost use Rattle.covstore.specs.StoreCommitted.{IsKept};
+    ghost use Rattle.covstore.specs.StoreSection.{HasPlace, rows_of_items};
+    ghost use Rattle.covstore.specs.StoreKept.{IsKept};
     ghost use Rattle.covstore.specs.RefuseView.{refuse_data};
     ghost use Rattle.covstore.specs.Renamed.{renamed};
     ghost use Rattle.covstore.specs.Renaming.{Copies, HasRoomToCopy, IsMoving, IsRenamingOf};
-    ghost use Rattle.covstore.specs.MapsView.{IsStore};
+    ghost use Rattle.covstore.specs.StoreView.{IsStore};
     ghost use Rattle.covstore.specs.State.{sections_of, totals_in};
     ghost use Rattle.covstore.specs.FileView.{with_file};
     ghost use Rattle.covstore.specs.Table.{Table, all_rows, clash_at};

@@ -2,7 +2,7 @@
 //! 2^128 - 1.
 
 ghost use Rattle.std.specs.Prelude.{◌≡◌, ◌^◌, ◌<◌, Bool, IfSome};
-ghost use Rattle.covstore.specs.Counts.{is_above_at, tests_more};
+ghost use Rattle.covstore.specs.KindIndexCounts.{is_above_at, tests_more};
 ghost use Rattle.covstore.specs.State.{branch_above, function_above, has_checksum, line_above};
 ghost use Rattle.covstore.specs.Sums.{branch_with, function_with, line_with};
 
@@ -171,7 +171,7 @@ pub(crate) struct Tests {
 }
 
 impl Tests {
-    ghost use Rattle.covstore.specs.Fewer.{HaveOne, fewer_tests, is_hit};
+    ghost use Rattle.covstore.specs.KindIndexDrops.{HaveOne, fewer_tests, is_hit};
 
     /// Whether there are tests, and one of them has the point above 0.
     pub(crate) fn is_hit(value: &Option<Tests>) -> bool

@@ -88,7 +88,7 @@ impl<A: Allocator> Model for BoxedTest<A> {
 impl<A: Allocator + Copy> BoxedTest<A> {
     ghost use Rattle.std.specs.Prelude.{map, IfErr, IfOk, OnOk};
     ghost use Rattle.covline.specs.Row.{item_data};
-    ghost use Rattle.covstore.specs.Adds.{Adds, Clashes, HasRoomFor};
+    ghost use Rattle.covstore.specs.Section.{Adds, Clashes, HasRoomFor};
     ghost use Rattle.covstore.specs.FileIndexView.{KeepsCommitted, index_staged};
     ghost use Rattle.covstore.specs.Renaming.{HasHolders, items_of_test};
     ghost use Rattle.covstore.specs.Sums.{test_of};

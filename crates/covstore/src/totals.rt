@@ -1,7 +1,7 @@
 //! How many lines, functions and branches there are in all files, and how many of them are hit.
 
 ghost use Rattle.std.specs.Prelude.{◌≡◌};
-ghost use Rattle.covstore.specs.Exchanged.{FitTogether, IsAmong, exchanged, no_totals, together};
+ghost use Rattle.covstore.specs.TotalsExchanged.{FitTogether, IsAmong, exchanged, no_totals, together};
 
 /// The totals of a store (geninfo(1): `LF:`, `LH:`, `FNF:`, `FNH:`, `BRF:`, `BRH:`). A point
 /// is found once for each file, over all tests, and hit if some test has it above 0.

@@ -1,7 +1,7 @@
 //! A store that is made ready to hold a submission or to rename a test. A refusal leaves its sections and totals.
 
 ghost use Rattle.std.specs.Prelude.{◌<◌, OnErr};
-ghost use Rattle.covstore.specs.Stored.{most_members};
+ghost use Rattle.covstore.specs.Store.{most_members};
 
 use super::calls::{printed, read};
 use super::heap::{check_rising, check_rising_by, narrow, widen};

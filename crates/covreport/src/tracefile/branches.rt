@@ -5,7 +5,7 @@ ghost use Rattle.std.specs.List.{flat_map};
 ghost use Rattle.covline.specs.Printed.{printed};
 ghost use Rattle.covreport.specs.Report.{branch_record, branch_records};
 ghost use Rattle.covstore.specs.Value.{is_taken as value_is_taken};
-ghost use Rattle.covstore.specs.ValueView.{branch_data};
+ghost use Rattle.covstore.specs.ValuesView.{branch_data};
 
 use super::totals::put_totals_if_any;
 use covline::{Bytes, Memory, Tally, TotalKind, TraceLine, put_line};

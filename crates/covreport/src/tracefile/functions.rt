@@ -5,7 +5,7 @@ ghost use Rattle.std.specs.List.{flat_map};
 ghost use Rattle.covline.specs.Printed.{printed};
 ghost use Rattle.covreport.specs.FunctionView.{printed_function};
 ghost use Rattle.covreport.specs.Report.{by_start, start_record, call_record, function_records, functions_hit};
-ghost use Rattle.covstore.specs.ValueView.{function_data};
+ghost use Rattle.covstore.specs.ValuesView.{function_data};
 
 use super::totals::put_totals_if_any;
 use covline::{Bytes, Memory, Tally, TotalKind, TraceLine, put_line};

@@ -4,7 +4,7 @@ ghost use Rattle.std.specs.Prelude.{◌≡◌, ◌++◌, OnOk};
 ghost use Rattle.std.specs.List.{flat_map};
 ghost use Rattle.covline.specs.Printed.{printed};
 ghost use Rattle.covreport.specs.Report.{line_record, line_records};
-ghost use Rattle.covstore.specs.ValueView.{line_data};
+ghost use Rattle.covstore.specs.ValuesView.{line_data};
 
 use super::totals::put_totals;
 use covline::{Bytes, Memory, Tally, TotalKind, TraceLine, put_line};

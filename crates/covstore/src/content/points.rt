@@ -38,7 +38,7 @@ impl<'a, A: Allocator> Functions<'a, A> {
 
 impl<'a, A: Allocator> Iterator for Functions<'a, A> {
     ghost use Rattle.std.specs.Iterator.{YieldsFirstBy, item_count};
-    ghost use Rattle.covstore.specs.ValueView.{function_data};
+    ghost use Rattle.covstore.specs.ValuesView.{function_data};
 
     type Item = FunctionValue<'a>;
 
@@ -88,7 +88,7 @@ impl<'a, A: Allocator> Branches<'a, A> {
 
 impl<'a, A: Allocator> Iterator for Branches<'a, A> {
     ghost use Rattle.std.specs.Iterator.{YieldsFirstBy, item_count};
-    ghost use Rattle.covstore.specs.ValueView.{branch_data};
+    ghost use Rattle.covstore.specs.ValuesView.{branch_data};
 
     type Item = BranchValue;
 
@@ -142,7 +142,7 @@ impl<'a, A: Allocator> Lines<'a, A> {
 
 impl<'a, A: Allocator> Iterator for Lines<'a, A> {
     ghost use Rattle.std.specs.Iterator.{YieldsFirstBy, item_count};
-    ghost use Rattle.covstore.specs.ValueView.{line_data};
+    ghost use Rattle.covstore.specs.ValuesView.{line_data};
 
     type Item = LineValue<'a>;
 

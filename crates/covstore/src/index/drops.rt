@@ -1,7 +1,7 @@
 //! What is kept of a file where one of its tests goes: each kind by a walk over the points of the test. No memory is taken.
 
 ghost use Rattle.std.specs.Prelude.{◌≡◌};
-ghost use Rattle.covstore.specs.Fewer.{AreHoldersWith, AreWith, IsTallyWithout, LosesHolders, LosesTest};
+ghost use Rattle.covstore.specs.KindIndexDrops.{AreHoldersWith, AreWith, IsTallyWithout, LosesHolders, LosesTest};
 
 use crate::checksums::Checksums;
 use crate::keys::PointKey;

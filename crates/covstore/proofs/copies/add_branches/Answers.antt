@@ -1,7 +1,7 @@
 use Rattle.std.proofs.Common.{List, sym, ap, ◌∙◌, subst}
 use Rattle.covline.specs.Row.{ItemData, BranchItem}
 use Rattle.covline.specs.declared.point.BranchPoint.{BranchPoint}
-use Rattle.covstore.specs.Adds.{Adds, HasRoomFor}
+use Rattle.covstore.specs.Section.{Adds, HasRoomFor}
 use Rattle.covstore.specs.FileIndexView.{index_staged}
 use Rattle.covstore.specs.TestView.{test_staged}
 use Rattle.covstore.proofs.CopiesLoop.{all_branches, code_branch_item, copying_all, copying_first, copying_more, copying_room}

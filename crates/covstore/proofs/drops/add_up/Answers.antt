@@ -1,9 +1,9 @@
 use Rattle.std.proofs.Common.{ℕ, Vec, List, sym, ap, ◌∙◌, subst}
 use Rattle.covstore.specs.declared.file.File.{File}
 use Rattle.covstore.specs.declared.totals.Totals.{Totals}
-use Rattle.covstore.specs.Exchanged.{FitTogether, together}
+use Rattle.covstore.specs.TotalsExchanged.{FitTogether, together}
 use Rattle.covstore.specs.FileView.{file_committed}
-use Rattle.covstore.specs.MapsView.{files_committed}
+use Rattle.covstore.specs.StoreView.{files_committed}
 use Rattle.covstore.proofs.DropsTotals.{IsAddedUp, all_added, none_added, one_added, one_fits}
 use Rattle.covstore.proofs.Settled.{file_name}
 use Rattle.covstore.proofs.drops.add_up.Goals as goal

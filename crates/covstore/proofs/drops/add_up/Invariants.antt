@@ -1,4 +1,4 @@
-use Rattle.covstore.specs.MapsView.{files_committed}
+use Rattle.covstore.specs.StoreView.{files_committed}
 use Rattle.covstore.proofs.DropsTotals.{IsAddedUp}
 use Rattle.covstore.proofs.Settled.{file_name}
 use Rattle.covstore.proofs.drops.add_up.Given as goal

@@ -4,7 +4,7 @@ use Rattle.std.specs.Int.{from_bool}
 use Rattle.std.proofs.lemmas.List.{length-map}
 use Rattle.covstore.specs.declared.file.File.{File}
 use Rattle.covstore.specs.FileView.{file_committed}
-use Rattle.covstore.specs.MapsView.{files_committed}
+use Rattle.covstore.specs.StoreView.{files_committed}
 use Rattle.covstore.specs.State.{FileData}
 use Rattle.covstore.proofs.DropsTotals.{AreCounted, all_counted, none_counted, one_counted, one_section_fits}
 use Rattle.covstore.proofs.Settled.{file_name}

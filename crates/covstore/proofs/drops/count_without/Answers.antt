@@ -4,7 +4,7 @@ use Rattle.std.specs.Int.{from_bool}
 use Rattle.std.proofs.lemmas.List.{length-map}
 use Rattle.covstore.specs.declared.file.File.{File}
 use Rattle.covstore.specs.FileView.{file_committed}
-use Rattle.covstore.specs.MapsView.{files_committed}
+use Rattle.covstore.specs.StoreView.{files_committed}
 use Rattle.covstore.specs.State.{FileData, has_points_of}
 use Rattle.covstore.proofs.DropsLoop.{IsCounted, all_sections, all_totals, next_fits, next_section_fits, next_whole, none_counted, one_counted}
 use Rattle.covstore.proofs.Settled.{file_name}

@@ -2,7 +2,7 @@ use Rattle.std.proofs.Common.{ℕ, ◌++◌, List, Vec, map, sym, ap, ◌∙◌}
 use Rattle.std.proofs.lemmas.List.{append-nil}
 use Rattle.covstore.specs.declared.file.File.{File}
 use Rattle.covstore.specs.FileView.{file_committed}
-use Rattle.covstore.specs.MapsView.{files_committed}
+use Rattle.covstore.specs.StoreView.{files_committed}
 use Rattle.covstore.specs.Renaming.{names_with}
 use Rattle.covstore.proofs.NamedFiles.{none_named}
 use Rattle.covstore.proofs.Settled.{file_name}

@@ -1,5 +1,5 @@
 use Rattle.std.specs.Prelude.{◌≡◌, ◌++◌, map}
-use Rattle.covstore.specs.MapsView.{files_committed}
+use Rattle.covstore.specs.StoreView.{files_committed}
 use Rattle.covstore.specs.Renaming.{names_with}
 use Rattle.covstore.proofs.Settled.{file_name}
 use Rattle.covstore.proofs.drops.names_with.Given as goal

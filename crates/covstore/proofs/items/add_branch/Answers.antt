@@ -6,8 +6,8 @@ use Rattle.covline.specs.PointView.{branch_point_data}
 use Rattle.covmap.specs.Puts.{put, value_of}
 use Rattle.covstore.specs.declared.sums.BranchSum.{BranchSum}
 use Rattle.covstore.specs.declared.sums.Tests.{Tests}
-use Rattle.covstore.specs.Counts.{counts_with}
-use Rattle.covstore.specs.KeyOrders.{code_branch_cmp}
+use Rattle.covstore.specs.KindIndexCounts.{counts_with}
+use Rattle.covstore.specs.Keys.{code_branch_cmp}
 use Rattle.covstore.specs.State.{branch_above}
 use Rattle.covstore.specs.Sums.{TestData, branch_with}
 use Rattle.covstore.specs.TestView.{branches_data, test_committed}

@@ -5,7 +5,7 @@ use Rattle.std.proofs.lemmas.Result.{err_from_is_err_and}
 use Rattle.covmap.specs.Puts.{value_of}
 use Rattle.covstore.specs.declared.index.FileIndex.{FileIndex}
 use Rattle.covstore.specs.Checksums.{held_more}
-use Rattle.covstore.specs.Counts.{is_above_at}
+use Rattle.covstore.specs.KindIndexCounts.{is_above_at}
 use Rattle.covstore.specs.State.{has_checksum}
 use Rattle.covstore.specs.Sums.{TestData, line_with}
 use Rattle.covstore.specs.TestView.{branches_data, test_committed}

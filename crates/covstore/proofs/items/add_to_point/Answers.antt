@@ -1,7 +1,7 @@
 use Rattle.std.proofs.Common.{ap, ◌∙◌}
 use Rattle.covmap.specs.Puts.{put, value_of}
-use Rattle.covstore.specs.Changes.{change_of}
-use Rattle.covstore.specs.Counts.{counts_with}
+use Rattle.covstore.specs.KindIndex.{change_of}
+use Rattle.covstore.specs.KindIndexCounts.{counts_with}
 use Rattle.covstore.proofs.StepsCounts.{changed_as}
 use Rattle.covstore.proofs.items.add_to_point.Goals as goal
 

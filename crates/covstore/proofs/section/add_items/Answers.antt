@@ -2,7 +2,7 @@ use Rattle.std.proofs.Common.{◌+◌, List, drop, map, take, sym, ap, subst}
 use Rattle.std.proofs.lemmas.List.{take_all}
 use Rattle.std.proofs.lemmas.Result.{err_from_is_err_and}
 use Rattle.covline.specs.Row.{ItemData, item_data}
-use Rattle.covstore.specs.Adds.{Adds, Clashes}
+use Rattle.covstore.specs.Section.{Adds, Clashes}
 use Rattle.covstore.specs.FileIndexView.{index_staged}
 use Rattle.covstore.specs.TestView.{test_staged}
 use Rattle.covstore.proofs.AddsLoop.{HasTaken, all_at, left_at, next_clashes, next_has_room, none_taken, one_taken, taken_at}

@@ -2,7 +2,7 @@ use Rattle.std.proofs.Common.{◌≡◌, ℕ, [], length, refl, sym, ap, ◌∙�
 use Rattle.std.proofs.lemmas.List.{nil_from_length}
 use Rattle.covstore.specs.declared.file.File.{File}
 use Rattle.covstore.specs.FileView.{file_staged}
-use Rattle.covstore.specs.MapsView.{AreSettledBut}
+use Rattle.covstore.specs.StoreView.{AreSettledBut}
 use Rattle.covstore.proofs.Settled.{IsSettling, all_settled, file_name, none_left, popped_as, settling_found, settling_unfound}
 use Rattle.covstore.proofs.store.commit_staged.Goals as goal
 use Rattle.covstore.proofs.store.commit_staged.Goals.{in-Some-get_mut, in_default-get_mut}

@@ -1,5 +1,5 @@
 use Rattle.std.proofs.Common.{ℕ, List, subst}
-use Rattle.covstore.specs.Stored.{StandsFor}
+use Rattle.covstore.specs.Store.{StandsFor}
 use Rattle.covstore.specs.Table.{Table}
 use Rattle.covstore.specs.Without.{without_test}
 use Rattle.covbook.proofs.Runs.{dropped_book}

@@ -6,7 +6,7 @@ use Rattle.covline.specs.declared.trace_line.TotalKind.TheVariants.{BranchFound,
 use Rattle.covreport.specs.Report.{branch_record, branches_hit, totals_if_any}
 use Rattle.covstore.specs.Content.{BranchValueData}
 use Rattle.covstore.specs.Value.{is_taken}
-use Rattle.covstore.specs.ValueView.{branch_data}
+use Rattle.covstore.specs.ValuesView.{branch_data}
 use Rattle.covreport.proofs.Texts.{printed_none, printed_more, printed_all, count_fits, with_tail}
 use Rattle.covreport.proofs.tracefile.branches.put_branches.Goals as goal
 

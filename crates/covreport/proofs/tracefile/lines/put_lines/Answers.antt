@@ -5,7 +5,7 @@ use Rattle.covline.specs.Printed.{printed}
 use Rattle.covline.specs.declared.trace_line.TotalKind.TheVariants.{LineFound, LineHit}
 use Rattle.covreport.specs.Report.{line_record, lines_hit, totals}
 use Rattle.covstore.specs.Content.{LineValueData}
-use Rattle.covstore.specs.ValueView.{line_data}
+use Rattle.covstore.specs.ValuesView.{line_data}
 use Rattle.covreport.proofs.Texts.{printed_none, printed_more, printed_all, count_fits, with_tail}
 use Rattle.covreport.proofs.tracefile.lines.put_lines.Goals as goal
 

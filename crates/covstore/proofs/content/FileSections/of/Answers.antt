@@ -1,7 +1,7 @@
 use Rattle.std.proofs.Common.{Vec, ℕ, refl, sym, ap, ◌∙◌, subst}
 use Rattle.std.specs.List.{AllByRecursion}
 use Rattle.covstore.specs.FileView.{file_committed}
-use Rattle.covstore.specs.SeenView.{IsFewOf, tests_seen}
+use Rattle.covstore.specs.ContentView.{IsFewOf, tests_seen}
 use Rattle.covstore.proofs.SeenTests.{tests_of_pairs}
 use Rattle.covstore.proofs.content.FileSections.of.Goals as goal
 

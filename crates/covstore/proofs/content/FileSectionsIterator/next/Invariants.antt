@@ -1,5 +1,5 @@
 use Rattle.std.proofs.Common.{◌≡◌, length}
-use Rattle.covstore.specs.SeenView.{tests_seen}
+use Rattle.covstore.specs.ContentView.{tests_seen}
 use Rattle.covstore.proofs.content.FileSectionsIterator.next.Given as goal
 
 -- what is left is what was left

@@ -1,5 +1,5 @@
 use Rattle.std.proofs.Common.{◌≡◌, length}
-use Rattle.covstore.specs.SeenView.{sections_left}
+use Rattle.covstore.specs.ContentView.{sections_left}
 use Rattle.covstore.proofs.content.SectionsIterator.next.Given as goal
 
 -- what is left is what was left

@@ -2,8 +2,8 @@ use Rattle.std.proofs.Common.{ℕ, ◌<◌, ◌^◌, Vec, List, length, map, sym
 use Rattle.std.proofs.lemmas.List.{length-map}
 use Rattle.std.proofs.lemmas.Result.{IfErr-weaker, on_ok_weaker}
 use Rattle.covline.specs.Row.{item_data}
-use Rattle.covstore.specs.Adds.{Clashes}
-use Rattle.covstore.specs.FileAdds.{AddsItems, ClashesIn}
+use Rattle.covstore.specs.Section.{Clashes}
+use Rattle.covstore.specs.FileSection.{AddsItems, ClashesIn}
 use Rattle.covstore.specs.FileIndex.{file_with}
 use Rattle.covstore.specs.FileIndexView.{index_staged}
 use Rattle.covstore.specs.Sums.{TestData}

@@ -1,5 +1,5 @@
 use Rattle.std.proofs.Common.{◌≡◌, ℕ, option_map, List, sym, ap, ◌∙◌, subst}
-use Rattle.covstore.specs.Dropped.{IsWithoutTest, tests_without}
+use Rattle.covstore.specs.FileDrops.{IsWithoutTest, tests_without}
 use Rattle.covstore.specs.FileView.{file_committed}
 use Rattle.covstore.specs.FileIndex.{file_with}
 use Rattle.covstore.specs.FileIndexView.{index_committed}

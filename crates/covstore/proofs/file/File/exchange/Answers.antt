@@ -1,6 +1,6 @@
 use Rattle.std.proofs.Common.{map, subst}
 use Rattle.covline.specs.Row.{item_data}
-use Rattle.covstore.specs.FileAdds.{ClashesIn}
+use Rattle.covstore.specs.FileSection.{ClashesIn}
 use Rattle.covstore.specs.FileView.{file_staged}
 use Rattle.covstore.proofs.file.File.exchange.Goals as goal
 

@@ -1,5 +1,5 @@
 use Rattle.std.proofs.Common.{◌≡◌, not, Option, option_map, sym, ap, ◌∙◌}
-use Rattle.covstore.specs.Dropped.{tests_without}
+use Rattle.covstore.specs.FileDrops.{tests_without}
 use Rattle.covstore.specs.FileView.{file_committed}
 use Rattle.covstore.specs.FileIndexView.{index_committed}
 use Rattle.covstore.specs.State.{has_no_points, points_or_none}

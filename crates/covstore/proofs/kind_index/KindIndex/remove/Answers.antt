@@ -1,8 +1,8 @@
 use Rattle.std.proofs.Common.{◌≡◌, ◌∙◌, List, Some, ap, refl, subst, sym}
 use Rattle.covstore.specs.declared.sums.Tests.{Tests}
 use Rattle.covmap.specs.Assigned.{assigned}
-use Rattle.covstore.specs.Changes.{IsTallyOf}
-use Rattle.covstore.specs.Fewer.{counts_without, fewer_of}
+use Rattle.covstore.specs.KindIndex.{IsTallyOf}
+use Rattle.covstore.specs.KindIndexDrops.{counts_without, fewer_of}
 use Rattle.covmap.specs.MapData.{MapData}
 use Rattle.covmap.specs.Puts.{value_of}
 use Rattle.covstore.proofs.FewerTally.{can_be_less_at, tally_less_at}

@@ -4,7 +4,7 @@ use Rattle.std.proofs.lemmas.List.{take_all}
 use Rattle.std.proofs.lemmas.Result.{err_from_is_err_and}
 use Rattle.covline.specs.Row.{SectData, rows_of_sect}
 use Rattle.covline.specs.SectView.{sect_data}
-use Rattle.covstore.specs.Stored.{AddsRows, ClashesWith}
+use Rattle.covstore.specs.Store.{AddsRows, ClashesWith}
 use Rattle.covstore.specs.RefuseView.{refuse_data}
 use Rattle.covstore.proofs.AddsLoop.{all_at, left_at, taken_at}
 use Rattle.covstore.proofs.AddsSome.{some_of_them}

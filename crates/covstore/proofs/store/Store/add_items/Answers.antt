@@ -1,8 +1,8 @@
 use Rattle.std.proofs.Common.{map, sym, subst}
 use Rattle.std.proofs.lemmas.Result.{err_from_is_err_and}
 use Rattle.covline.specs.Row.{item_data}
-use Rattle.covstore.specs.Stored.{SameCommitted}
-use Rattle.covstore.specs.MapsView.{touched_data}
+use Rattle.covstore.specs.Store.{SameCommitted}
+use Rattle.covstore.specs.StoreView.{touched_data}
 use Rattle.covstore.specs.RefuseView.{refuse_data}
 use Rattle.covstore.proofs.AddsStore.{same_committed}
 use Rattle.covstore.proofs.AddsWritten.{found_fits, found_held, found_part, found_refused, found_room, found_rows, found_store, not_there}

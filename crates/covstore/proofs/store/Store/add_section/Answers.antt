@@ -5,10 +5,10 @@ use Rattle.std.specs.Ordering.{nat_cmp}
 use Rattle.std.proofs.lemmas.Result.{IfErr-weaker, on_ok_weaker}
 use Rattle.covline.specs.Row.{Row, item_data, rows_of_sect}
 use Rattle.covline.specs.SectView.{sect_data}
-use Rattle.covstore.specs.Stored.{AddsRows, ClashesWith, HasRoomForRows}
+use Rattle.covstore.specs.Store.{AddsRows, ClashesWith, HasRoomForRows}
 use Rattle.covmap.specs.Puts.{value_of}
 use Rattle.covstore.specs.RefuseView.{refuse_data}
-use Rattle.covstore.specs.SectionAdds.{rows_of_items}
+use Rattle.covstore.specs.StoreSection.{rows_of_items}
 use Rattle.covstore.proofs.AddsMaps.{file_ready}
 use Rattle.covstore.proofs.AddsReady.{adds_kept, both_keep, clash_kept, file_opened_keeps, no_items, nothing_added, room_kept, same_rows}
 use Rattle.covstore.proofs.AddsSome.{some_rows}

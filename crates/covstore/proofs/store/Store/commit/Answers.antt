@@ -1,8 +1,8 @@
 use Rattle.std.proofs.Common.{[], ◌∷◌, ◌++◌, refl, sym, subst, List, ◌+◌}
 use Rattle.covstore.specs.declared.store.Touched.{Touched}
 use Rattle.covline.specs.Row.{rows_of}
-use Rattle.covstore.specs.MapsView.{AreSettledBut, files_staged, files_committed, touched_data}
-use Rattle.covstore.specs.Stored.{IsPlanOf, StandsFor, StoreData}
+use Rattle.covstore.specs.StoreView.{AreSettledBut, files_staged, files_committed, touched_data}
+use Rattle.covstore.specs.Store.{IsPlanOf, StandsFor, StoreData}
 use Rattle.covstore.proofs.Settled.{file_name}
 use Rattle.covstore.proofs.Stores.{same_members, stands_more, stands_same, store_more}
 use Rattle.covstore.proofs.store.Store.commit.Goals as goal

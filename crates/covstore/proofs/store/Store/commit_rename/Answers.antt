@@ -1,10 +1,10 @@
 use Rattle.std.proofs.Common.{◌≡◌, ℕ, Option, Some, List, sym, subst}
 use Rattle.covstore.specs.declared.store.Touched.{Touched}
-use Rattle.covstore.specs.Dropped.{AreWithoutTest}
-use Rattle.covstore.specs.MapsView.{AreSettledBut, files_staged, files_committed, touched_data}
+use Rattle.covstore.specs.FileDrops.{AreWithoutTest}
+use Rattle.covstore.specs.StoreView.{AreSettledBut, files_staged, files_committed, touched_data}
 use Rattle.covstore.specs.Renaming.{IsMoving, IsMovingIfAny}
 use Rattle.covstore.specs.State.{FileData, IsWholeFile}
-use Rattle.covstore.specs.Stored.{StandsFor, StoreData}
+use Rattle.covstore.specs.Store.{StandsFor, StoreData}
 use Rattle.covstore.specs.Table.{all_rows}
 use Rattle.std.specs.List.{AllByRecursion}
 use Rattle.covstore.proofs.RenamedTablesState.{stands_moved, store_moved}

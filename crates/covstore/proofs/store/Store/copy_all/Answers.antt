@@ -1,7 +1,7 @@
 use Rattle.std.proofs.Common.{◌+◌, ℕ, List, drop, map, take, sym, ap, ◌∙◌, subst}
 use Rattle.std.proofs.lemmas.List.{drop_all}
 use Rattle.covstore.specs.Renaming.{Copies, HasRoomToCopy, names_with}
-use Rattle.covstore.specs.Stored.{StoreData}
+use Rattle.covstore.specs.Store.{StoreData}
 use Rattle.covstore.proofs.AddsLoop.{left_at, taken_at}
 use Rattle.covstore.proofs.AddsStore.{held_by_both}
 use Rattle.covstore.proofs.RenamedTablesLoop.{HasCopied, copy_room, moving_ready, none_copied, one_file_copied}

@@ -2,9 +2,9 @@ use Rattle.std.proofs.Common.{sym, subst}
 use Rattle.std.specs.Prelude.{OnOk}
 use Rattle.std.proofs.lemmas.Result.{on_ok_weaker}
 use Rattle.covstore.specs.declared.store.Store.TheInside.{Inside}
-use Rattle.covstore.specs.MapsView.{AreSettledBut, IsStore, files_staged, files_committed, touched_data}
+use Rattle.covstore.specs.StoreView.{AreSettledBut, IsStore, files_staged, files_committed, touched_data}
 use Rattle.covstore.specs.Renaming.{Copies}
-use Rattle.covstore.specs.Stored.{SameCommitted}
+use Rattle.covstore.specs.Store.{SameCommitted}
 use Rattle.covstore.proofs.RenamedStore.{copied_committed, copied_room, copied_same, copied_store, copied_to, unfound}
 use Rattle.covstore.proofs.Settled.{file_name}
 use Rattle.covstore.proofs.Stores.{store_of}

@@ -6,8 +6,8 @@ use Rattle.std.proofs.lemmas.Iterator.Search.{any_from_yields_List}
 use Rattle.covstore.specs.declared.file.File.{File}
 use Rattle.covstore.specs.Content.{SectionData}
 use Rattle.covstore.specs.FileView.{file_committed}
-use Rattle.covstore.specs.Stored.{StoreData}
-use Rattle.covstore.specs.MapsView.{files_committed}
+use Rattle.covstore.specs.Store.{StoreData}
+use Rattle.covstore.specs.StoreView.{files_committed}
 use Rattle.covstore.specs.State.{has_points_of}
 use Rattle.covstore.specs.Table.{all_rows}
 use Rattle.covstore.proofs.Contents.{test_by_content}

@@ -3,8 +3,8 @@ use Rattle.std.specs.Cmp.Lexicographic.{slice_cmp}
 use Rattle.std.specs.Ordering.{nat_cmp}
 use Rattle.covstore.specs.declared.file.File.{File}
 use Rattle.covstore.specs.FileView.{file_staged, file_committed}
-use Rattle.covstore.specs.Stored.{KeepsState, SameCommitted}
-use Rattle.covstore.specs.MapsView.{files_staged, files_committed, touched_data}
+use Rattle.covstore.specs.Store.{KeepsState, SameCommitted}
+use Rattle.covstore.specs.StoreView.{files_staged, files_committed, touched_data}
 use Rattle.covstore.proofs.AddsReady.{held_kept}
 use Rattle.covstore.proofs.AddsStore.{same_committed}
 use Rattle.covstore.proofs.Keeps.{with_file_keeps}

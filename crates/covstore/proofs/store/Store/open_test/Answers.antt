@@ -3,9 +3,9 @@ use Rattle.std.specs.Prelude.{OnOk}
 use Rattle.std.proofs.lemmas.Result.{on_ok_weaker}
 use Rattle.covstore.specs.declared.store.Store.TheInside.{Inside}
 use Rattle.covstore.specs.FileView.{file_staged, file_committed}
-use Rattle.covstore.specs.Stored.{KeepsState, SameCommitted}
-use Rattle.covstore.specs.MapsView.{AreSettledBut, IsStore, files_staged, files_committed, tests_of, touched_data}
-use Rattle.covstore.specs.SectionAdds.{HasPlace}
+use Rattle.covstore.specs.Store.{KeepsState, SameCommitted}
+use Rattle.covstore.specs.StoreView.{AreSettledBut, IsStore, files_staged, files_committed, tests_of, touched_data}
+use Rattle.covstore.specs.StoreSection.{HasPlace}
 use Rattle.covstore.proofs.AddsMaps.{no_place, on_ok_always, test_place, test_ready}
 use Rattle.covstore.proofs.AddsReady.{held_kept}
 use Rattle.covstore.proofs.AddsSettled.{file_settled}

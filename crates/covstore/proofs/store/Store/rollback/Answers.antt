@@ -2,7 +2,7 @@ use Rattle.std.proofs.Common.{◌≡◌, ℕ, length, refl, sym, ap, ◌∙◌, 
 use Rattle.covstore.specs.declared.file.File.{File}
 use Rattle.covstore.specs.declared.store.Store.TheInside.{Inside}
 use Rattle.covstore.specs.FileView.{file_committed}
-use Rattle.covstore.specs.Stored.{StoreData}
+use Rattle.covstore.specs.Store.{StoreData}
 use Rattle.covstore.proofs.Settled.{IsSettling, all_settled, none_left, popped_as, settling_found, settling_unfound}
 use Rattle.covstore.proofs.store.Store.rollback.Goals as goal
 use Rattle.covstore.proofs.store.Store.rollback.Goals.{in-Some-get_mut, in_default-get_mut}

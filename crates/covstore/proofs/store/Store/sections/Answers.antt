@@ -1,7 +1,7 @@
 use Rattle.std.proofs.Common.{Vec, ℕ, sym, subst}
 use Rattle.std.specs.List.{AllByRecursion}
-use Rattle.covstore.specs.MapsView.{files_committed}
-use Rattle.covstore.specs.SeenView.{IsFewOf}
+use Rattle.covstore.specs.StoreView.{files_committed}
+use Rattle.covstore.specs.ContentView.{IsFewOf}
 use Rattle.covstore.specs.State.{sections_of}
 use Rattle.covstore.proofs.SeenStore.{few_of_store}
 use Rattle.covstore.proofs.store.Store.sections.Goals as goal

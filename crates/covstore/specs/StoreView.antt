@@ -10,7 +10,7 @@ use Rattle.covstore.specs.Clash.{Agree, checksums_in}
 use Rattle.covstore.specs.FileView.{file_staged, file_committed}
 use Rattle.covstore.specs.FileIndexView.{index_staged, index_committed}
 use Rattle.covstore.specs.State.{FileData, IsStateOf, totals_in}
-use Rattle.covstore.specs.Stored.{most_members}
+use Rattle.covstore.specs.Store.{most_members}
 use Rattle.covstore.specs.Table.{Table, all_rows}
 use Rattle.covstore.specs.TestView.{test_staged, test_committed}
 

@@ -3,12 +3,12 @@ use Rattle.std.specs.Prelude.{◌≡◌, ℕ, Some, List}
 use Rattle.std.specs.Cmp.Lexicographic.{slice_cmp}
 use Rattle.std.specs.Ordering.{nat_cmp}
 use Rattle.covline.specs.Row.{ItemData, Row, rows_of_sect}
-use Rattle.covstore.specs.Adds.{section_of_items}
+use Rattle.covstore.specs.Section.{section_of_items}
 use Rattle.covstore.specs.Clash.{clash_of}
-use Rattle.covstore.specs.FileAdds.{HasFile}
+use Rattle.covstore.specs.FileSection.{HasFile}
 use Rattle.covmap.specs.Puts.{value_of}
 use Rattle.covstore.specs.State.{FileData}
-use Rattle.covstore.specs.Stored.{RefuseData, ClashRefuse, MemoryRefuse}
+use Rattle.covstore.specs.Store.{RefuseData, ClashRefuse, MemoryRefuse}
 use Rattle.covstore.specs.Sums.{TestData}
 
 -- the files have this one, and it has the test

@@ -8,8 +8,8 @@ use Rattle.covstore.specs.declared.sums.LineSum.{LineSum}
 use Rattle.covstore.specs.declared.sums.Tests.{Tests}
 use Rattle.covstore.specs.declared.totals.Totals.{Totals}
 use Rattle.covmap.specs.Assigned.{assigned}
-use Rattle.covstore.specs.Changes.{IsTallyOf}
-use Rattle.covstore.specs.Counts.{AreCounts, is_above_at, one_if}
+use Rattle.covstore.specs.KindIndex.{IsTallyOf}
+use Rattle.covstore.specs.KindIndexCounts.{AreCounts, is_above_at, one_if}
 use Rattle.covmap.specs.Puts.{ArePairs, value_of}
 use Rattle.covstore.specs.State.{holders_at}
 use Rattle.covstore.specs.Sums.{TestData}

@@ -5,7 +5,7 @@ use Rattle.covstore.specs.declared.kind_index.PointChange.{PointChange}
 use Rattle.covstore.specs.declared.kind_index.PointChange.TheVariants.{Same, Hit, Found, FoundAndHit}
 use Rattle.covstore.specs.declared.kind_index.KindTotals.{KindTotals}
 use Rattle.covstore.specs.declared.sums.Tests.{Tests}
-use Rattle.covstore.specs.Counts.{found_of, hit_of, tests_more}
+use Rattle.covstore.specs.KindIndexCounts.{found_of, hit_of, tests_more}
 use Rattle.covmap.specs.Puts.{put, value_of}
 
 -- by whether the point was in its test, and whether it is above 0 for the first time

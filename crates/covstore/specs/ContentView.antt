@@ -4,7 +4,7 @@ use Rattle.std.specs.List.{flat_map}
 use Rattle.covstore.specs.declared.test.Test.{Test}
 use Rattle.covstore.specs.Content.{SectionData}
 use Rattle.covstore.specs.declared.file.File.{File}
-use Rattle.covstore.specs.MapsView.{files_committed}
+use Rattle.covstore.specs.StoreView.{files_committed}
 use Rattle.covstore.specs.State.{section_seen, sections_of}
 use Rattle.covstore.specs.TestView.{test_committed}
 
