@@ -22,7 +22,7 @@ mod submit;
 mod text;
 
 use crate::session::command::{Format, Word, answer_word, word_of};
-use crate::session::input::{Input, block};
+use crate::session::input::{SessionInput, block};
 use crate::session::output::Output;
 use crate::session::rename::answer_rename;
 use crate::session::submit::{Given, answer_given, take_text};
@@ -78,7 +78,7 @@ fn names_behind(word: Word<'_>, ending: LineEnd) -> bool
 fn answer_command<I: Source, O: Sink, A: Allocator + Copy>(
     alloc: A,
     book: &mut Book<A>,
-    input: &mut Input<'_, I, A>,
+    input: &mut SessionInput<'_, I, A>,
     output: &mut Output<'_, O, A>,
     room: &mut Vec<u8, A>,
 ) -> Result<LineEnd, SessionFault>
@@ -109,7 +109,7 @@ fn answer_command<I: Source, O: Sink, A: Allocator + Copy>(
 // Answers all commands.
 fn answer_all<I: Source, O: Sink, A: Allocator + Copy>(
     alloc: A,
-    input: &mut Input<'_, I, A>,
+    input: &mut SessionInput<'_, I, A>,
     output: &mut Output<'_, O, A>,
 ) -> Result<(), SessionFault>
     requires { CanCall (moment input.old output.old) }
@@ -129,7 +129,7 @@ fn answer_all<I: Source, O: Sink, A: Allocator + Copy>(
 // Answers all commands, and has the answers sent on.
 fn answer_to_the_end<I: Source, O: Sink, A: Allocator + Copy>(
     alloc: A,
-    input: &mut Input<'_, I, A>,
+    input: &mut SessionInput<'_, I, A>,
     output: &mut Output<'_, O, A>,
 ) -> Result<(), SessionFault>
     requires { CanCall (moment input.old output.old) }
@@ -173,7 +173,7 @@ pub fn session<I: Source, O: Sink, A: Allocator + Copy>(
         (calls (I.reads source.new) (I.failed_reads source.new) (O.failed_writes sink.new))) }
 {
     let block = block(alloc)?;
-    let mut input = Input::new(block, source);
+    let mut input = SessionInput::new(block, source);
     let mut output = Output::new(alloc, sink);
     let ended = answer_to_the_end(alloc, &mut input, &mut output);
     input.into_source();

@@ -34,7 +34,7 @@ pub fn block<A: Allocator>(alloc: A) -> Result<Vec<u8, A>, SessionFault>
 /// Bytes that were read and are still to be taken, and the source that is read when there are none. Contracts see
 /// both, and how many reads were made and may follow.
 #[derive(Drop)]
-pub struct Input<'s, I: Source, A: Allocator> {
+pub struct SessionInput<'s, I: Source, A: Allocator> {
     bytes: Vec<u8, A>,
     from: usize,
     to: usize,
@@ -42,7 +42,7 @@ pub struct Input<'s, I: Source, A: Allocator> {
     source: &'s mut I,
 }
 
-impl<'s, I: Source, A: Allocator> Model for Input<'s, I, A> {
+impl<'s, I: Source, A: Allocator> Model for SessionInput<'s, I, A> {
     ghost use Rattle.std.specs.Prelude.{◌≡◌, ◌≤◌, take, drop, length};
     ghost use Rattle.covsession.specs.Streams.{InputData};
 
@@ -60,9 +60,9 @@ impl<'s, I: Source, A: Allocator> Model for Input<'s, I, A> {
     ghost invariant = { λ i. (i.from ≤ i.to) × (i.to ≤ 65536) × (length i.bytes.items ≡ 65536) };
 }
 
-impl<'s, I: Source, A: Allocator> Input<'s, I, A> {
+impl<'s, I: Source, A: Allocator> SessionInput<'s, I, A> {
     /// The input from this source, before the first read, which is into this block.
-    pub fn new(block: Vec<u8, A>, source: &'s mut I) -> Input<'s, I, A>
+    pub fn new(block: Vec<u8, A>, source: &'s mut I) -> SessionInput<'s, I, A>
         requires { length block.items ≡ 65536 }
         ensures empty { result.pending ≡ [] }
         ensures fresh { result.reads_left ≡ 2 ^ 32 }
@@ -71,7 +71,7 @@ impl<'s, I: Source, A: Allocator> Input<'s, I, A> {
         ensures failed { result.failed_reads ≡ I.failed_reads source.old }
         ensures same { result.source ≡ source.entry.ghost_name }
     {
-        Input {
+        SessionInput {
             bytes: block,
             from: 0,
             to: 0,
@@ -87,7 +87,7 @@ impl<'s, I: Source, A: Allocator> Input<'s, I, A> {
         ensures failed { I.failed_reads result.now ≡ self.entry.failed_reads }
         ensures same { result.ghost_name ≡ self.entry.source }
     {
-        let Input { bytes, source, .. } = self;
+        let SessionInput { bytes, source, .. } = self;
         drop(bytes);
         source
     }

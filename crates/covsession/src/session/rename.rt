@@ -12,7 +12,7 @@ ghost use Rattle.covsession.specs.declared.session.fault.SessionFault.TheVariant
 
 use crate::session::command::step;
 use crate::session::fault::SessionFault;
-use crate::session::input::Input;
+use crate::session::input::SessionInput;
 use crate::session::output::Output;
 use crate::session::text::{LineEnd, Text};
 use crate::stream::{Sink, Source};
@@ -44,7 +44,7 @@ fn is_there(line: &[u8], ending: LineEnd) -> bool
 // Takes the next line as a name, whatever it holds, and answers how it ended; none where the input ends before it.
 fn take_name<I: Source, O: Sink, A: Allocator + Copy>(
     alloc: A,
-    input: &mut Input<'_, I, A>,
+    input: &mut SessionInput<'_, I, A>,
     output: &mut Output<'_, O, A>,
 ) -> Result<Option<(Bytes<A>, LineEnd)>, SessionFault>
     requires { CanCall (moment input.old output.old) }
@@ -64,7 +64,7 @@ fn take_name<I: Source, O: Sink, A: Allocator + Copy>(
 // Takes two lines as the old and the new name; none where the input ends before both are there.
 fn take_names<I: Source, O: Sink, A: Allocator + Copy>(
     alloc: A,
-    input: &mut Input<'_, I, A>,
+    input: &mut SessionInput<'_, I, A>,
     output: &mut Output<'_, O, A>,
 ) -> Result<Option<Names<A>>, SessionFault>
     requires { CanCall (moment input.old output.old) }
@@ -95,7 +95,7 @@ fn rename_op<A: Allocator>(old: Bytes<A>, new: Bytes<A>) -> Op<A>
 pub fn answer_rename<I: Source, O: Sink, A: Allocator + Copy>(
     alloc: A,
     book: &mut Book<A>,
-    input: &mut Input<'_, I, A>,
+    input: &mut SessionInput<'_, I, A>,
     output: &mut Output<'_, O, A>,
 ) -> Result<LineEnd, SessionFault>
     requires { CanCall (moment input.old output.old) }

@@ -16,7 +16,7 @@ ghost use Rattle.covsession.specs.declared.session.fault.SessionFault.TheVariant
 use crate::session::answers::refused_line;
 use crate::session::command::{Format, step};
 use crate::session::fault::SessionFault;
-use crate::session::input::Input;
+use crate::session::input::SessionInput;
 use crate::session::output::Output;
 use crate::session::text::{LineEnd, Taken, Text};
 use crate::stream::{Sink, Source};
@@ -31,7 +31,7 @@ const MOST_KEPT_BYTES: usize = 8_388_608;
 /// Takes the lines of a text, up to a line `.`, into this room, and answers what they are and how the last line ended.
 pub fn take_text<I: Source, O: Sink, A: Allocator>(
     room: Vec<u8, A>,
-    input: &mut Input<'_, I, A>,
+    input: &mut SessionInput<'_, I, A>,
     output: &mut Output<'_, O, A>,
 ) -> Result<(Taken<A>, LineEnd), SessionFault>
     requires { CanCall (moment input.old output.old) }

@@ -5,7 +5,7 @@ use Rattle.std.proofs.Common.{◌≡◌, [], rules}
 use Rattle.std.proofs.lemmas.Result.{err_from_is_err_and}
 use Rattle.covsession.proofs.SessionBreaks.{fails_after, fails_same, fails_taken}
 use Rattle.covsession.proofs.SessionMoves.{line_last, Moves-trans, nothing_at}
-use Rattle.covsession.proofs.session.input.Input.take_line.Goals as goal
+use Rattle.covsession.proofs.session.input.SessionInput.take_line.Goals as goal
 
 pub returns-then-branch-clause-taken : goal.returns-then-branch-clause-taken
 returns-then-branch-clause-taken g c =

@@ -1,7 +1,7 @@
 use Rattle.std.proofs.Common.{◌<◌, length, arith, ap, refl, take}
 use Rattle.covsession.specs.Streams.{InputData}
 use Rattle.covsession.proofs.SessionBytes.{part_line, part_whole}
-use Rattle.covsession.proofs.session.input.Input.take_part.Goals as goal
+use Rattle.covsession.proofs.session.input.SessionInput.take_part.Goals as goal
 
 pub returns-then-count-pending-clause-taken : goal.returns-then-count-pending-clause-taken
 returns-then-count-pending-clause-taken g c =

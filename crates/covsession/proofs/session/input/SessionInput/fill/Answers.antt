@@ -2,7 +2,7 @@ use Rattle.std.proofs.Common.{[], refl}
 use Rattle.std.proofs.lemmas.Result.{err_from_is_err_and}
 use Rattle.covsession.specs.Streams.{moment}
 use Rattle.covsession.proofs.SessionBreaks.{fails_output}
-use Rattle.covsession.proofs.session.input.Input.fill.Goals as goal
+use Rattle.covsession.proofs.session.input.SessionInput.fill.Goals as goal
 
 pub returns-in_err-put_out-clause-fails : goal.returns-in_err-put_out-clause-fails
 returns-in_err-put_out-clause-fails g c =

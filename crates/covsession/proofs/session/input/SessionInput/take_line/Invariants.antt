@@ -2,7 +2,7 @@ use Rattle.std.proofs.Common.{◌≡◌, ℕ, ◌≤◌, List, [], ◌++◌}
 use Rattle.covline.specs.Lines.{before_feed}
 use Rattle.covsession.specs.Streams.{turns, moment, Moves}
 use Rattle.covsession.specs.Text.{HasCollected}
-use Rattle.covsession.proofs.session.input.Input.take_line.Given as goal
+use Rattle.covsession.proofs.session.input.SessionInput.take_line.Given as goal
 
 abbrev pub invariant-loop-self : goal.invariant-loop-self
 invariant-loop-self g l =
