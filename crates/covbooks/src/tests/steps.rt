@@ -49,13 +49,18 @@ fn the_entry_of_a_step(rt: HostRuntime) -> Result<(), Fail> {
     Ok(())
 }
 
-/// One line of one of three tests and five files.
+/// A submission of one of three tests, in one of five files: a line, a function and a branch, all with one count.
 fn text_of_one(alloc: Global, k: u64) -> Result<String, Fail> {
-    let (test, file, line) = (k % 3, k % 5, k % 7);
-    Ok(format!(in alloc; "TN:t{test}\nSF:/f{file}\nDA:{line},{k}\nend_of_record\n")?)
+    let (test, file, place) = (k % 3, k % 5, k % 7);
+    let count = place % (test + 2);
+    let (line, function, branch) = (place + 2 * test, place % 4 + test, place % 2 + test);
+    Ok(format!(in alloc;
+        "TN:t{test}\nSF:/f{file}\nFN:{function},g{function}\nFNDA:{count},g{function}\n\
+         BRDA:{branch},0,0,{count}\nDA:{line},{count}\nend_of_record\n"
+    )?)
 }
 
-/// 105 submissions, one for each test, file and line: each line of each file is of all three tests.
+/// 105 submissions, one for each test, file and place from 0 to 6.
 fn hand_in_105(alloc: Global, book: &mut Book) -> Result<(), Fail> {
     for k in 0..105u64 {
         let text = text_of_one(alloc, k)?;
@@ -64,22 +69,64 @@ fn hand_in_105(alloc: Global, book: &mut Book) -> Result<(), Fail> {
     Ok(())
 }
 
-/// The count of one submission alone is 0, that of line 0 of file 0 in test 0, so that line isn't hit where the other two tests
-/// are gone. Each test stood in five sections.
+/// How many lines, functions and branches are found and hit.
+fn six_numbers(alloc: Global, totals: &Totals) -> Result<String, Fail> {
+    let Totals {
+        lf,
+        lh,
+        ff,
+        fh,
+        bf,
+        bh,
+    } = *totals;
+    Ok(format!(in alloc; "{lf} {lh} {ff} {fh} {bf} {bh}")?)
+}
+
+/// So many lines, functions and branches are found and hit.
+fn check_totals(rt: &(impl Abort + AllocGlobal), book: &Book, wanted: &[u8]) -> Result<(), Fail> {
+    let numbers = six_numbers(rt.alloc(), &totals(book))?;
+    assert_eq!(rt; numbers.as_bytes(), wanted);
+    Ok(())
+}
+
+/// Of the step that a line asks, this is told, and so many lines, functions and branches are found and hit behind it.
+fn check_drop(
+    rt: &(impl Abort + AllocGlobal),
+    book: &mut Book,
+    line: &[u8],
+    told: &[u8],
+    wanted: &[u8],
+) -> Result<(), Fail> {
+    check_run(rt, book, line, told)?;
+    check_totals(rt, book, wanted)
+}
+
+/// The three tests are dropped, the last one first. Each stood in five sections.
+fn check_drops(rt: &(impl Abort + AllocGlobal), book: &mut Book) -> Result<(), Fail> {
+    let without_t2 = b"105 drop t2 > dropped 5 ; 45 30 \n";
+    check_drop(rt, book, b"0 drop t2", without_t2, b"45 30 25 15 15 10")?;
+    let without_t1 = b"106 drop t1 > dropped 5 ; 35 15 \n";
+    check_drop(rt, book, b"0 drop t1", without_t1, b"35 15 20 10 10 5")?;
+    let without_t0 = b"107 drop t0 > dropped 5 ; 0 0 \n";
+    check_drop(rt, book, b"0 drop t0", without_t0, b"0 0 0 0 0 0")
+}
+
+/// What each test has in each of the five files follows from the places in `text_of_one`. The count of test t at a place is
+/// `place % (t + 2)`, and a point is hit if one of its counts isn't 0.
+///
+/// | test | lines   | hit        | functions | hit   | branches | hit |
+/// |------|---------|------------|-----------|-------|----------|-----|
+/// | t0   | 0 to 6  | 1 3 5      | 0 to 3    | 1 3   | 0 1      | 1   |
+/// | t1   | 2 to 8  | 3 4 6 7    | 1 to 4    | 1 2 3 | 1 2      | 1 2 |
+/// | t2   | 4 to 10 | 5 6 7 9 10 | 2 to 5    | 3 4 5 | 2 3      | 2 3 |
+///
+/// Together they have 11 lines (8 are hit), 6 functions (5) and 4 branches (3). Without t2 these are 9 (6), 5 (3) and 3 (2), where
+/// function 4 stays and isn't hit any more. Without t1 too they are 7 (3), 4 (2) and 2 (1), where lines 4 and 6 and function 2
+/// stay and aren't hit any more. Each number is wanted five times, as there are five files.
 #[test]
 fn three_tests_are_dropped(rt: HostRuntime) -> Result<(), Fail> {
     let mut book = Book::new(rt.alloc());
     hand_in_105(rt.alloc(), &mut book)?;
-    let wanted = Totals {
-        lf: 35,
-        lh: 35,
-        ..Totals::default()
-    };
-    assert!(rt; totals(&book) == wanted);
-    check_run(
-        &rt,
-        &mut book,
-        b"0 drop t1\n0 drop t2\n0 drop t0",
-        b"105 drop t1 > dropped 5 ; 35 35 \n106 drop t2 > dropped 5 ; 35 34 \n107 drop t0 > dropped 5 ; 0 0 \n",
-    )
+    check_totals(&rt, &book, b"55 40 30 25 20 15")?;
+    check_drops(&rt, &mut book)
 }
