@@ -70,7 +70,7 @@ impl<A: Allocator> Test<A> {
     }
 }
 
-/// A test behind a box. A map's node has places for eleven values, and most files have one test: so a place takes little.
+/// A test behind a box. A map's node has places for fifteen values, and most files have one test: so a place takes little.
 /// Contracts see the test.
 #[derive(Drop)]
 pub(crate) struct BoxedTest<A: Allocator> {
