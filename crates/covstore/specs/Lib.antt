@@ -1,4 +1,5 @@
 pub mod Ascending
+pub mod BoxedLends
 pub mod Value
 pub mod Clash
 pub mod Table

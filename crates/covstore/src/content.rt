@@ -6,6 +6,7 @@ ghost use Rattle.covstore.specs.ContentView.{or_none};
 mod points;
 
 pub use self::points::{Branches, Functions, Lines};
+use crate::boxed::Boxed;
 use crate::file::File;
 use crate::index::FileIndex;
 use crate::test::{BoxedTest, Test};
@@ -146,7 +147,7 @@ impl<'a, A: Allocator> FileSections<'a, A> {
 #[derive(Drop)]
 pub struct Sections<'a, A: Allocator = Global> {
     current: Option<FileSections<'a, A>>,
-    files: Iter<'a, Vec<u8, A>, File<A>>,
+    files: Iter<'a, Vec<u8, A>, Boxed<File<A>, A>>,
 }
 
 impl<'a, A: Allocator> Model for Sections<'a, A> {
@@ -170,7 +171,7 @@ impl<'a, A: Allocator> Sections<'a, A> {
     ghost use Rattle.covstore.specs.State.{sections_of};
 
     /// The sections of these files.
-    pub(crate) fn of(files: Iter<'a, Vec<u8, A>, File<A>>) -> Sections<'a, A>
+    pub(crate) fn of(files: Iter<'a, Vec<u8, A>, Boxed<File<A>, A>>) -> Sections<'a, A>
         requires { AllByRecursion IsFewOf (sections_of (files_committed (λ name. name.items) files)) }
         ensures { result ≡ sections_of (files_committed (λ name. name.items) files.entry) }
     {
@@ -209,7 +210,7 @@ impl<'a, A: Allocator> Iterator for Sections<'a, A> {
                 return next;
             }
             let (name, file) = self.files.next()?;
-            self.current = Some(FileSections::of(name.as_slice(), file));
+            self.current = Some(FileSections::of(name.as_slice(), file.get()));
         }
     }
 }

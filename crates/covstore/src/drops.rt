@@ -9,6 +9,7 @@ ghost use Rattle.covstore.specs.StoreView.{AreSettledBut, IsSettledBut, files_co
 ghost use Rattle.covstore.specs.Renaming.{names_with};
 ghost use Rattle.covstore.specs.State.{FileData, IsWholeFile, has_points_of, totals_in};
 
+use crate::boxed::Boxed;
 use crate::file::File;
 use crate::totals::Totals;
 use covline::Memory;
@@ -17,7 +18,7 @@ use std::collections::BTreeMap;
 
 /// The test goes from every file. A file whose last test goes stays, without tests. Takes no memory.
 pub(crate) fn drop_from_files<K: Ord + Drop, A: Allocator + Copy>(
-    files: &mut BTreeMap<K, File<A>, A>,
+    files: &mut BTreeMap<K, Boxed<File<A>, A>, A>,
     test: &[u8],
 )
     requires { AllByRecursion (λ pair. IsWholeFile (file_committed pair.1)) files.old.entries }
@@ -32,7 +33,7 @@ pub(crate) fn drop_from_files<K: Ord + Drop, A: Allocator + Copy>(
             ensures committed { IsWithoutTest test.entry.now (file_committed file.old) (file_committed file.new) }
             ensures settled { (tests : List (List ℕ)) → IsSettledBut tests file.old → IsSettledBut tests file.new }
         {
-            file.drop_test(test);
+            file.get_mut().drop_test(test);
             true
         },
     );
@@ -40,7 +41,7 @@ pub(crate) fn drop_from_files<K: Ord + Drop, A: Allocator + Copy>(
 
 /// In how many files the test has points, and the totals of all files where it is gone. Takes no memory.
 pub(crate) fn count_without<A: Allocator + Copy>(
-    files: &BTreeMap<Vec<u8, A>, File<A>, A>,
+    files: &BTreeMap<Vec<u8, A>, Boxed<File<A>, A>, A>,
     test: &[u8],
 ) -> (u64, Totals)
     requires whole { AllByRecursion (λ pair. IsWholeFile pair.1) (files_committed (λ name. name.items) files.now.entries) }
@@ -51,7 +52,7 @@ pub(crate) fn count_without<A: Allocator + Copy>(
     let mut sections = 0;
     let mut totals = Totals::none();
     for (_, file) in files.iter() {
-        let (has_points, rest) = file.without_test(test);
+        let (has_points, rest) = file.get().without_test(test);
         sections += u64::from(has_points);
         totals = totals.plus(rest);
     }
@@ -60,33 +61,35 @@ pub(crate) fn count_without<A: Allocator + Copy>(
 
 /// In how many files the test has points. Takes no memory.
 pub(crate) fn count_sections<A: Allocator + Copy>(
-    files: &BTreeMap<Vec<u8, A>, File<A>, A>,
+    files: &BTreeMap<Vec<u8, A>, Boxed<File<A>, A>, A>,
     test: &[u8],
 ) -> u64
     ensures { result ≡ count_by (λ pair. has_points_of test.now pair.1) (files_committed (λ name. name.items) files.now.entries) }
 {
     let mut sections = 0;
     for (_, file) in files.iter() {
-        sections += u64::from(file.has_test(test));
+        sections += u64::from(file.get().has_test(test));
     }
     sections
 }
 
 /// The totals of all files, by what each keeps of its own. Takes no memory.
-pub(crate) fn add_up<A: Allocator + Copy>(files: &BTreeMap<Vec<u8, A>, File<A>, A>) -> Totals
+pub(crate) fn add_up<A: Allocator + Copy>(
+    files: &BTreeMap<Vec<u8, A>, Boxed<File<A>, A>, A>,
+) -> Totals
     requires { FitTotals (totals_in (files_committed (λ name. name.items) files.now.entries)) }
     ensures { result ≡ totals_in (files_committed (λ name. name.items) files.now.entries) }
 {
     let mut totals = Totals::none();
     for (_, file) in files.iter() {
-        totals = totals.plus(file.totals_now());
+        totals = totals.plus(file.get().totals_now());
     }
     totals
 }
 
 /// The names of the files in which the test has points.
 pub(crate) fn names_with<A: Allocator + Copy>(
-    files: &BTreeMap<Vec<u8, A>, File<A>, A>,
+    files: &BTreeMap<Vec<u8, A>, Boxed<File<A>, A>, A>,
     alloc: A,
     test: &[u8],
 ) -> Result<Vec<Vec<u8, A>, A>, Memory>
@@ -94,7 +97,7 @@ pub(crate) fn names_with<A: Allocator + Copy>(
 {
     let mut names = Vec::new(alloc);
     for (name, file) in files.iter() {
-        if file.has_test(test) {
+        if file.get().has_test(test) {
             names.push(Vec::from_slice(alloc, name.as_slice())?)?;
         }
     }

@@ -29,6 +29,7 @@
 //! ```
 #![tactic(auto)]
 
+mod boxed;
 mod checksums;
 mod content;
 mod copies;

@@ -3,6 +3,7 @@
 ghost use Rattle.std.specs.Prelude.{◌≡◌, ◌+◌, ◌≤◌, [], OnOk};
 ghost use Rattle.covstore.specs.StoreView.{AreSettledBut, files_staged, files_committed, touched_data};
 
+use crate::boxed::Boxed;
 use crate::content::Sections;
 use crate::drops::{add_up, count_sections, count_without, drop_from_files, names_with};
 use crate::file::File;
@@ -47,7 +48,7 @@ impl<A: Allocator + Copy> Touched<A> {
 
 /// Commits what is staged of each of these tests. The list of them is empty then.
 fn commit_staged<A: Allocator + Copy>(
-    files: &mut BTreeMap<Vec<u8, A>, File<A>, A>,
+    files: &mut BTreeMap<Vec<u8, A>, Boxed<File<A>, A>, A>,
     touched: &mut Vec<Touched<A>, A>,
 )
     requires { AreSettledBut (λ name. name.items) (touched_data touched.old.items) files.old.entries }
@@ -58,7 +59,7 @@ fn commit_staged<A: Allocator + Copy>(
 {
     while let Some(last) = touched.pop() {
         if let Some(file) = files.get_mut(last.file.as_slice()) {
-            file.commit(last.test.as_slice());
+            file.get_mut().commit(last.test.as_slice());
         }
     }
 }
@@ -69,7 +70,7 @@ fn commit_staged<A: Allocator + Copy>(
 /// and once as it is to be after the next commit.
 #[derive(Drop)]
 pub struct Store<A: Allocator = Global> {
-    files: BTreeMap<Vec<u8, A>, File<A>, A>,
+    files: BTreeMap<Vec<u8, A>, Boxed<File<A>, A>, A>,
     touched: Vec<Touched<A>, A>,
     committed: Totals,
     staged: Totals,
@@ -249,7 +250,7 @@ impl<A: Allocator + Copy> Store<A> {
     {
         while let Some(touched) = self.touched.pop() {
             if let Some(file) = self.files.get_mut(touched.file.as_slice()) {
-                file.rollback(touched.test.as_slice());
+                file.get_mut().rollback(touched.test.as_slice());
             }
         }
         self.staged = self.committed;
@@ -298,7 +299,8 @@ impl<A: Allocator + Copy> Store<A> {
             return Ok(());
         }
         let name = Vec::from_slice(alloc, file)?;
-        self.files.insert(name, File::new(alloc))?;
+        let opened = Boxed::new(alloc, File::new(alloc))?;
+        self.files.insert(name, opened)?;
         Ok(())
     }
 
@@ -311,7 +313,7 @@ impl<A: Allocator + Copy> Store<A> {
         ensures after { OnOk result (self.new.after ≡ self.old.after) }
     {
         match self.files.get_mut(file) {
-            Some(opened) => opened.open(alloc, test),
+            Some(opened) => opened.get_mut().open(alloc, test),
             None => Ok(()),
         }
     }
@@ -334,7 +336,7 @@ impl<A: Allocator + Copy> Store<A> {
         let Some(opened) = self.files.get_mut(file) else {
             return Ok(());
         };
-        let totals = opened.exchange(alloc, file, test, items)?;
+        let totals = opened.get_mut().exchange(alloc, file, test, items)?;
         self.staged = self.staged.exchanged(totals.0, totals.1);
         Ok(())
     }
@@ -376,7 +378,7 @@ impl<A: Allocator + Copy> Store<A> {
     {
         Touched::push(&mut self.touched, alloc, file, new)?;
         match self.files.get_mut(file) {
-            Some(opened) => opened.copy_test(alloc, old, new),
+            Some(opened) => opened.get_mut().copy_test(alloc, old, new),
             None => Ok(()),
         }
     }
@@ -387,7 +389,7 @@ impl<A: Allocator + Copy> Store<A> {
         ensures value { result ≡ list_any (λ s. bytes_eq s.key.test test.now) self.now.sections }
         ensures rows { (table : Table) → StandsFor self.now table → result ≡ list_any (λ row. bytes_eq row.test test.now) (all_rows table) }
     {
-        self.files.values().any(|file| file.has_test(test))
+        self.files.values().any(|file| file.get().has_test(test))
     }
 
     /// In how many sections the test stands, and the totals that `drop_test` would leave. Takes no memory.

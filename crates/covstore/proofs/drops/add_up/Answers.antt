@@ -1,4 +1,4 @@
-use Rattle.std.proofs.Common.{ℕ, Vec, List, sym, ap, ◌∙◌, subst}
+use Rattle.std.proofs.Common.{ℕ, Vec, List, ◌∷◌, sym, ap, ◌∙◌, subst}
 use Rattle.covstore.specs.declared.file.File.{File}
 use Rattle.covstore.specs.declared.totals.Totals.{Totals}
 use Rattle.covstore.specs.TotalsExchanged.{FitTogether, together}
@@ -22,20 +22,20 @@ pub plus-totals-requires : goal.plus-totals-requires
 plus-totals-requires g c =
     let all = files_committed file_name c.args.files.now.entries in
     let before = subst (λ (pairs : List (Vec ℕ g.row.A.Denot × File g.row.A.Denot)). IsAddedUp all (files_committed file_name pairs) c.loop-file.totals)
-    c.in-Some.ensures.steps c.loop-file.invariant.2 in
+    (c.in-Some.ensures.steps ∙ ap (λ (file : File g.row.A.Denot). (c.in-Some.field-0-0.now, file) ∷ c.next.new.self) (sym c.get.ensures)) c.loop-file.invariant.2 in
     subst (λ (own : Totals). FitTogether own c.loop-file.totals) (sym c.totals_now.ensures)
-    (one_fits all (c.in-Some.field-0-0.now.items, file_committed c.in-Some.file.now) (files_committed file_name c.next.new.self) c.loop-file.totals before c.requires)
+    (one_fits all (c.in-Some.field-0-0.now.items, file_committed c.get.result.now) (files_committed file_name c.next.new.self) c.loop-file.totals before c.requires)
 
 pub loop-file-preserved : goal.loop-file-preserved
 loop-file-preserved g c =
     let all = files_committed file_name c.args.files.now.entries in
     let left = files_committed file_name c.next.new.self in
     let before = subst (λ (pairs : List (Vec ℕ g.row.A.Denot × File g.row.A.Denot)). IsAddedUp all (files_committed file_name pairs) c.loop-file.totals)
-    c.in-Some.ensures.steps c.loop-file.invariant.2 in
+    (c.in-Some.ensures.steps ∙ ap (λ (file : File g.row.A.Denot). (c.in-Some.field-0-0.now, file) ∷ c.next.new.self) (sym c.get.ensures)) c.loop-file.invariant.2 in
     let added = c.plus-totals.ensures ∙ ap (together c.loop-file.totals) c.totals_now.ensures in (
       tt,
       tt,
-      subst (IsAddedUp all left) (sym added) (one_added all (c.in-Some.field-0-0.now.items, file_committed c.in-Some.file.now) left c.loop-file.totals before),
+      subst (IsAddedUp all left) (sym added) (one_added all (c.in-Some.field-0-0.now.items, file_committed c.get.result.now) left c.loop-file.totals before),
     )
 
 pub returns : goal.returns

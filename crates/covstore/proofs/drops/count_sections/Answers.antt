@@ -1,4 +1,4 @@
-use Rattle.std.proofs.Common.{ℕ, ◌+◌, ◌<◌, ◌^◌, Bool, true, false, cond, Vec, List, length, refl, sym, ap, ◌∙◌, subst, arith}
+use Rattle.std.proofs.Common.{ℕ, ◌+◌, ◌<◌, ◌^◌, Bool, true, false, cond, Vec, List, ◌∷◌, length, refl, sym, ap, ◌∙◌, subst, arith}
 use Rattle.std.specs.Prelude.{◌≡◌}
 use Rattle.std.specs.Int.{from_bool}
 use Rattle.std.proofs.lemmas.List.{length-map}
@@ -30,8 +30,8 @@ overflow_add-sections g c =
     let few : length all < 2 ^ 63 =
     omega (arith, length-map {B = List ℕ × FileData} c.args.files.now.entries (λ pair. (file_name pair.0, file_committed pair.1)), c.iter-file-items.ensures.fits) in
     let before = subst (λ (pairs : List (Vec ℕ g.row.A.Denot × File g.row.A.Denot)). AreCounted c.args.test.now all (files_committed file_name pairs) c.loop-file.sections)
-    c.in-Some.ensures.steps c.loop-file.invariant.2 in
-    let fits = one_section_fits c.args.test.now all (c.in-Some.field-0-0.now.items, file_committed c.in-Some.file.now) (files_committed file_name c.next.new.self) c.loop-file.sections before few in
+    (c.in-Some.ensures.steps ∙ ap (λ (file : File g.row.A.Denot). (c.in-Some.field-0-0.now, file) ∷ c.next.new.self) (sym c.get.ensures)) c.loop-file.invariant.2 in
+    let fits = one_section_fits c.args.test.now all (c.in-Some.field-0-0.now.items, file_committed c.get.result.now) (files_committed file_name c.next.new.self) c.loop-file.sections before few in
     let own = c.from-sections.ensures ∙ as_number c.has_test.result ∙ ap (λ (b : Bool). cond {A = ℕ} b 1 0) c.has_test.ensures in
     omega (arith, fits, own)
 
@@ -40,12 +40,12 @@ loop-file-preserved g c =
     let all = files_committed file_name c.args.files.now.entries in
     let left = files_committed file_name c.next.new.self in
     let before = subst (λ (pairs : List (Vec ℕ g.row.A.Denot × File g.row.A.Denot)). AreCounted c.args.test.now all (files_committed file_name pairs) c.loop-file.sections)
-    c.in-Some.ensures.steps c.loop-file.invariant.2 in
+    (c.in-Some.ensures.steps ∙ ap (λ (file : File g.row.A.Denot). (c.in-Some.field-0-0.now, file) ∷ c.next.new.self) (sym c.get.ensures)) c.loop-file.invariant.2 in
     let own = c.from-sections.ensures ∙ as_number c.has_test.result ∙ ap (λ (b : Bool). cond {A = ℕ} b 1 0) c.has_test.ensures in (
       tt,
       tt,
       subst (λ (n : ℕ). AreCounted c.args.test.now all left (c.loop-file.sections + n)) (sym own)
-          (one_counted c.args.test.now all (c.in-Some.field-0-0.now.items, file_committed c.in-Some.file.now) left c.loop-file.sections before),
+          (one_counted c.args.test.now all (c.in-Some.field-0-0.now.items, file_committed c.get.result.now) left c.loop-file.sections before),
     )
 
 pub returns : goal.returns

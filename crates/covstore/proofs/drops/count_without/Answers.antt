@@ -1,4 +1,4 @@
-use Rattle.std.proofs.Common.{ℕ, ◌+◌, ◌<◌, ◌^◌, Bool, true, false, cond, Vec, List, [], length, refl, sym, ap, ◌∙◌, subst, arith}
+use Rattle.std.proofs.Common.{ℕ, ◌+◌, ◌<◌, ◌^◌, Bool, true, false, cond, Vec, List, [], ◌∷◌, length, refl, sym, ap, ◌∙◌, subst, arith}
 use Rattle.std.specs.Prelude.{◌≡◌}
 use Rattle.std.specs.Int.{from_bool}
 use Rattle.std.proofs.lemmas.List.{length-map}
@@ -30,34 +30,34 @@ overflow_add-sections g c =
     let all = files_committed file_name c.args.files.now.entries in
     let few : length all < 2 ^ 63 =
     omega (arith, length-map {B = List ℕ × FileData} c.args.files.now.entries (λ pair. (file_name pair.0, file_committed pair.1)), c.iter-file-items.ensures.fits) in
-    let fits = next_section_fits c.args.test.now all (c.in-Some.field-0-0.now.items, file_committed c.in-Some.file.now) (files_committed file_name c.next.new.self) c.loop-file.sections c.loop-file.totals (subst (λ (pairs : List (Vec ℕ g.row.A.Denot × File g.row.A.Denot)). IsCounted c.args.test.now (files_committed file_name c.args.files.now.entries) (files_committed file_name pairs) c.loop-file.sections c.loop-file.totals)
-    c.in-Some.ensures.steps c.loop-file.invariant.2) few in
+    let fits = next_section_fits c.args.test.now all (c.in-Some.field-0-0.now.items, file_committed c.get.result.now) (files_committed file_name c.next.new.self) c.loop-file.sections c.loop-file.totals (subst (λ (pairs : List (Vec ℕ g.row.A.Denot × File g.row.A.Denot)). IsCounted c.args.test.now (files_committed file_name c.args.files.now.entries) (files_committed file_name pairs) c.loop-file.sections c.loop-file.totals)
+    (c.in-Some.ensures.steps ∙ ap (λ (file : File g.row.A.Denot). (c.in-Some.field-0-0.now, file) ∷ c.next.new.self) (sym c.get.ensures)) c.loop-file.invariant.2) few in
     let own = c.from-sections.ensures ∙ as_number c.without_test-has_points.result.0 ∙ ap (λ (b : Bool). cond {A = ℕ} b 1 0) c.without_test-has_points.ensures.has_points in
     omega (arith, fits, own)
 
 pub without_test-has_points-requires : goal.without_test-has_points-requires
 without_test-has_points-requires g c =
-    next_whole c.args.test.now (files_committed file_name c.args.files.now.entries) (c.in-Some.field-0-0.now.items, file_committed c.in-Some.file.now) (files_committed file_name c.next.new.self) c.loop-file.sections c.loop-file.totals (subst (λ (pairs : List (Vec ℕ g.row.A.Denot × File g.row.A.Denot)). IsCounted c.args.test.now (files_committed file_name c.args.files.now.entries) (files_committed file_name pairs) c.loop-file.sections c.loop-file.totals)
-    c.in-Some.ensures.steps c.loop-file.invariant.2)
+    next_whole c.args.test.now (files_committed file_name c.args.files.now.entries) (c.in-Some.field-0-0.now.items, file_committed c.get.result.now) (files_committed file_name c.next.new.self) c.loop-file.sections c.loop-file.totals (subst (λ (pairs : List (Vec ℕ g.row.A.Denot × File g.row.A.Denot)). IsCounted c.args.test.now (files_committed file_name c.args.files.now.entries) (files_committed file_name pairs) c.loop-file.sections c.loop-file.totals)
+    (c.in-Some.ensures.steps ∙ ap (λ (file : File g.row.A.Denot). (c.in-Some.field-0-0.now, file) ∷ c.next.new.self) (sym c.get.ensures)) c.loop-file.invariant.2)
 
 pub plus-totals-requires : goal.plus-totals-requires
 plus-totals-requires g c =
-    next_fits c.args.test.now (files_committed file_name c.args.files.now.entries) (c.in-Some.field-0-0.now.items, file_committed c.in-Some.file.now) (files_committed file_name c.next.new.self) c.loop-file.sections c.loop-file.totals
+    next_fits c.args.test.now (files_committed file_name c.args.files.now.entries) (c.in-Some.field-0-0.now.items, file_committed c.get.result.now) (files_committed file_name c.next.new.self) c.loop-file.sections c.loop-file.totals
     (subst (λ (pairs : List (Vec ℕ g.row.A.Denot × File g.row.A.Denot)). IsCounted c.args.test.now (files_committed file_name c.args.files.now.entries) (files_committed file_name pairs) c.loop-file.sections c.loop-file.totals)
-    c.in-Some.ensures.steps c.loop-file.invariant.2) c.without_test-has_points.result.1 c.without_test-has_points.ensures.totals c.requires.fits.0 c.requires.fits.1 c.requires.fits.2
+    (c.in-Some.ensures.steps ∙ ap (λ (file : File g.row.A.Denot). (c.in-Some.field-0-0.now, file) ∷ c.next.new.self) (sym c.get.ensures)) c.loop-file.invariant.2) c.without_test-has_points.result.1 c.without_test-has_points.ensures.totals c.requires.fits.0 c.requires.fits.1 c.requires.fits.2
 
 pub loop-file-preserved : goal.loop-file-preserved
 loop-file-preserved g c =
     let all = files_committed file_name c.args.files.now.entries in
     let left = files_committed file_name c.next.new.self in
     let own = c.from-sections.ensures ∙ as_number c.without_test-has_points.result.0 ∙ ap (λ (b : Bool). cond {A = ℕ} b 1 0) c.without_test-has_points.ensures.has_points in
-    let later = one_counted c.args.test.now all (c.in-Some.field-0-0.now.items, file_committed c.in-Some.file.now) left c.loop-file.sections c.loop-file.totals
+    let later = one_counted c.args.test.now all (c.in-Some.field-0-0.now.items, file_committed c.get.result.now) left c.loop-file.sections c.loop-file.totals
     (subst (λ (pairs : List (Vec ℕ g.row.A.Denot × File g.row.A.Denot)). IsCounted c.args.test.now (files_committed file_name c.args.files.now.entries) (files_committed file_name pairs) c.loop-file.sections c.loop-file.totals)
-    c.in-Some.ensures.steps c.loop-file.invariant.2) c.without_test-has_points.result.1 c.without_test-has_points.ensures.totals in (
+    (c.in-Some.ensures.steps ∙ ap (λ (file : File g.row.A.Denot). (c.in-Some.field-0-0.now, file) ∷ c.next.new.self) (sym c.get.ensures)) c.loop-file.invariant.2) c.without_test-has_points.result.1 c.without_test-has_points.ensures.totals in (
       tt,
       tt,
       subst (λ (n : ℕ). IsCounted c.args.test.now all left (c.loop-file.sections + n) c.plus-totals.result) (sym own)
-          (subst (IsCounted c.args.test.now all left (c.loop-file.sections + cond (has_points_of c.args.test.now (file_committed c.in-Some.file.now)) 1 0)) (sym c.plus-totals.ensures) later),
+          (subst (IsCounted c.args.test.now all left (c.loop-file.sections + cond (has_points_of c.args.test.now (file_committed c.get.result.now)) 1 0)) (sym c.plus-totals.ensures) later),
     )
 
 -- no file is left

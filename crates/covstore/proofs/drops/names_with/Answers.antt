@@ -1,4 +1,4 @@
-use Rattle.std.proofs.Common.{ℕ, ◌++◌, List, Vec, map, sym, ap, ◌∙◌}
+use Rattle.std.proofs.Common.{ℕ, ◌++◌, ◌∷◌, List, Vec, map, sym, ap, ◌∙◌}
 use Rattle.std.proofs.lemmas.List.{append-nil}
 use Rattle.covstore.specs.declared.file.File.{File}
 use Rattle.covstore.specs.FileView.{file_committed}
@@ -20,8 +20,8 @@ pub loop-name-preserved : goal.loop-name-preserved
 loop-name-preserved g c = (
   tt,
   tt,
-  none_named file_name c.args.test.now (files_committed file_name c.args.files.now.entries) (files_committed file_name c.loop-name.name-iterator) (c.in-Some.name.now.items, file_committed c.in-Some.file.now) (files_committed file_name c.next.new.self)
-      (ap (λ (pairs : List (Vec ℕ g.row.A.Denot × File g.row.A.Denot)). files_committed file_name pairs) c.in-Some.ensures.steps) c.loop-name.names.items c.loop-name.invariant.2 (sym c.has_test.ensures ∙ c.if-has_test.false),
+  none_named file_name c.args.test.now (files_committed file_name c.args.files.now.entries) (files_committed file_name c.loop-name.name-iterator) (c.in-Some.name.now.items, file_committed c.get.result.now) (files_committed file_name c.next.new.self)
+      (ap (λ (pairs : List (Vec ℕ g.row.A.Denot × File g.row.A.Denot)). files_committed file_name pairs) (c.in-Some.ensures.steps ∙ ap (λ (file : File g.row.A.Denot). (c.in-Some.name.now, file) ∷ c.next.new.self) (sym c.get.ensures))) c.loop-name.names.items c.loop-name.invariant.2 (sym c.has_test.ensures ∙ c.if-has_test.false),
 )
 
 pub returns : goal.returns

@@ -1,4 +1,4 @@
-use Rattle.std.proofs.Common.{◌≡◌, ℕ, [], length, refl, sym, ap, ◌∙◌, subst, Vec, BTreeMap}
+use Rattle.std.proofs.Common.{◌≡◌, ℕ, [], length, refl, sym, ap, ◌∙◌, subst, Vec, BTreeMap, Some}
 use Rattle.std.proofs.lemmas.List.{nil_from_length}
 use Rattle.covstore.specs.declared.file.File.{File}
 use Rattle.covstore.specs.FileView.{file_staged}
@@ -23,7 +23,7 @@ loop-last-preserved g c =
           let after = w.commit.new.self in
           subst (λ (m : BTreeMap (Vec ℕ g.row.A.Denot) (File g.row.A.Denot)). IsSettling file_staged front first m.entries) (sym w.files-is)
           (settling_found file_staged touched front file test popped first now (c.get_mut.follows.lender after).entries was
-          w.in-Some-get_mut.file.now after c.get_mut.ensures.ordered (c.get_mut.follows.holds after).0 (sym w.in-Some-get_mut.ensures.value) w.commit.ensures.staged w.commit.ensures.settled)
+          w.get_mut-in-Some-get_mut.result.now after c.get_mut.ensures.ordered (c.get_mut.follows.holds after).0 (sym w.in-Some-get_mut.ensures.value ∙ ap Some (sym w.get_mut-in-Some-get_mut.ensures.value)) w.commit.ensures.staged w.commit.ensures.settled)
       | in_default-get_mut w ↦
           let popped = popped_as touched front last file last.test.items c.in-Some.ensures.items c.as_slice.ensures.value refl in
           let same = ap (λ (m : BTreeMap (Vec ℕ g.row.A.Denot) (File g.row.A.Denot)). m.entries) c.get_mut.follows.holds-at-none in

@@ -1,5 +1,6 @@
-use Rattle.std.proofs.Common.{Vec, ℕ, List, sym, ap, ◌∙◌, subst}
+use Rattle.std.proofs.Common.{Vec, ℕ, List, ◌∷◌, sym, ap, ◌∙◌, subst}
 use Rattle.std.specs.List.{AllByRecursion}
+use Rattle.covstore.specs.declared.file.File.{File}
 use Rattle.covstore.specs.FileView.{file_committed}
 use Rattle.covstore.specs.State.{sections_of_file}
 use Rattle.covstore.specs.ContentView.{IsFewOf, sections_left}
@@ -9,16 +10,16 @@ use Rattle.covstore.proofs.content.SectionsIterator.next.Goals as goal
 pub of-requires : goal.of-requires
 of-requires g c =
     let name = λ (key : Vec ℕ g.row.A.Denot). key.items in
-    subst (λ (n : List ℕ). AllByRecursion IsFewOf (sections_of_file (n, file_committed c.in_ok-name.file.now))) (sym c.as_slice.ensures.value)
-    (all_of_next IsFewOf name c.loop-next.self-inside.current c.loop-next.self-inside.files (sections_left name c.self.inside.current c.self.inside.files) c.in_ok-name.name.now c.in_ok-name.file.now c.next.new.self
-    c.in_ok-name.ensures.steps c.loop-next.invariant c.self.invariant)
+    subst (λ (n : List ℕ). AllByRecursion IsFewOf (sections_of_file (n, file_committed c.get.result.now))) (sym c.as_slice.ensures.value)
+    (all_of_next IsFewOf name c.loop-next.self-inside.current c.loop-next.self-inside.files (sections_left name c.self.inside.current c.self.inside.files) c.in_ok-name.name.now c.get.result.now c.next.new.self
+    (c.in_ok-name.ensures.steps ∙ ap (λ (file : File g.row.A.Denot). (c.in_ok-name.name.now, file) ∷ c.next.new.self) (sym c.get.ensures)) c.loop-next.invariant c.self.invariant)
 
 pub loop-next-preserved : goal.loop-next-preserved
 loop-next-preserved g c =
     let name = λ (key : Vec ℕ g.row.A.Denot). key.items in
     let now = c.loop-next.self-inside in
-    let file = c.in_ok-name.file.now in
+    let file = c.get.result.now in
     next_at_hand name now.current now.files (sections_left name c.self.inside.current c.self.inside.files) c.in_ok-name.name.now file c.next.new.self c.of.result
     (none_at_hand c.next_of_file-next.result now.current c.next_of_file-next.new.current c.is_some.result c.is_some.ensures c.if-is_some.false c.next_of_file-next.ensures)
-    c.in_ok-name.ensures.steps c.loop-next.invariant
+    (c.in_ok-name.ensures.steps ∙ ap (λ (file : File g.row.A.Denot). (c.in_ok-name.name.now, file) ∷ c.next.new.self) (sym c.get.ensures)) c.loop-next.invariant
     (c.of.ensures ∙ ap (λ (n : List ℕ). sections_of_file (n, file_committed file)) c.as_slice.ensures.value)

@@ -1,4 +1,4 @@
-use Rattle.std.proofs.Common.{map, sym, subst}
+use Rattle.std.proofs.Common.{map, sym, subst, ap, ◌∙◌, Some}
 use Rattle.std.proofs.lemmas.Result.{err_from_is_err_and}
 use Rattle.covline.specs.Row.{item_data}
 use Rattle.covstore.specs.Store.{SameCommitted}
@@ -33,14 +33,14 @@ pub exchange-requires : goal.exchange-requires
 exchange-requires g c =
     let first = c.self.inside in
     let items = map item_data c.args.items.now in
-    found_room first.files.entries first.members first.staged c.args.file.now c.args.test.now items c.args.self.now c.self.view_is c.requires.room c.requires.place c.in-Some.opened.now (sym c.in-Some.ensures.value)
+    found_room first.files.entries first.members first.staged c.args.file.now c.args.test.now items c.args.self.now c.self.view_is c.requires.room c.requires.place c.get_mut-2.result.now (sym c.in-Some.ensures.value ∙ ap Some (sym c.get_mut-2.ensures.value))
 
 pub invariant_of-self-in_err-totals : goal.invariant_of-self-in_err-totals
 invariant_of-self-in_err-totals g c =
     let first = c.self.inside in
     let items = map item_data c.args.items.now in
     let after = c.exchange.new.self in
-    found_store first.files.entries first.members first.staged c.args.file.now c.args.test.now items c.args.self.now c.self.view_is c.requires.room c.requires.place c.in-Some.opened.now (sym c.in-Some.ensures.value)
+    found_store first.files.entries first.members first.staged c.args.file.now c.args.test.now items c.args.self.now c.self.view_is c.requires.room c.requires.place c.get_mut-2.result.now (sym c.in-Some.ensures.value ∙ ap Some (sym c.get_mut-2.ensures.value))
     after (c.get_mut.follows.lender after).entries c.get_mut.ensures.ordered (c.get_mut.follows.holds after).0
     first.committed (touched_data first.touched.items) (touched_data c.push.new.touched.items) c.self.invariant c.exchange.ensures.committed c.in_ok-push.ensures.ok c.exchange.ensures.settled
 
@@ -49,7 +49,7 @@ invariant_of-self-2 g c =
     let first = c.self.inside in
     let items = map item_data c.args.items.now in
     let after = c.exchange.new.self in
-    found_store first.files.entries first.members first.staged c.args.file.now c.args.test.now items c.args.self.now c.self.view_is c.requires.room c.requires.place c.in-Some.opened.now (sym c.in-Some.ensures.value)
+    found_store first.files.entries first.members first.staged c.args.file.now c.args.test.now items c.args.self.now c.self.view_is c.requires.room c.requires.place c.get_mut-2.result.now (sym c.in-Some.ensures.value ∙ ap Some (sym c.get_mut-2.ensures.value))
     after (c.get_mut.follows.lender after).entries c.get_mut.ensures.ordered (c.get_mut.follows.holds after).0
     first.committed (touched_data first.touched.items) (touched_data c.push.new.touched.items) c.self.invariant c.exchange.ensures.committed c.in_ok-push.ensures.ok c.exchange.ensures.settled
 
@@ -58,7 +58,7 @@ returns-in_err-totals-clause-committed g c =
     let first = c.self.inside in
     let items = map item_data c.args.items.now in
     let after = c.exchange.new.self in
-    found_held first.files.entries first.members first.staged c.args.file.now c.args.test.now items c.args.self.now c.self.view_is c.requires.room c.requires.place c.in-Some.opened.now (sym c.in-Some.ensures.value)
+    found_held first.files.entries first.members first.staged c.args.file.now c.args.test.now items c.args.self.now c.self.view_is c.requires.room c.requires.place c.get_mut-2.result.now (sym c.in-Some.ensures.value ∙ ap Some (sym c.get_mut-2.ensures.value))
     after (c.get_mut.follows.lender after).entries c.get_mut.ensures.ordered (c.get_mut.follows.holds after).0
     first.committed c.self.invariant.0 c.exchange.ensures.committed first.staged
 
@@ -67,7 +67,7 @@ returns-clause-committed g c =
     let first = c.self.inside in
     let items = map item_data c.args.items.now in
     let after = c.exchange.new.self in
-    found_held first.files.entries first.members first.staged c.args.file.now c.args.test.now items c.args.self.now c.self.view_is c.requires.room c.requires.place c.in-Some.opened.now (sym c.in-Some.ensures.value)
+    found_held first.files.entries first.members first.staged c.args.file.now c.args.test.now items c.args.self.now c.self.view_is c.requires.room c.requires.place c.get_mut-2.result.now (sym c.in-Some.ensures.value ∙ ap Some (sym c.get_mut-2.ensures.value))
     after (c.get_mut.follows.lender after).entries c.get_mut.ensures.ordered (c.get_mut.follows.holds after).0
     first.committed c.self.invariant.0 c.exchange.ensures.committed c.exchanged-self-inside.result
 
@@ -76,25 +76,25 @@ returns-in_err-totals-clause-clash g c =
     let first = c.self.inside in
     let items = map item_data c.args.items.now in
     let p = err_from_is_err_and c.from_residual-in_err-totals.result c.from_residual-in_err-totals.ensures.1 in
-    rw (p.1, p.2) (found_refused first.files.entries first.members first.staged c.args.file.now c.args.test.now items c.args.self.now c.self.view_is c.requires.room c.requires.place c.in-Some.opened.now (sym c.in-Some.ensures.value) (refuse_data c.in_err-totals.field-0.0) c.in_err-totals.ensures.clash)
+    rw (p.1, p.2) (found_refused first.files.entries first.members first.staged c.args.file.now c.args.test.now items c.args.self.now c.self.view_is c.requires.room c.requires.place c.get_mut-2.result.now (sym c.in-Some.ensures.value ∙ ap Some (sym c.get_mut-2.ensures.value)) (refuse_data c.in_err-totals.field-0.0) c.in_err-totals.ensures.clash)
 
 pub exchanged-self-inside-requires-clause-part : goal.exchanged-self-inside-requires-clause-part
 exchanged-self-inside-requires-clause-part g c =
     let first = c.self.inside in
     let items = map item_data c.args.items.now in
-    found_part first.files.entries first.members first.staged c.args.file.now c.args.test.now items c.args.self.now c.self.view_is c.requires.room c.requires.place c.in-Some.opened.now (sym c.in-Some.ensures.value) c.in_ok-totals.totals.0 c.in_ok-totals.ensures.totals.0
+    found_part first.files.entries first.members first.staged c.args.file.now c.args.test.now items c.args.self.now c.self.view_is c.requires.room c.requires.place c.get_mut-2.result.now (sym c.in-Some.ensures.value ∙ ap Some (sym c.get_mut-2.ensures.value)) c.in_ok-totals.totals.0 c.in_ok-totals.ensures.totals.0
 
 pub exchanged-self-inside-requires-clause-fits : goal.exchanged-self-inside-requires-clause-fits
 exchanged-self-inside-requires-clause-fits g c =
     let first = c.self.inside in
     let items = map item_data c.args.items.now in
-    found_fits first.files.entries first.members first.staged c.args.file.now c.args.test.now items c.args.self.now c.self.view_is c.requires.room c.requires.place c.in-Some.opened.now (sym c.in-Some.ensures.value) c.exchange.new.self c.in_ok-totals.ensures.ok c.in_ok-totals.totals.1 c.in_ok-totals.ensures.totals.1
+    found_fits first.files.entries first.members first.staged c.args.file.now c.args.test.now items c.args.self.now c.self.view_is c.requires.room c.requires.place c.get_mut-2.result.now (sym c.in-Some.ensures.value ∙ ap Some (sym c.get_mut-2.ensures.value)) c.exchange.new.self c.in_ok-totals.ensures.ok c.in_ok-totals.totals.1 c.in_ok-totals.ensures.totals.1
 
 pub returns-clause-ok : goal.returns-clause-ok
 returns-clause-ok g c =
     let first = c.self.inside in
     let items = map item_data c.args.items.now in
     let after = c.exchange.new.self in
-    found_rows first.files.entries first.members first.staged c.args.file.now c.args.test.now items c.args.self.now c.self.view_is c.requires.room c.requires.place c.in-Some.opened.now (sym c.in-Some.ensures.value)
+    found_rows first.files.entries first.members first.staged c.args.file.now c.args.test.now items c.args.self.now c.self.view_is c.requires.room c.requires.place c.get_mut-2.result.now (sym c.in-Some.ensures.value ∙ ap Some (sym c.get_mut-2.ensures.value))
     after (c.get_mut.follows.lender after).entries c.get_mut.ensures.ordered (c.get_mut.follows.holds after).0
     c.in_ok-totals.ensures.ok c.in_ok-totals.totals.0 c.in_ok-totals.totals.1 c.exchanged-self-inside.result c.in_ok-totals.ensures.totals.0 c.in_ok-totals.ensures.totals.1 c.exchanged-self-inside.ensures

@@ -1,4 +1,4 @@
-use Rattle.std.proofs.Common.{sym, ap, subst}
+use Rattle.std.proofs.Common.{sym, ap, subst, ◌∙◌, Some}
 use Rattle.std.specs.Prelude.{OnOk}
 use Rattle.std.proofs.lemmas.Result.{on_ok_weaker}
 use Rattle.covstore.specs.declared.store.Store.TheInside.{Inside}
@@ -21,10 +21,10 @@ invariant_of-self g c =
     let file = c.args.file.now in
     elim c.match-get_mut.branch [
       | in-Some w ↦
-          let before = w.in-Some.opened.now in
+          let before = w.get_mut-in-Some.result.now in
           let after = w.open.new.self in
           let later = (c.get_mut.follows.lender after).entries in
-          let found = sym w.in-Some.ensures.value in
+          let found = sym w.in-Some.ensures.value ∙ ap Some (sym w.get_mut-in-Some.ensures.value) in
           let written = (c.get_mut.follows.holds after).0 in
           let keeps = test_ready file_name file first.files.entries before found after later c.get_mut.ensures.ordered written file_committed w.open.result c.args.test.now w.open.ensures.committed w.open.ensures.err_committed in
           subst (λ (i : Inside g.row.A.Denot). IsStore i.members i.committed (files_committed file_name i.files.entries) × AreSettledBut file_name (touched_data i.touched.items) i.files.entries) (sym w.self-inside-is) (
@@ -42,7 +42,7 @@ returns-clause-committed g c =
       | in-Some w ↦
           let after = w.open.new.self in
           let later = (c.get_mut.follows.lender after).entries in
-          let keeps = test_ready file_name file first.files.entries w.in-Some.opened.now (sym w.in-Some.ensures.value) after later c.get_mut.ensures.ordered (c.get_mut.follows.holds after).0 file_committed
+          let keeps = test_ready file_name file first.files.entries w.get_mut-in-Some.result.now (sym w.in-Some.ensures.value ∙ ap Some (sym w.get_mut-in-Some.ensures.value)) after later c.get_mut.ensures.ordered (c.get_mut.follows.holds after).0 file_committed
           w.open.result c.args.test.now w.open.ensures.committed w.open.ensures.err_committed in
           subst (λ (i : Inside g.row.A.Denot). SameCommitted c.args.self.now (store_of i.members (files_committed file_name i.files.entries) (files_staged file_name i.files.entries) i.staged)) (sym w.self-inside-is)
           (held_kept first.members first.committed (files_committed file_name first.files.entries) (files_committed file_name later) (files_staged file_name first.files.entries) (files_staged file_name later) first.staged first.staged c.args.self.now
@@ -58,7 +58,7 @@ returns-clause-staged g c =
       | in-Some w ↦
           let after = w.open.new.self in
           let later = (c.get_mut.follows.lender after).entries in
-          let keeps = test_ready file_name file first.files.entries w.in-Some.opened.now (sym w.in-Some.ensures.value) after later c.get_mut.ensures.ordered (c.get_mut.follows.holds after).0 file_staged
+          let keeps = test_ready file_name file first.files.entries w.get_mut-in-Some.result.now (sym w.in-Some.ensures.value ∙ ap Some (sym w.get_mut-in-Some.ensures.value)) after later c.get_mut.ensures.ordered (c.get_mut.follows.holds after).0 file_staged
           w.open.result c.args.test.now w.open.ensures.staged w.open.ensures.err_staged in
           on_ok_always c.match-get_mut.result
           (subst (λ (i : Inside g.row.A.Denot). KeepsState c.args.self.now.staged (files_staged file_name i.files.entries)) (sym w.self-inside-is)
@@ -78,7 +78,7 @@ returns-clause-place g c =
           subst (λ r. OnOk r (HasPlace file test (files_staged file_name c.match-get_mut.self-inside.files.entries))) (sym w.result-is)
           (on_ok_weaker w.open.result
           (λ opened. subst (λ (i : Inside g.row.A.Denot). HasPlace file test (files_staged file_name i.files.entries)) (sym w.self-inside-is)
-          (test_place file_name file first.files.entries w.in-Some.opened.now (sym w.in-Some.ensures.value) after later c.get_mut.ensures.ordered (c.get_mut.follows.holds after).0 file_staged test opened))
+          (test_place file_name file first.files.entries w.get_mut-in-Some.result.now (sym w.in-Some.ensures.value ∙ ap Some (sym w.get_mut-in-Some.ensures.value)) after later c.get_mut.ensures.ordered (c.get_mut.follows.holds after).0 file_staged test opened))
           w.open.ensures.staged)
       | in-None w ↦ absurd (no_place file_name file_staged file first.files.entries (sym w.in-None.ensures.value) c.args.self.now.staged (ap (λ s. s.staged) c.self.view_is) c.requires)
     ]

@@ -1,4 +1,4 @@
-use Rattle.std.proofs.Common.{◌≡◌, ℕ, length, refl, sym, ap, ◌∙◌, subst, Vec, BTreeMap}
+use Rattle.std.proofs.Common.{◌≡◌, ℕ, length, refl, sym, ap, ◌∙◌, subst, Vec, BTreeMap, Some}
 use Rattle.covstore.specs.declared.file.File.{File}
 use Rattle.covstore.specs.declared.store.Store.TheInside.{Inside}
 use Rattle.covstore.specs.FileView.{file_committed}
@@ -21,7 +21,7 @@ loop-touched-preserved g c =
           let popped = popped_as now.touched.items front last file test c.in-Some.ensures.items c.as_slice.ensures.value w.as_slice-in-Some-get_mut.ensures.value in
           let after = w.rollback.new.self in
           let settling = settling_found file_committed now.touched.items front file test popped first.files.entries now.files.entries (c.get_mut.follows.lender after).entries was.0
-          w.in-Some-get_mut.file.now after c.get_mut.ensures.ordered (c.get_mut.follows.holds after).0 (sym w.in-Some-get_mut.ensures.value) w.rollback.ensures.committed w.rollback.ensures.settled in
+          w.get_mut-in-Some-get_mut.result.now after c.get_mut.ensures.ordered (c.get_mut.follows.holds after).0 (sym w.in-Some-get_mut.ensures.value ∙ ap Some (sym w.get_mut-in-Some-get_mut.ensures.value)) w.rollback.ensures.committed w.rollback.ensures.settled in
           subst (λ (i : Inside g.row.A.Denot). IsSettling file_committed i.touched.items first.files.entries i.files.entries × (i.members ≡ first.members) × (i.committed ≡ first.committed))
           (sym w.self-inside-is) (settling, was.1, was.2)
       | in_default-get_mut w ↦
