@@ -1,0 +1,16 @@
+-- Items by their places.
+use Rattle.std.specs.Prelude.{◌≡◌, List, slice_get}
+use Rattle.std.specs.List.{flat_map}
+use Rattle.std.specs.List.Sorted.{IsPermutation}
+use Rattle.std.specs.Option.{option_to_list}
+use Rattle.covstore.specs.declared.order.Spot.{Spot}
+
+-- the items at these spots, in the order of the spots
+abbrev pub picked : {D : Type 0} → List D → List Spot → List D
+picked items spots = flat_map (λ spot. option_to_list (slice_get items spot.index)) spots
+
+-- these are the spots of the items, in any order
+pub record AreSpotsOf {D : Type 0} (items : List D) (spots : List Spot) : Type 0 where
+  pub others : List Spot
+  pub permuted : IsPermutation others spots
+  pub all : picked items others ≡ items

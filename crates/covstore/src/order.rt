@@ -1,0 +1,112 @@
+//! The items of a section in the order of their lines: a walk along lines costs no search, and moves no points.
+
+ghost use Rattle.std.specs.Prelude.{◌≡◌, map, IfOk, OnOk};
+ghost use Rattle.covline.specs.Row.{item_data};
+ghost use Rattle.covstore.specs.Order.{AreSpotsOf, picked};
+ghost use Rattle.covstore.specs.Section.{Adds, HasRoomFor};
+ghost use Rattle.covstore.specs.FileIndexView.{KeepsCommitted, index_staged};
+ghost use Rattle.covstore.specs.TestView.{test_staged, test_committed};
+
+use crate::index::FileIndex;
+use crate::items::add_item;
+use crate::stop::Stop;
+use crate::test::Test;
+use covline::Item;
+use std::alloc::{AllocError, Allocator};
+
+/// How many items a section has at least whose items are sorted.
+const MANY: usize = 1024;
+
+/// Items are sorted where the lines fall at more than one item of so many.
+const RUN: usize = 16;
+
+/// Where an item stands in its section. Spots ascend by lines, and at one line as the items stand.
+#[derive(PartialEq, Eq, PartialOrd, Ord, Drop)]
+struct Spot {
+    line: u64,
+    index: usize,
+}
+
+/// Whether items are staged in less time in the order of their lines. Where one has a checksum they aren't, as the first
+/// that clashes is told.
+pub(crate) fn is_shuffled<A: Allocator>(items: &[Item<A>]) -> bool {
+    if items.len() < MANY {
+        return false;
+    }
+    let most = items.len() / RUN;
+    let mut falls = 0;
+    let mut last = 0;
+    for item in items {
+        if has_checksum(item) {
+            return false;
+        }
+        let line = line_of(item);
+        if line < last && falls <= most {
+            falls += 1;
+        }
+        last = line;
+    }
+    falls > most
+}
+
+/// Whether it is a line's item with a checksum.
+fn has_checksum<A: Allocator>(item: &Item<A>) -> bool {
+    match item {
+        Item::Line { checksum, .. } => checksum.is_some(),
+        Item::Func { .. } | Item::Branch { .. } => false,
+    }
+}
+
+/// The line that an item is of.
+fn line_of<A: Allocator>(item: &Item<A>) -> u64 {
+    match item {
+        Item::Line { line, .. } | Item::Func { line, .. } | Item::Branch { line, .. } => *line,
+    }
+}
+
+/// Stages the items in the order of their lines, up to one that clashes.
+pub(crate) fn add_in_order<A: Allocator + Copy>(
+    test: &mut Test<A>,
+    index: &mut FileIndex<A>,
+    alloc: A,
+    items: &[Item<A>],
+) -> Result<(), Stop<A>>
+    requires room { HasRoomFor (map item_data items.now) (test_staged test.old) (index_staged index.old) }
+    ensures test_committed { test_committed test.new ≡ test_committed test.old }
+    ensures index_committed { KeepsCommitted index.old index.new }
+    ensures ok { OnOk result (Adds (map item_data items.now) (test_staged test.old) (index_staged index.old) (test_staged test.new) (index_staged index.new)) }
+{
+    let spots = sorted_spots(alloc, items)?;
+    for spot in &spots {
+        if let Some(item) = items.get(spot.index) {
+            add_item(test, index, alloc, item)?;
+        }
+    }
+    Ok(())
+}
+
+/// The spots of items, ascending.
+fn sorted_spots<A: Allocator + Copy>(
+    alloc: A,
+    items: &[Item<A>],
+) -> Result<Vec<Spot, A>, AllocError>
+    ensures { IfOk result (λ spots. AreSpotsOf items.now spots.items) }
+{
+    let mut spots = spots_of(alloc, items)?;
+    spots.sort_unstable();
+    Ok(spots)
+}
+
+/// The spots of items, as these stand.
+fn spots_of<A: Allocator + Copy>(alloc: A, items: &[Item<A>]) -> Result<Vec<Spot, A>, AllocError>
+    ensures { IfOk result (λ spots. picked items.now spots.items ≡ items.now) }
+{
+    let mut spots = Vec::with_capacity(alloc, items.len())?;
+    for index in 0..items.len() {
+        spots.push(Spot {
+            line: line_of(&items[index]),
+            index,
+        })?;
+    }
+    Ok(spots)
+}
