@@ -1,24 +1,28 @@
 -- Items that are taken by their spots, in any order: they do what they do as they stand.
-use Rattle.std.proofs.Common.{◌≡◌, ℕ, ◌+◌, ◌<◌, ◌≤◌, ◌^◌, Option, Some, None, List, [], ◌∷◌, ◌++◌, drop, get_or, length, map, take, sym, ap, ◌∙◌, subst, inl, inr}
+use Rattle.std.proofs.Common.{◌≡◌, ℕ, ◌+◌, ◌<◌, ◌≤◌, ◌^◌, Option, Some, None, List, [], ◌∷◌, ◌++◌, drop, get_or, length, map, take, sym, ap, ◌∙◌, subst, inl, inr, refl}
 use Rattle.std.specs.List.{sum_by}
 use Rattle.std.specs.Option.{option_to_list}
 use Rattle.std.specs.Prelude.{◌⊎◌, slice_get}
 use Rattle.std.specs.Borrow.{Bor}
 use Rattle.std.specs.Slice.{IsItemAt}
 use Rattle.std.proofs.lemmas.List.{append-nil, drop_more, length-map, map-append, take_all, take_more}
-use Rattle.std.proofs.lemmas.Option.{slice_get-get_or, slice_get_past}
+use Rattle.std.proofs.lemmas.List.Elements.{All-get_or}
+use Rattle.std.proofs.lemmas.Option.{get_or_from_slice_get, slice_get-get_or, slice_get_past, slice_get_within}
 use Rattle.std.proofs.lemmas.List.Concat.{flat_map-append, length-flat_map}
 use Rattle.std.proofs.lemmas.List.Sorted.{IsPermutation-sym, sum_by-IsPermutation}
 use Rattle.std.proofs.lemmas.List.Sums.{sum_by-append}
-use Rattle.covline.specs.Row.{ItemData, Row, rows_of_sect}
+use Rattle.std.specs.List.{All}
+use Rattle.covline.specs.Row.{ItemData, LineItem, FuncItem, BranchItem, Row, rows_of_sect}
+use Rattle.covstore.specs.declared.stop.Stop.{Stop}
+use Rattle.covstore.specs.declared.stop.Stop.TheVariants as stops
 use Rattle.covstore.specs.declared.index.FileIndex.{FileIndex}
 use Rattle.covstore.specs.declared.order.Spot.{Spot}
 use Rattle.covstore.specs.declared.test.Test.{Test}
 use Rattle.covstore.specs.Clash.{Agree, checksum_of_row, checksums_in}
 use Rattle.covstore.specs.FileIndex.{FileIndexData}
 use Rattle.covstore.specs.FileIndexView.{KeepsCommitted, index_staged}
-use Rattle.covstore.specs.Items.{HasRoom, IsTextOf, KeepsCounts, KeepsTextsOf}
-use Rattle.covstore.specs.Order.{AreSpotsOf, picked}
+use Rattle.covstore.specs.Items.{HasRoom, IsClashOf, IsTextOf, KeepsCounts, KeepsTextsOf}
+use Rattle.covstore.specs.Order.{AreSpotsOf, HasNoChecksum, picked}
 use Rattle.covstore.specs.Section.{Adds, HasRoomFor, files_with, section_of_items}
 use Rattle.covstore.specs.Sums.{TestData, with_item}
 use Rattle.covstore.specs.TestView.{test_staged, test_committed}
@@ -176,3 +180,19 @@ module _ {A D : Type 0} (f : D → ItemData) (items : List D) (spots : List Spot
       adds_alike (map f (picked items spots)) (map f items) (test_staged test) (test_staged test_now) (index_staged index) (index_staged index_now)
       (alike_mapped f (picked items spots) items (spots_alike items spots are))
       (subst (λ (ss : List Spot). Adds (map f (picked items ss)) (test_staged test) (index_staged index) (test_staged test_now) (index_staged index_now)) (take_all k spots all) taken.adds)
+
+-- ---- an item without a checksum
+
+never_clashes : {A : Type 0} (item : ItemData) (index : FileIndexData) (stop : Stop A) → HasNoChecksum item → IsClashOf item index stop → stop ≡ stops.Memory
+never_clashes item index stops.Memory plain clash = refl
+never_clashes (LineItem line count (Some checksum)) index (stops.Clash told held given) plain clash = absurd plain
+never_clashes (LineItem line count None) index (stops.Clash told held given) plain clash = absurd clash
+never_clashes (FuncItem name line count) index (stops.Clash told held given) plain clash = absurd clash
+never_clashes (BranchItem line block branch taken) index (stops.Clash told held given) plain clash = absurd clash
+
+pub item_never_clashes : {A D : Type 0} (f : D → ItemData) (items : List D) (i : ℕ) (item : D) (index : FileIndexData) (stop : Stop A)
+    → All (λ (one : D). HasNoChecksum (f one)) items → slice_get items i ≡ Some item → IsClashOf (f item) index stop → stop ≡ stops.Memory
+item_never_clashes {A} {D} f items i item index stop plain found clash =
+    never_clashes (f item) index stop
+    (subst (λ (one : D). HasNoChecksum (f one)) (get_or_from_slice_get items i item item found)
+    (All-get_or (λ (one : D). HasNoChecksum (f one)) items i item (slice_get_within items i item found) plain)) clash

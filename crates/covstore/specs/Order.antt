@@ -1,8 +1,9 @@
--- Items by their places.
-use Rattle.std.specs.Prelude.{◌≡◌, List, slice_get}
+-- Items by their places, and whether one can clash.
+use Rattle.std.specs.Prelude.{◌≡◌, Some, None, List, slice_get}
 use Rattle.std.specs.List.{flat_map}
 use Rattle.std.specs.List.Sorted.{IsPermutation}
 use Rattle.std.specs.Option.{option_to_list}
+use Rattle.covline.specs.Row.{ItemData, LineItem, FuncItem, BranchItem}
 use Rattle.covstore.specs.declared.order.Spot.{Spot}
 
 -- the items at these spots, in the order of the spots
@@ -14,3 +15,10 @@ pub record AreSpotsOf {D : Type 0} (items : List D) (spots : List Spot) : Type 0
   pub others : List Spot
   pub permuted : IsPermutation others spots
   pub all : picked items others ≡ items
+
+-- an item without a checksum clashes with nothing
+abbrev pub HasNoChecksum : ItemData → Type 0
+HasNoChecksum (LineItem line count (Some checksum)) = ⊥
+HasNoChecksum (LineItem line count None) = Unit {0}
+HasNoChecksum (FuncItem name line count) = Unit {0}
+HasNoChecksum (BranchItem line block branch taken) = Unit {0}

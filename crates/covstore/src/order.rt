@@ -1,11 +1,13 @@
 //! The items of a section in the order of their lines: a walk along lines costs no search, and moves no points.
 
-ghost use Rattle.std.specs.Prelude.{◌≡◌, map, IfOk, OnOk};
+ghost use Rattle.std.specs.Prelude.{◌≡◌, ◌↔◌, map, IfErr, IfOk, IsTrue, OnOk};
+ghost use Rattle.std.specs.List.{All};
 ghost use Rattle.covline.specs.Row.{item_data};
-ghost use Rattle.covstore.specs.Order.{AreSpotsOf, picked};
+ghost use Rattle.covstore.specs.Order.{AreSpotsOf, HasNoChecksum, picked};
 ghost use Rattle.covstore.specs.Section.{Adds, HasRoomFor};
 ghost use Rattle.covstore.specs.FileIndexView.{KeepsCommitted, index_staged};
 ghost use Rattle.covstore.specs.TestView.{test_staged, test_committed};
+ghost use Rattle.covstore.specs.declared.stop.Stop.TheVariants as stops;
 
 use crate::index::FileIndex;
 use crate::items::add_item;
@@ -29,17 +31,18 @@ struct Spot {
 
 /// Whether items are staged in less time in the order of their lines. Where one has a checksum they aren't, as the first
 /// that clashes is told.
-pub(crate) fn is_shuffled<A: Allocator>(items: &[Item<A>]) -> bool {
-    if items.len() < MANY {
-        return false;
-    }
+pub(crate) fn is_shuffled<A: Allocator>(items: &[Item<A>]) -> bool
+    ensures { IsTrue result → All (λ item. HasNoChecksum (item_data item)) items.now }
+{
+    items.len() >= MANY && fall_often(items) && have_no_checksum(items)
+}
+
+/// Whether the lines fall at more than one item of so many.
+fn fall_often<A: Allocator>(items: &[Item<A>]) -> bool {
     let most = items.len() / RUN;
     let mut falls = 0;
     let mut last = 0;
     for item in items {
-        if has_checksum(item) {
-            return false;
-        }
         let line = line_of(item);
         if line < last && falls <= most {
             falls += 1;
@@ -49,11 +52,23 @@ pub(crate) fn is_shuffled<A: Allocator>(items: &[Item<A>]) -> bool {
     falls > most
 }
 
-/// Whether it is a line's item with a checksum.
-fn has_checksum<A: Allocator>(item: &Item<A>) -> bool {
+/// Whether none of the items has a checksum.
+fn have_no_checksum<A: Allocator>(items: &[Item<A>]) -> bool
+    ensures { IsTrue result ↔ All (λ item. HasNoChecksum (item_data item)) items.now }
+{
+    items.iter().all(|item| has_no_checksum(item))
+}
+
+/// Whether the item has no checksum.
+fn has_no_checksum<A: Allocator>(item: &Item<A>) -> bool
+    ensures { IsTrue result ↔ HasNoChecksum (item_data item.now) }
+{
     match item {
-        Item::Line { checksum, .. } => checksum.is_some(),
-        Item::Func { .. } | Item::Branch { .. } => false,
+        Item::Line {
+            checksum: Some(_),
+            ..
+        } => false,
+        Item::Line { checksum: None, .. } | Item::Func { .. } | Item::Branch { .. } => true,
     }
 }
 
@@ -64,7 +79,7 @@ fn line_of<A: Allocator>(item: &Item<A>) -> u64 {
     }
 }
 
-/// Stages the items in the order of their lines, up to one that clashes.
+/// Stages the items, of which none has a checksum, in the order of their lines.
 pub(crate) fn add_in_order<A: Allocator + Copy>(
     test: &mut Test<A>,
     index: &mut FileIndex<A>,
@@ -72,9 +87,11 @@ pub(crate) fn add_in_order<A: Allocator + Copy>(
     items: &[Item<A>],
 ) -> Result<(), Stop<A>>
     requires room { HasRoomFor (map item_data items.now) (test_staged test.old) (index_staged index.old) }
+    requires plain { All (λ item. HasNoChecksum (item_data item)) items.now }
     ensures test_committed { test_committed test.new ≡ test_committed test.old }
     ensures index_committed { KeepsCommitted index.old index.new }
     ensures ok { OnOk result (Adds (map item_data items.now) (test_staged test.old) (index_staged index.old) (test_staged test.new) (index_staged index.new)) }
+    ensures err { IfErr result (λ stop. stop ≡ stops.Memory) }
 {
     let spots = sorted_spots(alloc, items)?;
     for spot in &spots {

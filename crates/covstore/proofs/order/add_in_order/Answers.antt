@@ -1,8 +1,10 @@
 use Rattle.std.proofs.Common.{List, get_or, ◌∙◌, sym, subst}
+use Rattle.std.proofs.lemmas.Result.{err_from_is_err_and}
 use Rattle.covline.specs.Row.{item_data}
+use Rattle.covstore.specs.FileIndexView.{index_staged}
 use Rattle.covstore.specs.Order.{AreSpotsOf}
 use Rattle.covstore.specs.declared.order.Spot.{Spot}
-use Rattle.covstore.proofs.AddsOrder.{all_spots, first_spot, item_got, item_has_room, item_taken, none_at_spot, none_got}
+use Rattle.covstore.proofs.AddsOrder.{all_spots, first_spot, item_got, item_has_room, item_never_clashes, item_taken, none_at_spot, none_got}
 use Rattle.covstore.proofs.StepsMore.{held_both}
 use Rattle.covstore.proofs.order.add_in_order.Goals as goal
 use Rattle.covstore.proofs.order.add_in_order.Goals.{in-Some+in_ok-add_item, in_default}
@@ -62,3 +64,14 @@ returns-clause-ok g c =
     all_spots item_data c.args.items.now spots
     (subst (λ (spots : List Spot). AreSpotsOf c.args.items.now spots) (sym c.deref-spot-items.ensures.value) c.in_ok-spots.ensures) c.args.test.now c.args.index.now l.spot-index l.test l.index
     c.loop-spot-test.false l.invariant
+
+pub returns-in_err-add_item-clause-err : goal.returns-in_err-add_item-clause-err
+returns-in_err-add_item-clause-err g c =
+    let l = c.loop-spot in
+    let items = c.args.items.now in
+    let spots = c.deref-spot-items.result.now in
+    let first : Spot = record { line = 0; index = 0 } in
+    let p = err_from_is_err_and c.from_residual-in_err-add_item.result c.from_residual-in_err-add_item.ensures.1 in
+    rw (p.1, p.2)
+    (item_never_clashes item_data items (get_or spots l.spot-index first).index c.in-Some.item.now (index_staged l.index) c.in_err-add_item.field-0.0 c.requires.plain
+    (item_got items (get_or spots l.spot-index first).index c.in-Some.item c.in-Some.ensures.lookup) c.in_err-add_item.ensures.clash)
