@@ -19,8 +19,11 @@ use std::alloc::{AllocError, Allocator};
 /// How many items a section has at least whose items are sorted.
 const MANY: usize = 1024;
 
-/// Items are sorted where the lines fall at more than one item of so many.
+/// One item of so many is looked at to see whether lines ascend.
 const RUN: usize = 16;
+
+/// Items are sorted where the lines fall at more than one of so many that are looked at.
+const FALLS: usize = 4;
 
 /// Where an item stands in its section. Spots ascend by lines, and at one line as the items stand.
 #[derive(PartialEq, Eq, PartialOrd, Ord, Drop)]
@@ -34,20 +37,22 @@ struct Spot {
 pub(crate) fn is_shuffled<A: Allocator>(items: &[Item<A>]) -> bool
     ensures { IsTrue result → All (λ item. HasNoChecksum (item_data item)) items.now }
 {
-    items.len() >= MANY && fall_often(items) && have_no_checksum(items)
+    items.len() >= MANY && falls_often(items) && have_no_checksum(items)
 }
 
-/// Whether the lines fall at more than one item of so many.
-fn fall_often<A: Allocator>(items: &[Item<A>]) -> bool {
-    let most = items.len() / RUN;
+/// Whether the lines of the items fall often.
+fn falls_often<A: Allocator>(items: &[Item<A>]) -> bool {
+    let most = items.len() / RUN / FALLS;
     let mut falls = 0;
     let mut last = 0;
-    for item in items {
-        let line = line_of(item);
-        if line < last && falls <= most {
-            falls += 1;
+    for run in items.chunks(RUN) {
+        if let Some(item) = run.first() {
+            let line = line_of(item);
+            if line < last && falls <= most {
+                falls += 1;
+            }
+            last = line;
         }
-        last = line;
     }
     falls > most
 }
