@@ -61,6 +61,7 @@ pub mod AddsSome
 pub mod AddsMaps
 pub mod AddsReady
 pub mod AddsWritten
+pub mod AddsOrder
 pub mod StepsTally
 pub mod StepsTexts
 pub mod StepsCounts

@@ -22,6 +22,7 @@ pub mod FileIndex
 pub mod FileIndexView
 pub mod Items
 pub mod Section
+pub mod Order
 pub mod FileView
 pub mod FileSection
 pub mod StoreSection

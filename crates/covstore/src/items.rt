@@ -21,6 +21,7 @@ use covmap::{Addend, Key, Query, StagedMap};
 use std::alloc::{AllocError, Allocator};
 
 /// Stages an item.
+#[inline(always)]
 pub(crate) fn add_item<A: Allocator + Copy>(
     test: &mut Test<A>,
     index: &mut FileIndex<A>,

@@ -40,6 +40,7 @@ mod items;
 mod keys;
 mod kind_index;
 pub mod laws;
+mod order;
 mod plan;
 mod refuse;
 mod renaming;

@@ -189,7 +189,10 @@ fn put_refusal(alloc: Global, refuse: &Refuse, text: &mut Vec<u8>) -> Result<(),
 }
 
 /// What a store that holds nothing answers to the submission: a refusal, and whether it is still empty.
-fn refused(rt: &(impl Abort + AllocGlobal), given: &Submission) -> Result<Vec<u8>, Fail> {
+pub(super) fn refused(
+    rt: &(impl Abort + AllocGlobal),
+    given: &Submission,
+) -> Result<Vec<u8>, Fail> {
     let mut text = Vec::new(rt.alloc());
     let (store, planned) = prepared(rt, given);
     match planned {

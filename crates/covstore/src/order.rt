@@ -1,0 +1,134 @@
+//! The items of a section in the order of their lines: a walk along lines costs no search, and moves no points.
+
+ghost use Rattle.std.specs.Prelude.{◌≡◌, ◌↔◌, map, IfErr, IfOk, IsTrue, OnOk};
+ghost use Rattle.std.specs.List.{All};
+ghost use Rattle.covline.specs.Row.{item_data};
+ghost use Rattle.covstore.specs.Order.{AreSpotsOf, HasNoChecksum, picked};
+ghost use Rattle.covstore.specs.Section.{Adds, HasRoomFor};
+ghost use Rattle.covstore.specs.FileIndexView.{KeepsCommitted, index_staged};
+ghost use Rattle.covstore.specs.TestView.{test_staged, test_committed};
+ghost use Rattle.covstore.specs.declared.stop.Stop.TheVariants as stops;
+
+use crate::index::FileIndex;
+use crate::items::add_item;
+use crate::stop::Stop;
+use crate::test::Test;
+use covline::Item;
+use std::alloc::{AllocError, Allocator};
+
+/// How many items a section has at least whose items are sorted.
+const MANY: usize = 1024;
+
+/// One item of so many is looked at to see whether lines ascend.
+const RUN: usize = 16;
+
+/// Items are sorted where the lines fall at more than one of so many that are looked at.
+const FALLS: usize = 4;
+
+/// Where an item stands in its section. Spots ascend by lines, and at one line as the items stand.
+#[derive(PartialEq, Eq, PartialOrd, Ord, Drop)]
+struct Spot {
+    line: u64,
+    index: usize,
+}
+
+/// Whether items are staged in less time in the order of their lines. Where one has a checksum they aren't, as the first
+/// that clashes is told.
+pub(crate) fn is_shuffled<A: Allocator>(items: &[Item<A>]) -> bool
+    ensures { IsTrue result → All (λ item. HasNoChecksum (item_data item)) items.now }
+{
+    items.len() >= MANY && falls_often(items) && have_no_checksum(items)
+}
+
+/// Whether the lines of the items fall often.
+fn falls_often<A: Allocator>(items: &[Item<A>]) -> bool {
+    let most = items.len() / RUN / FALLS;
+    let mut falls = 0;
+    let mut last = 0;
+    for run in items.chunks(RUN) {
+        if let Some(item) = run.first() {
+            let line = line_of(item);
+            if line < last && falls <= most {
+                falls += 1;
+            }
+            last = line;
+        }
+    }
+    falls > most
+}
+
+/// Whether none of the items has a checksum.
+fn have_no_checksum<A: Allocator>(items: &[Item<A>]) -> bool
+    ensures { IsTrue result ↔ All (λ item. HasNoChecksum (item_data item)) items.now }
+{
+    items.iter().all(|item| has_no_checksum(item))
+}
+
+/// Whether the item has no checksum.
+fn has_no_checksum<A: Allocator>(item: &Item<A>) -> bool
+    ensures { IsTrue result ↔ HasNoChecksum (item_data item.now) }
+{
+    match item {
+        Item::Line {
+            checksum: Some(_),
+            ..
+        } => false,
+        Item::Line { checksum: None, .. } | Item::Func { .. } | Item::Branch { .. } => true,
+    }
+}
+
+/// The line that an item is of.
+fn line_of<A: Allocator>(item: &Item<A>) -> u64 {
+    match item {
+        Item::Line { line, .. } | Item::Func { line, .. } | Item::Branch { line, .. } => *line,
+    }
+}
+
+/// Stages the items, of which none has a checksum, in the order of their lines.
+pub(crate) fn add_in_order<A: Allocator + Copy>(
+    test: &mut Test<A>,
+    index: &mut FileIndex<A>,
+    alloc: A,
+    items: &[Item<A>],
+) -> Result<(), Stop<A>>
+    requires room { HasRoomFor (map item_data items.now) (test_staged test.old) (index_staged index.old) }
+    requires plain { All (λ item. HasNoChecksum (item_data item)) items.now }
+    ensures test_committed { test_committed test.new ≡ test_committed test.old }
+    ensures index_committed { KeepsCommitted index.old index.new }
+    ensures ok { OnOk result (Adds (map item_data items.now) (test_staged test.old) (index_staged index.old) (test_staged test.new) (index_staged index.new)) }
+    ensures err { IfErr result (λ stop. stop ≡ stops.Memory) }
+{
+    let spots = sorted_spots(alloc, items)?;
+    for spot in &spots {
+        if let Some(item) = items.get(spot.index) {
+            add_item(test, index, alloc, item)?;
+        }
+    }
+    Ok(())
+}
+
+/// The spots of items, ascending.
+fn sorted_spots<A: Allocator + Copy>(
+    alloc: A,
+    items: &[Item<A>],
+) -> Result<Vec<Spot, A>, AllocError>
+    ensures { IfOk result (λ spots. AreSpotsOf items.now spots.items) }
+{
+    let mut spots = spots_of(alloc, items)?;
+    spots.sort_unstable();
+    Ok(spots)
+}
+
+/// The spots of items, as these stand.
+fn spots_of<A: Allocator + Copy>(alloc: A, items: &[Item<A>]) -> Result<Vec<Spot, A>, AllocError>
+    ensures { IfOk result (λ spots. picked items.now spots.items ≡ items.now) }
+{
+    let mut spots = Vec::with_capacity(alloc, items.len())?;
+    for index in 0..items.len() {
+        spots.push(Spot {
+            line: line_of(&items[index]),
+            index,
+        })?;
+    }
+    Ok(spots)
+}
