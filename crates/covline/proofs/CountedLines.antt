@@ -147,7 +147,7 @@ pub small_is : (n : ℕ) (rest : List ℕ) → n < 2 ^ 64 → small_front (Some 
 small_is n rest small = ap (λ (a : Number). option_map (λ (m : ℕ). (m, rest)) (small_of a)) (sized_number_small n small)
 
 -- the parts of a counted line, where it is read so
-count_line_of : (text fields : List ℕ) (line count : ℕ × List ℕ) (rest : List ℕ) → behind_key (codes "DA:") text ≡ Some fields → small_front (field_at fields) ≡ Some line
+pub count_line_of : (text fields : List ℕ) (line count : ℕ × List ℕ) (rest : List ℕ) → behind_key (codes "DA:") text ≡ Some fields → small_front (field_at fields) ≡ Some line
     → small_front (number_at line.1) ≡ Some count → behind_feed count.1 ≡ Some rest → BeginsWithCountLine text line.0 count.0 rest
 count_line_of text fields line count rest key field number feed =
     let f = small_field_has fields line.1 line.0 field in

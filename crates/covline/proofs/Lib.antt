@@ -2,6 +2,7 @@ pub mod Copied
 pub mod Alike
 pub mod BranchLines
 pub mod CountedLines
+pub mod CheckedLines
 pub mod GoodTexts
 pub mod Cut
 pub mod SectLaws

@@ -4,6 +4,7 @@ use Rattle.std.specs.Prelude.{◌≡◌, ℕ, ◌<◌, ◌^◌, ◌==◌, if◌t
 use Rattle.std.specs.Option.{option_and_then}
 use Rattle.covline.specs.declared.reader.Number.{Number}
 use Rattle.covline.specs.declared.reader.Number.TheVariants.{Value, Wide, TooLarge}
+use Rattle.covline.specs.Lawful.{IsChecksum}
 use Rattle.covline.specs.Lines.{line_feed}
 use Rattle.covline.specs.Points.{BranchPoint}
 use Rattle.covline.specs.Spells.{comma, minus, IsNumeral, IsTaken}
@@ -39,6 +40,11 @@ pub record BeginsWithBranchLine (text : List ℕ) (point : BranchPoint) (taken :
   pub block_small : point.block < 2 ^ 64
   pub branch_small : point.branch < 2 ^ 64
   pub taken_small : IsSmallIfAny taken
+
+-- behind a line's count: a line feed, or a comma, this checksum and a line feed
+abbrev pub EndsCount : List ℕ → Option (List ℕ) → List ℕ → Type 0
+EndsCount text None rest = text ≡ line_feed ∷ rest
+EndsCount text (Some checksum) rest = (text ≡ comma ∷ (checksum ++ line_feed ∷ rest)) × IsChecksum checksum
 
 -- ---- how they are read: from left to right
 

@@ -25,8 +25,8 @@ pub(crate) fn good_checksum(checksum: &[u8]) -> bool
 }
 
 /// Whether a checksum may have this byte.
-fn is_checksum_byte(byte: u8) -> bool
+pub(crate) fn is_checksum_byte(byte: u8) -> bool
     ensures { IsTrue result ↔ IsChecksumByte byte }
 {
-    !matches!(byte, b',' | b' ' | b'\t' | b'\r' | b'\n')
+    byte > b',' || !matches!(byte, b',' | b' ' | b'\t' | b'\r' | b'\n')
 }

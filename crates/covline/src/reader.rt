@@ -1,16 +1,17 @@
 //! Reading one line of a tracefile: its key by its first bytes, then the key's fields from left to right, each key by a
 //! function of its own. Nothing is copied.
 
-ghost use Rattle.std.specs.Prelude.{◌≡◌, ◌≤◌, ◌+◌, ◌*◌, ◌-◌, ◌++◌, ◌∷◌, ℕ, List, Option, [], None, Some, Ok, codes, option_map, Err, MatchOption, MatchResult, IfOk, IfErr, IfSome};
+ghost use Rattle.std.specs.Prelude.{◌≡◌, ◌≤◌, ◌+◌, ◌*◌, ◌-◌, ◌++◌, ◌∷◌, ℕ, All, List, Option, [], None, Some, Ok, codes, option_map, Err, MatchOption, MatchResult, IfOk, IfErr, IfSome};
 ghost use Rattle.covline.specs.declared.trace_line.LineFault.{LineFault};
 ghost use Rattle.covline.specs.Points.{BranchPoint as BranchData};
 ghost use Rattle.covline.specs.PointView.{branch_point_data};
 ghost use Rattle.covline.specs.Spells.{LineData, Line, Branch, line_data, Spells, HasFault, BeginsWithLine};
-ghost use Rattle.covline.specs.Fronts.{BeginsWithBranchLine, BeginsWithCountLine, branch_front, count_front, small_front, small_of, taken_front};
+ghost use Rattle.covline.specs.Fronts.{BeginsWithBranchLine, BeginsWithCountLine, branch_front, EndsCount, count_front, small_front, small_of, taken_front};
+ghost use Rattle.covline.specs.Lawful.{IsChecksum, IsChecksumByte};
 ghost use Rattle.covline.specs.Lines.{line_feed};
 ghost use Rattle.covline.specs.Reading.{Gives, behind_key, sized_number, with_digit, digits_from, number_at, number_of, count_at, before_comma, field_at, taken_of, only_checksum, checksum_of, fit, fit_count, start_fields, calls_fields, branch_of, branch_fields, line_fields, total_fields, path_fields, read_of};
 
-use crate::names::good_checksum;
+use crate::names::{good_checksum, is_checksum_byte};
 use crate::point::BranchPoint;
 use crate::trace_line::{LineFault, TotalKind, TraceLine};
 
@@ -526,6 +527,75 @@ fn front_count(text: &[u8]) -> Option<FirstCount<'_>>
     let (count, rest) = small_number(rest)?;
     let rest = behind_feed(rest)?;
     Some(FirstCount { line, count, rest })
+}
+
+/// The first line of a text, which counts a line of a source file and may tell its checksum, and what stands behind it.
+#[derive(Clone, Copy)]
+pub struct FirstLine<'a> {
+    /// The line of the source file.
+    pub line: u64,
+    /// Its execution count.
+    pub count: u64,
+    /// The checksum of its text, where there is one.
+    pub checksum: Option<&'a [u8]>,
+    /// What stands behind the first line.
+    pub rest: &'a [u8],
+}
+
+/// What stands behind the bytes at the front of the text that a checksum may have.
+fn behind_checksum(text: &[u8]) -> &[u8]
+    ensures { (front : List ℕ) × (text.now ≡ front ++ result.now) × All IsChecksumByte front }
+{
+    let mut rest = text;
+    while let Some((byte, after)) = rest.split_first() {
+        if !is_checksum_byte(*byte) {
+            break;
+        }
+        rest = after;
+    }
+    rest
+}
+
+/// The checksum at the front of the text, and what stands behind the line feed that follows it.
+fn split_checksum(text: &[u8]) -> Option<(&[u8], &[u8])>
+    ensures { IfSome result (λ f. (text.now ≡ f.0.now ++ line_feed ∷ f.1.now) × IsChecksum f.0.now) }
+{
+    let after = behind_checksum(text);
+    let checksum = &text[..text.len() - after.len()];
+    if checksum.is_empty() {
+        return None;
+    }
+    let rest = behind_feed(after)?;
+    Some((checksum, rest))
+}
+
+/// The checksum behind a line's count, where there is one, and what stands behind the line feed.
+fn split_count_end(text: &[u8]) -> Option<(Option<&[u8]>, &[u8])>
+    ensures { IfSome result (λ f. EndsCount text.now (option_map (λ c. c.now) f.0) f.1.now) }
+{
+    let [b',', fields @ ..] = text else {
+        return Some((None, behind_feed(text)?));
+    };
+    let (checksum, rest) = split_checksum(fields)?;
+    Some((Some(checksum), rest))
+}
+
+/// The first line, where it is `DA:<line>,<count>` of digits with numbers below 2^64, or that with a checksum behind it, and a
+/// line feed ends it: read in one pass, as by `first_count`. Any other first line is left to be cut and read.
+#[inline]
+pub fn first_counted(text: &[u8]) -> Option<FirstLine<'_>>
+    ensures { IfSome result (λ f. BeginsWithLine text.now (Line f.line f.count (option_map (λ c. c.now) f.checksum)) f.rest.now) }
+{
+    let fields = behind_line_key(text)?;
+    let (line, rest) = small_field(fields)?;
+    let (count, rest) = small_number(rest)?;
+    let (checksum, rest) = split_count_end(rest)?;
+    Some(FirstLine {
+        line,
+        count,
+        checksum,
+        rest,
+    })
 }
 
 /// The first line of a text, which tells how often a branch was taken, and what stands behind it.

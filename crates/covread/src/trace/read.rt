@@ -1,6 +1,6 @@
 //! The reader: forward over the text once.
 
-ghost use Rattle.std.specs.Prelude.{◌≡◌, ◌≤◌, ◌<◌, ◌∷◌, ℕ, None, IfOk, length, List, Result};
+ghost use Rattle.std.specs.Prelude.{◌≡◌, ◌≤◌, ◌<◌, ◌∷◌, ℕ, IfOk, length, List, Result, option_map};
 ghost use Rattle.covline.specs.Row.{SubmissionData};
 ghost use Rattle.covread.specs.declared.fault.ReadFault.{ReadFault as Fault};
 ghost use Rattle.covread.specs.Outcome.{most_bytes, IsOutcome, Answers, GrowsLate, IsOrMemory};
@@ -12,7 +12,7 @@ use crate::fault::{MOST_BYTES, ReadFault};
 use crate::trace::misplaced::Misplaced;
 use crate::trace::reader::Reader;
 use covline::{
-    BranchPoint, Submission, each_line_has_one_meaning, first_branch, first_count, first_line,
+    BranchPoint, Submission, each_line_has_one_meaning, first_branch, first_counted, first_line,
     lines_are_the_text, read_line,
 };
 use std::alloc::Allocator;
@@ -53,7 +53,7 @@ fn read_lines<'a, A: Allocator + Copy>(alloc: A, text: &'a [u8]) -> Result<Reade
 }
 
 /// Takes the first line of what is left of the text, which has this number, and answers what stands behind it. A line
-/// that only counts, or tells of a branch, is read before it is cut, as most lines are such.
+/// that counts, with a checksum or without, or tells of a branch, is read before it is cut, as most lines are such.
 #[inline]
 fn take_first<'a, A: Allocator + Copy>(
     reader: &mut Reader<'a, A>,
@@ -66,8 +66,8 @@ fn take_first<'a, A: Allocator + Copy>(
     ensures { (line left : List ℕ) × (lines_of text.now ≡ line ∷ lines_of left) × IfOk result (λ rest. rest.now ≡ left)
         × ((inside : List LineData) → IsOpen reader.old.section inside → TakesLine result (held_data reader.old inside) reader.new line at) }
 {
-    if let Some(first) = first_count(text) {
-        take_count(reader, at, first.line, first.count)?;
+    if let Some(first) = first_counted(text) {
+        take_count(reader, alloc, at, first.line, first.count, first.checksum)?;
         return Ok(first.rest);
     }
     if let Some(first) = first_branch(text) {
@@ -79,18 +79,20 @@ fn take_first<'a, A: Allocator + Copy>(
     Ok(rest)
 }
 
-/// Takes a line with this number that only counts a line of the source file.
+/// Takes a line with this number that counts a line of the source file.
 #[inline]
 fn take_count<A: Allocator + Copy>(
     reader: &mut Reader<'_, A>,
+    alloc: A,
     at: u64,
     line: u64,
     count: u64,
+    checksum: Option<&[u8]>,
 ) -> Result<(), ReadFault>
     requires { (inside : List LineData) × HasRoom reader.old inside }
-    ensures { (text : List ℕ) → Spells text (Line line count None) → (inside : List LineData) → IsOpen reader.old.section inside → TakesLine result (held_data reader.old inside) reader.new text at }
+    ensures { (text : List ℕ) → Spells text (Line line count (option_map (λ c. c.now) checksum.entry)) → (inside : List LineData) → IsOpen reader.old.section inside → TakesLine result (held_data reader.old inside) reader.new text at }
 {
-    match reader.keep_count(line, count) {
+    match reader.keep_count(alloc, line, count, checksum) {
         Ok(()) => Ok(()),
         Err(why) => Err(fault_at(why, at)),
     }

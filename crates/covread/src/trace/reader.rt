@@ -1,6 +1,6 @@
 //! What the reader of a tracefile holds between two lines.
 
-ghost use Rattle.std.specs.Prelude.{◌≡◌, List, [], None};
+ghost use Rattle.std.specs.Prelude.{◌≡◌, List, [], option_map};
 ghost use Rattle.covline.specs.Spells.{LineData, line_data, Test, Path, Branch, Line, End};
 ghost use Rattle.covread.specs.Said.{said_data};
 ghost use Rattle.covread.specs.TraceSteps.{held_data, empty, IsOpen, HasRoom, Steps, ends, EndsLawfully};
@@ -131,14 +131,22 @@ impl<'a, A: Allocator + Copy> Reader<'a, A> {
         Err(Misplaced::Outside)
     }
 
-    /// A line of the open section that only counts a line of the source file: one without a checksum.
+    /// A line of the open section that counts a line of the source file.
     #[inline]
-    pub fn keep_count(&mut self, line: u64, count: u64) -> Result<(), Misplaced>
+    pub fn keep_count(
+        &mut self,
+        alloc: A,
+        line: u64,
+        count: u64,
+        checksum: Option<&[u8]>,
+    ) -> Result<(), Misplaced>
         requires { (inside : List LineData) × HasRoom self.old inside }
-        ensures { (inside : List LineData) → IsOpen self.old.section inside → Steps result (held_data self.old inside) self.new (Line line count None) }
+        ensures { (inside : List LineData) → IsOpen self.old.section inside → Steps result (held_data self.old inside) self.new (Line line count (option_map (λ c. c.now) checksum.entry)) }
     {
         if let Some(section) = &mut self.section {
-            section.gathered.take_plain(line, u128::from(count))?;
+            section
+                .gathered
+                .take_line(alloc, line, u128::from(count), checksum)?;
             return Ok(());
         }
         Err(Misplaced::Outside)

@@ -1,7 +1,7 @@
 //! What the lines of an open section give, one after another.
 
 ghost use Rattle.std.specs.Prelude.{◌≡◌, ◌+◌, ◌<◌, ◌^◌, ◌++◌, ◌∷◌, [], List, IfOk, OnOk, length, option_map};
-ghost use Rattle.covline.specs.Row.{FuncItem, LineItem, item_data};
+ghost use Rattle.covline.specs.Row.{FuncItem, item_data};
 ghost use Rattle.covline.specs.Spells.{LineData};
 
 use crate::trace::functions::{Functions, take_start};
@@ -42,7 +42,7 @@ pub struct Gathered<'a, A: Allocator> {
 }
 
 impl<'a, A: Allocator + Copy> Gathered<'a, A> {
-    ghost use Rattle.std.specs.Prelude.{◌≡◌, ◌+◌, ◌<◌, ◌^◌, ◌++◌, ◌∷◌, [], List, None, OnOk, length, option_map};
+    ghost use Rattle.std.specs.Prelude.{◌≡◌, ◌+◌, ◌<◌, ◌^◌, ◌++◌, ◌∷◌, [], List, None, Some, OnOk, length, option_map};
     ghost use Rattle.covline.specs.Row.{BranchItem, item_data};
     ghost use Rattle.covline.specs.Spells.{LineData, FuncStart, FuncCount, Branch, Line};
     ghost use Rattle.covread.specs.Said.{said_data};
@@ -134,7 +134,7 @@ impl<'a, A: Allocator + Copy> Gathered<'a, A> {
 
     /// The execution count of a line without a checksum. It takes no memory but for the list.
     #[inline]
-    pub fn take_plain(&mut self, line: u64, count: u128) -> Result<(), Memory>
+    fn take_plain(&mut self, line: u64, count: u128) -> Result<(), Memory>
         requires { (inside : List LineData) × IsGathered self.old inside × length inside + 1 < 2 ^ 64 }
         ensures { OnOk result ((inside : List LineData) → IsGathered self.old inside → IsGathered self.new (inside ++ Line line count None ∷ [])) }
     {
@@ -149,7 +149,8 @@ impl<'a, A: Allocator + Copy> Gathered<'a, A> {
     }
 
     /// The execution count of a line.
-    fn take_line(
+    #[inline]
+    pub fn take_line(
         &mut self,
         alloc: A,
         line: u64,
@@ -159,7 +160,22 @@ impl<'a, A: Allocator + Copy> Gathered<'a, A> {
         requires { (inside : List LineData) × IsGathered self.old inside × length inside + 1 < 2 ^ 64 }
         ensures { OnOk result ((inside : List LineData) → IsGathered self.old inside → IsGathered self.new (inside ++ Line line count (option_map (λ c. c.now) checksum.entry) ∷ [])) }
     {
-        let item = line_item(alloc, line, count, checksum)?;
+        match checksum {
+            Some(text) => self.take_checked(line, count, Bytes::of(alloc, text)?),
+            None => self.take_plain(line, count),
+        }
+    }
+
+    /// The execution count of a line with a checksum.
+    fn take_checked(&mut self, line: u64, count: u128, checksum: Bytes<A>) -> Result<(), Memory>
+        requires { (inside : List LineData) × IsGathered self.old inside × length inside + 1 < 2 ^ 64 }
+        ensures { OnOk result ((inside : List LineData) → IsGathered self.old inside → IsGathered self.new (inside ++ Line line count (Some checksum) ∷ [])) }
+    {
+        let item = Item::Line {
+            line,
+            count,
+            checksum: Some(checksum),
+        };
         self.lines.take(&item);
         self.items.push(item)?;
         Ok(())
@@ -182,25 +198,5 @@ fn func_item<A: Allocator>(alloc: A, name: &[u8], line: u64, count: u128) -> Res
         name: Bytes::of(alloc, name)?,
         line,
         count,
-    })
-}
-
-/// The item of a line. It owns its checksum.
-fn line_item<A: Allocator>(
-    alloc: A,
-    line: u64,
-    count: u128,
-    checksum: Option<&[u8]>,
-) -> Result<Item<A>, Memory>
-    ensures { IfOk result (λ item. item_data item ≡ LineItem line count (option_map (λ c. c.now) checksum.entry)) }
-{
-    let checksum = match checksum {
-        Some(text) => Some(Bytes::of(alloc, text)?),
-        None => None,
-    };
-    Ok(Item::Line {
-        line,
-        count,
-        checksum,
     })
 }
