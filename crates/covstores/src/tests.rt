@@ -10,6 +10,7 @@ mod maps;
 mod patterns;
 mod plans;
 mod renames;
+mod shuffled;
 mod texts;
 
 /// The bytes are as wanted. The tests compare here, since each comparison in a test's own body is proved there.

@@ -1,0 +1,54 @@
+//! A long section whose lines don't ascend.
+
+use super::check_bytes;
+use super::held::{held, store_of};
+use std::test::*;
+
+/// How many lines the section has. It is a prime, so the multiples of 1,000 have each remainder once.
+const LINES: u64 = 2003;
+
+/// Appends a branch of a line, and the line.
+fn push_points(rt: &impl AllocGlobal, text: &mut Vec<u8>, line: u64) -> Result<(), Fail> {
+    let points = format!(in rt.alloc(); "BRDA:{line},0,1,{line}\nDA:{line},{line}\n")?;
+    text.extend_from_slice(points.as_bytes())?;
+    Ok(())
+}
+
+/// The section's points in two orders, neither of them ascending.
+fn given(rt: &impl AllocGlobal) -> Result<Vec<u8>, Fail> {
+    let mut text = Vec::from_slice(rt.alloc(), b"TN:t\nSF:/m\n")?;
+    for index in 0..LINES {
+        push_points(rt, &mut text, index * 1000 % LINES + 1)?;
+    }
+    text.extend_from_slice(b"end_of_record\nTN:t\nSF:/m\n")?;
+    for index in 0..LINES {
+        push_points(rt, &mut text, LINES - index)?;
+    }
+    text.extend_from_slice(b"end_of_record\n")?;
+    Ok(text)
+}
+
+/// Each branch and each line, ascending, with twice its number.
+fn wanted(rt: &impl AllocGlobal) -> Result<Vec<u8>, Fail> {
+    let mut text = Vec::from_slice(rt.alloc(), b"TN:t\nSF:/m\n")?;
+    for line in 1..LINES + 1 {
+        let count = 2 * line;
+        let branch = format!(in rt.alloc(); "BRDA:{line},0,1,{count}\n")?;
+        text.extend_from_slice(branch.as_bytes())?;
+    }
+    for line in 1..LINES + 1 {
+        let count = 2 * line;
+        let record = format!(in rt.alloc(); "DA:{line},{count}\n")?;
+        text.extend_from_slice(record.as_bytes())?;
+    }
+    Ok(text)
+}
+
+/// The items are sorted by their lines, and each of them is counted once.
+#[test]
+fn a_shuffled_section(rt: HostRuntime) -> Result<(), Fail> {
+    let store = store_of(&rt, &given(&rt)?)?;
+    let text = held(rt.alloc(), &store)?;
+    check_bytes(&rt, text.get(), &wanted(&rt)?);
+    Ok(())
+}
