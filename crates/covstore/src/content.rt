@@ -9,7 +9,7 @@ pub use self::points::{Branches, Functions, Lines};
 use crate::boxed::Boxed;
 use crate::file::File;
 use crate::index::FileIndex;
-use crate::test::{BoxedTest, Test};
+use crate::test::Test;
 use std::alloc::{Allocator, Global};
 use std::collections::btree_map::Iter;
 use std::marker::Model;
@@ -19,7 +19,7 @@ use std::marker::Model;
 pub(crate) struct FileSections<'a, A: Allocator> {
     file: &'a [u8],
     index: &'a FileIndex<A>,
-    tests: Iter<'a, Vec<u8, A>, BoxedTest<A>>,
+    tests: Iter<'a, Vec<u8, A>, Boxed<Test<A>, A>>,
 }
 
 impl<'a, A: Allocator> Model for FileSections<'a, A> {
@@ -47,12 +47,13 @@ impl<'a, A: Allocator> Iterator for FileSections<'a, A> {
     fn next(&mut self) -> Option<Section<'a, A>> {
         loop {
             let (test, points) = self.tests.next()?;
+            let points = points.get();
             if !points.is_empty() {
                 return Some(Section {
                     file: self.file,
                     test: test.as_slice(),
                     index: self.index,
-                    points: points.get(),
+                    points,
                 });
             }
         }

@@ -2,10 +2,13 @@
 
 ghost use Rattle.std.specs.Prelude.{◌≡◌, ℕ, List, [], ◌∷◌, ◌++◌, map, IfErr, IfOk, OnErr, OnOk};
 
+use crate::boxed::Boxed;
+use crate::copies::add_values;
 use crate::index::FileIndex;
 use crate::refuse::Refuse;
+use crate::section::add_items;
 use crate::stop::Stop;
-use crate::test::BoxedTest;
+use crate::test::Test;
 use crate::totals::Totals;
 use covline::{Bytes, Item, Memory};
 use std::alloc::Allocator;
@@ -15,7 +18,7 @@ use std::mem;
 /// The tests of a file, each with its points, and what is kept of them.
 #[derive(Drop)]
 pub(crate) struct File<A: Allocator> {
-    pub tests: BTreeMap<Vec<u8, A>, BoxedTest<A>, A>,
+    pub tests: BTreeMap<Vec<u8, A>, Boxed<Test<A>, A>, A>,
     pub index: FileIndex<A>,
 }
 
@@ -60,7 +63,7 @@ impl<A: Allocator + Copy> File<A> {
             return Ok(());
         }
         let name = Vec::from_slice(alloc, test)?;
-        let points = BoxedTest::new(alloc)?;
+        let points = Boxed::new(alloc, Test::new(alloc))?;
         self.tests.insert(name, points)?;
         Ok(())
     }
@@ -76,7 +79,7 @@ impl<A: Allocator + Copy> File<A> {
         // Tells that a map has fewer than 2^63 entries.
         self.tests.len();
         match self.tests.get_mut(test) {
-            Some(points) => points.add_items(&mut self.index, alloc, items),
+            Some(points) => add_items(points.get_mut(), &mut self.index, alloc, items),
             None => Ok(()),
         }
     }
@@ -118,7 +121,7 @@ impl<A: Allocator + Copy> File<A> {
         ensures ok { OnOk result (CopiesIn old.now new.now (file_staged self.old) (file_staged self.new)) }
         ensures settled { (tests : List (List ℕ)) → list_any (λ name. bytes_eq name new.now) tests ≡ true → IsSettledBut tests self.old → IsSettledBut tests self.new }
     {
-        let empty = BoxedTest::new(alloc)?;
+        let empty = Boxed::new(alloc, Test::new(alloc))?;
         // Tells that a map has fewer than 2^63 entries.
         self.tests.len();
         let Some(place) = self.tests.get_mut(new) else {
@@ -127,7 +130,7 @@ impl<A: Allocator + Copy> File<A> {
         // Lifted out while the other test is looked at.
         let mut points = mem::replace(place, empty);
         let added = match self.tests.get(old) {
-            Some(source) => points.add_values(&mut self.index, alloc, source),
+            Some(source) => add_values(points.get_mut(), &mut self.index, alloc, source.get()),
             None => Ok(()),
         };
         if let Some(place) = self.tests.get_mut(new) {
@@ -142,7 +145,7 @@ impl<A: Allocator + Copy> File<A> {
         ensures settled { (tests : List (List ℕ)) → IsSettledBut (tests ++ test.now ∷ []) self.old → IsSettledBut tests self.new }
     {
         if let Some(points) = self.tests.get_mut(test) {
-            points.commit();
+            points.get_mut().commit();
         }
         self.index.commit();
     }
@@ -153,7 +156,7 @@ impl<A: Allocator + Copy> File<A> {
         ensures settled { (tests : List (List ℕ)) → IsSettledBut (tests ++ test.now ∷ []) self.old → IsSettledBut tests self.new }
     {
         if let Some(points) = self.tests.get_mut(test) {
-            points.rollback();
+            points.get_mut().rollback();
         }
         self.index.rollback();
     }
@@ -177,7 +180,7 @@ impl<A: Allocator + Copy> File<A> {
         ensures { result ≡ has_points_of test.now (file_committed self.now) }
     {
         match self.tests.get(test) {
-            Some(points) => !points.is_empty(),
+            Some(points) => !points.get().is_empty(),
             None => false,
         }
     }
@@ -200,7 +203,8 @@ impl<A: Allocator + Copy> File<A> {
         ensures totals { (after : FileData) → IsWithoutTest test.now (file_committed self.now) after → result.1 ≡ file_totals after }
     {
         if let Some(points) = self.tests.get(test) {
-            return (!points.is_empty(), self.index.totals_without(points.get()));
+            let points = points.get();
+            return (!points.is_empty(), self.index.totals_without(points));
         }
         (false, self.index.totals_now())
     }

@@ -1,4 +1,4 @@
-use Rattle.std.proofs.Common.{ℕ, ◌<◌, ◌^◌, Vec, List, length, map, sym, ap, subst, arith}
+use Rattle.std.proofs.Common.{ℕ, ◌<◌, ◌^◌, Vec, List, Some, length, map, sym, ap, ◌∙◌, subst, arith}
 use Rattle.std.proofs.lemmas.List.{length-map}
 use Rattle.std.proofs.lemmas.Result.{IfErr-weaker, on_ok_weaker}
 use Rattle.covline.specs.Row.{item_data}
@@ -19,19 +19,19 @@ add_items-requires g c =
     let name = λ (key : Vec ℕ g.row.A.Denot). key.items in
     let pairs = c.args.self.now.tests.entries in
     let tests = seen names_order name test_staged pairs in
-    let points = c.in-Some.points.now in
+    let points = c.get_mut-in-Some.result.now in
     let test = c.args.test.now in
     let few : length tests < 2 ^ 63 = omega (arith, length-map {B = List ℕ × TestData} pairs (λ pair. (name pair.0, test_staged pair.1)), c.len.ensures.len, c.len.ensures.small) in
-    record { room = room_for (map item_data c.args.items.now) test tests (test_staged points) (index_staged c.args.self.now.index) (test_value name test_staged test pairs points (sym c.in-Some.ensures.value)) c.requires.room few }
+    record { room = room_for (map item_data c.args.items.now) test tests (test_staged points) (index_staged c.args.self.now.index) (test_value name test_staged test pairs points (sym c.in-Some.ensures.value ∙ ap Some (sym c.get_mut-in-Some.ensures.value))) c.requires.room few }
 
 pub returns-in-Some-clause-committed : goal.returns-in-Some-clause-committed
 returns-in-Some-clause-committed g c =
     let name = λ (key : Vec ℕ g.row.A.Denot). key.items in
     let pairs = c.args.self.now.tests.entries in
-    let after = c.add_items.new.self in
+    let after = c.add_items.new.test in
     let index = c.add_items.ensures.index_committed in
     record {
-      tests = test_kept name test_committed c.args.test.now pairs c.in-Some.points.now after (c.get_mut.follows.lender after).entries c.get_mut.ensures.ordered (sym c.in-Some.ensures.value) (c.get_mut.follows.holds after).0 c.add_items.ensures.test_committed;
+      tests = test_kept name test_committed c.args.test.now pairs c.get_mut-in-Some.result.now after (c.get_mut.follows.lender after).entries c.get_mut.ensures.ordered (sym c.in-Some.ensures.value ∙ ap Some (sym c.get_mut-in-Some.ensures.value)) (c.get_mut.follows.holds after).0 c.add_items.ensures.test_committed;
       lines = index.lines;
       functions = index.functions;
       branches = ap branches_data index.branches;
@@ -44,11 +44,11 @@ returns-in-Some-clause-ok g c =
     let name = λ (key : Vec ℕ g.row.A.Denot). key.items in
     let pairs = c.args.self.now.tests.entries in
     let tests = seen names_order name test_staged pairs in
-    let points = c.in-Some.points.now in
-    let after = c.add_items.new.self in
+    let points = c.get_mut-in-Some.result.now in
+    let after = c.add_items.new.test in
     let items = map item_data c.args.items.now in
     let test = c.args.test.now in
-    let found = sym c.in-Some.ensures.value in
+    let found = sym c.in-Some.ensures.value ∙ ap Some (sym c.get_mut-in-Some.ensures.value) in
     let written = test_written name test_staged test pairs points after (c.get_mut.follows.lender after).entries c.get_mut.ensures.ordered found (c.get_mut.follows.holds after).0 in
     on_ok_weaker c.add_items.result
     (λ adds. subst (λ (list : List (List ℕ × TestData)). AddsItems items test (file_with tests (index_staged c.args.self.now.index)) (file_with list (index_staged c.add_items.new.index))) (sym written)
@@ -60,12 +60,12 @@ returns-in-Some-clause-clash g c =
     let name = λ (key : Vec ℕ g.row.A.Denot). key.items in
     let pairs = c.args.self.now.tests.entries in
     let tests = seen names_order name test_staged pairs in
-    let points = c.in-Some.points.now in
+    let points = c.get_mut-in-Some.result.now in
     let items = map item_data c.args.items.now in
     let test = c.args.test.now in
     let index = index_staged c.args.self.now.index in
     IfErr-weaker c.add_items.result (Clashes items (test_staged points) index) (ClashesIn items test (file_with tests index))
-    (λ stop. clashes_in items test tests (test_staged points) index (test_value name test_staged test pairs points (sym c.in-Some.ensures.value)) stop) c.add_items.ensures.clash
+    (λ stop. clashes_in items test tests (test_staged points) index (test_value name test_staged test pairs points (sym c.in-Some.ensures.value ∙ ap Some (sym c.get_mut-in-Some.ensures.value))) stop) c.add_items.ensures.clash
 
 pub returns-in-None-clause-ok : goal.returns-in-None-clause-ok
 returns-in-None-clause-ok g c =
@@ -75,7 +75,7 @@ returns-in-None-clause-ok g c =
 pub returns-in-Some-clause-settled : goal.returns-in-Some-clause-settled
 returns-in-Some-clause-settled g c = λ tests among settled.
     let name = λ (key : Vec ℕ g.row.A.Denot). key.items in
-    let after = c.add_items.new.self in
+    let after = c.add_items.new.test in
     test_settled tests c.args.test.now among c.args.self.now (record { tests = c.get_mut.follows.lender after; index = c.add_items.new.index }) after (c.get_mut.follows.holds after).0 settled
 
 pub returns-in-None-clause-settled : goal.returns-in-None-clause-settled

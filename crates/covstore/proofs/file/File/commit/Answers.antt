@@ -1,4 +1,4 @@
-use Rattle.std.proofs.Common.{◌≡◌, ℕ, sym, ap, ◌∙◌, Vec, BTreeMap}
+use Rattle.std.proofs.Common.{◌≡◌, ℕ, Some, sym, ap, ◌∙◌, Vec, BTreeMap}
 use Rattle.covstore.specs.declared.file.File.{File}
 use Rattle.covstore.specs.declared.test.Test.{Test}
 use Rattle.covstore.specs.FileIndexView.{index_staged, index_committed}
@@ -15,7 +15,7 @@ returns-clause-staged g c =
       | in-Some w ↦
           let written = ap (λ (f : File g.row.A.Denot). f.tests.entries) w.self-is ∙ (c.get_mut.follows.holds w.commit.new.self).0 in
           same_file
-          (tests_written test_staged c.args.test.now before.tests.entries c.match-get_mut.self.tests.entries w.in-Some.points.now w.commit.new.self written (sym w.in-Some.ensures.value) w.commit.ensures.staged)
+          (tests_written test_staged c.args.test.now before.tests.entries c.match-get_mut.self.tests.entries w.get_mut-in-Some.result.now w.commit.new.self written (sym w.in-Some.ensures.value ∙ ap Some (sym w.get_mut-in-Some.ensures.value)) w.commit.ensures.staged)
           (c.commit-2.ensures.staged ∙ ap (λ (f : File g.row.A.Denot). index_staged f.index) w.self-is)
       | in_default w ↦
           same_file
@@ -32,7 +32,7 @@ returns-clause-settled g c = λ tests was.
     elim c.match-get_mut.branch [
       | in-Some w ↦
           let written = ap (λ (f : File g.row.A.Denot). f.tests.entries) w.self-is ∙ (c.get_mut.follows.holds w.commit.new.self).0 in
-          settled_found tests c.args.test.now before after was index w.in-Some.points.now w.commit.new.self c.get_mut.ensures.ordered written (sym w.in-Some.ensures.value) (w.commit.ensures.staged ∙ sym w.commit.ensures.committed)
+          settled_found tests c.args.test.now before after was index w.get_mut-in-Some.result.now w.commit.new.self c.get_mut.ensures.ordered written (sym w.in-Some.ensures.value ∙ ap Some (sym w.get_mut-in-Some.ensures.value)) (w.commit.ensures.staged ∙ sym w.commit.ensures.committed)
       | in_default w ↦
           let same = ap (λ (f : File g.row.A.Denot). f.tests.entries) w.self-is
           ∙ ap (λ (m : BTreeMap (Vec ℕ g.row.A.Denot) (Test g.row.A.Denot)). m.entries) c.get_mut.follows.holds-at-none in

@@ -37,12 +37,12 @@ add_values-added-requires-clause-room g c =
     let tests = seen names_order name test_staged pairs in
     let old = c.args.old.now in
     let new = c.args.new.now in
-    let target = c.replace-points.result in
+    let target = c.get_mut-in-Some-get.result.now in
     let empty = c.replace-points.new.dest in
-    let source = c.in-Some-get.source.now in
-    let found = sym c.in-Some.ensures.value ∙ ap Some (sym c.replace-points.ensures.value) in
+    let source = c.get-in-Some-get.result.now in
+    let found = sym c.in-Some.ensures.value ∙ ap Some (sym c.replace-points.ensures.value) ∙ ap Some (sym c.get_mut-in-Some-get.ensures.value) in
     let its_source = c.requires.same ∙ other_found name test_committed new pairs (c.get_mut.follows.lender empty).entries target empty c.get_mut.ensures.ordered found (c.get_mut.follows.holds empty).0 old c.requires.apart source
-    (sym c.in-Some-get.ensures.value) in
+    (sym c.in-Some-get.ensures.value ∙ ap Some (sym c.get-in-Some-get.ensures)) in
     let few : length tests < 2 ^ 63 = omega (arith, length-map {B = List ℕ × TestData} pairs (λ pair. (name pair.0, test_staged pair.1)), c.len.ensures.len, c.len.ensures.small) in
     copies_room old new tests (index_staged c.args.self.now.index) (test_committed source) (test_staged target) its_source (test_value name test_staged new pairs target found) c.requires.room few
 
@@ -53,12 +53,12 @@ add_values-added-requires-clause-holders g c =
     let tests = seen names_order name test_staged pairs in
     let old = c.args.old.now in
     let new = c.args.new.now in
-    let target = c.replace-points.result in
+    let target = c.get_mut-in-Some-get.result.now in
     let empty = c.replace-points.new.dest in
-    let source = c.in-Some-get.source.now in
-    let found = sym c.in-Some.ensures.value ∙ ap Some (sym c.replace-points.ensures.value) in
+    let source = c.get-in-Some-get.result.now in
+    let found = sym c.in-Some.ensures.value ∙ ap Some (sym c.replace-points.ensures.value) ∙ ap Some (sym c.get_mut-in-Some-get.ensures.value) in
     let its_source = c.requires.same ∙ other_found name test_committed new pairs (c.get_mut.follows.lender empty).entries target empty c.get_mut.ensures.ordered found (c.get_mut.follows.holds empty).0 old c.requires.apart source
-    (sym c.in-Some-get.ensures.value) in
+    (sym c.in-Some-get.ensures.value ∙ ap Some (sym c.get-in-Some-get.ensures)) in
     copies_holders old new tests (index_staged c.args.self.now.index) (test_committed source) (test_staged target) its_source (test_value name test_staged new pairs target found) c.requires.room
 
 -- and the test is put back
@@ -76,11 +76,13 @@ returns-in-Some-get_mut-clause-committed g c =
     let lifted = (c.get_mut.follows.holds empty).0 in
     elim c.match-get.branch [
       | in-Some-get w ↦
+          let lent = w.get_mut-in-Some-get.result.now in
+          let found_lent = found ∙ ap Some (sym w.get_mut-in-Some-get.ensures.value) in
           let mid = ap (λ (f : File g.row.A.Denot). f.tests.entries) w.self-is ∙ lifted in
           let index : KeepsCommitted c.args.self.now.index c.match-get.self.index =
           subst (λ (f : File g.row.A.Denot). KeepsCommitted c.args.self.now.index f.index) (sym w.self-is) w.add_values-added.ensures.index_committed in
           record {
-            tests = same_back name test_committed new pairs c.match-get.self.tests.entries target empty c.get_mut.ensures.ordered found mid c.in-Some-get_mut.place.now points
+            tests = same_back name test_committed new pairs c.match-get.self.tests.entries lent empty c.get_mut.ensures.ordered found_lent mid c.in-Some-get_mut.place.now points
                 (c.get_mut-2.follows.lender points).entries c.get_mut-2.ensures.ordered (sym c.in-Some-get_mut.ensures.value) (c.get_mut-2.follows.holds points).0
                 (ap test_committed w.points-is ∙ w.add_values-added.ensures.test_committed);
             lines = index.lines;
@@ -111,20 +113,22 @@ returns-in-Some-get_mut-clause-ok g c =
     let after : File g.row.A.Denot = record { tests = c.get_mut-2.follows.lender points; index = c.match-get.self.index } in
     elim c.match-get.branch [
       | in-Some-get w ↦
+          let lent = w.get_mut-in-Some-get.result.now in
+          let found_lent = found ∙ ap Some (sym w.get_mut-in-Some-get.ensures.value) in
           let mid = ap (λ (f : File g.row.A.Denot). f.tests.entries) w.self-is ∙ lifted in
-          let source = w.in-Some-get.source.now in
+          let source = w.get-in-Some-get.result.now in
           let its_source = c.requires.same ∙ other_found name test_committed new pairs (c.get_mut.follows.lender empty).entries target empty c.get_mut.ensures.ordered found lifted old c.requires.apart source
-          (sym w.in-Some-get.ensures.value) in
+          (sym w.in-Some-get.ensures.value ∙ ap Some (sym w.get-in-Some-get.ensures)) in
           let is = same_file
-          (put_back name test_staged new pairs c.match-get.self.tests.entries target empty c.get_mut.ensures.ordered found mid c.in-Some-get_mut.place.now points
+          (put_back name test_staged new pairs c.match-get.self.tests.entries lent empty c.get_mut.ensures.ordered found_lent mid c.in-Some-get_mut.place.now points
           (c.get_mut-2.follows.lender points).entries c.get_mut-2.ensures.ordered (sym c.in-Some-get_mut.ensures.value) (c.get_mut-2.follows.holds points).0
           ∙ ap (λ t. put (slice_cmp nat_cmp) new (test_staged t) tests) w.points-is)
           (ap (λ (f : File g.row.A.Denot). index_staged f.index) w.self-is) in
           rw w.added-is
           (on_ok_weaker w.add_values-added.result
           (λ adds. subst (λ (file : FileData). CopiesIn old new (file_staged before) file) (sym is)
-          (copies_in old new tests (index_staged before.index) (test_committed source) (test_staged target) its_source (test_value name test_staged new pairs target found)
-          (test_staged w.add_values-added.new.self) (index_staged w.add_values-added.new.index) adds))
+          (copies_in old new tests (index_staged before.index) (test_committed source) (test_staged lent) its_source (test_value name test_staged new pairs lent found_lent)
+          (test_staged w.add_values-added.new.test) (index_staged w.add_values-added.new.index) adds))
           w.add_values-added.ensures.ok)
       | in-None w ↦
           absurd

@@ -1,4 +1,4 @@
-use Rattle.std.proofs.Common.{not, Option, option_map, sym, ap, ◌∙◌}
+use Rattle.std.proofs.Common.{not, Option, Some, option_map, sym, ap, ◌∙◌}
 use Rattle.covstore.specs.State.{has_no_points, points_or_none}
 use Rattle.covstore.specs.Sums.{TestData}
 use Rattle.covstore.specs.TestView.{test_committed}
@@ -9,7 +9,7 @@ use Rattle.covstore.proofs.file.File.has_test.Goals as goal
 pub returns-in-Some : goal.returns-in-Some
 returns-in-Some g c =
     ap not (c.is_empty.ensures ∙ ap (λ (found : Option TestData). has_no_points (points_or_none found))
-    (ap (option_map test_committed) c.in-Some.ensures.value ∙ sym (value_of_named file_name test_committed c.args.test.now c.args.self.now.tests.entries)))
+    (ap (λ points. Some (test_committed points)) c.get-in-Some.ensures ∙ ap (option_map test_committed) c.in-Some.ensures.value ∙ sym (value_of_named file_name test_committed c.args.test.now c.args.self.now.tests.entries)))
 
 pub returns-in-None : goal.returns-in-None
 returns-in-None g c =

@@ -1,4 +1,4 @@
-use Rattle.std.proofs.Common.{◌≡◌, ℕ, sym, ap, ◌∙◌, Vec, BTreeMap}
+use Rattle.std.proofs.Common.{◌≡◌, ℕ, Some, sym, ap, ◌∙◌, Vec, BTreeMap}
 use Rattle.covstore.specs.declared.file.File.{File}
 use Rattle.covstore.specs.declared.test.Test.{Test}
 use Rattle.covstore.specs.FileIndexView.{index_staged, index_committed}
@@ -15,7 +15,7 @@ returns-clause-committed g c =
       | in-Some w ↦
           let written = ap (λ (f : File g.row.A.Denot). f.tests.entries) w.self-is ∙ (c.get_mut.follows.holds w.rollback.new.self).0 in
           same_file
-          (tests_written test_committed c.args.test.now before.tests.entries c.match-get_mut.self.tests.entries w.in-Some.points.now w.rollback.new.self written (sym w.in-Some.ensures.value) w.rollback.ensures.committed)
+          (tests_written test_committed c.args.test.now before.tests.entries c.match-get_mut.self.tests.entries w.get_mut-in-Some.result.now w.rollback.new.self written (sym w.in-Some.ensures.value ∙ ap Some (sym w.get_mut-in-Some.ensures.value)) w.rollback.ensures.committed)
           (c.rollback-2.ensures.committed ∙ ap (λ (f : File g.row.A.Denot). index_committed f.index) w.self-is)
       | in_default w ↦
           same_file
@@ -32,7 +32,7 @@ returns-clause-settled g c = λ tests was.
     elim c.match-get_mut.branch [
       | in-Some w ↦
           let written = ap (λ (f : File g.row.A.Denot). f.tests.entries) w.self-is ∙ (c.get_mut.follows.holds w.rollback.new.self).0 in
-          settled_found tests c.args.test.now before after was index w.in-Some.points.now w.rollback.new.self c.get_mut.ensures.ordered written (sym w.in-Some.ensures.value) (w.rollback.ensures.staged ∙ sym w.rollback.ensures.committed)
+          settled_found tests c.args.test.now before after was index w.get_mut-in-Some.result.now w.rollback.new.self c.get_mut.ensures.ordered written (sym w.in-Some.ensures.value ∙ ap Some (sym w.get_mut-in-Some.ensures.value)) (w.rollback.ensures.staged ∙ sym w.rollback.ensures.committed)
       | in_default w ↦
           let same = ap (λ (f : File g.row.A.Denot). f.tests.entries) w.self-is
           ∙ ap (λ (m : BTreeMap (Vec ℕ g.row.A.Denot) (Test g.row.A.Denot)). m.entries) c.get_mut.follows.holds-at-none in
