@@ -1,8 +1,7 @@
 -- How the call of a subcommand ends: what decides its exit status and what it writes.
 use Rattle.std.specs.List.{flat_map}
 use Rattle.std.specs.Prelude.{ℕ, ◌-◌, length, List, [], ◌∷◌, ◌++◌, Bool, true, false, if◌then◌else◌, Option, Some, None, codes, slice_get}
-use Rattle.covread.specs.declared.fault.ReadFault.{ReadFault}
-use Rattle.covread.specs.declared.fault.ReadFault.TheVariants as reads
+use Rattle.covread.specs.Fault.{is_memory}
 use Rattle.covbook.specs.Op.{EntryData, AnswerData, AcceptedAnswer, ClashAnswer, DroppedAnswer, RenamedAnswer, NoSuchTestAnswer, TextAnswer}
 use Rattle.covjobs.specs.declared.collect_fault.CollectFault.{CollectFault}
 use Rattle.covjobs.specs.declared.collect_fault.CollectFault.TheVariants as collects
@@ -58,21 +57,6 @@ of_collect collects.Full = Stopped faults.Full
 of_collect collects.Memory = Stopped faults.Memory
 of_collect (collects.Gather fault) = Ungathered
 of_collect collects.NotLast = Ungathered
-
-abbrev pub is_memory : ReadFault → Bool
-is_memory reads.TooLong = false
-is_memory (reads.Line at fault) = false
-is_memory (reads.Outside at) = false
-is_memory (reads.Inside at) = false
-is_memory reads.OpenEnd = false
-is_memory (reads.BadMark at) = false
-is_memory (reads.NoSource at) = false
-is_memory (reads.Percent at) = false
-is_memory (reads.Instances at) = false
-is_memory (reads.Misplaced at) = false
-is_memory reads.LostFunction = false
-is_memory reads.BadTest = false
-is_memory reads.Memory = true
 
 -- memory ran out for one of the refused inputs
 abbrev pub ran_out : List RefusedInput → Bool

@@ -7,7 +7,7 @@ ghost use Rattle.covbook.specs.EntryView.{entry_data};
 ghost use Rattle.covbook.specs.View.{answer_data};
 ghost use Rattle.covsession.specs.declared.session.fault.SessionFault.TheVariants as session_faults;
 ghost use Rattle.covrun.specs.Call.{WorkEnds};
-ghost use Rattle.covrun.specs.Ending.{of_collected, complaints, clash_text, refusal_line, ran_out, is_memory, last_text, name_at, text_in};
+ghost use Rattle.covrun.specs.Ending.{of_collected, complaints, clash_text, refusal_line, ran_out, last_text, name_at, text_in};
 ghost use Rattle.covrun.specs.View.{ending_data, work_data};
 
 use crate::ending::{Ending, ending_of_collect};
@@ -17,7 +17,6 @@ use crate::work::Work;
 use covbook::{Answer, Entry, TextRef};
 use covjobs::{Collected, NoGate, RefusedInput, collect};
 use covline::Bytes;
-use covread::ReadFault;
 use covsession::{Clash, SessionFault, clash_line, refused_line};
 use std::alloc::Global;
 use std::rt::Files;
@@ -75,32 +74,11 @@ fn has_run_out(refused: &[RefusedInput]) -> bool
     ensures { result ≡ ran_out refused.now }
 {
     for input in refused {
-        if is_want_of_memory(input.fault) {
+        if input.fault.is_memory() {
             return true;
         }
     }
     false
-}
-
-/// Whether this fault is want of memory.
-fn is_want_of_memory(fault: ReadFault) -> bool
-    ensures { result ≡ is_memory fault }
-{
-    match fault {
-        ReadFault::TooLong
-        | ReadFault::Line { .. }
-        | ReadFault::Outside { .. }
-        | ReadFault::Inside { .. }
-        | ReadFault::OpenEnd
-        | ReadFault::BadMark { .. }
-        | ReadFault::NoSource { .. }
-        | ReadFault::Percent { .. }
-        | ReadFault::Instances { .. }
-        | ReadFault::Misplaced { .. }
-        | ReadFault::LostFunction
-        | ReadFault::BadTest => false,
-        ReadFault::Memory => true,
-    }
 }
 
 /// Appends the line of each refused input, with its file in front.
