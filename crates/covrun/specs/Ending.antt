@@ -7,7 +7,7 @@ use Rattle.covjobs.specs.declared.collect_fault.CollectFault.{CollectFault}
 use Rattle.covjobs.specs.declared.collect_fault.CollectFault.TheVariants as collects
 use Rattle.covjobs.specs.declared.refused.RefusedInput.{RefusedInput}
 use Rattle.covsession.specs.Program.{fault_status, words_of_fault}
-use Rattle.covsession.specs.Session.{said, answer_text, refused_text}
+use Rattle.covsession.specs.Session.{said, clash_text, refused_text}
 use Rattle.covsession.specs.declared.session.fault.SessionFault.{SessionFault}
 use Rattle.covsession.specs.declared.session.fault.SessionFault.TheVariants as faults
 use Rattle.covrun.specs.declared.words_fault.WordsFault.{WordsFault}
@@ -68,17 +68,9 @@ abbrev pub name_at : Option (List ℕ) → List ℕ
 name_at (Some name) = name
 name_at None = []
 
--- the line of a refused input, with its file in front, and that of an answer where it is a clash
+-- the line of a refused input, with its file in front
 abbrev pub refusal_line : List (List ℕ) → RefusedInput → List ℕ
 refusal_line files r = name_at (slice_get files r.index) ++ codes ": " ++ refused_text r.fault
-
-abbrev pub clash_text : AnswerData → List ℕ
-clash_text (AcceptedAnswer number items odd) = []
-clash_text (ClashAnswer clash) = answer_text (ClashAnswer clash)
-clash_text (DroppedAnswer sections) = []
-clash_text (RenamedAnswer sections) = []
-clash_text NoSuchTestAnswer = []
-clash_text (TextAnswer text) = []
 
 -- first what was refused, in the files' order, then what clashed, in the history's
 abbrev pub complaints : List (List ℕ) → List RefusedInput → List EntryData → List ℕ
