@@ -1,5 +1,5 @@
--- The numbers of a reader's faults, the same from the first day on.
-use Rattle.std.specs.Prelude.{ℕ}
+-- The numbers of a reader's faults, the same from the first day on, and which of them is no fault of the text.
+use Rattle.std.specs.Prelude.{ℕ, Bool, true, false}
 use Rattle.covread.specs.declared.fault.ReadFault.{ReadFault}
 use Rattle.covread.specs.declared.fault.ReadFault.TheVariants.{TooLong, Line, Outside, Inside, OpenEnd, BadMark, NoSource, Percent, Instances, Misplaced, LostFunction, BadTest, Memory}
 
@@ -17,3 +17,19 @@ fault_number (Misplaced at) = 10
 fault_number LostFunction = 11
 fault_number BadTest = 12
 fault_number Memory = 13
+
+-- memory ran out, which says nothing of the text
+abbrev pub is_memory : ReadFault → Bool
+is_memory TooLong = false
+is_memory (Line at fault) = false
+is_memory (Outside at) = false
+is_memory (Inside at) = false
+is_memory OpenEnd = false
+is_memory (BadMark at) = false
+is_memory (NoSource at) = false
+is_memory (Percent at) = false
+is_memory (Instances at) = false
+is_memory (Misplaced at) = false
+is_memory LostFunction = false
+is_memory BadTest = false
+is_memory Memory = true

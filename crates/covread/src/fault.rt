@@ -56,7 +56,7 @@ pub enum ReadFault {
 
 impl ReadFault {
     ghost use Rattle.std.specs.Prelude.{◌≡◌};
-    ghost use Rattle.covread.specs.Fault.{fault_number};
+    ghost use Rattle.covread.specs.Fault.{fault_number, is_memory};
 
     /// The number of the fault.
     pub fn number(self) -> u32
@@ -76,6 +76,27 @@ impl ReadFault {
             ReadFault::LostFunction => 11,
             ReadFault::BadTest => 12,
             ReadFault::Memory => 13,
+        }
+    }
+
+    /// Whether memory ran out, which says nothing of the text.
+    pub fn is_memory(self) -> bool
+        ensures { result ≡ is_memory self }
+    {
+        match self {
+            ReadFault::TooLong
+            | ReadFault::Line { .. }
+            | ReadFault::Outside { .. }
+            | ReadFault::Inside { .. }
+            | ReadFault::OpenEnd
+            | ReadFault::BadMark { .. }
+            | ReadFault::NoSource { .. }
+            | ReadFault::Percent { .. }
+            | ReadFault::Instances { .. }
+            | ReadFault::Misplaced { .. }
+            | ReadFault::LostFunction
+            | ReadFault::BadTest => false,
+            ReadFault::Memory => true,
         }
     }
 }

@@ -1,14 +1,13 @@
 -- How the call of a subcommand ends: what decides its exit status and what it writes.
 use Rattle.std.specs.List.{flat_map}
 use Rattle.std.specs.Prelude.{ℕ, ◌-◌, length, List, [], ◌∷◌, ◌++◌, Bool, true, false, if◌then◌else◌, Option, Some, None, codes, slice_get}
-use Rattle.covread.specs.declared.fault.ReadFault.{ReadFault}
-use Rattle.covread.specs.declared.fault.ReadFault.TheVariants as reads
+use Rattle.covread.specs.Fault.{is_memory}
 use Rattle.covbook.specs.Op.{EntryData, AnswerData, AcceptedAnswer, ClashAnswer, DroppedAnswer, RenamedAnswer, NoSuchTestAnswer, TextAnswer}
 use Rattle.covjobs.specs.declared.collect_fault.CollectFault.{CollectFault}
 use Rattle.covjobs.specs.declared.collect_fault.CollectFault.TheVariants as collects
 use Rattle.covjobs.specs.declared.refused.RefusedInput.{RefusedInput}
 use Rattle.covsession.specs.Program.{fault_status, words_of_fault}
-use Rattle.covsession.specs.Session.{said, answer_text, refused_text}
+use Rattle.covsession.specs.Session.{said, clash_text, refused_text}
 use Rattle.covsession.specs.declared.session.fault.SessionFault.{SessionFault}
 use Rattle.covsession.specs.declared.session.fault.SessionFault.TheVariants as faults
 use Rattle.covrun.specs.declared.words_fault.WordsFault.{WordsFault}
@@ -59,21 +58,6 @@ of_collect collects.Memory = Stopped faults.Memory
 of_collect (collects.Gather fault) = Ungathered
 of_collect collects.NotLast = Ungathered
 
-abbrev pub is_memory : ReadFault → Bool
-is_memory reads.TooLong = false
-is_memory (reads.Line at fault) = false
-is_memory (reads.Outside at) = false
-is_memory (reads.Inside at) = false
-is_memory reads.OpenEnd = false
-is_memory (reads.BadMark at) = false
-is_memory (reads.NoSource at) = false
-is_memory (reads.Percent at) = false
-is_memory (reads.Instances at) = false
-is_memory (reads.Misplaced at) = false
-is_memory reads.LostFunction = false
-is_memory reads.BadTest = false
-is_memory reads.Memory = true
-
 -- memory ran out for one of the refused inputs
 abbrev pub ran_out : List RefusedInput → Bool
 ran_out [] = false
@@ -84,17 +68,9 @@ abbrev pub name_at : Option (List ℕ) → List ℕ
 name_at (Some name) = name
 name_at None = []
 
--- the line of a refused input, with its file in front, and that of an answer where it is a clash
+-- the line of a refused input, with its file in front
 abbrev pub refusal_line : List (List ℕ) → RefusedInput → List ℕ
 refusal_line files r = name_at (slice_get files r.index) ++ codes ": " ++ refused_text r.fault
-
-abbrev pub clash_text : AnswerData → List ℕ
-clash_text (AcceptedAnswer number items odd) = []
-clash_text (ClashAnswer clash) = answer_text (ClashAnswer clash)
-clash_text (DroppedAnswer sections) = []
-clash_text (RenamedAnswer sections) = []
-clash_text NoSuchTestAnswer = []
-clash_text (TextAnswer text) = []
 
 -- first what was refused, in the files' order, then what clashed, in the history's
 abbrev pub complaints : List (List ℕ) → List RefusedInput → List EntryData → List ℕ

@@ -5,9 +5,10 @@ ghost use Rattle.std.specs.List.{flat_map};
 ghost use Rattle.std.specs.String.{string_bytes};
 ghost use Rattle.covbook.specs.EntryView.{entry_data};
 ghost use Rattle.covbook.specs.View.{answer_data};
+ghost use Rattle.covsession.specs.Session.{clash_text};
 ghost use Rattle.covsession.specs.declared.session.fault.SessionFault.TheVariants as session_faults;
 ghost use Rattle.covrun.specs.Call.{WorkEnds};
-ghost use Rattle.covrun.specs.Ending.{of_collected, complaints, clash_text, refusal_line, ran_out, is_memory, last_text, name_at, text_in};
+ghost use Rattle.covrun.specs.Ending.{of_collected, complaints, refusal_line, ran_out, last_text, name_at, text_in};
 ghost use Rattle.covrun.specs.View.{ending_data, work_data};
 
 use crate::ending::{Ending, ending_of_collect};
@@ -17,8 +18,7 @@ use crate::work::Work;
 use covbook::{Answer, Entry, TextRef};
 use covjobs::{Collected, NoGate, RefusedInput, collect};
 use covline::Bytes;
-use covread::ReadFault;
-use covsession::{Clash, SessionFault, clash_line, refused_line};
+use covsession::{SessionFault, clash_line, refused_line};
 use std::alloc::Global;
 use std::rt::Files;
 use std::sync::Wait;
@@ -75,32 +75,11 @@ fn has_run_out(refused: &[RefusedInput]) -> bool
     ensures { result ≡ ran_out refused.now }
 {
     for input in refused {
-        if is_want_of_memory(input.fault) {
+        if input.fault.is_memory() {
             return true;
         }
     }
     false
-}
-
-/// Whether this fault is want of memory.
-fn is_want_of_memory(fault: ReadFault) -> bool
-    ensures { result ≡ is_memory fault }
-{
-    match fault {
-        ReadFault::TooLong
-        | ReadFault::Line { .. }
-        | ReadFault::Outside { .. }
-        | ReadFault::Inside { .. }
-        | ReadFault::OpenEnd
-        | ReadFault::BadMark { .. }
-        | ReadFault::NoSource { .. }
-        | ReadFault::Percent { .. }
-        | ReadFault::Instances { .. }
-        | ReadFault::Misplaced { .. }
-        | ReadFault::LostFunction
-        | ReadFault::BadTest => false,
-        ReadFault::Memory => true,
-    }
 }
 
 /// Appends the line of each refused input, with its file in front.
@@ -162,29 +141,9 @@ fn add_clash(alloc: Global, answer: &Answer, lines: &mut Vec<u8>) -> Result<(), 
     ensures added { OnOk result (lines.new.items ≡ lines.old.items ++ clash_text (answer_data answer.now)) }
     ensures fault { IfErr result (λ fault. fault ≡ session_faults.Memory) }
 {
-    match answer {
-        Answer::Clash {
-            file,
-            line,
-            held,
-            given,
-        } => {
-            let clash = Clash {
-                file: file.get(),
-                line: *line,
-                held: held.get(),
-                given: given.get(),
-            };
-            let text = clash_line(alloc, clash)?;
-            lines.extend_from_slice(text.as_slice())?;
-            Ok(())
-        }
-        Answer::Accepted { .. }
-        | Answer::Dropped { .. }
-        | Answer::Renamed { .. }
-        | Answer::NoSuchTest
-        | Answer::Text(_) => Ok(()),
-    }
+    let text = clash_line(alloc, answer)?;
+    lines.extend_from_slice(text.as_slice())?;
+    Ok(())
 }
 
 /// The text of the last entry.

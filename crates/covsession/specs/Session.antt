@@ -25,6 +25,15 @@ answer_text (RenamedAnswer sections) = said (codes "renamed " ++ decimal section
 answer_text NoSuchTestAnswer = said (codes "no such test")
 answer_text (TextAnswer text) = text ++ said (codes ".")
 
+-- the line of an answer where it is a clash
+abbrev pub clash_text : AnswerData → List ℕ
+clash_text (AcceptedAnswer number items odd) = []
+clash_text (ClashAnswer clash) = answer_text (ClashAnswer clash)
+clash_text (DroppedAnswer sections) = []
+clash_text (RenamedAnswer sections) = []
+clash_text NoSuchTestAnswer = []
+clash_text (TextAnswer text) = []
+
 abbrev pub line_fault_name : LineFault → List ℕ
 line_fault_name BadLine = codes "BadLine"
 line_fault_name NumberTooLarge = codes "NumberTooLarge"

@@ -19,5 +19,5 @@ pub mod session;
 mod stream;
 
 pub use program::{line_of, run_session, status_of};
-pub use session::{Clash, SessionFault, clash_line, put_bytes, refused_line};
+pub use session::{SessionFault, clash_line, put_bytes, refused_line};
 pub use stream::{Failed, FromRead, FromWrite, Sink, Source};

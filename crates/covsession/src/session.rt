@@ -28,7 +28,7 @@ use crate::session::rename::answer_rename;
 use crate::session::submit::{Given, answer_given, take_text};
 use crate::session::text::{LineEnd, Text};
 use crate::stream::{Sink, Source};
-pub use answers::{Clash, clash_line, refused_line};
+pub use answers::{clash_line, refused_line};
 use covbook::Book;
 pub use fault::SessionFault;
 pub use output::put_bytes;

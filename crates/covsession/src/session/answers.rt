@@ -1,9 +1,9 @@
 //! The lines that a session answers.
 
 ghost use Rattle.std.specs.Prelude.{◌≡◌, ◌≢◌, ◌^◌, ◌<◌, codes, decimal, IfOk, IfErr, OnOk, ◌++◌};
-ghost use Rattle.covbook.specs.Op.{AcceptedAnswer, ClashAnswer, DroppedAnswer, RenamedAnswer};
+ghost use Rattle.covbook.specs.Op.{AcceptedAnswer, DroppedAnswer, RenamedAnswer};
 ghost use Rattle.covbook.specs.View.{answer_data};
-ghost use Rattle.covsession.specs.Session.{answer_text, line_fault_name, fault_text, refused_text};
+ghost use Rattle.covsession.specs.Session.{answer_text, clash_text, line_fault_name, fault_text, refused_text};
 ghost use Rattle.covsession.specs.Broken.{Breaks};
 ghost use Rattle.covsession.specs.Streams.{Says};
 ghost use Rattle.covsession.specs.declared.session.fault.SessionFault.TheVariants as session_faults;
@@ -59,36 +59,32 @@ fn accepted_line<A: Allocator>(
     Ok(line)
 }
 
-/// Where a submission clashes, with the checksum that is held and the given one.
-#[derive(Clone, Copy)]
-pub struct Clash<'a> {
-    /// The file whose versions differ.
-    pub file: &'a [u8],
-    /// The line that has two checksums.
-    pub line: u64,
-    /// The checksum that is held.
-    pub held: &'a [u8],
-    /// The checksum that is given.
-    pub given: &'a [u8],
-}
-
-/// The line that says that a submission clashes.
-pub fn clash_line<A: Allocator>(alloc: A, clash: Clash<'_>) -> Result<Vec<u8, A>, SessionFault>
-    ensures line { IfOk result (λ text. text.items ≡ answer_text (ClashAnswer (record {
-      file = clash.entry.file.now;
-      line = clash.entry.line;
-      held = clash.entry.held.now;
-      given = clash.entry.given.now;
-    }))) }
+/// The line that says that a submission clashes; nothing where the answer says something else.
+pub fn clash_line<A: Allocator>(alloc: A, answer: &Answer<A>) -> Result<Vec<u8, A>, SessionFault>
+    ensures line { IfOk result (λ text. text.items ≡ clash_text (answer_data answer.now)) }
     ensures fault { IfErr result (λ f. f ≡ session_faults.Memory) }
 {
-    let mut text = Vec::from_slice(alloc, b"clash ")?;
-    text.extend_from_slice(clash.file)?;
-    add_number(&mut text, b" ", clash.line)?;
-    add_checksum(&mut text, clash.held)?;
-    add_checksum(&mut text, clash.given)?;
-    text.extend_from_slice(b"\n")?;
-    Ok(text)
+    match answer {
+        Answer::Clash {
+            file,
+            line,
+            held,
+            given,
+        } => {
+            let mut text = Vec::from_slice(alloc, b"clash ")?;
+            text.extend_from_slice(file.get())?;
+            add_number(&mut text, b" ", *line)?;
+            add_checksum(&mut text, held.get())?;
+            add_checksum(&mut text, given.get())?;
+            text.extend_from_slice(b"\n")?;
+            Ok(text)
+        }
+        Answer::Accepted { .. }
+        | Answer::Dropped { .. }
+        | Answer::Renamed { .. }
+        | Answer::NoSuchTest
+        | Answer::Text(_) => Ok(Vec::new(alloc)),
+    }
 }
 
 // The line that says from how many sections a test was dropped.
@@ -195,19 +191,8 @@ pub fn say_answer<O: Sink, A: Allocator + Copy>(
             let line = accepted_line(alloc, *number, *items, *odd)?;
             output.say(line.as_slice())
         }
-        Answer::Clash {
-            file,
-            line,
-            held,
-            given,
-        } => {
-            let clash = Clash {
-                file: file.get(),
-                line: *line,
-                held: held.get(),
-                given: given.get(),
-            };
-            let text = clash_line(alloc, clash)?;
+        Answer::Clash { .. } => {
+            let text = clash_line(alloc, answer)?;
             output.say(text.as_slice())
         }
         Answer::Dropped { sections } => {

@@ -60,21 +60,10 @@ fn told(fault: ReadFault) -> Result<(), SessionFault>
     ensures told { OnOk result (IsTold fault) }
     ensures fault { IfErr result (λ f. (fault ≡ read_faults.Memory) × (f ≡ session_faults.Memory)) }
 {
-    match fault {
-        ReadFault::TooLong
-        | ReadFault::Line { .. }
-        | ReadFault::Outside { .. }
-        | ReadFault::Inside { .. }
-        | ReadFault::OpenEnd
-        | ReadFault::BadMark { .. }
-        | ReadFault::NoSource { .. }
-        | ReadFault::Percent { .. }
-        | ReadFault::Instances { .. }
-        | ReadFault::Misplaced { .. }
-        | ReadFault::LostFunction
-        | ReadFault::BadTest => Ok(()),
-        ReadFault::Memory => Err(SessionFault::Memory),
+    if fault.is_memory() {
+        return Err(SessionFault::Memory);
     }
+    Ok(())
 }
 
 // Says why a text was refused.

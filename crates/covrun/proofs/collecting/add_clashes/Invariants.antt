@@ -2,7 +2,7 @@ use Rattle.std.specs.Prelude.{◌≡◌, ◌++◌, map, take}
 use Rattle.std.specs.List.{flat_map}
 use Rattle.covbook.specs.EntryView.{entry_data}
 use Rattle.covbook.specs.Op.{EntryData}
-use Rattle.covrun.specs.Ending.{clash_text}
+use Rattle.covsession.specs.Session.{clash_text}
 use Rattle.covrun.proofs.collecting.add_clashes.Given as goal
 
 -- the lines of those that were passed stand at the end

@@ -32,14 +32,14 @@ returns-in-NoSuchTest-clause-breaks g c = rw c.in-NoSuchTest.is c.say-in-NoSuchT
 pub returns-in_err-say-in-Text-clause-breaks : goal.returns-in_err-say-in-Text-clause-breaks
 returns-in_err-say-in-Text-clause-breaks g c =
     let p = err_from_is_err_and c.from_residual-in_err-say-in-Text.result c.from_residual-in_err-say-in-Text.ensures.1 in
-    let same : c.get-in-Text-2.result.now ≡ c.in-Text.text = search rules in
+    let same : c.get-in-Text.result.now ≡ c.in-Text.text = search rules in
     let P : List ℕ → Type 0 = λ u. Breaks c.args.output.now c.say-in-Text.new.self c.in_err-say-in-Text.field-0.0 u in
     rw (p.1, p.2, c.in-Text.is)
     (breaks_more c.args.output.now c.say-in-Text.new.self c.in_err-say-in-Text.field-0.0 c.in-Text.text (said (codes ".")) (subst P same c.in_err-say-in-Text.ensures.breaks))
 
 pub returns-in_ok-say-in-Text-clause-says : goal.returns-in_ok-say-in-Text-clause-says
 returns-in_ok-say-in-Text-clause-says g c =
-    let same : c.get-in-Text-2.result.now ≡ c.in-Text.text = search rules in
+    let same : c.get-in-Text.result.now ≡ c.in-Text.text = search rules in
     let P : List ℕ → Type 0 = λ u. Says c.args.output.now c.say-in-Text.new.self u in
     rw c.in-Text.is
     (ok_after c.args.output.now c.say-in-Text.new.self c.say-in-Text-2.new.self c.in-Text.text (said (codes ".")) c.say-in-Text-2.result
@@ -47,7 +47,7 @@ returns-in_ok-say-in-Text-clause-says g c =
 
 pub returns-in_ok-say-in-Text-clause-breaks : goal.returns-in_ok-say-in-Text-clause-breaks
 returns-in_ok-say-in-Text-clause-breaks g c =
-    let same : c.get-in-Text-2.result.now ≡ c.in-Text.text = search rules in
+    let same : c.get-in-Text.result.now ≡ c.in-Text.text = search rules in
     let P : List ℕ → Type 0 = λ u. Says c.args.output.now c.say-in-Text.new.self u in
     rw c.in-Text.is
     (err_after c.args.output.now c.say-in-Text.new.self c.say-in-Text-2.new.self c.in-Text.text (said (codes ".")) c.say-in-Text-2.result
