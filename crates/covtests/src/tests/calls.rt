@@ -30,6 +30,13 @@ pub(super) fn counted_first(text: &[u8]) -> Option<(u64, u64, usize)> {
     Some((first.line, first.count, first.rest.len()))
 }
 
+/// The numbers of a first line that counts, its checksum, empty where there is none, and how many bytes are behind it.
+pub(super) fn checked_first(text: &[u8]) -> Option<(u64, u64, &[u8], usize)> {
+    let first = covline::first_counted(text)?;
+    let checksum = first.checksum.unwrap_or(b"");
+    Some((first.line, first.count, checksum, first.rest.len()))
+}
+
 /// What a first line says of a branch, and how many bytes are behind it.
 pub(super) fn branch_first(text: &[u8]) -> Option<(BranchPoint, Option<u64>, usize)> {
     let first = covline::first_branch(text)?;

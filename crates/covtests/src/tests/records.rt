@@ -1,8 +1,8 @@
 //! Calls of covline and covread that no session shows: single records, lists, submissions, and the items of a text.
 
 use super::calls::{
-    append, branch_first, bytes_of, copied_items, copied_sects, copied_submission, copy_of,
-    counted_first, cut_first, put_line, read, submission_of, text_of,
+    append, branch_first, bytes_of, checked_first, copied_items, copied_sects, copied_submission,
+    copy_of, counted_first, cut_first, put_line, read, submission_of, text_of,
 };
 use super::{check_bytes, push_line};
 use covline::{
@@ -65,6 +65,11 @@ fn check_first(rt: &impl Abort, text: &[u8], wanted: Option<(u64, u64, usize)>) 
     assert_eq!(rt; counted_first(text), wanted);
 }
 
+/// What the first line of a text counts, with its checksum.
+fn check_checked(rt: &impl Abort, text: &[u8], wanted: Option<(u64, u64, &[u8], usize)>) {
+    assert_eq!(rt; checked_first(text), wanted);
+}
+
 /// What the first line of a text says of a branch, if it only tells how often it was taken.
 fn check_branch(rt: &impl Abort, text: &[u8], wanted: Option<(BranchPoint, Option<u64>, usize)>) {
     assert_eq!(rt; branch_first(text), wanted);
@@ -73,6 +78,21 @@ fn check_branch(rt: &impl Abort, text: &[u8], wanted: Option<(BranchPoint, Optio
 /// How the first line of a text is cut.
 fn check_cut(rt: &impl Abort, text: &[u8], wanted: (usize, usize)) {
     assert_eq!(rt; cut_first(text), wanted);
+}
+
+/// A first line that counts is read before it is cut, with its checksum; another one is cut.
+#[test]
+fn checksums_before_a_cut(rt: HostRuntime) {
+    check_checked(
+        &rt,
+        b"DA:7,12,sum+/==\nDA:8,1\n",
+        Some((7, 12, b"sum+/==", 7)),
+    );
+    check_checked(&rt, b"DA:7,12\nDA:8,1,x\n", Some((7, 12, b"", 9)));
+    check_checked(&rt, b"DA:7,12,\n", None);
+    check_checked(&rt, b"DA:7,12,a,b\n", None);
+    check_checked(&rt, b"DA:7,12,sum", None);
+    check_checked(&rt, b"DA:7,18446744073709551616,a\n", None);
 }
 
 /// A first line that only counts is read before it is cut; another one is cut.
