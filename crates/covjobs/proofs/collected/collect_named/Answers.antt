@@ -6,7 +6,7 @@ use Rattle.covbook.specs.LogView.{log_data}
 use Rattle.covbook.specs.Op.{EntryData}
 use Rattle.covbook.specs.View.{op_data}
 use Rattle.covjobs.specs.InputView.{input_data}
-use Rattle.covjobs.specs.Seat.{SeatData, first_seats}
+use Rattle.covlock.specs.Seat.{SeatData, first_seats}
 use Rattle.covjobs.specs.Work.{HaveDone, work_of}
 use Rattle.covjobs.proofs.Everything.{all_collected}
 use Rattle.covjobs.proofs.Whole.{works_from}
