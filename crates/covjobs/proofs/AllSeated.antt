@@ -1,7 +1,7 @@
 -- The seats that workers hand in are those of all jobs, and there is a worker as there is a job.
-use Rattle.std.proofs.Common.{◌≡◌, ◌∙◌, inl, inr, ◌⊎◌, ℕ, zero, suc, ◌+◌, ◌<◌, ◌≤◌, ◌||◌, true, List, [], ◌∷◌, length, ap, sym, arith}
+use Rattle.std.proofs.Common.{◌≡◌, ◌∙◌, inl, inr, ℕ, zero, suc, ◌+◌, ◌<◌, ◌≤◌, ◌||◌, true, List, [], ◌∷◌, length, ap, sym, arith}
 use Rattle.std.proofs.Math.Dec.{eqb}
-use Rattle.std.proofs.lemmas.Bool.{eq-eqb, false≢true, or_left, or_right}
+use Rattle.std.proofs.lemmas.Bool.{cases_lt, eq-eqb, false≢true, or_left, or_right}
 use Rattle.std.proofs.lemmas.Bool.Decides.{eqb_tells}
 use Rattle.covlock.specs.Handed.{is_seated, IsLeastMissing}
 use Rattle.covbook.specs.Op.{OpData}
@@ -21,13 +21,10 @@ seated_from inputs jobs from (suc some) (worker ∷ workers) done job least less
 ]
   where
     above : (job from : ℕ) → from ≤ job → (job ≡ from → ⊥) → from + 1 ≤ job
-    above job from least differs = elim (cases_at job from least) [
-      | inl same ↦ absurd (differs same)
-      | inr more ↦ more
+    above job from least differs = elim (cases_lt from job) [
+      | inl less ↦ omega (arith, less)
+      | inr more ↦ absurd (differs (omega (arith, least, more)))
     ]
-
-    cases_at : (job from : ℕ) → from ≤ job → (job ≡ from) ⊎ (from + 1 ≤ job)
-    cases_at job from least = omega arith
 
 -- the last operation changes no worker's job
 same_seated : (workers after : List WorkerData) (end : ℕ) (last : OpData) → FirstAsks workers after end last → (job : ℕ) → is_seated (seats_in workers) job ≡ is_seated (seats_in after) job
