@@ -22,6 +22,8 @@ BEGIN {
     sub(/\/+$/, "", folder)
     if ((most timestamp) !~ /^[0-9]*$/)
         stop(2, "cobertura.awk: most and timestamp must be numbers")
+    # busybox awk compares a variable that was never set as a text.
+    files = lines = news = functions = branches = branches_hit = 0
 }
 
 /^DA:[0-9]+,[0-9]+(,[^,]+)?$/ && open { put_line(); next }
@@ -146,6 +148,7 @@ function last_digits(number) {
 
 # The elements of a file go to a list of texts, because the totals and the package stand before them.
 function close_file(   path, package, hit, i, count) {
+    hit = 0
     for (i = 1; i <= lines; i++)
         if (hits[list[i]] ~ /[1-9]/)
             hit++
