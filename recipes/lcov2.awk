@@ -168,41 +168,41 @@ function put_others(text,   count, i, end, line, as_it_is) {
 # BRDA:<line>,[<marks>]<block>,<branch>,<taken>. The marks are e (exception) or f (fall through), and U (excluded from coverage, in no
 # total). Version 1 writes the branches of exceptions without marks, and excluded ones not at all. A line that doesn't have this form
 # is copied, and covcollect refuses it.
-function put_branch(line,   count, field, marks, block, branch) {
+function put_branch(line,   marks) {
     if (line !~ /^BRDA:[0-9]+,[ef]?U?[0-9]+,.+,(-|[0-9]+)$/) {
         # The totals are wrong if branches were dropped.
         if (!(line ~ /^BR[FH]:/ && (left_out || branches == "none")))
             print line
         return
     }
-    count = split(line, field, ",")
-    block = field[2]
-    if (block !~ /^[0-9]/) {
-        marks = block
-        sub(/[0-9]+/, "", marks)
-        block = substr(block, length(marks) + 1)
-    }
-    # An expression can have commas.
-    branch = count == 4 && field[3] ~ /^[0-9]+$/ ? field[3] : ""
     if (expressions)
-        branch = number_of(branch, field[1] "," block, line)
+        line = numbered(line)
+    marks = substr(line, index(line, ",") + 1, 2)
     if (marks ~ /U/ || branches == "none")
         return
-    if (marks ~ /e/ && branches == "plain")
+    if (marks ~ /e/ && branches == "plain") {
         left_out = 1
-    else
-        print field[1] "," block "," branch "," field[count]
+        return
+    }
+    sub(/,[ef]/, ",", line)
+    print line
 }
 
-# If the branch is an expression, the branches of its block are numbered from 0 in their order, as in LCOV 2. So counts are added up
-# correctly if the tool always writes the branches of a line in the same order.
-function number_of(branch, block, line) {
-    if (branch == "" ? block in numeric : block in order)
-        refuse(line, "is in a block that has both numbers and expressions")
-    if (branch == "")
-        return order[block]++ + 0
-    numeric[block] = 1
-    return branch
+# The same branch with a number. If it has an expression, the branches of its block are numbered from 0 in their order, as in LCOV 2. So
+# counts are added up correctly if the tool always writes the branches of a line in the same order.
+function numbered(line,   count, field, block) {
+    count = split(line, field, ",")
+    block = field[2]
+    sub(/^[efU]+/, "", block)
+    block = field[1] "," block
+    # An expression can have commas.
+    if (count == 4 && field[3] ~ /^[0-9]+$/) {
+        numeric[block] = 1
+        if (!(block in order))
+            return line
+    } else if (!(block in numeric))
+        return field[1] "," field[2] "," (order[block]++ + 0) "," field[count]
+    refuse(line, "is in a block that has both numbers and expressions")
 }
 
 function after_comma(text) {
