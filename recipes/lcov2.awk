@@ -3,9 +3,9 @@
 #     LC_ALL=C awk -f lcov2.awk new.info > plain.info
 #     LC_ALL=C awk -v branches=plain -f lcov2.awk new.info > plain.info
 #
-# Without it, covcollect skips the functions of LCOV 2.2 or later, takes those of older ones as never called, and refuses branches
-# with a mark or an expression. Tracefiles of LCOV 1.x and llvm-cov don't need it; they are copied, without carriage returns at line
-# ends.
+# Without it, covcollect skips functions in FNL and FNA lines, takes those of FN lines with an end line as never called, and refuses
+# branches with a mark or an expression. Tracefiles of LCOV 1.x and of llvm-cov 14 don't need it; they are copied, without carriage
+# returns at line ends.
 #
 # branches=all (the default) keeps all branches, branches=plain drops those of exceptions, branches=none drops all. With LC_ALL=C
 # every awk treats names as bytes. Works with mawk, gawk and busybox awk. mawk is the fastest of them.
