@@ -16,8 +16,8 @@ IsSkippedGcov line = (line ≢ []) × IsShapeOf line Other
 
 -- a line that isn't read in a text of this format
 abbrev pub IsSkippedIn : Format → List ℕ → Type 0
-IsSkippedIn formats.Trace line = IsSkippedRecord line
-IsSkippedIn formats.Gcov line = IsSkippedGcov line
+IsSkippedIn formats.Trace = IsSkippedRecord
+IsSkippedIn formats.Gcov = IsSkippedGcov
 
 -- the members of the list of which this holds, in their order
 abbrev pub AreThose : {X : Type 0} → (X → Type 0) → List X → List X → Type 0

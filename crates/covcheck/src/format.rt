@@ -1,7 +1,7 @@
 //! How a text is read, and which of its lines aren't.
 
 ghost use Rattle.std.specs.Prelude.{◌≡◌, ◌++◌, ◌↔◌, IsTrue, IfSome, codes};
-ghost use Rattle.covline.specs.Spells.{HasKey, Skip, Spells};
+ghost use Rattle.covline.specs.Spells.{line_data, HasKey, Skip, Spells};
 ghost use Rattle.covcheck.specs.Skipped.{IsSkippedIn, IsSkippedRecord};
 
 use covline::{TraceLine, read_line};
@@ -75,5 +75,15 @@ fn behind_branch_key(line: &[u8]) -> Option<&[u8]>
 fn says_nothing(line: &[u8]) -> bool
     ensures { IsTrue result ↔ Spells line.now Skip }
 {
-    matches!(read_line(line), Ok(TraceLine::Skip))
+    match read_line(line) {
+        Ok(says) => is_skip(says),
+        Err(_) => false,
+    }
+}
+
+/// Whether this is said by lines that say nothing.
+fn is_skip(says: TraceLine<'_>) -> bool
+    ensures { IsTrue result ↔ (line_data says.entry ≡ Skip) }
+{
+    matches!(says, TraceLine::Skip)
 }

@@ -1,8 +1,8 @@
 //! The pass over the lines of a text that tells which of them aren't read.
 
-ghost use Rattle.std.specs.Prelude.{◌≡◌, ◌×◌, ℕ, List, length};
+ghost use Rattle.std.specs.Prelude.{◌≡◌, ℕ, List, length, None, Some, IfSome, MatchOption};
 ghost use Rattle.covcheck.specs.Holding.{AreLinesThat, IsFirstOf};
-ghost use Rattle.covcheck.specs.Skipped.{IsSkippedIn};
+ghost use Rattle.covcheck.specs.Skipped.{start_of, IsSkippedIn};
 
 use crate::format::Format;
 use crate::holding::SkippedLine;
@@ -35,9 +35,10 @@ pub(crate) fn passed_in(text: &[u8], format: Format) -> Passed<'_>
     Passed { count, first }
 }
 
-/// The first line that isn't read, when this one isn't either.
+/// The first line that isn't read, where this one isn't and has this number.
 fn first_with<'a>(first: Option<SkippedLine<'a>>, line: &'a [u8], at: u64) -> Option<SkippedLine<'a>>
-    ensures { result ≡ first }
+    ensures kept { IfSome first.entry (λ f. result ≡ Some f) }
+    ensures new { first.entry ≡ None → MatchOption result ⊥ (λ f. (f.at ≡ at) × (f.start.now ≡ start_of line.now)) }
 {
     match first {
         Some(first) => Some(first),

@@ -1,7 +1,8 @@
 //! How a line begins.
 
-ghost use Rattle.std.specs.Prelude.{◌≡◌, ◌++◌, ℕ, List, take};
-ghost use Rattle.covcheck.specs.Skipped.{is_cut, word_at, beginning_of, start_of};
+ghost use Rattle.std.specs.Prelude.{◌≡◌};
+ghost use Rattle.covcheck.specs.Skipped.{is_cut, start_of};
+ghost use Rattle.covcheck.specs.Starting.{behind_cuts, behind_word};
 
 /// Within how many bytes the beginning of a line ends.
 const MOST_SHOWN: usize = 16;
@@ -10,7 +11,7 @@ const MOST_SHOWN: usize = 16;
 pub(crate) fn start_of(line: &[u8]) -> &[u8]
     ensures { result.now ≡ start_of line.now }
 {
-    let front = &line[..line.len().min(MOST_SHOWN)];
+    let front = &line[..MOST_SHOWN.min(line.len())];
     let rest = behind_word(behind_cuts(front));
     &front[..front.len() - rest.len()]
 }
@@ -24,7 +25,7 @@ fn is_cut(byte: u8) -> bool
 
 /// What follows the colons and blanks at the front.
 fn behind_cuts(text: &[u8]) -> &[u8]
-    ensures { (front : List ℕ) × (text.now ≡ front ++ result.now) × (beginning_of text.now ≡ front ++ word_at result.now) }
+    ensures { result.now ≡ behind_cuts text.now }
 {
     let mut rest = text;
     while let [byte, after @ ..] = rest {
@@ -38,7 +39,7 @@ fn behind_cuts(text: &[u8]) -> &[u8]
 
 /// What follows the bytes at the front that are neither colons nor blanks.
 fn behind_word(text: &[u8]) -> &[u8]
-    ensures { text.now ≡ word_at text.now ++ result.now }
+    ensures { result.now ≡ behind_word text.now }
 {
     let mut rest = text;
     while let [byte, after @ ..] = rest {

@@ -1,0 +1,17 @@
+use Rattle.std.proofs.Common.{length, map, ap, sym, ◌∙◌}
+use Rattle.std.proofs.lemmas.List.{length-map}
+use Rattle.covline.specs.SectView.{sect_data}
+use Rattle.covcheck.proofs.check.holding_of.Goals as goal
+
+pub returns : goal.returns
+returns g c =
+    let passed = c.passed_in-passed.ensures in
+    record {
+      sections = c.len.ensures ∙ sym (length-map sect_data c.sects.result.now) ∙ ap length c.sects.ensures.sects;
+      items = c.items.ensures.count;
+      odd = c.odd.ensures;
+      lines = passed.0;
+      those = passed.1;
+      skipped = passed.2;
+      first = passed.3;
+    }
