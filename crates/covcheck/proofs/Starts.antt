@@ -4,7 +4,7 @@ use Rattle.std.proofs.lemmas.Bool.{cases_Bool}
 use Rattle.std.proofs.lemmas.List.{length-append}
 use Rattle.std.proofs.Math.Seq.{take-append_seam}
 use Rattle.covcheck.specs.Skipped.{is_cut, word_at, beginning_of}
-use Rattle.covcheck.specs.Starting.{behind_cuts, behind_word}
+use Rattle.covcheck.specs.CheckSteps.{behind_cuts, behind_word}
 
 word_parts : (text : List ℕ) → text ≡ word_at text ++ behind_word text
 word_parts [] = refl

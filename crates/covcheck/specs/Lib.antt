@@ -1,4 +1,4 @@
 pub mod Skipped
-pub mod Starting
 pub mod Holding
 pub mod Told
+pub mod CheckSteps

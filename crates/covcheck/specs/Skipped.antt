@@ -2,8 +2,6 @@
 use Rattle.std.specs.Prelude.{◌≡◌, ◌≢◌, ◌⊎◌, ℕ, Bool, ◌||◌, ◌==◌, if◌then◌else◌, List, [], ◌∷◌, take}
 use Rattle.covline.specs.Spells.{Spells, Skip}
 use Rattle.covread.specs.Gcov.{IsShapeOf, Other}
-use Rattle.covcheck.specs.declared.format.Format.{Format}
-use Rattle.covcheck.specs.declared.format.Format.TheVariants as formats
 
 -- a line of a tracefile that isn't read: it isn't blank, and begins neither with one of the twelve keys nor with
 -- `end_of_record`
@@ -13,11 +11,6 @@ IsSkippedRecord line = (line ≢ []) × Spells line Skip
 -- a line of gcov's text that isn't read: it isn't blank, and has none of the known shapes
 abbrev pub IsSkippedGcov : List ℕ → Type 0
 IsSkippedGcov line = (line ≢ []) × IsShapeOf line Other
-
--- a line that isn't read in a text of this format
-abbrev pub IsSkippedIn : Format → List ℕ → Type 0
-IsSkippedIn formats.Trace = IsSkippedRecord
-IsSkippedIn formats.Gcov = IsSkippedGcov
 
 -- the members of the list of which this holds, in their order
 abbrev pub AreThose : {X : Type 0} → (X → Type 0) → List X → List X → Type 0

@@ -7,11 +7,12 @@ ghost use Rattle.covread.specs.declared.fault.ReadFault.TheVariants.{Memory as N
 ghost use Rattle.covread.specs.Outcome.{Answers, GrowsLate, IsOutcome};
 ghost use Rattle.covread.specs.GcovOutcome as gcov;
 ghost use Rattle.covcheck.specs.Holding.{Holds, Tells};
-ghost use Rattle.covcheck.specs.Skipped.{IsSkippedGcov, IsSkippedIn, IsSkippedRecord};
+ghost use Rattle.covcheck.specs.Skipped.{IsSkippedGcov, IsSkippedRecord};
+ghost use Rattle.covcheck.specs.CheckSteps.{IsSkippedIn};
 
 use crate::format::Format;
 use crate::holding::Holding;
-use crate::passed::passed_in;
+use crate::skipped_lines::skipped_lines_in;
 use covline::Submission;
 use covread::{ReadFault, read_gcov, read_trace};
 use std::alloc::Allocator;
@@ -54,12 +55,12 @@ fn holding_of<'a, A: Allocator>(
 ) -> Holding<'a>
     ensures { Holds (IsSkippedIn format) text.now submission.now result }
 {
-    let passed = passed_in(text, format);
+    let skipped = skipped_lines_in(text, format);
     Holding {
         sections: submission.sects().len() as u64,
         items: submission.items(),
         odd: submission.odd(),
-        skipped: passed.count,
-        first: passed.first,
+        skipped: skipped.count,
+        first: skipped.first,
     }
 }

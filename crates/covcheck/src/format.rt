@@ -2,7 +2,8 @@
 
 ghost use Rattle.std.specs.Prelude.{◌≡◌, ◌++◌, ◌↔◌, IsTrue, IfSome, codes};
 ghost use Rattle.covline.specs.Spells.{line_data, HasKey, Skip, Spells};
-ghost use Rattle.covcheck.specs.Skipped.{IsSkippedIn, IsSkippedRecord};
+ghost use Rattle.covcheck.specs.Skipped.{IsSkippedRecord};
+ghost use Rattle.covcheck.specs.CheckSteps.{IsSkippedIn};
 
 use covline::{TraceLine, read_line};
 use covread::fits_no_shape;

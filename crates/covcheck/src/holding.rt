@@ -19,8 +19,8 @@ pub struct Holding<'a> {
 /// A line that isn't read.
 #[derive(Clone, Copy, Debug)]
 pub struct SkippedLine<'a> {
-    /// How it begins: up to the first colon or blank, those at the line's front left out of account, and within its first
-    /// 16 bytes. It has at least one byte.
+    /// How it begins within its first 16 bytes: colons, spaces and tabs at the front, and what follows them up to the next
+    /// one. It has at least one byte.
     pub start: &'a [u8],
     /// Its number in the text. Lines are counted from 1, blank ones too.
     pub at: u64,

@@ -17,7 +17,7 @@
 mod check;
 mod format;
 mod holding;
-mod passed;
+mod skipped_lines;
 mod start;
 mod told;
 

@@ -2,7 +2,7 @@
 
 ghost use Rattle.std.specs.Prelude.{◌≡◌};
 ghost use Rattle.covcheck.specs.Skipped.{is_cut, start_of};
-ghost use Rattle.covcheck.specs.Starting.{behind_cuts, behind_word};
+ghost use Rattle.covcheck.specs.CheckSteps.{behind_cuts, behind_word};
 
 /// Within how many bytes the beginning of a line ends.
 const MOST_SHOWN: usize = 16;

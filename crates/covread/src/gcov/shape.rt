@@ -49,7 +49,14 @@ pub(crate) enum Shape<'a> {
 pub fn fits_no_shape(line: &[u8]) -> bool
     ensures { IsTrue result ↔ IsShapeOf line.now Other }
 {
-    matches!(shape_of(line), Shape::Other)
+    is_other(shape_of(line))
+}
+
+/// Whether this is the shape of the lines that aren't read.
+fn is_other(shape: Shape<'_>) -> bool
+    ensures { IsTrue result ↔ (shape_data shape.entry ≡ Other) }
+{
+    matches!(shape, Shape::Other)
 }
 
 /// The shape of the line.

@@ -5,13 +5,13 @@ use Rattle.covcheck.proofs.check.holding_of.Goals as goal
 
 pub returns : goal.returns
 returns g c =
-    let passed = c.passed_in-passed.ensures in
+    let found = c.skipped_lines_in-skipped.ensures in
     record {
       sections = c.len.ensures ∙ sym (length-map sect_data c.sects.result.now) ∙ ap length c.sects.ensures.sects;
       items = c.items.ensures.count;
       odd = c.odd.ensures;
-      lines = passed.0;
-      those = passed.1;
-      skipped = passed.2;
-      first = passed.3;
+      lines = found.0;
+      those = found.1;
+      skipped = found.2;
+      first = found.3;
     }

@@ -1,5 +1,5 @@
 use Rattle.std.proofs.Common.{◌≡◌, length}
-use Rattle.covcheck.specs.Starting.{behind_cuts}
+use Rattle.covcheck.specs.CheckSteps.{behind_cuts}
 use Rattle.covcheck.proofs.start.behind_cuts.Given as goal
 
 abbrev pub invariant-loop-rest : goal.invariant-loop-rest

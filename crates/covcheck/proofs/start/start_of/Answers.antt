@@ -1,7 +1,7 @@
 use Rattle.std.proofs.Common.{◌≤◌, ◌-◌, ℕ, List, length, take, ap, subst, sym, ◌∙◌}
 use Rattle.std.proofs.lemmas.List.{take_min}
 use Rattle.covcheck.specs.Skipped.{beginning_of}
-use Rattle.covcheck.specs.Starting.{behind_word}
+use Rattle.covcheck.specs.CheckSteps.{behind_word}
 use Rattle.covcheck.proofs.Starts.{left_fits, beginning_taken}
 use Rattle.covcheck.proofs.start.start_of.Goals as goal
 

@@ -1,9 +1,9 @@
 use Rattle.std.proofs.Common.{◌≡◌, ℕ, ◌+◌, List, length, ap, subst, arith}
 use Rattle.std.specs.List.{enumerate_from}
 use Rattle.covline.specs.Lines.{lines_of}
-use Rattle.covcheck.specs.Skipped.{IsSkippedIn}
+use Rattle.covcheck.specs.CheckSteps.{IsSkippedIn}
 use Rattle.covcheck.proofs.Passing.{Line, Passing, passing_skipped, passing_ends}
-use Rattle.covcheck.proofs.passed.passed_in.Goals as goal
+use Rattle.covcheck.proofs.skipped_lines.skipped_lines_in.Goals as goal
 
 pub loop-line-preserved-then-skips : goal.loop-line-preserved-then-skips
 loop-line-preserved-then-skips c =

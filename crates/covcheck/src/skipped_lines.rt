@@ -2,7 +2,8 @@
 
 ghost use Rattle.std.specs.Prelude.{◌≡◌, ℕ, List, length, None, Some, IfSome, MatchOption};
 ghost use Rattle.covcheck.specs.Holding.{AreLinesThat, IsFirstOf};
-ghost use Rattle.covcheck.specs.Skipped.{start_of, IsSkippedIn};
+ghost use Rattle.covcheck.specs.Skipped.{start_of};
+ghost use Rattle.covcheck.specs.CheckSteps.{IsSkippedIn};
 
 use crate::format::Format;
 use crate::holding::SkippedLine;
@@ -11,7 +12,7 @@ use covline::lines;
 
 /// The lines that a pass found which aren't read.
 #[derive(Clone, Copy)]
-pub(crate) struct Passed<'a> {
+pub(crate) struct SkippedLines<'a> {
     /// How many there are.
     pub(crate) count: u64,
     /// The first of them.
@@ -19,7 +20,7 @@ pub(crate) struct Passed<'a> {
 }
 
 /// The lines of the text that aren't read.
-pub(crate) fn passed_in(text: &[u8], format: Format) -> Passed<'_>
+pub(crate) fn skipped_lines_in(text: &[u8], format: Format) -> SkippedLines<'_>
     ensures { (lines : List (ℕ × List ℕ)) × AreLinesThat (IsSkippedIn format) text.now lines × (result.count ≡ length lines) × IsFirstOf lines result.first }
 {
     let mut count: u64 = 0;
@@ -32,7 +33,7 @@ pub(crate) fn passed_in(text: &[u8], format: Format) -> Passed<'_>
             first = first_with(first, line, at);
         }
     }
-    Passed { count, first }
+    SkippedLines { count, first }
 }
 
 /// The first line that isn't read, where this one isn't and has this number.
