@@ -1,2 +1,4 @@
 pub mod Starts
 pub mod Passing
+pub mod Those
+pub mod Words
