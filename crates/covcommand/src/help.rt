@@ -17,12 +17,17 @@ In place of lcov's calls write (with the patterns in quotes):
   lcov -r A.info '/usr/*' -o OUT     covcollect remove A.info '/usr/*' > OUT
   lcov --summary A.info              covcollect summary A.info
 
+Of LCOV 2, function records aren't read (FNL, FNA, FN with an end line):
+covcollect check FILE.. shows where a file has lines that aren't read.
+
 Exit status:
   0  done
   1  a file can't be read, or reading or writing failed
   2  the call is wrong: its words, a pattern or the name of a test
   3  memory ran out, or the history is full
-  4  a file was refused, or checksums clash; nothing is on standard output";
+  4  a file was refused, or checksums clash; nothing is on standard output
+     (but check prints its lines)
+  5  check: each file was read, and one has no items";
 
 /// What `merge` does.
 pub(crate) const MERGE: &str = "Merges tracefiles: counts add up by test and file (lcov -a)";
@@ -85,6 +90,18 @@ it without options, or by -b -c with functions and branches:
   gcov -b -c main.gcda
   covcollect gcov --test unit main.c.gcov > unit.info";
 
+/// What `check` does.
+pub(crate) const CHECK: &str = "Tells what is read of each file, and adds nothing up";
+
+/// How to call `check`.
+pub(crate) const CHECK_END: &str = "\
+Prints a line for each file: how many sections, items and odd lines it has, how
+many lines were skipped since their key isn't read, and the first such key. Of a
+file that is refused the line says why. So before a merge write
+  covcollect check A.info B.info
+and of what gcov wrote
+  covcollect check --gcov main.c.gcov";
+
 /// What stands for tracefiles.
 pub(crate) const TRACEFILES: &str = "Tracefiles, read in this order";
 
@@ -97,8 +114,14 @@ pub(crate) const PATTERNS: &str = "Patterns of whole paths, in quotes";
 /// What stands for annotated source.
 pub(crate) const SOURCES: &str = "Files that gcov wrote, read in this order";
 
+/// What stands for files that are looked at.
+pub(crate) const CHECKED: &str = "Tracefiles, looked at in this order";
+
 /// What `--jobs` says.
 pub(crate) const JOBS: &str = "How many files are parsed at once, 1 to 64";
 
 /// What `--test` says.
 pub(crate) const TEST: &str = "The test that the counts are of; --test= is the empty name";
+
+/// What `--gcov` says.
+pub(crate) const ANNOTATED: &str = "The files are what gcov wrote, and not tracefiles";
