@@ -6,7 +6,7 @@ pub const VERSION: &str = "0.9.0";
 /// What the program is for.
 pub(crate) const PROGRAM: &str = "Merges, filters and sums up coverage data of lcov and gcov";
 
-/// Behind the list of the subcommands: the session, the calls of lcov, the exit statuses.
+/// After the list of the subcommands: the session, the calls of lcov, the exit statuses.
 pub(crate) const PROGRAM_END: &str = "\
 Without a subcommand a session is read from standard input: a command on each
 line, answered on standard output. covcollect(1) has its commands.
@@ -17,17 +17,16 @@ In place of lcov's calls write (with the patterns in quotes):
   lcov -r A.info '/usr/*' -o OUT     covcollect remove A.info '/usr/*' > OUT
   lcov --summary A.info              covcollect summary A.info
 
-Of LCOV 2, function records aren't read (FNL, FNA, FN with an end line):
-covcollect check FILE.. shows where a file has lines that aren't read.
+Function records of LCOV 2 (FNL, FNA, and FN with an end line) aren't read:
+covcollect check shows whether a file has them.
 
 Exit status:
   0  done
   1  a file can't be read, or reading or writing failed
   2  the call is wrong: its words, a pattern or the name of a test
   3  memory ran out, or the history is full
-  4  a file was refused, or checksums clash; nothing is on standard output
-     (but check prints its lines)
-  5  check: each file was read, and one has no items";
+  4  a file was refused, or checksums clash; nothing is printed, but by check
+  5  check found a file without items";
 
 /// What `merge` does.
 pub(crate) const MERGE: &str = "Merges tracefiles: counts add up by test and file (lcov -a)";
@@ -96,11 +95,12 @@ pub(crate) const CHECK: &str = "Tells what is read of each file, and adds nothin
 /// How to call `check`.
 pub(crate) const CHECK_END: &str = "\
 Prints a line for each file: how many sections, items and odd lines it has, how
-many lines were skipped since their key isn't read, and the first such key. Of a
-file that is refused the line says why. So before a merge write
+many lines are skipped since their key isn't read, and the first of these. Of a
+refused file the line says why. Before a merge write
   covcollect check A.info B.info
 and of what gcov wrote
-  covcollect check --gcov main.c.gcov";
+  covcollect check --gcov main.c.gcov
+The status is 4 where a file is refused, and else 5 where one has no items.";
 
 /// What stands for tracefiles.
 pub(crate) const TRACEFILES: &str = "Tracefiles, read in this order";
