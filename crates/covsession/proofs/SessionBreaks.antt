@@ -4,36 +4,32 @@ use Rattle.std.specs.Io.KnownBytes.{Consumes, Appends, Keeps, append_known}
 use Rattle.std.proofs.lemmas.List.{take-append-drop}
 use Rattle.covbook.specs.declared.book.BookFault.{BookFault}
 use Rattle.covbook.specs.declared.book.BookFault.TheVariants as book_faults
-use Rattle.covsession.specs.Broken.{Breaks, CountsWrites, Fails, IsCausedBy, Stalls}
+use Rattle.covsession.specs.Broken.{Breaks, CountsWrites, Fails, IsCausedBy, IsIdle, Stalls}
 use Rattle.covsession.specs.Fault.{HasBegun}
 use Rattle.covsession.specs.SessionFaults.{of_book}
 use Rattle.covsession.specs.Streams.{InputData, OutputData, Moment, Grows, Moves, Says, moment, said_so_far, unread}
 use Rattle.covsession.specs.declared.session.fault.SessionFault.{SessionFault}
 use Rattle.covsession.specs.declared.session.fault.SessionFault.TheVariants.{Read, Write, Memory, Full}
 use Rattle.covsession.proofs.SessionBytes.{Consumes-trans, Appends-trans}
-use Rattle.covsession.proofs.SessionMoves.{Grows-trans, Grows-none, Says-trans, consumes_none, says_written, wait_known}
+use Rattle.covsession.proofs.SessionMoves.{Grows-trans, Grows-none, Says-trans, appends_none, consumes_none, says_written, wait_known}
 
 -- ---- an output
 
--- nothing was written, and nothing failed
-pub breaks_unsaid : (o p : OutputData) (fault : SessionFault) (text : List ℕ) → CountsWrites fault o.failed_writes p.failed_writes
-    → p.written ≡ o.written → p.sink ≡ o.sink → Breaks o p fault text
-breaks_unsaid o p fault text failed same sink =
-    let P : Option (List ℕ) → Type 0 = λ w. Appends (said_so_far o) (append_known w (o.waiting ++ text)) text in
-    let G : Option (List ℕ) → Type 0 = λ w. Grows o.written w in
-    record {
-      lost = o.waiting ++ text;
-      says = subst P (sym same) (wait_known o.written o.waiting (o.waiting ++ text) text refl);
-      grows = subst G (sym same) (Grows-none o.written);
-      failed = failed;
-      same_sink = sink;
-    }
+-- nothing was said, and nothing failed
+pub breaks_unsaid : (o : OutputData) (fault : SessionFault) (text : List ℕ) → CountsWrites fault o.failed_writes o.failed_writes → Breaks o o fault text
+breaks_unsaid o fault text failed = record {
+  lost = o.waiting ++ text;
+  says = wait_known o.written o.waiting (o.waiting ++ text) text refl;
+  grows = Grows-none o.written;
+  failed = failed;
+  same_sink = refl;
+  before = λ no. appends_none (said_so_far o);
+}
 
-pub breaks_memory : (o p : OutputData) (fault : SessionFault) (text : List ℕ) → fault ≡ Memory
-    → p.written ≡ o.written → p.failed_writes ≡ o.failed_writes → p.sink ≡ o.sink → Breaks o p fault text
-breaks_memory o p fault text is same failed sink =
-    let P : SessionFault → Type 0 = λ f. CountsWrites f o.failed_writes p.failed_writes in
-    breaks_unsaid o p fault text (subst P (sym is) failed) same sink
+pub breaks_memory : (o : OutputData) (fault : SessionFault) (text : List ℕ) → fault ≡ Memory → Breaks o o fault text
+breaks_memory o fault text is =
+    let P : SessionFault → Type 0 = λ f. Breaks o o f text in
+    subst P (sym is) (breaks_unsaid o Memory text refl)
 
 -- what waited and some bytes more were written in part
 begun_known : (old new : Option (List ℕ)) (waiting text part rest : List ℕ) → waiting ++ text ≡ part ++ rest → Appends old new part
@@ -53,6 +49,7 @@ breaks_begun o p fault text is begun failed sink =
       grows = (begun.0, begun.1);
       failed = subst P (sym is) failed;
       same_sink = sink;
+      before = λ no. absurd (no is);
     }
 
 -- what waits alone was written in part
@@ -69,9 +66,9 @@ breaks_text o p fault text none is begun failed sink =
     let P : List ℕ → Type 0 = λ u. HasBegun o.written p.written (u ++ text) in
     breaks_begun o p fault text is (subst P (sym none) begun) failed sink
 
--- after something was said
-pub breaks_after : (o p q : OutputData) (fault : SessionFault) (x y : List ℕ) → Says o p x → Breaks p q fault y → Breaks o q fault (x ++ y)
-breaks_after o p q fault x y h k =
+-- a write failed after something was said
+pub breaks_after : (o p q : OutputData) (fault : SessionFault) (x y : List ℕ) → fault ≡ Write → Says o p x → Breaks p q fault y → Breaks o q fault (x ++ y)
+breaks_after o p q fault x y is h k =
     let P : ℕ → Type 0 = λ n. CountsWrites fault n q.failed_writes in
     record {
       lost = k.lost;
@@ -79,6 +76,7 @@ breaks_after o p q fault x y h k =
       grows = Grows-trans o.written p.written q.written h.grows k.grows;
       failed = subst P h.failed k.failed;
       same_sink = k.same_sink ∙ h.same_sink;
+      before = λ no. absurd (no is);
     }
 
 -- more would have been said
@@ -90,6 +88,7 @@ breaks_more o p fault x y h = record {
   grows = h.grows;
   failed = h.failed;
   same_sink = h.same_sink;
+  before = h.before;
 }
 
 -- ---- both streams
@@ -101,9 +100,12 @@ output_cause m p Write h = (refl, h)
 output_cause m p Memory h = (refl, h)
 output_cause m p Full h = (refl, h)
 
-pub fails_output : (m n : Moment) (fault : SessionFault) (text : List ℕ) → n.input ≡ m.input → Breaks m.output n.output fault text → Fails m n fault text
+no_read : (fault : SessionFault) (a b : ℕ) → CountsWrites fault a b → fault ≡ Read → ⊥
+no_read fault a b h is = let P : SessionFault → Type 0 = λ f. CountsWrites f a b in subst P is h
+
+pub fails_output : (m n : Moment) (fault : SessionFault) (text : List ℕ) → n.input ≡ m.input → Breaks m.output n.output fault text → Fails m n fault [] text
 fails_output m n fault text same h =
-    let P : InputData → Type 0 = λ i. Fails m (record { input = i; output = n.output }) fault text in
+    let P : InputData → Type 0 = λ i. Fails m (record { input = i; output = n.output }) fault [] text in
     subst P (sym same)
     (record {
       bytes = [];
@@ -115,6 +117,10 @@ fails_output m n fault text same h =
       grows = h.grows;
       same_sink = h.same_sink;
       cause = output_cause m n.output fault h.failed;
+      cut = text;
+      whole = refl;
+      before = h.before;
+      idle = λ is. absurd (no_read fault m.output.failed_writes n.output.failed_writes h.failed is);
     })
 
 later_cause : (m n o : Moment) (fault : SessionFault) → n.input.failed_reads ≡ m.input.failed_reads → n.output.failed_writes ≡ m.output.failed_writes
@@ -125,8 +131,9 @@ later_cause m n o Write r w h = (h.0 ∙ r, h.1 ∙ ap (λ (u : ℕ). u + 1) w)
 later_cause m n o Memory r w h = (h.0 ∙ r, h.1 ∙ w)
 later_cause m n o Full r w h = (h.0 ∙ r, h.1 ∙ w)
 
-pub fails_after : (m n o : Moment) (fault : SessionFault) (b x y : List ℕ) → Moves m n b x → Fails n o fault y → Fails m o fault (x ++ y)
-fails_after m n o fault b x y h k = record {
+pub fails_after : (m n o : Moment) (fault : SessionFault) (b x answers y : List ℕ) → Moves m n b x → Fails n o fault answers y
+    → Fails m o fault (x ++ answers) (x ++ y)
+fails_after m n o fault b x answers y h k = record {
   bytes = b ++ k.bytes;
   took = Consumes-trans (unread m.input) (unread n.input) (unread o.input) b k.bytes h.takes.took k.took;
   counted = k.counted ∙ h.takes.counted;
@@ -136,20 +143,23 @@ fails_after m n o fault b x y h k = record {
   grows = Grows-trans m.output.written n.output.written o.output.written h.says.grows k.grows;
   same_sink = k.same_sink ∙ h.says.same_sink;
   cause = later_cause m n o fault h.takes.failed h.says.failed k.cause;
+  cut = k.cut;
+  whole = ap (λ (u : List ℕ). x ++ u) k.whole ∙ sym (append_assoc x answers k.cut);
+  before = λ no. Appends-trans (said_so_far m.output) (said_so_far n.output) (said_so_far o.output) x answers h.says.says (k.before no);
+  idle = k.idle;
 }
 
 -- memory ran out while nothing moved
-pub fails_here : (m : Moment) (fault : SessionFault) → fault ≡ Memory → Fails m m fault []
-fails_here m fault is =
-    fails_output m m fault [] refl (breaks_memory m.output m.output fault [] is refl refl refl)
+pub fails_here : (m : Moment) (fault : SessionFault) → fault ≡ Memory → Fails m m fault [] []
+fails_here m fault is = fails_output m m fault [] refl (breaks_memory m.output fault [] is)
 
 -- memory ran out after some bytes were taken
-pub fails_taken : (m n : Moment) (fault : SessionFault) (b : List ℕ) → fault ≡ Memory → Moves m n b [] → Fails m n fault []
-fails_taken m n fault b is h = fails_after m n n fault b [] [] h (fails_here n fault is)
+pub fails_taken : (m n : Moment) (fault : SessionFault) (b : List ℕ) → fault ≡ Memory → Moves m n b [] → Fails m n fault [] []
+fails_taken m n fault b is h = fails_after m n n fault b [] [] [] h (fails_here n fault is)
 
--- a read failed after what waited was written
-read_fails : (m n : Moment) → Stalls m.input n.input → Says m.output n.output [] → Fails m n Read []
-read_fails m n h k = record {
+-- a read failed after what waited was sent on
+read_fails : (m n : Moment) → Stalls m.input n.input → Says m.output n.output [] → IsIdle n.output → Fails m n Read [] []
+read_fails m n h k idle = record {
   bytes = [];
   took = h.took;
   counted = h.counted;
@@ -159,10 +169,85 @@ read_fails m n h k = record {
   grows = k.grows;
   same_sink = k.same_sink;
   cause = (k.failed, h.failed);
+  cut = [];
+  whole = refl;
+  before = λ no. k.says;
+  idle = λ is. idle;
 }
 
-pub fails_read : (m n : Moment) (fault : SessionFault) → fault ≡ Read → Stalls m.input n.input → Says m.output n.output [] → Fails m n fault []
-fails_read m n fault is h k = let P : SessionFault → Type 0 = λ f. Fails m n f [] in subst P (sym is) (read_fails m n h k)
+pub fails_read : (m n : Moment) (fault : SessionFault) → fault ≡ Read → Stalls m.input n.input → Says m.output n.output [] → IsIdle n.output
+    → Fails m n fault [] []
+fails_read m n fault is h k idle = let P : SessionFault → Type 0 = λ f. Fails m n f [] [] in subst P (sym is) (read_fails m n h k idle)
+
+-- ---- a session that stops sends on what was said
+
+sent_cause : (m n : Moment) (p : OutputData) (fault : SessionFault) → p.failed_writes ≡ n.output.failed_writes → IsCausedBy fault m n
+    → IsCausedBy fault m (moment n.input p)
+sent_cause m n p Read same h = (same ∙ h.0, h.1)
+sent_cause m n p Write same h = (h.0, same ∙ h.1)
+sent_cause m n p Memory same h = (h.0, same ∙ h.1)
+sent_cause m n p Full same h = (h.0, same ∙ h.1)
+
+-- what was said was sent on
+pub fails_sent : (m n o : Moment) (fault : SessionFault) (answers text : List ℕ) → o.input ≡ n.input → fault ≢ Write → fault ≢ Read
+    → Fails m n fault answers text → Says n.output o.output [] → Fails m o fault answers text
+fails_sent m n o fault answers text same no_write no_read h k =
+    let P : InputData → Type 0 = λ i. Fails m (moment i o.output) fault answers text in
+    let waiting = o.output.waiting in
+    let A : List ℕ → Type 0 = λ u. Appends (said_so_far m.output) (said_so_far o.output) u in
+    let given : A answers =
+    subst A (append-nil answers)
+    (Appends-trans (said_so_far m.output) (said_so_far n.output) (said_so_far o.output) answers [] (h.before no_write) k.says) in
+    let T : List ℕ → Type 0 = λ u. Appends (said_so_far m.output) (append_known o.output.written (waiting ++ h.cut)) u in
+    subst P (sym same)
+    (record {
+      bytes = h.bytes;
+      took = h.took;
+      counted = h.counted;
+      same_source = h.same_source;
+      lost = waiting ++ h.cut;
+      says = subst T (sym h.whole)
+          (Appends-trans (said_so_far m.output) (said_so_far o.output) (append_known o.output.written (waiting ++ h.cut)) answers h.cut given
+          (wait_known o.output.written waiting (waiting ++ h.cut) h.cut refl));
+      grows = Grows-trans m.output.written n.output.written o.output.written h.grows k.grows;
+      same_sink = k.same_sink ∙ h.same_sink;
+      cause = sent_cause m n o.output fault k.failed h.cause;
+      cut = h.cut;
+      whole = h.whole;
+      before = λ no. given;
+      idle = λ is. absurd (no_read is);
+    })
+
+-- no call failed so far
+abbrev pub IsQuiet : Moment → Moment → Type 0
+IsQuiet m n = (n.input.failed_reads ≡ m.input.failed_reads) × (n.output.failed_writes ≡ m.output.failed_writes)
+
+-- a write failed while it was sent on
+pub fails_write : (m n o : Moment) (fault : SessionFault) (answers text : List ℕ) → o.input ≡ n.input → fault ≢ Write → IsQuiet m n
+    → Fails m n fault answers text → Breaks n.output o.output Write [] → Fails m o Write answers text
+fails_write m n o fault answers text same no_write quiet h k =
+    let P : InputData → Type 0 = λ i. Fails m (moment i o.output) Write answers text in
+    let all = append_known o.output.written (k.lost ++ h.cut) in
+    let some = append_known o.output.written k.lost in
+    let T : List ℕ → Type 0 = λ u. Appends (said_so_far m.output) all u in
+    let begun = Appends-trans (said_so_far m.output) (said_so_far n.output) some answers [] (h.before no_write) k.says in
+    subst P (sym same)
+    (record {
+      bytes = h.bytes;
+      took = h.took;
+      counted = h.counted;
+      same_source = h.same_source;
+      lost = k.lost ++ h.cut;
+      says = subst T (ap (λ (u : List ℕ). u ++ h.cut) (append-nil answers) ∙ sym h.whole)
+          (Appends-trans (said_so_far m.output) some all (answers ++ []) h.cut begun (wait_known o.output.written k.lost (k.lost ++ h.cut) h.cut refl));
+      grows = Grows-trans m.output.written n.output.written o.output.written h.grows k.grows;
+      same_sink = k.same_sink ∙ h.same_sink;
+      cause = (quiet.0, k.failed ∙ ap (λ (u : ℕ). u + 1) quiet.1);
+      cut = h.cut;
+      whole = h.whole;
+      before = λ no. absurd (no refl);
+      idle = λ is. absurd (let no : ⊥ = cc in no);
+    })
 
 -- ---- bytes that were written in part
 
@@ -198,25 +283,25 @@ module _ (o q p : OutputData) (bytes : List ℕ) (written : Option (List ℕ)) (
   err_written (Err f) is begun failed =
       let P : Option (List ℕ) → Type 0 = λ w. HasBegun w p.written bytes in
       let more = ap (λ (u : ℕ). u + 1) (sym its_failures) in
-      breaks_after o q p f [] bytes put (breaks_text q p f bytes none is (subst P (sym its_written) begun) (failed ∙ more) sink)
+      breaks_after o q p f [] bytes is put (breaks_text q p f bytes none is (subst P (sym its_written) begun) (failed ∙ more) sink)
 
 -- what was to wait was written, or a beginning of it
-pub err_put : (o q p : OutputData) (bytes : List ℕ) (r : Result (Unit {0}) SessionFault) → Says o q bytes → IfErr r (λ f. Breaks q p f [])
+pub err_put : (o q p : OutputData) (bytes : List ℕ) (r : Result (Unit {0}) SessionFault) → Says o q bytes → IfErr r (λ f. f ≡ Write) → IfErr r (λ f. Breaks q p f [])
     → IfErr r (λ f. Breaks o p f bytes)
-err_put o q p bytes (Ok x) h k = tt
-err_put o q p bytes (Err f) h k =
+err_put o q p bytes (Ok x) h is k = tt
+err_put o q p bytes (Err f) h is k =
     let P : List ℕ → Type 0 = λ u. Breaks o p f u in
-    subst P (append-nil bytes) (breaks_after o q p f bytes [] h k)
+    subst P (append-nil bytes) (breaks_after o q p f bytes [] is h k)
 
 -- a second text was said after the first
 pub ok_after : (o q p : OutputData) (x y : List ℕ) (r : Result (Unit {0}) SessionFault) → Says o q x → OnOk r (Says q p y) → OnOk r (Says o p (x ++ y))
 ok_after o q p x y (Ok u) h k = Says-trans o q p x y h k
 ok_after o q p x y (Err f) h k = tt
 
-pub err_after : (o q p : OutputData) (x y : List ℕ) (r : Result (Unit {0}) SessionFault) → Says o q x → IfErr r (λ f. Breaks q p f y)
-    → IfErr r (λ f. Breaks o p f (x ++ y))
-err_after o q p x y (Ok u) h k = tt
-err_after o q p x y (Err f) h k = breaks_after o q p f x y h k
+pub err_after : (o q p : OutputData) (x y : List ℕ) (r : Result (Unit {0}) SessionFault) → Says o q x → IfErr r (λ f. f ≡ Write)
+    → IfErr r (λ f. Breaks q p f y) → IfErr r (λ f. Breaks o p f (x ++ y))
+err_after o q p x y (Ok u) h is k = tt
+err_after o q p x y (Err f) h is k = breaks_after o q p f x y is h k
 
 -- a fault of the book: nothing was said of the answer
 pub breaks_book : (o p : OutputData) (fault : BookFault) (text : List ℕ) → p ≡ o → Breaks o p (of_book fault) text
@@ -225,15 +310,15 @@ breaks_book o p fault text same =
     subst P (sym same) (by_fault fault)
   where
     by_fault : (f : BookFault) → Breaks o o (of_book f) text
-    by_fault book_faults.Full = breaks_unsaid o o Full text refl refl refl
-    by_fault book_faults.Memory = breaks_unsaid o o Memory text refl refl refl
+    by_fault book_faults.Full = breaks_unsaid o Full text refl
+    by_fault book_faults.Memory = breaks_unsaid o Memory text refl
 
 -- memory ran out before anything was said
 pub memory_unsaid : (o : OutputData) (fault : SessionFault) → fault ≡ Memory → Breaks o o fault [] × (fault ≢ Full)
 memory_unsaid o fault is =
     let P : SessionFault → Type 0 = λ f. Breaks o o f [] × (f ≢ Full) in
-    subst P (sym is) (breaks_unsaid o o Memory [] refl refl refl, λ e. (let no : ⊥ = cc in no))
+    subst P (sym is) (breaks_unsaid o Memory [] refl, λ e. (let no : ⊥ = cc in no))
 
 -- memory ran out where an input stays as it was
-pub fails_same : (m n : Moment) (i : InputData) (fault : SessionFault) → i ≡ n.input → Fails m n fault [] → Fails m (moment i n.output) fault []
-fails_same m n i fault same h = let P : InputData → Type 0 = λ j. Fails m (moment j n.output) fault [] in subst P (sym same) h
+pub fails_same : (m n : Moment) (i : InputData) (fault : SessionFault) → i ≡ n.input → Fails m n fault [] [] → Fails m (moment i n.output) fault [] []
+fails_same m n i fault same h = let P : InputData → Type 0 = λ j. Fails m (moment j n.output) fault [] [] in subst P (sym same) h

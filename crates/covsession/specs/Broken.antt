@@ -7,7 +7,7 @@ use Rattle.covline.specs.Lines.{line_of}
 use Rattle.covsession.specs.Command.{Command, ops_of}
 use Rattle.covsession.specs.Run.{IsRun}
 use Rattle.covsession.specs.Session.{text_after}
-use Rattle.covsession.specs.Streams.{InputData, OutputData, Moment, AreCut, Grows, TakesPieces, unread, said_so_far}
+use Rattle.covsession.specs.Streams.{InputData, OutputData, Moment, AreCut, Grows, Says, TakesPieces, unread, said_so_far}
 use Rattle.covsession.specs.Text.{IsAnsweredAs}
 use Rattle.covsession.specs.Command.{Format}
 use Rattle.covsession.specs.declared.session.fault.SessionFault.{SessionFault}
@@ -23,13 +23,27 @@ CountsWrites Write before after = after ≡ before + 1
 CountsWrites Memory before after = after ≡ before
 CountsWrites Full before after = after ≡ before
 
--- an output stopped while this was said: a beginning of all that was said is written, and the rest is lost
+-- nothing waits to be written, and nothing is held back
+abbrev pub IsIdle : OutputData → Type 0
+IsIdle o = (o.waiting ≡ []) × (o.held ≡ 0)
+
+-- an output stopped while this was said: a beginning of all that was said is written, and the rest is lost. Unless a write
+-- failed it stopped before this
 pub record Breaks (o p : OutputData) (fault : SessionFault) (text : List ℕ) : Type 0 where
   pub lost : List ℕ
   pub says : Appends (said_so_far o) (append_known p.written lost) text
   pub grows : Grows o.written p.written
   pub failed : CountsWrites fault o.failed_writes p.failed_writes
   pub same_sink : p.sink ≡ o.sink
+  pub before : fault ≢ Write → Appends (said_so_far o) (said_so_far p) []
+
+-- what was said before a fault was sent on, and the session ends with that fault, or with a write that failed then. After a
+-- read or a write that failed nothing is written
+abbrev pub StopsAs : (o p : OutputData) → (fault ended : SessionFault) → Type 0
+StopsAs o p Read ended = (p ≡ o) × (ended ≡ Read)
+StopsAs o p Write ended = (p ≡ o) × (ended ≡ Write)
+StopsAs o p Memory ended = (Says o p [] × IsIdle p × (ended ≡ Memory)) ⊎ (Breaks o p Write [] × (ended ≡ Write))
+StopsAs o p Full ended = (Says o p [] × IsIdle p × (ended ≡ Full)) ⊎ (Breaks o p Write [] × (ended ≡ Write))
 
 -- an input stopped, since a read failed or none was left: no byte was taken
 pub record Stalls (i j : InputData) : Type 0 where
@@ -47,8 +61,9 @@ IsCausedBy Write m n = (n.input.failed_reads ≡ m.input.failed_reads) × (n.out
 IsCausedBy Memory m n = (n.input.failed_reads ≡ m.input.failed_reads) × (n.output.failed_writes ≡ m.output.failed_writes)
 IsCausedBy Full m n = (n.input.failed_reads ≡ m.input.failed_reads) × (n.output.failed_writes ≡ m.output.failed_writes)
 
--- a fault came between two moments, while some bytes were taken and this was said
-pub record Fails (m n : Moment) (fault : SessionFault) (text : List ℕ) : Type 0 where
+-- a fault came between two moments, while some bytes were taken and this text was said: these answers, and then those that the
+-- fault came in. Unless a write failed, the former are said and nothing of the latter
+pub record Fails (m n : Moment) (fault : SessionFault) (answers text : List ℕ) : Type 0 where
   pub bytes : List ℕ
   pub took : Consumes (unread m.input) (unread n.input) bytes
   pub counted : n.input.reads + n.input.reads_left ≡ m.input.reads + m.input.reads_left
@@ -58,10 +73,14 @@ pub record Fails (m n : Moment) (fault : SessionFault) (text : List ℕ) : Type 
   pub grows : Grows m.output.written n.output.written
   pub same_sink : n.output.sink ≡ m.output.sink
   pub cause : IsCausedBy fault m n
+  pub cut : List ℕ
+  pub whole : text ≡ answers ++ cut
+  pub before : fault ≢ Write → Appends (said_so_far m.output) (said_so_far n.output) answers
+  pub idle : fault ≡ Read → IsIdle n.output
 
 -- a fault came before a command was wholly taken, or before it was known what it asks
 pub record FailsTaking (m n : Moment) (fault : SessionFault) : Type 0 where
-  pub fails : Fails m n fault []
+  pub fails : Fails m n fault [] []
   pub not_full : fault ≢ Full
 
 -- the answer to these commands was cut short; the history is full only where they ask the book something
@@ -97,16 +116,21 @@ pub record FailsAnswering (m n : Moment) (before : List OpData) (fault : Session
   pub says : FailsSaying taken_at.output n.output before commands fault
   pub run : IsRun ending pieces commands
 
--- all that was taken are these commands, and perhaps a part of a further one; the answers to them were written in part
+-- all that was taken are these commands, and perhaps a part of a further one. The answers to all of them but the one that the
+-- fault came in were said, or were written in part where a write failed
 pub record IsBroken (m n : Moment) (fault : SessionFault) : Type 0 where
   pub pieces : List (List ℕ)
   pub commands : List Command
+  pub answered : List Command
+  pub last : List Command
+  pub are : commands ≡ answered ++ last
   pub ending : LineEnd
   pub whole : List ℕ
   pub more : List ℕ
   pub took : Consumes (unread m.input) (unread n.input) (whole ++ more)
-  pub fails : Fails m n fault (text_after [] commands)
+  pub fails : Fails m n fault (text_after [] answered) (text_after [] commands)
   pub cut : AreCut ending whole pieces
   pub run : IsRun ending pieces commands
   pub ended : ending ≡ Input → (more ≡ []) × IsAtEnd (unread n.input)
   pub full : fault ≡ Full → most_entries < length (ops_of commands)
+  pub filled : fault ≡ Full → length (ops_of answered) ≡ most_entries

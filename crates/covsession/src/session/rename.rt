@@ -50,7 +50,7 @@ fn take_name<I: Source, O: Sink, A: Allocator + Copy>(
     requires { CanCall (moment input.old output.old) }
     ensures taken { IfOk result (λ name. TakesName (moment input.old output.old) (moment input.new output.new) name) }
     ensures fault { IfErr result (λ f. f ≢ session_faults.Full) }
-    ensures fails { IfErr result (λ f. Fails (moment input.old output.old) (moment input.new output.new) f []) }
+    ensures fails { IfErr result (λ f. Fails (moment input.old output.old) (moment input.new output.new) f [] []) }
 {
     let mut line = Text::new(alloc, usize::MAX);
     let ending = input.take_line(&mut line, output)?;
@@ -70,7 +70,7 @@ fn take_names<I: Source, O: Sink, A: Allocator + Copy>(
     requires { CanCall (moment input.old output.old) }
     ensures taken { IfOk result (λ names. TakesNames (moment input.old output.old) (moment input.new output.new) names) }
     ensures fault { IfErr result (λ f. f ≢ session_faults.Full) }
-    ensures fails { IfErr result (λ f. Fails (moment input.old output.old) (moment input.new output.new) f []) }
+    ensures fails { IfErr result (λ f. Fails (moment input.old output.old) (moment input.new output.new) f [] []) }
 {
     let Some((old, first)) = take_name(alloc, input, output)? else {
         return Ok(None);

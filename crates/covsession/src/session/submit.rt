@@ -39,7 +39,7 @@ pub fn take_text<I: Source, O: Sink, A: Allocator>(
         × TakesPieces (moment input.old output.old) (moment input.new output.new) pieces r.1 []
         × IsTaken pieces r.1 r.0) }
     ensures fault { IfErr result (λ f. f ≢ session_faults.Full) }
-    ensures fails { IfErr result (λ f. Fails (moment input.old output.old) (moment input.new output.new) f []) }
+    ensures fails { IfErr result (λ f. Fails (moment input.old output.old) (moment input.new output.new) f [] []) }
 {
     let mut text = Text::in_room(room, MOST_BYTES);
     loop {

@@ -35,4 +35,4 @@ returns-in_err-new-clause-fails g c =
     let P : Option (List ℕ × LineEnd) → Type 0 = λ u. TakesName m n u in
     let name = subst P c.in-Some.is c.in_ok-old.ensures.taken in
     let p = err_from_is_err_and c.from_residual-in_err-new.result c.from_residual-in_err-new.ensures.1 in
-    rw (p.1, p.2) (fails_after m n o c.in_err-new.field-0.0 name.1.bytes [] [] name.1.moves c.in_err-new.ensures.fails)
+    rw (p.1, p.2) (fails_after m n o c.in_err-new.field-0.0 name.1.bytes [] [] [] name.1.moves c.in_err-new.ensures.fails)

@@ -4,7 +4,7 @@ use Rattle.covsession.specs.Streams.{moment}
 use Rattle.covsession.proofs.SessionBreaks.{fails_output}
 use Rattle.covsession.proofs.session.input.SessionInput.fill.Goals as goal
 
-pub returns-in_err-put_out-clause-fails : goal.returns-in_err-put_out-clause-fails
-returns-in_err-put_out-clause-fails g c =
+pub returns-in_err-send_on-clause-fails : goal.returns-in_err-send_on-clause-fails
+returns-in_err-send_on-clause-fails g c =
     let p = err_from_is_err_and c.from_residual.result c.from_residual.ensures.1 in
-    rw (p.1, p.2) (fails_output (moment c.args.self.now c.args.output.now) (moment c.args.self.now c.put_out.new.self) c.in_err-put_out.field-0.0 [] refl c.in_err-put_out.ensures.breaks)
+    rw (p.1, p.2) (fails_output (moment c.args.self.now c.args.output.now) (moment c.args.self.now c.send_on.new.self) c.in_err-send_on.field-0.0 [] refl c.in_err-send_on.ensures.breaks)

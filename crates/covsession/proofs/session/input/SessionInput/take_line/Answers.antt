@@ -41,7 +41,7 @@ returns-in_err-fill-clause-fails g c =
     let p = err_from_is_err_and c.from_residual.result c.from_residual.ensures.1 in
     let i = c.loop-self.invariant in
     rw (p.1, p.2) (fails_after (moment c.args.self.now c.args.output.now) (moment c.loop-self.self c.loop-self.output) (moment c.fill.new.self c.fill.new.output) c.in_err-fill.field-0.0
-    i.0 [] [] i.2 c.in_err-fill.ensures.fails)
+    i.0 [] [] [] i.2 c.in_err-fill.ensures.fails)
 
 pub returns-then-is_empty-clause-taken : goal.returns-then-is_empty-clause-taken
 returns-then-is_empty-clause-taken g c =
