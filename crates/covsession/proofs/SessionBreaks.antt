@@ -4,12 +4,13 @@ use Rattle.std.specs.Io.KnownBytes.{Consumes, Appends, Keeps, append_known}
 use Rattle.std.proofs.lemmas.List.{take-append-drop}
 use Rattle.covbook.specs.declared.book.BookFault.{BookFault}
 use Rattle.covbook.specs.declared.book.BookFault.TheVariants as book_faults
-use Rattle.covsession.specs.Broken.{Breaks, CountsWrites, Fails, IsCausedBy, IsIdle, Stalls}
+use Rattle.covsession.specs.Broken.{Breaks, CountsWrites, Fails, FailsTaking, IsCausedBy, IsIdle, IsLinePart, IsPart, Stalls}
 use Rattle.covsession.specs.Fault.{HasBegun}
 use Rattle.covsession.specs.SessionFaults.{of_book}
-use Rattle.covsession.specs.Streams.{InputData, OutputData, Moment, Grows, Moves, Says, moment, said_so_far, unread}
+use Rattle.covsession.specs.Streams.{InputData, OutputData, Moment, AreCut, Grows, Moves, Says, moment, said_so_far, unread}
 use Rattle.covsession.specs.declared.session.fault.SessionFault.{SessionFault}
 use Rattle.covsession.specs.declared.session.fault.SessionFault.TheVariants.{Read, Write, Memory, Full}
+use Rattle.covsession.specs.declared.session.text.LineEnd.TheVariants.{Feed}
 use Rattle.covsession.proofs.SessionBytes.{Consumes-trans, Appends-trans}
 use Rattle.covsession.proofs.SessionMoves.{Grows-trans, Grows-none, Says-trans, appends_none, consumes_none, says_written, wait_known}
 
@@ -100,7 +101,7 @@ output_cause m p Write h = (refl, h)
 output_cause m p Memory h = (refl, h)
 output_cause m p Full h = (refl, h)
 
-no_read : (fault : SessionFault) (a b : ℕ) → CountsWrites fault a b → fault ≡ Read → ⊥
+pub no_read : (fault : SessionFault) (a b : ℕ) → CountsWrites fault a b → fault ≡ Read → ⊥
 no_read fault a b h is = let P : SessionFault → Type 0 = λ f. CountsWrites f a b in subst P is h
 
 pub fails_output : (m n : Moment) (fault : SessionFault) (text : List ℕ) → n.input ≡ m.input → Breaks m.output n.output fault text → Fails m n fault [] text
@@ -172,12 +173,66 @@ read_fails m n h k idle = record {
   cut = [];
   whole = refl;
   before = λ no. k.says;
-  idle = λ is. idle;
+  idle = λ is. (idle, h.drained);
 }
 
-pub fails_read : (m n : Moment) (fault : SessionFault) → fault ≡ Read → Stalls m.input n.input → Says m.output n.output [] → IsIdle n.output
-    → Fails m n fault [] []
-fails_read m n fault is h k idle = let P : SessionFault → Type 0 = λ f. Fails m n f [] [] in subst P (sym is) (read_fails m n h k idle)
+pub taking_read : (m n : Moment) (fault : SessionFault) → fault ≡ Read → Stalls m.input n.input → Says m.output n.output [] → IsIdle n.output
+    → FailsTaking (λ bytes. bytes ≡ []) m n fault
+taking_read m n fault is h k idle =
+    let P : SessionFault → Type 0 = λ f. FailsTaking (λ bytes. bytes ≡ []) m n f in
+    subst P (sym is) (record { fails = read_fails m n h k idle; not_full = λ e. (let no : ⊥ = cc in no); part = λ is. refl })
+
+-- by how the read ended
+pub err_read_fails : (m n : Moment) (r : Result (Unit {0}) SessionFault) → Says m.output n.output [] → IsIdle n.output → IfErr r (λ f. f ≡ Read)
+    → OnErr r (Stalls m.input n.input) → IfErr r (λ f. FailsTaking (λ bytes. bytes ≡ []) m n f)
+err_read_fails m n (Ok x) k idle is h = tt
+err_read_fails m n (Err f) k idle is h = taking_read m n f is h k idle
+
+-- ---- a command that isn't wholly taken
+
+-- memory ran out after some bytes of it were taken
+pub taking_taken : (Such : List ℕ → Type 0) (m n : Moment) (fault : SessionFault) (b : List ℕ) → fault ≡ Memory → Moves m n b [] → FailsTaking Such m n fault
+taking_taken Such m n fault b is h = record {
+  fails = fails_taken m n fault b is h;
+  not_full = λ e. (let same : Memory ≡ Full = sym is ∙ e in let no : ⊥ = cc in no);
+  part = λ e. absurd (let same : Memory ≡ Read = sym is ∙ e in let no : ⊥ = cc in no);
+}
+
+-- what was said couldn't be sent on
+pub taking_unsent : (Such : List ℕ → Type 0) (m n : Moment) (fault : SessionFault) → fault ≡ Write → n.input ≡ m.input → Breaks m.output n.output fault []
+    → FailsTaking Such m n fault
+taking_unsent Such m n fault is same h = record {
+  fails = fails_output m n fault [] same h;
+  not_full = λ e. (let same : Write ≡ Full = sym is ∙ e in let no : ⊥ = cc in no);
+  part = λ e. absurd (let same : Write ≡ Read = sym is ∙ e in let no : ⊥ = cc in no);
+}
+
+-- the rest of its line came too late
+pub taking_line : (m n o : Moment) (fault : SessionFault) (line : List ℕ) → IsLinePart line → Moves m n line [] → FailsTaking (λ bytes. bytes ≡ []) n o fault
+    → FailsTaking IsLinePart m o fault
+taking_line m n o fault line one h k = record {
+  fails = fails_after m n o fault line [] [] [] h k.fails;
+  not_full = k.not_full;
+  part = λ is. let P : List ℕ → Type 0 = λ u. IsLinePart (line ++ u) in subst P (sym (k.part is)) (subst IsLinePart (sym (append-nil line)) one);
+}
+
+-- a line came too late behind such pieces
+pub taking_behind : (Such : List (List ℕ) → Type 0) (m n o : Moment) (fault : SessionFault) (pieces : List (List ℕ)) (done : List ℕ) → AreCut Feed done pieces
+    → Such pieces → Moves m n done [] → FailsTaking IsLinePart n o fault → FailsTaking (IsPart Such) m o fault
+taking_behind Such m n o fault pieces done cut such h k = record {
+  fails = fails_after m n o fault done [] [] [] h k.fails;
+  not_full = k.not_full;
+  part = λ is. record { pieces = pieces; done = done; line = k.fails.bytes; is = refl; cut = cut; one_line = k.part is; such = such };
+}
+
+-- the first line came too late
+pub taking_first : (Such : List (List ℕ) → Type 0) (m n : Moment) (fault : SessionFault) → Such [] → FailsTaking IsLinePart m n fault
+    → FailsTaking (IsPart Such) m n fault
+taking_first Such m n fault such k = record {
+  fails = k.fails;
+  not_full = k.not_full;
+  part = λ is. record { pieces = []; done = []; line = k.fails.bytes; is = refl; cut = λ more. refl; one_line = k.part is; such = such };
+}
 
 -- ---- a session that stops sends on what was said
 
@@ -191,7 +246,7 @@ sent_cause m n p Full same h = (h.0, same ∙ h.1)
 -- what was said was sent on
 pub fails_sent : (m n o : Moment) (fault : SessionFault) (answers text : List ℕ) → o.input ≡ n.input → fault ≢ Write → fault ≢ Read
     → Fails m n fault answers text → Says n.output o.output [] → Fails m o fault answers text
-fails_sent m n o fault answers text same no_write no_read h k =
+fails_sent m n o fault answers text same no_write other h k =
     let P : InputData → Type 0 = λ i. Fails m (moment i o.output) fault answers text in
     let waiting = o.output.waiting in
     let A : List ℕ → Type 0 = λ u. Appends (said_so_far m.output) (said_so_far o.output) u in
@@ -215,7 +270,7 @@ fails_sent m n o fault answers text same no_write no_read h k =
       cut = h.cut;
       whole = h.whole;
       before = λ no. given;
-      idle = λ is. absurd (no_read is);
+      idle = λ is. absurd (other is);
     })
 
 -- no call failed so far
@@ -320,5 +375,6 @@ memory_unsaid o fault is =
     subst P (sym is) (breaks_unsaid o Memory [] refl, λ e. (let no : ⊥ = cc in no))
 
 -- memory ran out where an input stays as it was
-pub fails_same : (m n : Moment) (i : InputData) (fault : SessionFault) → i ≡ n.input → Fails m n fault [] [] → Fails m (moment i n.output) fault [] []
-fails_same m n i fault same h = let P : InputData → Type 0 = λ j. Fails m (moment j n.output) fault [] [] in subst P (sym same) h
+pub taking_same : (Such : List ℕ → Type 0) (m n : Moment) (i : InputData) (fault : SessionFault) → i ≡ n.input → FailsTaking Such m n fault
+    → FailsTaking Such m (moment i n.output) fault
+taking_same Such m n i fault same h = let P : InputData → Type 0 = λ j. FailsTaking Such m (moment j n.output) fault in subst P (sym same) h

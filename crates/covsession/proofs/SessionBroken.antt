@@ -1,15 +1,15 @@
 -- How a fault in the middle of a command becomes one of the session: what was taken and answered before stays so.
-use Rattle.std.proofs.Common.{◌≡◌, ◌≢◌, ◌⊎◌, ℕ, ◌+◌, ◌<◌, List, [], ◌∷◌, ◌++◌, length, map, refl, sym, ◌∙◌, ap, ap₂, subst, arith, append-nil, length-append, codes, inl, inr, Bool, true, false, cond, leb, Option, None, Some, Result, Ok, Err, IfErr}
+use Rattle.std.proofs.Common.{◌≡◌, ◌≢◌, ◌⊎◌, ℕ, ◌+◌, ◌<◌, List, [], ◌∷◌, ◌++◌, length, map, refl, sym, ◌∙◌, ap, ap₂, subst, arith, append_assoc, append-nil, length-append, codes, inl, inr, Bool, true, false, cond, leb, Option, None, Some, Result, Ok, Err, IfErr}
 use Rattle.std.proofs.lemmas.Bool.{leb-true}
 use Rattle.std.proofs.lemmas.List.Concat.{flat_map-append}
 use Rattle.std.specs.Io.KnownBytes.{Consumes, IsAtEnd}
-use Rattle.covline.specs.Lines.{line_feed, strip, line_of, pieces_of}
+use Rattle.covline.specs.Lines.{before_feed, line_feed, strip, line_of, pieces_of}
 use Rattle.covbook.specs.Op.{OpData, RenameOp, SubmitOp}
 use Rattle.covline.specs.Row.{SubmissionData}
 use Rattle.covreport.specs.Choice.{most_pattern_bytes}
 use Rattle.covbook.specs.Step.{answer_of, most_entries, table_of}
-use Rattle.covsession.specs.Broken.{Breaks, Fails, FailsAnswering, FailsBehind, FailsGiven, FailsSaying, FailsTaking, IsBroken, IsIdle, StopsAs}
-use Rattle.covsession.specs.Command.{Command, Format, Announces, Ask, RefusePattern, Submit, Unfinished, IsListOf, IsWord, asked_by, chosen_by, ops_asked, ops_of}
+use Rattle.covsession.specs.Broken.{Breaks, Fails, FailsAnswering, FailsBehind, FailsGiven, FailsSaying, FailsTaking, IsBroken, IsIdle, IsLinePart, IsOpen, IsPart, StopsAs}
+use Rattle.covsession.specs.Command.{Command, Format, Announces, IsBody, Ask, RefusePattern, Submit, Unfinished, IsListOf, IsWord, asked_by, chosen_by, ops_asked, ops_of}
 use Rattle.covsession.specs.Run.{IsDone, IsRun, IsSoFar}
 use Rattle.covsession.specs.Session.{answer_text, said, text_after}
 use Rattle.covsession.specs.Streams.{InputData, OutputData, EndsAs, Moment, Moves, Says, TakesLine, TakesPieces, line_bytes, line_pieces, moment, unread}
@@ -21,10 +21,11 @@ use Rattle.covsession.specs.declared.session.fault.SessionFault.TheVariants.{Rea
 use Rattle.covsession.specs.declared.session.text.LineEnd.{LineEnd}
 use Rattle.covsession.specs.declared.session.text.LineEnd.TheVariants.{Feed, Input}
 use Rattle.covsession.specs.declared.session.text.Taken.{Taken}
-use Rattle.covsession.proofs.SessionBreaks.{IsQuiet, breaks_memory, breaks_more, fails_after, fails_output, fails_sent, fails_write}
+use Rattle.covsession.proofs.SessionBreaks.{IsQuiet, breaks_memory, breaks_more, fails_after, fails_output, fails_sent, fails_write, no_read, taking_first}
 use Rattle.covsession.proofs.SessionBytes.{Consumes-trans}
 use Rattle.covsession.proofs.SessionMoves.{consumes_none}
-use Rattle.covsession.proofs.SessionPieces.{cut_append, line_of_bytes}
+use Rattle.covsession.proofs.SessionPieces.{cut_append, cut_line, line_of_bytes}
+use Rattle.covsession.proofs.SessionOpen.{open_line}
 use Rattle.covsession.proofs.SessionRun.{run_more}
 use Rattle.covsession.proofs.SessionSteps.{IsLast, line_run, line_taken, more_text, open_rename_run, pieces_trans, rename_run, taken_run}
 
@@ -119,13 +120,38 @@ fails_line m n o line ending word before fault h is last same says =
       run = r.run;
     }
 
--- a fault while what follows a line is taken
-pub fails_behind_line : (m n o : Moment) (line : List ℕ) (ending : LineEnd) (fault : SessionFault)
-    → TakesLine m n line ending → FailsTaking n o fault → FailsTaking m o fault
-fails_behind_line m n o line ending fault h k = record {
-  fails = fails_after m n o fault (line_bytes ending line) [] [] [] h.moves k.fails;
-  not_full = k.not_full;
+-- a fault before a line was whole
+pub fails_in_line : (m n : Moment) (fault : SessionFault) → FailsTaking IsLinePart m n fault → FailsTaking (IsPart IsOpen) m n fault
+fails_in_line m n fault h = taking_first IsOpen m n fault open_line h
+
+-- what follows such a line is open with it
+abbrev pub Opens : (List ℕ → Type 0) → (List (List ℕ) → Type 0) → Type 0
+Opens Such Part = (first : List ℕ) (pieces : List (List ℕ)) → Such (line_of first) → Part pieces → IsOpen (first ∷ pieces)
+
+-- a part of it behind the line
+part_behind : (Such : List ℕ → Type 0) (Part : List (List ℕ) → Type 0) (line bytes : List ℕ) → before_feed line ≡ line → Such (strip line) → Opens Such Part
+    → IsPart Part bytes → IsPart IsOpen ((line ++ line_feed ∷ []) ++ bytes)
+part_behind Such Part line bytes one is opens p = record {
+  pieces = (line ++ line_feed ∷ []) ∷ p.pieces;
+  done = (line ++ line_feed ∷ []) ++ p.done;
+  line = p.line;
+  is = ap (λ (u : List ℕ). (line ++ line_feed ∷ []) ++ u) p.is ∙ sym (append_assoc (line ++ line_feed ∷ []) p.done p.line);
+  cut = cut_append Feed (line ++ line_feed ∷ []) p.done ((line ++ line_feed ∷ []) ∷ []) p.pieces (cut_line line one) p.cut;
+  one_line = p.one_line;
+  such = opens (line ++ line_feed ∷ []) p.pieces (subst Such (sym (line_of_bytes Feed line one)) is) p.such;
 }
+
+-- a fault while what follows a line is taken
+pub fails_behind_line : (Such : List ℕ → Type 0) (Part : List (List ℕ) → Type 0) (m n o : Moment) (line : List ℕ) (ending : LineEnd) (fault : SessionFault)
+    → TakesLine m n line ending → ending ≡ Feed → Such (strip line) → Opens Such Part → FailsTaking (IsPart Part) n o fault → FailsTaking (IsPart IsOpen) m o fault
+fails_behind_line Such Part m n o line ending fault h feed is opens k =
+    let F : LineEnd → Type 0 = λ u. TakesLine m n line u in
+    let taken : TakesLine m n line Feed = subst F feed h in
+    record {
+      fails = fails_after m n o fault (line ++ line_feed ∷ []) [] [] [] taken.moves k.fails;
+      not_full = k.not_full;
+      part = λ e. part_behind Such Part line k.fails.bytes h.one_line is opens (k.part e);
+    }
 
 -- a fault in the answer to a line and what follows it
 pub fails_with_line : (Such : List ℕ → Type 0) (m n o : Moment) (line : List ℕ) (first : LineEnd) (before : List OpData) (fault : SessionFault)
@@ -144,18 +170,22 @@ fails_with_line Such m n o line first before fault h feed is t =
       run = t.run (line ++ line_feed ∷ []) (subst Such (sym (line_of_bytes Feed line h.one_line)) is);
     }
 
-pub either_with_line : (Such : List ℕ → Type 0) (m n o : Moment) (line : List ℕ) (first : LineEnd) (before : List OpData) (fault : SessionFault)
-    → TakesLine m n line first → first ≡ Feed → Such (strip line) → FailsTaking n o fault ⊎ FailsBehind Such n o before fault
-    → FailsTaking m o fault ⊎ FailsAnswering m o before fault
-either_with_line Such m n o line first before fault h feed is (inl t) = inl (fails_behind_line m n o line first fault h t)
-either_with_line Such m n o line first before fault h feed is (inr t) = inr (fails_with_line Such m n o line first before fault h feed is t)
+pub either_with_line : (Such : List ℕ → Type 0) (Part : List (List ℕ) → Type 0) (m n o : Moment) (line : List ℕ) (first : LineEnd) (before : List OpData) (fault : SessionFault)
+    → TakesLine m n line first → first ≡ Feed → Such (strip line) → Opens Such Part → FailsTaking (IsPart Part) n o fault ⊎ FailsBehind Such n o before fault
+    → FailsTaking (IsPart IsOpen) m o fault ⊎ FailsAnswering m o before fault
+either_with_line Such Part m n o line first before fault h feed is opens (inl t) = inl (fails_behind_line Such Part m n o line first fault h feed is opens t)
+either_with_line Such Part m n o line first before fault h feed is opens (inr t) = inr (fails_with_line Such m n o line first before fault h feed is t)
 
 -- what was taken of a text is answered in part, or not at all
 pub given_fails : {A : Type 0} (format : Format) (taken : Taken A) (m n o : Moment) (pieces : List (List ℕ)) (ending : LineEnd) (before : List OpData) (fault : SessionFault)
     → TakesPieces m n pieces ending [] → IsTaken pieces ending taken → o.input ≡ n.input → FailsGiven format taken n.output o.output before fault
-    → FailsTaking m o fault ⊎ FailsBehind (λ line. Announces format line) m o before fault
+    → FailsTaking (IsPart IsBody) m o fault ⊎ FailsBehind (λ line. Announces format line) m o before fault
 given_fails format taken m n o pieces ending before fault h is same (inl k) =
-    inl (record { fails = fails_after m n o fault h.bytes [] [] [] h.moves (fails_output n o fault [] same k.0); not_full = k.1 })
+    inl (record {
+      fails = fails_after m n o fault h.bytes [] [] [] h.moves (fails_output n o fault [] same k.0);
+      not_full = k.1;
+      part = λ e. absurd (no_read fault n.output.failed_writes o.output.failed_writes k.0.failed e);
+    })
 given_fails format taken m n o pieces ending before fault h is same (inr (commands, answered, says)) =
     inr (record {
       pieces = pieces;
@@ -206,7 +236,7 @@ unfinished_fails m n o before fault (pieces, taken, few) same other h = record {
 
 module _ (m n o : Moment) (history : List OpData) (fault : SessionFault) (s : IsSoFar m n history) where
   -- a fault before the next command was taken
-  pub taking_breaks : FailsTaking n o fault → IsBroken m o fault
+  pub taking_breaks : FailsTaking (IsPart IsOpen) n o fault → IsBroken m o fault
   taking_breaks h =
       let P : List ℕ → Type 0 = λ u. Fails m o fault u u in
       record {
@@ -225,6 +255,7 @@ module _ (m n o : Moment) (history : List OpData) (fault : SessionFault) (s : Is
         ended = λ e. absurd (let no : ⊥ = cc in no);
         full = λ is. absurd (h.not_full is);
         filled = λ is. absurd (h.not_full is);
+        stalled = λ is. (refl, refl, h.part is);
       }
 
   taken_too : (a : FailsAnswering n o history fault) → Consumes (unread m.input) (unread o.input) ((s.bytes ++ a.taken.bytes) ++ [])
@@ -283,9 +314,10 @@ module _ (m n o : Moment) (history : List OpData) (fault : SessionFault) (s : Is
     ended = λ e. (refl, ends_too a e);
     full = full_too a full;
     filled = λ is. sym (ap length s.asked) ∙ full is;
+    stalled = λ is. absurd (no_read fault a.taken_at.output.failed_writes o.output.failed_writes a.says.breaks.failed is);
   }
 
-  pub either_breaks : (fault ≡ Full → length history ≡ most_entries) → FailsTaking n o fault ⊎ FailsAnswering n o history fault → IsBroken m o fault
+  pub either_breaks : (fault ≡ Full → length history ≡ most_entries) → FailsTaking (IsPart IsOpen) n o fault ⊎ FailsAnswering n o history fault → IsBroken m o fault
   either_breaks full (inl h) = taking_breaks h
   either_breaks full (inr a) = answering_breaks full a
 
@@ -312,6 +344,7 @@ end_breaks m n o fault d same other h =
       ended = λ e. (refl, subst E (sym same) d.ended);
       full = λ is. absurd (other is);
       filled = λ is. absurd (other is);
+      stalled = λ is. absurd (no_read fault n.output.failed_writes o.output.failed_writes h.failed is);
     }
 
 -- by how the last call ended
@@ -346,6 +379,7 @@ module _ (m n o : Moment) (fault : SessionFault) (same : o.input ≡ n.input) (b
     ended = still_ended;
     full = b.full;
     filled = b.filled;
+    stalled = b.stalled;
   }
 
   -- a write failed then
@@ -366,6 +400,7 @@ module _ (m n o : Moment) (fault : SessionFault) (same : o.input ≡ n.input) (b
     ended = still_ended;
     full = λ is. absurd (let no : ⊥ = cc in no);
     filled = λ is. absurd (let no : ⊥ = cc in no);
+    stalled = λ is. absurd (let no : ⊥ = cc in no);
   }
 
   -- nothing was written
@@ -392,7 +427,7 @@ module _ (m n o : Moment) (ended : SessionFault) (same : o.input ≡ n.input) wh
   pub stopped : (fault : SessionFault) → IsBroken m n fault → StopsAs n.output o.output fault ended → IsStopped m o ended
   stopped Read b (out, is) =
       let P : SessionFault → Type 0 = λ f. IsStopped m o f in
-      subst P (sym is) (broken_same m n o Read same b out, λ no. subst IsIdle (sym out) (b.fails.idle refl))
+      subst P (sym is) (broken_same m n o Read same b out, λ no. subst IsIdle (sym out) (b.fails.idle refl).0)
   stopped Write b (out, is) =
       let P : SessionFault → Type 0 = λ f. IsStopped m o f in
       subst P (sym is) (broken_same m n o Write same b out, λ no. absurd (no refl))

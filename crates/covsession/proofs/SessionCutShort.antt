@@ -5,17 +5,18 @@ use Rattle.std.proofs.lemmas.List.Concat.{flat_map-append}
 use Rattle.std.specs.Io.KnownBytes.{Consumes, Appends, IsAtEnd, append_known, prepend_known}
 use Rattle.covbook.specs.Step.{most_entries, table_of}
 use Rattle.covline.specs.Lines.{pieces_of}
-use Rattle.covsession.specs.Broken.{Fails, IsBroken, IsCausedBy, IsIdle}
+use Rattle.covsession.specs.Broken.{Fails, IsBroken, IsCausedBy, IsIdle, IsOpen, IsPart}
 use Rattle.covsession.specs.Command.{Command, AreCommands, ops_asked, ops_of}
 use Rattle.covsession.specs.Fault.{CallsData, HasAnswered, HasBegun, HasCause, IsBeginning, IsCutShort, MayFollow, calls}
 use Rattle.covsession.specs.Run.{GoOnOnly, IsRun, IsSentOn}
 use Rattle.covsession.specs.Session.{IsSession, IsWholeSession, text_after}
-use Rattle.covsession.specs.Streams.{AreCut, Grows, InputData, Moment, OutputData, unread}
+use Rattle.covsession.specs.Streams.{AreCut, Grows, InputData, Moment, OutputData, line_pieces, unread}
 use Rattle.covsession.specs.declared.session.fault.SessionFault.{SessionFault}
 use Rattle.covsession.specs.declared.session.fault.SessionFault.TheVariants.{Read, Write, Memory, Full}
 use Rattle.covsession.specs.declared.session.text.LineEnd.{LineEnd}
 use Rattle.covsession.specs.declared.session.text.LineEnd.TheVariants.{Feed, Input}
 use Rattle.covsession.proofs.SessionMoves.{appends_none, consumes_none}
+use Rattle.covsession.proofs.SessionPieces.{cut_last}
 use Rattle.covsession.proofs.SessionRun.{text_more}
 use Rattle.covsession.proofs.SessionSteps.{IsEnded, few_reads, ok_map, only_at, whole_at}
 
@@ -97,6 +98,33 @@ module _ (ending : LineEnd) (whole behind : List ℕ) (pieces : List (List ℕ))
       let sum = length-append (ops_of commands) (ops_of m.more) in
       omega arith
 
+-- where a read failed the last command was being read
+pub all_but_one : (whole more : List ℕ) (pieces : List (List ℕ)) (commands answered last : List Command) (ending : LineEnd) → ending ≡ Feed
+    → AreCut ending whole pieces → IsRun ending pieces commands → commands ≡ answered ++ last → last ≡ [] → IsPart IsOpen more
+    → (others : List Command) → AreCommands (pieces_of (whole ++ more)) others → length others ≤ length answered + 1
+all_but_one whole more pieces commands answered last ending feed cut run are none part others h =
+    let C : LineEnd → Type 0 = λ u. AreCut u whole pieces in
+    let R : LineEnd → Type 0 = λ u. IsRun u pieces commands in
+    let cut_feed : AreCut Feed whole pieces = subst C feed cut in
+    let run_feed : IsRun Feed pieces commands = subst R feed run in
+    let P : List (List ℕ) → Type 0 = λ u. AreCommands u others in
+    let m = run_feed.only (pieces_of more) others (subst P (cut_feed more) h) in
+    let Q : List (List ℕ) → Type 0 = λ u. AreCommands u m.0 in
+    let tail = line_pieces Input part.line in
+    let these : pieces_of more ≡ part.pieces ++ tail =
+    ap pieces_of part.is ∙ part.cut part.line ∙ ap (λ (u : List (List ℕ)). part.pieces ++ u) (cut_last part.line part.one_line) in
+    let one = part.such tail (one_piece part.line) m.0 (subst Q these m.2) in
+    let size : length others ≡ length (commands ++ m.0) = ap length m.1 in
+    let sum = length-append commands m.0 in
+    let front : length commands ≡ length (answered ++ last) = ap length are in
+    let split = length-append answered last in
+    let zero : length last ≡ 0 = ap length none in
+    omega arith
+  where
+    one_piece : (line : List ℕ) → length (line_pieces Input line) < 2
+    one_piece [] = omega arith
+    one_piece (x ∷ xs) = omega arith
+
 -- ---- the source
 
 -- the bytes that were read of a source: those that were taken, and those that are still to be
@@ -126,6 +154,7 @@ module _ (fault : SessionFault) (m n : Moment) (b : IsBroken m n fault) (fresh :
 
   -- these bytes stand behind the commands that were taken
   module _ (pending : List ℕ) (left : Option (List ℕ)) (took : Consumes m.input.left left ((b.whole ++ b.more) ++ pending))
+      (drained : fault ≡ Read → pending ≡ [])
       (ends : (more : List ℕ) → MayFollow left more → b.ending ≡ Input → b.more ++ (pending ++ more) ≡ []) where
     behind_whole : (more : List ℕ) → ((b.whole ++ b.more) ++ pending) ++ more ≡ b.whole ++ (b.more ++ (pending ++ more))
     behind_whole more = append_assoc (b.whole ++ b.more) pending more ∙ append_assoc b.whole b.more (pending ++ more)
@@ -158,6 +187,12 @@ module _ (fault : SessionFault) (m n : Moment) (b : IsBroken m n fault) (fresh :
           (subst P (behind_whole more) are) in
           (b.last ++ f.more, f.is ∙ ap (λ (u : List Command). u ++ f.more) b.are ∙ append_assoc b.answered b.last f.more);
       filled = b.filled;
+      all = λ is commands are.
+          let P : List ℕ → Type 0 = λ u. AreCommands (pieces_of ((b.whole ++ b.more) ++ u)) commands in
+          let Q : List ℕ → Type 0 = λ u. AreCommands (pieces_of u) commands in
+          let s = b.stalled is in
+          all_but_one b.whole b.more b.pieces b.commands b.answered b.last b.ending s.0 b.cut b.run b.are s.1 s.2 commands
+          (subst Q (append-nil (b.whole ++ b.more)) (subst P (drained is) are));
     }
 
     leaves_of : Leaves fault m.input.left left m.output.written n.output.written n.output.waiting
@@ -168,7 +203,7 @@ module _ (fault : SessionFault) (m n : Moment) (b : IsBroken m n fault) (fresh :
       → Leaves fault m.input.left left m.output.written n.output.written n.output.waiting
   leaves_known pending None p l =
       let K : Option (List ℕ) → Type 0 = λ u. Consumes (unread m.input) (prepend_known n.input.pending u) (b.whole ++ b.more) in
-      leaves_of [] None (took_untold m.input.pending m.input.left n.input.pending (b.whole ++ b.more) (subst K l b.took))
+      leaves_of [] None (took_untold m.input.pending m.input.left n.input.pending (b.whole ++ b.more) (subst K l b.took)) (λ is. refl)
       (λ more follows e. no_more (b.ended e).0 more follows)
     where
       took_untold : (fresh : List ℕ) (first : Option (List ℕ)) (pending bytes : List ℕ) → Consumes (prepend_known fresh first) (prepend_known pending None) bytes
@@ -183,6 +218,7 @@ module _ (fault : SessionFault) (m n : Moment) (b : IsBroken m n fault) (fresh :
       let K : Option (List ℕ) → Type 0 = λ u. Consumes (unread m.input) (prepend_known n.input.pending u) (b.whole ++ b.more) in
       let J : List ℕ → Type 0 = λ u. Consumes (unread m.input) (prepend_known u (Some ys)) (b.whole ++ b.more) in
       leaves_of pending (Some ys) (read_all m.input.left m.input.pending pending (b.whole ++ b.more) (Some ys) fresh (subst J p (subst K l b.took)))
+      (λ is. sym p ∙ (b.fails.idle is).1)
       (λ more follows e. at_end more follows (b.ended e))
     where
       at_end : (more : List ℕ) → MayFollow (Some ys) more → (b.more ≡ []) × IsAtEnd (unread n.input) → b.more ++ (pending ++ more) ≡ []
@@ -283,6 +319,7 @@ answered_none fault left written is = record {
   wrote = appends_none written;
   first = λ more commands follows are. (commands, refl);
   filled = λ full. absurd (let e : Memory ≡ Full = sym is ∙ full in let no : ⊥ = cc in no);
+  all = λ read. absurd (let e : Memory ≡ Read = sym is ∙ read in let no : ⊥ = cc in no);
 }
 
 -- the sink holds back nothing

@@ -1,10 +1,10 @@
 -- What stands after a fault in the middle of a session.
 use Rattle.std.specs.Io.KnownBytes.{Consumes, Appends, IsAtEnd, append_known}
-use Rattle.std.specs.Prelude.{◌≡◌, ◌≢◌, ◌⊎◌, ◌<◌, ℕ, ◌+◌, List, [], ◌∷◌, ◌++◌, length}
+use Rattle.std.specs.Prelude.{◌≡◌, ◌≢◌, ◌⊎◌, ◌<◌, ◌≤◌, ℕ, ◌+◌, List, [], ◌∷◌, ◌++◌, length}
 use Rattle.covbook.specs.Op.{OpData}
 use Rattle.covbook.specs.Step.{most_entries, table_of}
-use Rattle.covline.specs.Lines.{line_of}
-use Rattle.covsession.specs.Command.{Command, ops_of}
+use Rattle.covline.specs.Lines.{before_feed, line_of}
+use Rattle.covsession.specs.Command.{Command, AreCommands, ops_of}
 use Rattle.covsession.specs.Run.{IsRun}
 use Rattle.covsession.specs.Session.{text_after}
 use Rattle.covsession.specs.Streams.{InputData, OutputData, Moment, AreCut, Grows, Says, TakesPieces, unread, said_so_far}
@@ -13,7 +13,7 @@ use Rattle.covsession.specs.Command.{Format}
 use Rattle.covsession.specs.declared.session.fault.SessionFault.{SessionFault}
 use Rattle.covsession.specs.declared.session.fault.SessionFault.TheVariants.{Read, Write, Memory, Full}
 use Rattle.covsession.specs.declared.session.text.LineEnd.{LineEnd}
-use Rattle.covsession.specs.declared.session.text.LineEnd.TheVariants.{Input}
+use Rattle.covsession.specs.declared.session.text.LineEnd.TheVariants.{Feed, Input}
 use Rattle.covsession.specs.declared.session.text.Taken.{Taken}
 
 -- how many writes have failed after an output stopped so
@@ -45,12 +45,13 @@ StopsAs o p Write ended = (p ≡ o) × (ended ≡ Write)
 StopsAs o p Memory ended = (Says o p [] × IsIdle p × (ended ≡ Memory)) ⊎ (Breaks o p Write [] × (ended ≡ Write))
 StopsAs o p Full ended = (Says o p [] × IsIdle p × (ended ≡ Full)) ⊎ (Breaks o p Write [] × (ended ≡ Write))
 
--- an input stopped, since a read failed or none was left: no byte was taken
+-- an input stopped, since a read failed or none was left: no byte was taken, and none is pending
 pub record Stalls (i j : InputData) : Type 0 where
   pub took : Consumes (unread i) (unread j) []
   pub counted : j.reads + j.reads_left ≡ i.reads + i.reads_left
   pub failed : (j.failed_reads ≡ i.failed_reads + 1) ⊎ ((j.failed_reads ≡ i.failed_reads) × (j.reads_left ≡ 0))
   pub same_source : j.source ≡ i.source
+  pub drained : j.pending ≡ []
 
 -- which call failed between two moments
 abbrev pub IsCausedBy : SessionFault → Moment → Moment → Type 0
@@ -76,12 +77,33 @@ pub record Fails (m n : Moment) (fault : SessionFault) (answers text : List ℕ)
   pub cut : List ℕ
   pub whole : text ≡ answers ++ cut
   pub before : fault ≢ Write → Appends (said_so_far m.output) (said_so_far n.output) answers
-  pub idle : fault ≡ Read → IsIdle n.output
+  pub idle : fault ≡ Read → IsIdle n.output × (n.input.pending ≡ [])
 
--- a fault came before a command was wholly taken, or before it was known what it asks
-pub record FailsTaking (m n : Moment) (fault : SessionFault) : Type 0 where
+-- a line was begun, and its line feed isn't among the bytes
+abbrev pub IsLinePart : List ℕ → Type 0
+IsLinePart bytes = before_feed bytes ≡ bytes
+
+-- the bytes are such pieces, and then a part of a line or nothing
+pub record IsPart (Such : List (List ℕ) → Type 0) (bytes : List ℕ) : Type 0 where
+  pub pieces : List (List ℕ)
+  pub done : List ℕ
+  pub line : List ℕ
+  pub is : bytes ≡ done ++ line
+  pub cut : AreCut Feed done pieces
+  pub one_line : IsLinePart line
+  pub such : Such pieces
+
+-- with a further piece or none they are one command at the most
+abbrev pub IsOpen : List (List ℕ) → Type 0
+IsOpen pieces =
+    (tail : List (List ℕ)) → length tail < 2 → (commands : List Command) → AreCommands (pieces ++ tail) commands → length commands ≤ 1
+
+-- a fault came before a command was wholly taken, or before it was known what it asks. Where a read failed these are the bytes
+-- that were taken of it
+pub record FailsTaking (Such : List ℕ → Type 0) (m n : Moment) (fault : SessionFault) : Type 0 where
   pub fails : Fails m n fault [] []
   pub not_full : fault ≢ Full
+  pub part : fault ≡ Read → Such fails.bytes
 
 -- the answer to these commands was cut short; the history is full only where they ask the book something
 pub record FailsSaying (o p : OutputData) (before : List OpData) (commands : List Command) (fault : SessionFault) : Type 0 where
@@ -134,3 +156,4 @@ pub record IsBroken (m n : Moment) (fault : SessionFault) : Type 0 where
   pub ended : ending ≡ Input → (more ≡ []) × IsAtEnd (unread n.input)
   pub full : fault ≡ Full → most_entries < length (ops_of commands)
   pub filled : fault ≡ Full → length (ops_of answered) ≡ most_entries
+  pub stalled : fault ≡ Read → (ending ≡ Feed) × (last ≡ []) × IsPart IsOpen more

@@ -4,7 +4,7 @@ ghost use Rattle.std.specs.Prelude.{◌≡◌, ◌≢◌, ◌↔◌, ◌⊎◌, 
 ghost use Rattle.std.specs.Io.KnownBytes.{Appends};
 ghost use Rattle.covbook.specs.Step.{most_entries, ops_in};
 ghost use Rattle.covsession.specs.declared.session.command.word.Format.{Format as TextFormat};
-ghost use Rattle.covsession.specs.Broken.{FailsAnswering, FailsTaking, IsBroken, IsIdle};
+ghost use Rattle.covsession.specs.Broken.{FailsAnswering, FailsTaking, IsBroken, IsIdle, IsOpen, IsPart};
 ghost use Rattle.covsession.specs.Fault.{calls, HasAnswered, HasCause, IsCutShort};
 ghost use Rattle.covsession.specs.Session.{IsSession, IsWholeSession};
 ghost use Rattle.covsession.specs.Streams.{moment, CanCall};
@@ -86,7 +86,7 @@ fn answer_command<I: Source, O: Sink, A: Allocator + Copy>(
     ensures takes { IfOk result (λ ending. TakesCommand (moment input.old output.old) (moment input.new output.new)
         (ops_in book.old.entries) (ops_in book.new.entries) ending) }
     ensures full { result ≡ Err faults.Full → length book.old.entries ≡ most_entries }
-    ensures fails { IfErr result (λ f. FailsTaking (moment input.old output.old) (moment input.new output.new) f
+    ensures fails { IfErr result (λ f. FailsTaking (IsPart IsOpen) (moment input.old output.old) (moment input.new output.new) f
         ⊎ FailsAnswering (moment input.old output.old) (moment input.new output.new) (ops_in book.old.entries) f) }
 {
     let mut line = Text::new(alloc, usize::MAX);

@@ -249,7 +249,7 @@ drop u
 /// A tracefile, and a summary of it.
 const SMALL: &[u8] = b"trace\nTN:t\nSF:/a.c\nDA:1,2\nend_of_record\n.\nsummary\n";
 
-/// What it is answered: two answers of 25 and 118 bytes.
+/// What it is answered: two answers of 25 and 119 bytes.
 const SMALL_ANSWER: &[u8] = b"\
 accepted 1 items 1 odd 0
 Summary coverage rate:

@@ -3,7 +3,7 @@
 ghost use Rattle.std.specs.Prelude.{◌≡◌, ◌≢◌, ℕ, ◌-◌, ◌+◌, ◌^◌, ◌<◌, ◌≤◌, List, [], ◌∷◌, ◌++◌, length, take, drop, IfOk, IfErr, OnOk, OnErr};
 ghost use Rattle.std.specs.Io.KnownBytes.{IsAtEnd};
 ghost use Rattle.covline.specs.Lines.{before_feed, line_feed};
-ghost use Rattle.covsession.specs.Broken.{Fails, IsIdle, Stalls};
+ghost use Rattle.covsession.specs.Broken.{FailsTaking, IsIdle, IsLinePart, Stalls};
 ghost use Rattle.covsession.specs.Streams.{unread, turns, moment, CanRead, CanCall, Takes, Moves, TakesPart, TakesLine};
 ghost use Rattle.covsession.specs.Text.{AreLines, HasCollected};
 ghost use Rattle.covsession.specs.declared.session.fault.SessionFault.TheVariants as session_faults;
@@ -156,7 +156,7 @@ impl<'s, I: Source, A: Allocator> SessionInput<'s, I, A> {
         ensures fewer { OnOk result (turns self.new ≤ turns self.old) }
         ensures shown { OnOk result (self.old.pending ≡ [] → IsIdle output.new) }
         ensures fault { IfErr result (λ f. f ≢ session_faults.Full) }
-        ensures fails { IfErr result (λ f. Fails (moment self.old output.old) (moment self.new output.new) f [] []) }
+        ensures fails { IfErr result (λ f. FailsTaking (λ bytes. bytes ≡ []) (moment self.old output.old) (moment self.new output.new) f) }
     {
         if !self.pending().is_empty() {
             return Ok(());
@@ -216,7 +216,7 @@ impl<'s, I: Source, A: Allocator> SessionInput<'s, I, A> {
             × ((before : List ℕ) → (now : List ℕ) → HasCollected text.old before now → HasCollected text.new before (now ++ line))) }
         ensures limit { OnOk result (text.new.limit ≡ text.old.limit) }
         ensures fault { IfErr result (λ f. f ≢ session_faults.Full) }
-        ensures fails { IfErr result (λ f. Fails (moment self.old output.old) (moment self.new output.new) f [] []) }
+        ensures fails { IfErr result (λ f. FailsTaking IsLinePart (moment self.old output.old) (moment self.new output.new) f) }
     {
         loop {
             self.fill(output)?;
