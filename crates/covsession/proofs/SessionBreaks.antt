@@ -178,6 +178,7 @@ read_fails m n h k idle = record {
 
 pub taking_read : (m n : Moment) (fault : SessionFault) → fault ≡ Read → Stalls m.input n.input → Says m.output n.output [] → IsIdle n.output
     → FailsTaking (λ bytes. bytes ≡ []) m n fault
+unfolding read_fails
 taking_read m n fault is h k idle =
     let P : SessionFault → Type 0 = λ f. FailsTaking (λ bytes. bytes ≡ []) m n f in
     subst P (sym is) (record { fails = read_fails m n h k idle; not_full = λ e. (let no : ⊥ = cc in no); part = λ is. refl })
@@ -207,23 +208,29 @@ taking_unsent Such m n fault is same h = record {
   part = λ e. absurd (let same : Write ≡ Read = sym is ∙ e in let no : ⊥ = cc in no);
 }
 
+-- some bytes of it were taken before
+pub taking_after : (Such Part : List ℕ → Type 0) (m n o : Moment) (fault : SessionFault) (done : List ℕ) → Moves m n done []
+    → ((bytes : List ℕ) → Such bytes → Part (done ++ bytes)) → FailsTaking Such n o fault → FailsTaking Part m o fault
+unfolding fails_after
+taking_after Such Part m n o fault done h joins k = record {
+  fails = fails_after m n o fault done [] [] [] h k.fails;
+  not_full = k.not_full;
+  part = λ is. joins k.fails.bytes (k.part is);
+}
+
 -- the rest of its line came too late
 pub taking_line : (m n o : Moment) (fault : SessionFault) (line : List ℕ) → IsLinePart line → Moves m n line [] → FailsTaking (λ bytes. bytes ≡ []) n o fault
     → FailsTaking IsLinePart m o fault
-taking_line m n o fault line one h k = record {
-  fails = fails_after m n o fault line [] [] [] h k.fails;
-  not_full = k.not_full;
-  part = λ is. let P : List ℕ → Type 0 = λ u. IsLinePart (line ++ u) in subst P (sym (k.part is)) (subst IsLinePart (sym (append-nil line)) one);
-}
+taking_line m n o fault line one h k =
+    taking_after (λ bytes. bytes ≡ []) IsLinePart m n o fault line h
+    (λ bytes none. (let P : List ℕ → Type 0 = λ u. IsLinePart (line ++ u) in subst P (sym none) (subst IsLinePart (sym (append-nil line)) one))) k
 
 -- a line came too late behind such pieces
 pub taking_behind : (Such : List (List ℕ) → Type 0) (m n o : Moment) (fault : SessionFault) (pieces : List (List ℕ)) (done : List ℕ) → AreCut Feed done pieces
     → Such pieces → Moves m n done [] → FailsTaking IsLinePart n o fault → FailsTaking (IsPart Such) m o fault
-taking_behind Such m n o fault pieces done cut such h k = record {
-  fails = fails_after m n o fault done [] [] [] h k.fails;
-  not_full = k.not_full;
-  part = λ is. record { pieces = pieces; done = done; line = k.fails.bytes; is = refl; cut = cut; one_line = k.part is; such = such };
-}
+taking_behind Such m n o fault pieces done cut such h k =
+    taking_after IsLinePart (IsPart Such) m n o fault done h
+    (λ bytes one. record { pieces = pieces; done = done; line = bytes; is = refl; cut = cut; one_line = one; such = such }) k
 
 -- the first line came too late
 pub taking_first : (Such : List (List ℕ) → Type 0) (m n : Moment) (fault : SessionFault) → Such [] → FailsTaking IsLinePart m n fault

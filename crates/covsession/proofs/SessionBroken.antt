@@ -1,5 +1,5 @@
 -- How a fault in the middle of a command becomes one of the session: what was taken and answered before stays so.
-use Rattle.std.proofs.Common.{◌≡◌, ◌≢◌, ◌⊎◌, ℕ, ◌+◌, ◌<◌, List, [], ◌∷◌, ◌++◌, length, map, refl, sym, ◌∙◌, ap, ap₂, subst, arith, append_assoc, append-nil, length-append, codes, inl, inr, Bool, true, false, cond, leb, Option, None, Some, Result, Ok, Err, IfErr}
+use Rattle.std.proofs.Common.{◌≡◌, ◌≢◌, ◌⊎◌, ℕ, ◌+◌, ◌<◌, ◌≤◌, List, [], ◌∷◌, ◌++◌, length, map, refl, sym, ◌∙◌, ap, ap₂, subst, arith, append_assoc, append-nil, length-append, codes, inl, inr, Bool, true, false, cond, leb, Option, None, Some, Result, Ok, Err, IfErr}
 use Rattle.std.proofs.lemmas.Bool.{leb-true}
 use Rattle.std.proofs.lemmas.List.Concat.{flat_map-append}
 use Rattle.std.specs.Io.KnownBytes.{Consumes, IsAtEnd}
@@ -8,7 +8,7 @@ use Rattle.covbook.specs.Op.{OpData, RenameOp, SubmitOp}
 use Rattle.covline.specs.Row.{SubmissionData}
 use Rattle.covreport.specs.Choice.{most_pattern_bytes}
 use Rattle.covbook.specs.Step.{answer_of, most_entries, table_of}
-use Rattle.covsession.specs.Broken.{Breaks, Fails, FailsAnswering, FailsBehind, FailsGiven, FailsSaying, FailsTaking, IsBroken, IsIdle, IsLinePart, IsOpen, IsPart, StopsAs}
+use Rattle.covsession.specs.Broken.{Breaks, Fails, FailsAnswering, FailsBehind, FailsGiven, FailsSaying, FailsTaking, IsBroken, IsCausedBy, IsIdle, IsLinePart, IsOpen, IsPart, StopsAs}
 use Rattle.covsession.specs.Command.{Command, Format, Announces, IsBody, Ask, RefusePattern, Submit, Unfinished, IsListOf, IsWord, asked_by, chosen_by, ops_asked, ops_of}
 use Rattle.covsession.specs.Run.{IsDone, IsRun, IsSoFar}
 use Rattle.covsession.specs.Session.{answer_text, said, text_after}
@@ -21,7 +21,7 @@ use Rattle.covsession.specs.declared.session.fault.SessionFault.TheVariants.{Rea
 use Rattle.covsession.specs.declared.session.text.LineEnd.{LineEnd}
 use Rattle.covsession.specs.declared.session.text.LineEnd.TheVariants.{Feed, Input}
 use Rattle.covsession.specs.declared.session.text.Taken.{Taken}
-use Rattle.covsession.proofs.SessionBreaks.{IsQuiet, breaks_memory, breaks_more, fails_after, fails_output, fails_sent, fails_write, no_read, taking_first}
+use Rattle.covsession.proofs.SessionBreaks.{IsQuiet, breaks_memory, breaks_more, fails_after, fails_output, fails_sent, fails_write, no_read, taking_after, taking_first}
 use Rattle.covsession.proofs.SessionBytes.{Consumes-trans}
 use Rattle.covsession.proofs.SessionMoves.{consumes_none}
 use Rattle.covsession.proofs.SessionPieces.{cut_append, cut_line, line_of_bytes}
@@ -147,11 +147,8 @@ pub fails_behind_line : (Such : List ℕ → Type 0) (Part : List (List ℕ) →
 fails_behind_line Such Part m n o line ending fault h feed is opens k =
     let F : LineEnd → Type 0 = λ u. TakesLine m n line u in
     let taken : TakesLine m n line Feed = subst F feed h in
-    record {
-      fails = fails_after m n o fault (line ++ line_feed ∷ []) [] [] [] taken.moves k.fails;
-      not_full = k.not_full;
-      part = λ e. part_behind Such Part line k.fails.bytes h.one_line is opens (k.part e);
-    }
+    taking_after (IsPart Part) (IsPart IsOpen) m n o fault (line ++ line_feed ∷ []) taken.moves
+    (λ bytes p. part_behind Such Part line bytes h.one_line is opens p) k
 
 -- a fault in the answer to a line and what follows it
 pub fails_with_line : (Such : List ℕ → Type 0) (m n o : Moment) (line : List ℕ) (first : LineEnd) (before : List OpData) (fault : SessionFault)
@@ -433,3 +430,13 @@ module _ (m n o : Moment) (ended : SessionFault) (same : o.input ≡ n.input) wh
       subst P (sym is) (broken_same m n o Write same b out, λ no. absurd (no refl))
   stopped Memory b how = either_stops Memory b (λ e. (let no : ⊥ = cc in no)) (λ e. (let no : ⊥ = cc in no)) b.fails.cause how
   stopped Full b how = either_stops Full b (λ e. (let no : ⊥ = cc in no)) (λ e. (let no : ⊥ = cc in no)) b.fails.cause how
+
+-- at most one write had failed
+pub few_failed : (m n : Moment) (fault : SessionFault) → IsBroken m n fault → n.output.failed_writes ≤ m.output.failed_writes + 1
+few_failed m n fault b = few_caused m n fault b.fails.cause
+  where
+    few_caused : (m n : Moment) (fault : SessionFault) → IsCausedBy fault m n → n.output.failed_writes ≤ m.output.failed_writes + 1
+    few_caused m n Read h = let same = h.0 in omega arith
+    few_caused m n Write h = let more = h.1 in omega arith
+    few_caused m n Memory h = let same = h.1 in omega arith
+    few_caused m n Full h = let same = h.1 in omega arith

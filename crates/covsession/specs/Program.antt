@@ -43,5 +43,5 @@ TellsSession status left left_after written written_after told told_after before
     (ended : Result (Unit {0}) SessionFault) × (status ≡ end_status ended)
     × OnOk ended (IsWholeSession left left_after written written_after × HasNoFault before after)
     × IfErr ended (λ fault. IsCutShort fault left left_after written written_after × HasCause fault before after
-        × (fault ≢ Write → HasAnswered fault left left_after written written_after))
+    × (fault ≢ Write → HasAnswered fault left left_after written written_after))
     × (failures_after ≡ failures → Appends told told_after (end_words ended))

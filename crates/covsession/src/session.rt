@@ -132,7 +132,8 @@ fn answer_to_the_end<I: Source, O: Sink, A: Allocator + Copy>(
     input: &mut SessionInput<'_, I, A>,
     output: &mut Output<'_, O, A>,
 ) -> Result<(), SessionFault>
-    requires { CanCall (moment input.old output.old) }
+    requires calls { CanCall (moment input.old output.old) }
+    requires few { output.old.failed_writes < 2 ^ 62 }
     ensures ended { OnOk result (IsSentOn (moment input.old output.old) (moment input.new output.new)) }
     ensures broken { IfErr result (λ f. IsBroken (moment input.old output.old) (moment input.new output.new) f) }
     ensures idle { IfErr result (λ f. f ≢ faults.Write → IsIdle output.new) }

@@ -276,6 +276,7 @@ fn a_writer_that_holds_back(rt: HostRuntime) {
 }
 
 /// What two ends of a wire see of each other: how many bytes are written and not yet sent on, and how often they were sent on.
+#[derive(Drop)]
 struct Wire {
     unsent: Cell<usize>,
     flushes: Cell<usize>,
