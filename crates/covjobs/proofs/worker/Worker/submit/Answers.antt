@@ -1,7 +1,17 @@
+use Rattle.std.proofs.Common.{◌∙◌, List, ap}
+use Rattle.covbook.specs.Op.{ReceiptData, SubmitOp}
+use Rattle.covjobs.specs.Collect.{ops_in}
 use Rattle.covjobs.proofs.ReadBehind.{submitted_read}
+use Rattle.covjobs.proofs.Submitted.{asked_more}
 use Rattle.covjobs.proofs.worker.Worker.submit.Goals as goal
 
 pub returns-clause-read : goal.returns-clause-read
 returns-clause-read g c =
     submitted_read c.args.self.now c.ask-kept.new.self c.read-2.new.self c.in_ok-kept.ensures.asked c.in_ok-kept.ensures.news c.ask-kept.ensures.reader c.ask-kept.ensures.readings c.in_ok-read.ensures.read
     c.read-2.ensures.reader c.read-2.ensures.receipts
+
+-- what was asked is the submission, after all that was asked before
+pub returns-clause-asked : goal.returns-clause-asked
+returns-clause-asked g c =
+    ap (λ (rs : List ReceiptData). ops_in rs) c.read-2.ensures.receipts
+    ∙ asked_more c.args.self.now.receipts c.ask-kept.new.self.receipts c.ask-kept.new.self.seat.seen (SubmitOp c.args.submission) c.in_ok-kept.ensures.asked
