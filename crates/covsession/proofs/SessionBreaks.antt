@@ -1,13 +1,13 @@
 -- How a session that stops goes on from what was taken and said before: what of it was written, and which call failed.
-use Rattle.std.proofs.Common.{◌≡◌, ◌≢◌, ◌⊎◌, ℕ, ◌+◌, List, [], ◌∷◌, ◌++◌, Option, None, Some, refl, sym, ◌∙◌, ap, subst, arith, append_assoc, append-nil, take, drop, inl, inr, Result, Ok, Err, IfErr, OnErr, OnOk}
-use Rattle.std.specs.Io.KnownBytes.{Consumes, Appends, Keeps, append_known}
+use Rattle.std.proofs.Common.{◌≡◌, ◌≢◌, ℕ, ◌+◌, List, [], ◌++◌, Option, None, Some, refl, sym, ◌∙◌, ap, subst, append_assoc, append-nil, take, drop, inl, inr, Result, Ok, Err, IfErr, OnErr, OnOk}
+use Rattle.std.specs.Io.KnownBytes.{Appends, Keeps, append_known}
 use Rattle.std.proofs.lemmas.List.{take-append-drop}
 use Rattle.covbook.specs.declared.book.BookFault.{BookFault}
 use Rattle.covbook.specs.declared.book.BookFault.TheVariants as book_faults
 use Rattle.covsession.specs.Broken.{Breaks, CountsWrites, Fails, FailsTaking, IsCausedBy, IsIdle, IsLinePart, IsPart, Stalls}
 use Rattle.covsession.specs.Fault.{HasBegun}
 use Rattle.covsession.specs.SessionFaults.{of_book}
-use Rattle.covsession.specs.Streams.{InputData, OutputData, Moment, AreCut, Grows, Moves, Says, moment, said_so_far, unread}
+use Rattle.covsession.specs.Streams.{InputData, OutputData, Moment, AreCut, Moves, Says, moment, said_so_far, unread}
 use Rattle.covsession.specs.declared.session.fault.SessionFault.{SessionFault}
 use Rattle.covsession.specs.declared.session.fault.SessionFault.TheVariants.{Read, Write, Memory, Full}
 use Rattle.covsession.specs.declared.session.text.LineEnd.TheVariants.{Feed}

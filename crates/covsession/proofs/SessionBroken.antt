@@ -1,5 +1,5 @@
 -- How a fault in the middle of a command becomes one of the session: what was taken and answered before stays so.
-use Rattle.std.proofs.Common.{◌≡◌, ◌≢◌, ◌⊎◌, ℕ, ◌+◌, ◌<◌, ◌≤◌, List, [], ◌∷◌, ◌++◌, length, map, refl, sym, ◌∙◌, ap, ap₂, subst, arith, append_assoc, append-nil, length-append, codes, inl, inr, Bool, true, false, cond, leb, Option, None, Some, Result, Ok, Err, IfErr}
+use Rattle.std.proofs.Common.{◌≡◌, ◌≢◌, ◌⊎◌, ℕ, ◌+◌, ◌<◌, ◌≤◌, List, [], ◌∷◌, ◌++◌, length, refl, sym, ◌∙◌, ap, ap₂, subst, arith, append_assoc, append-nil, length-append, codes, inl, inr, Bool, true, false, cond, leb, Option, None, Some, Result, Ok, Err, IfErr}
 use Rattle.std.proofs.lemmas.Bool.{leb-true}
 use Rattle.std.proofs.lemmas.List.Concat.{flat_map-append}
 use Rattle.std.specs.Io.KnownBytes.{Consumes, IsAtEnd}
@@ -12,7 +12,7 @@ use Rattle.covsession.specs.Broken.{Breaks, Fails, FailsAnswering, FailsBehind, 
 use Rattle.covsession.specs.Command.{Command, Format, Announces, IsBody, Ask, RefusePattern, Submit, Unfinished, IsListOf, IsWord, asked_by, chosen_by, ops_asked, ops_of}
 use Rattle.covsession.specs.Run.{IsDone, IsRun, IsSoFar}
 use Rattle.covsession.specs.Session.{answer_text, said, text_after}
-use Rattle.covsession.specs.Streams.{InputData, OutputData, EndsAs, Moment, Moves, Says, TakesLine, TakesPieces, line_bytes, line_pieces, moment, unread}
+use Rattle.covsession.specs.Streams.{InputData, OutputData, EndsAs, Moment, Says, TakesLine, TakesPieces, line_pieces, moment, unread}
 use Rattle.covread.specs.declared.fault.ReadFault.{ReadFault}
 use Rattle.covsession.specs.Text.{IsAnsweredAs, IsTaken, IsToldAnswer, asked_for}
 use Rattle.covsession.specs.declared.session.command.word.Word.{Word}

@@ -1,13 +1,13 @@
 -- What a session that was cut short leaves, told of its source and its sink.
-use Rattle.std.proofs.Common.{◌≡◌, ◌≢◌, ◌⊎◌, ℕ, ◌+◌, ◌^◌, ◌<◌, ◌≤◌, List, [], ◌∷◌, ◌++◌, length, Option, None, Some, refl, sym, ◌∙◌, ap, subst, arith, append_assoc, append-nil, length-append, inl, inr, Result, Ok, Err, IfErr, IfSome, OnOk}
+use Rattle.std.proofs.Common.{◌≡◌, ◌≢◌, ℕ, ◌+◌, ◌^◌, ◌<◌, ◌≤◌, List, [], ◌∷◌, ◌++◌, length, Option, None, Some, refl, sym, ◌∙◌, ap, subst, arith, append_assoc, append-nil, length-append, inl, inr, Result, Ok, Err, IfErr, IfSome, OnOk}
 use Rattle.std.proofs.lemmas.List.{append_cancel_left}
 use Rattle.std.proofs.lemmas.List.Concat.{flat_map-append}
 use Rattle.std.specs.Io.KnownBytes.{Consumes, Appends, IsAtEnd, append_known, prepend_known}
 use Rattle.covbook.specs.Step.{most_entries, table_of}
 use Rattle.covline.specs.Lines.{pieces_of}
-use Rattle.covsession.specs.Broken.{Fails, IsBroken, IsCausedBy, IsIdle, IsOpen, IsPart}
+use Rattle.covsession.specs.Broken.{IsBroken, IsCausedBy, IsIdle, IsOpen, IsPart}
 use Rattle.covsession.specs.Command.{Command, AreCommands, ops_asked, ops_of}
-use Rattle.covsession.specs.Fault.{CallsData, HasAnswered, HasBegun, HasCause, IsBeginning, IsCutShort, MayFollow, calls}
+use Rattle.covsession.specs.Fault.{HasAnswered, HasBegun, HasCause, IsBeginning, IsCutShort, MayFollow, calls}
 use Rattle.covsession.specs.Run.{GoOnOnly, IsRun, IsSentOn}
 use Rattle.covsession.specs.Session.{IsSession, IsWholeSession, text_after}
 use Rattle.covsession.specs.Streams.{AreCut, Grows, InputData, Moment, OutputData, line_pieces, unread}

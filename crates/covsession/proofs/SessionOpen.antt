@@ -1,8 +1,8 @@
 -- Pieces that are one command at the most, whatever piece follows: what is taken while a command isn't whole yet.
-use Rattle.std.proofs.Common.{◌≡◌, ℕ, ◌+◌, ◌<◌, ◌≤◌, List, [], ◌∷◌, ◌++◌, length, refl, sym, ◌∙◌, ap, subst, arith, append_assoc, length-append, codes}
+use Rattle.std.proofs.Common.{◌≡◌, ℕ, ◌<◌, ◌≤◌, List, [], ◌∷◌, ◌++◌, length, refl, ◌∙◌, ap, subst, arith, append_assoc, length-append, codes}
 use Rattle.covline.specs.Lines.{line_of}
 use Rattle.covsession.specs.Broken.{IsOpen}
-use Rattle.covsession.specs.Command.{Command, Format, Announces, IsBody, IsCommand, EndsInput, AreCommands}
+use Rattle.covsession.specs.Command.{Command, Format, Announces, IsBody, EndsInput, AreCommands}
 use Rattle.covsession.proofs.SessionRun.{Shape, ASingle, AWhole, AnOpen, ARename, AnOpenRename, format_no_rename, none_only, not_none, open_begins, open_ends, rename_begins, rename_no_open, rename_no_single, rename_no_whole, shape}
 use Rattle.covsession.proofs.SessionWords.{not_text}
 

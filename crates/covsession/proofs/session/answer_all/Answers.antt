@@ -4,7 +4,7 @@ use Rattle.covsession.specs.Streams.{moment}
 use Rattle.covsession.specs.Run.{TakesCommand}
 use Rattle.covsession.specs.declared.session.text.LineEnd.{LineEnd}
 use Rattle.covsession.proofs.SessionSteps.{so_far_none, so_far_more, so_far_done}
-use Rattle.std.proofs.Common.{◌≡◌, ◌∙◌, length, Err, Result, sym}
+use Rattle.std.proofs.Common.{◌∙◌, Err}
 use Rattle.std.proofs.lemmas.List.{length-map}
 use Rattle.std.proofs.lemmas.Result.{err_from_is_err_and}
 use Rattle.covbook.specs.Op.{EntryData}

@@ -1,4 +1,4 @@
-use Rattle.std.proofs.Common.{rules, arith, ◌≡◌, ◌^◌, ◌∙◌, refl}
+use Rattle.std.proofs.Common.{rules, arith, ◌^◌}
 use Rattle.std.proofs.lemmas.Result.{err_from_is_err_and}
 use Rattle.covsession.specs.Streams.{moment}
 use Rattle.covsession.proofs.SessionCutShort.{answered_at, answered_none, few_at, held_at, only_sent, sent_at, short_at, short_none, whole_sent}

@@ -1,4 +1,4 @@
-use Rattle.std.proofs.Common.{◌≡◌, ℕ, List, codes, refl, rules, subst}
+use Rattle.std.proofs.Common.{◌≡◌, ℕ, List, codes, rules, subst}
 use Rattle.covsession.specs.Broken.{Breaks}
 use Rattle.covsession.specs.Streams.{Says}
 use Rattle.std.proofs.lemmas.Result.{err_from_is_err_and}

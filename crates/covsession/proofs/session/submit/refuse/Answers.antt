@@ -1,4 +1,3 @@
-use Rattle.std.proofs.Common.{refl}
 use Rattle.std.proofs.lemmas.Result.{err_from_is_err_and}
 use Rattle.covsession.proofs.SessionBreaks.{breaks_memory}
 use Rattle.covsession.proofs.session.submit.refuse.Goals as goal

@@ -1,4 +1,4 @@
-use Rattle.std.proofs.Common.{inl, inr, refl}
+use Rattle.std.proofs.Common.{inl}
 use Rattle.std.proofs.lemmas.Result.{err_from_is_err_and}
 use Rattle.covbook.specs.Step.{ops_in}
 use Rattle.covsession.proofs.SessionBreaks.{memory_unsaid}

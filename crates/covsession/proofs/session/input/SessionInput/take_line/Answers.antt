@@ -1,7 +1,7 @@
 use Rattle.std.proofs.Common.{◌++◌, ◌∙◌}
 use Rattle.covsession.specs.Streams.{moment}
 use Rattle.covsession.proofs.SessionMoves.{line_end, line_on, line_on-line, line_on-turns, collected_on, taken_whole, taken_all}
-use Rattle.std.proofs.Common.{◌≡◌, [], rules}
+use Rattle.std.proofs.Common.{◌≡◌, []}
 use Rattle.std.proofs.lemmas.Result.{err_from_is_err_and}
 use Rattle.covsession.specs.Broken.{IsLinePart}
 use Rattle.covsession.proofs.SessionBreaks.{taking_line, taking_same, taking_taken}

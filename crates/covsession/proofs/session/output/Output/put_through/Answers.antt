@@ -1,4 +1,4 @@
-use Rattle.std.proofs.Common.{[], refl, rules}
+use Rattle.std.proofs.Common.{[], rules}
 use Rattle.std.proofs.lemmas.Result.{err_from_is_err_and}
 use Rattle.covsession.proofs.SessionBreaks.{breaks_more, err_written, ok_written}
 use Rattle.covsession.proofs.session.output.Output.put_through.Goals as goal
