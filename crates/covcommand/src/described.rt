@@ -13,17 +13,24 @@ use std::alloc::{AllocError, Global};
 pub(crate) fn described<'a>(alloc: Global) -> Result<Command<'a>, AllocError>
     ensures { IfOk result (λ c. app_of c ≡ line.covcollect) }
 {
-    let program = Command::new(alloc, "covcollect")
-        .version(help::VERSION)
-        .about(help::PROGRAM)
-        .after_help(help::PROGRAM_END)
-        .disable_help_subcommand(true);
-    program
+    program(alloc)
         .subcommand(merge(alloc)?)?
         .subcommand(summary(alloc)?)?
         .subcommand(extract(alloc)?)?
         .subcommand(remove(alloc)?)?
-        .subcommand(gcov(alloc)?)
+        .subcommand(gcov(alloc)?)?
+        .subcommand(check(alloc)?)
+}
+
+/// The program without its subcommands.
+fn program<'a>(alloc: Global) -> Command<'a>
+    ensures { app_of result ≡ line.program }
+{
+    Command::new(alloc, "covcollect")
+        .version(help::VERSION)
+        .about(help::PROGRAM)
+        .after_help(help::PROGRAM_END)
+        .disable_help_subcommand(true)
 }
 
 fn merge<'a>(alloc: Global) -> Result<Command<'a>, AllocError>
@@ -80,6 +87,17 @@ fn gcov<'a>(alloc: Global) -> Result<Command<'a>, AllocError>
         .arg(test(alloc))
 }
 
+fn check<'a>(alloc: Global) -> Result<Command<'a>, AllocError>
+    ensures { IfOk result (IsAlone line.check) }
+{
+    let check = Command::new(alloc, "check")
+        .about(help::CHECK)
+        .after_help(help::CHECK_END);
+    check
+        .arg(several(alloc, "FILE", help::CHECKED))?
+        .arg(annotated(alloc))
+}
+
 /// A required argument of one word or more.
 fn several<'a>(alloc: Global, id: &'a str, help: &'a str) -> Arg<'a>
     ensures { IsLocal (line.several id.entry.now) result }
@@ -124,4 +142,14 @@ fn test<'a>(alloc: Global) -> Arg<'a>
         .required(true)
         .action(ArgAction::Set)
         .help(help::TEST)
+}
+
+/// The flag that says that the files are gcov's.
+fn annotated<'a>(alloc: Global) -> Arg<'a>
+    ensures { IsLocal line.annotated result }
+{
+    Arg::new(alloc, "gcov")
+        .long("gcov")
+        .action(ArgAction::SetTrue)
+        .help(help::ANNOTATED)
 }

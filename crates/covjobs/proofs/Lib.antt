@@ -1,3 +1,4 @@
+pub mod AllSeated
 pub mod Ascending
 pub mod AskedLast
 pub mod EachOnce
@@ -9,8 +10,6 @@ pub mod Histories
 pub mod LastEntry
 pub mod Places
 pub mod ReadBehind
-pub mod Seated
-pub mod Steps
 pub mod Submitted
 pub mod Taken
 pub mod Together

@@ -10,7 +10,7 @@ use Rattle.covline.specs.Row.{SubmissionData}
 use Rattle.covread.specs.declared.fault.ReadFault.TheVariants as faults
 use Rattle.covbook.specs.Op.{SubmitOp}
 use Rattle.covjobs.specs.Collect.{InputData, IsFate, AreFates, HasRead, submitted, refusal, places_of_job, submissions_of, refusals_of, ops_in}
-use Rattle.covjobs.specs.Seat.{fresh_seat}
+use Rattle.covlock.specs.Seat.{fresh_seat}
 use Rattle.covjobs.specs.Work.{WorkerData, WorkData, HasDone, HaveDone, work_of}
 use Rattle.covjobs.proofs.Taken.{Fate}
 use Rattle.covjobs.proofs.Together.{brought_own}

@@ -1,5 +1,5 @@
 -- One step of a worker, and what all workers have done.
-use Rattle.std.specs.Prelude.{◌≡◌, ℕ, ◌+◌, ◌≤◌, Bool, true, false, List, [], ◌∷◌, ◌++◌, length, map, Result, Ok, IfOk}
+use Rattle.std.specs.Prelude.{◌≡◌, ℕ, ◌+◌, ◌≤◌, Bool, true, false, List, [], ◌∷◌, ◌++◌, length, map, Result, Ok, Err, IfOk}
 use Rattle.std.specs.List.{flat_map}
 use Rattle.covline.specs.Row.{SubmissionData}
 use Rattle.covread.specs.declared.fault.ReadFault.{ReadFault}
@@ -9,7 +9,7 @@ use Rattle.covbook.specs.Gather.{LogData}
 use Rattle.covbook.specs.Op.{OpData, SubmitOp, ReceiptData}
 use Rattle.covjobs.specs.declared.refused.RefusedInput.{RefusedInput}
 use Rattle.covjobs.specs.Collect.{InputData, IsFate, submitted, refusal, HasRead, HasTaken}
-use Rattle.covjobs.specs.Seat.{SeatData}
+use Rattle.covlock.specs.Seat.{SeatData}
 
 -- an input is taken: what becomes of it stands behind what was submitted and what was refused before
 pub record Takes (input : InputData) (index : ℕ) (asked asks : List OpData) (refused refuses : List RefusedInput) : Type 0 where
@@ -69,6 +69,10 @@ AreDone works ended = ⊥
 -- where all workers ended well, all is done
 abbrev pub AreDoneIfWell : List WorkData → List (Result WorkerData BookFault) → Type 0
 AreDoneIfWell works ended = (workers : List WorkerData) → map Ok workers ≡ ended → HaveDone works workers
+
+-- the first worker that didn't end well has this fault
+abbrev pub IsFirstFault : List (Result WorkerData BookFault) → BookFault → Type 0
+IsFirstFault ended fault = (before : List WorkerData) × (after : List (Result WorkerData BookFault)) × (ended ≡ map Ok before ++ Err fault ∷ after)
 
 -- what all workers hand in: their seats, their logs, and all that they refused, in the order of the places
 abbrev pub log_of : WorkerData → LogData

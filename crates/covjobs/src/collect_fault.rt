@@ -1,8 +1,8 @@
 //! Why inputs aren't collected.
 
-use crate::name::OpenFault;
 use covbook::{BookFault, GatherFault};
 use covline::Memory;
+use covlock::OpenFault;
 use thiserror::Error;
 
 /// Why inputs aren't collected. A job stops at its first `Full` or `Memory`, the others go on to their end, and the fault of
@@ -21,8 +21,7 @@ pub enum CollectFault {
     /// Fault 4: the history isn't gathered from the jobs' logs: it is no merge of them, or a reading is wrong.
     #[error("gather: {0}")]
     Gather(GatherFault),
-    /// Fault 5: an entry stands behind that of the last operation, which is tested last; or the book can't be closed, which no
-    /// run meets.
+    /// Fault 5: an entry stands after that of the last operation. This is tested last.
     #[error("NotLast")]
     NotLast,
 }

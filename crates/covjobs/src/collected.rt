@@ -2,17 +2,14 @@
 
 use crate::collect_fault::CollectFault;
 use crate::gate::Gate;
-use crate::handed::Seats;
 use crate::input::Input;
-use crate::name::Start;
 use crate::refused::Refused;
-use crate::shared::{Shared, open_book};
 use crate::worker::Worker;
 use crate::workers::work_at_once;
 use covbook::laws::{a_run_goes_on, order_does_not_matter};
 use covbook::{BookFault, Entries, Logs, Op, gather};
 use covline::Memory;
-use covnews::Name;
+use covlock::{Name, Seats, Shared, Start, open_book};
 use std::alloc::Global;
 use std::marker::Brand;
 use std::sync::Wait;
@@ -29,12 +26,12 @@ pub struct Collected {
     pub refused: Refused,
 }
 
-ghost use Rattle.std.specs.Prelude.{◌≡◌, ◌↔◌, ◌<◌, Ok, Err, IfOk, map};
+ghost use Rattle.std.specs.Prelude.{◌≡◌, ◌↔◌, ◌⊎◌, ◌<◌, Ok, Err, IfOk, IfErr, length, map};
 ghost use Rattle.covbook.specs.View.{op_data};
 ghost use Rattle.covjobs.specs.declared.collect_fault.CollectFault.TheVariants as faults;
 ghost use Rattle.covjobs.specs.Collect.{IsCollected};
 ghost use Rattle.covjobs.specs.InputView.{input_data};
-ghost use Rattle.covjobs.specs.Start.{AreJobs};
+ghost use Rattle.covlock.specs.Start.{AreJobs};
 
 /// Collects inputs by so many jobs, which work at once, each in a thread of its own. Job j takes the inputs j, j + jobs,
 /// j + 2 * jobs and so on, in order: it reads the text, outside the book's lock, and submits what was read. A text that isn't
@@ -86,7 +83,7 @@ fn collect_named<R: Threads + Wait + Sync, G: Gate + Sync, L: Name + Send + Sync
     let entries = match book.close(rt, seats) {
         Ok((entries, _news)) => entries,
         // No seat is missing: each worker hands its own in.
-        Err(_back) => return Err(CollectFault::NotLast),
+        Err(_back) => unreachable!(),
     };
     gather(entries.get(), logs.get())?;
     if entries.get().len() as u64 != end {
@@ -101,16 +98,18 @@ fn collect_named<R: Threads + Wait + Sync, G: Gate + Sync, L: Name + Send + Sync
     })
 }
 
-ghost use Rattle.covjobs.specs.Work.{FirstAsks, seats_in, logs_in, refused_in};
+ghost use Rattle.covbook.specs.declared.book.BookFault.TheVariants as book_faults;
+ghost use Rattle.covjobs.specs.Work.{FirstAsks, IsFirstFault, seats_in, logs_in, refused_in};
 ghost use Rattle.std.specs.List.Sorted.{IsPermutation, IsNonDecreasingBy};
 ghost use Rattle.covjobs.specs.declared.refused.RefusedInput.{RefusedInput};
 
-/// The workers, where all of them ended well. Else the fault of the first that didn't.
+/// The workers, where all of them ended well. Else the fault of the first that didn't, or there is no room for the list.
 fn all_well<L: Name>(
     alloc: Global,
     ended: Vec<Result<Worker<L>, BookFault>>,
 ) -> Result<Vec<Worker<L>>, BookFault>
-    ensures { IfOk result (λ workers. map Ok workers.items ≡ ended.items) }
+    ensures workers { IfOk result (λ workers. map Ok workers.items ≡ ended.items) }
+    ensures fault { IfErr result (λ fault. IsFirstFault ended.items fault ⊎ (fault ≡ book_faults.Memory)) }
 {
     let mut workers = Vec::with_capacity(alloc, ended.len()).map_err(|_| BookFault::Memory)?;
     for worker in ended {
@@ -127,6 +126,7 @@ fn ask_last<R: Wait, L: Name>(
     workers: &mut Vec<Worker<L>>,
     last: &Op,
 ) -> Result<u64, BookFault>
+    requires { 0 < length workers.old.items }
     ensures { IfOk result (λ end. FirstAsks workers.old.items workers.new.items end (op_data last.now)) }
 {
     match workers.first_mut() {
@@ -134,8 +134,7 @@ fn ask_last<R: Wait, L: Name>(
             worker.ask(rt, alloc, book, last)?;
             Ok(worker.seen())
         },
-        // There is a worker, as there is at least one job.
-        None => Err(BookFault::Full),
+        None => unreachable!(),
     }
 }
 

@@ -1,14 +1,14 @@
-//! One book that many threads share.
+//! Many jobs at one book: the book that threads share, and workers that collect inputs into it.
 //!
-//! A `Start` is what a shared book is made of. `open_book` makes the book, and a `Seat` for each job. Any thread that has a
-//! seat performs steps on the book by it (`Shared::perform`); each is one step of the book's table, taken while its lock is
-//! held. `Shared::close` takes all seats back and gives the history, which has exactly one entry for each call that succeeded.
+//! The shared book is `covlock`'s, which this crate passes on: a `Start` is what it is made of, `open_book` makes it and a `Seat`
+//! for each job, `Shared::perform` is one step by a seat under the book's lock, `Shared::reader` makes a reader of the totals that
+//! takes no lock (`Live`), and `Shared::close` takes all seats back and gives the history.
 //!
-//! A reader of the totals (`Shared::reader`, `Live`) waits for nobody: it takes no lock. Each call's news, and those that `close`
-//! gives, tell a reader of at least so many entries, whatever it was shown (`Live::learn`).
+//! `collect` does all of this for texts that are there already: it opens a book, has one thread for each job read and submit its
+//! share of the inputs, performs a last operation, closes the book, and gathers what the jobs were told.
 //!
-//! Which book a seat is of, the types say: a function that uses a book is generic in the book's name `L: Name`, and its caller
-//! calls it at `Brand` and says in its `Invariants.antt` that this names the start (`docs/ARCHITECTURE.md` has the lines).
+//! What a thread asks (`Op`) and keeps (`Receipt`, `Reading`, in a `JobLog`), and `gather`, which says whether the logs are those of
+//! the closed history (`Entries`), are covbook's and passed on too, so a user lists this crate alone.
 //!
 //! A sketch, which no test runs:
 //!
@@ -33,24 +33,19 @@
 mod collect_fault;
 mod collected;
 mod gate;
-mod handed;
 mod input;
-mod locked;
-mod name;
 mod refused;
-mod seat;
-mod shared;
 mod worker;
 mod workers;
 
 pub use collect_fault::CollectFault;
 pub use collected::{Collected, collect};
-pub use covbook::Reading;
-pub use covnews::{Live, Name, News, ReaderFault};
+// Readings of a reader that is no job are gathered too: as a log with a job number that no seat has, and no receipts.
+pub use covbook::{BookFault, Entries, JobLog, Op, Reading, Receipt, gather};
+pub use covlock::{
+    CloseFault, Done, Live, MOST_JOBS, MOST_READERS, Name, News, OpenFault, ReaderFault, Seat,
+    Seats, Shared, Start, open_book,
+};
 pub use gate::{Gate, NoGate};
-pub use handed::Seats;
 pub use input::Input;
-pub use name::{MOST_JOBS, OpenFault, Start};
 pub use refused::{Refused, RefusedInput};
-pub use seat::Seat;
-pub use shared::{CloseFault, Done, MOST_READERS, Shared, open_book};

@@ -3,11 +3,9 @@
 use crate::gate::Gate;
 use crate::input::Input;
 use crate::refused::{Refused, RefusedInput};
-use crate::seat::Seat;
-use crate::shared::Shared;
 use covbook::{BookFault, JobLog, Op, Readings, Receipts, SubRef};
 use covline::Memory;
-use covnews::{Live, Name, News, ReaderFault};
+use covlock::{Live, Name, News, ReaderFault, Seat, Shared};
 use std::alloc::{Allocator, Global};
 use std::marker::Model;
 use std::sync::Wait;

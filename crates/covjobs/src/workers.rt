@@ -5,13 +5,11 @@ ghost use Rattle.covjobs.specs.InputView.{input_data};
 ghost use Rattle.covjobs.specs.Work.{HasDone, AreDone, AreDoneIfWell, work_of};
 
 use crate::gate::Gate;
-use crate::handed::Seats;
 use crate::input::Input;
-use crate::shared::Shared;
 use crate::worker::{Worker, work};
 use covbook::BookFault;
 use covline::Memory;
-use covnews::Name;
+use covlock::{Name, Seats, Shared};
 use std::alloc::Global;
 use std::marker::Model;
 use std::sync::Wait;

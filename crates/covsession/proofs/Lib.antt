@@ -1,6 +1,7 @@
 pub mod SessionBytes
 pub mod SessionLines
 pub mod SessionMoves
+pub mod SessionOpen
 pub mod SessionBreaks
 pub mod SessionPieces
 pub mod SessionRun

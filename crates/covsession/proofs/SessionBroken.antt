@@ -1,30 +1,31 @@
 -- How a fault in the middle of a command becomes one of the session: what was taken and answered before stays so.
-use Rattle.std.proofs.Common.{◌≡◌, ◌≢◌, ◌⊎◌, ℕ, ◌+◌, ◌<◌, List, [], ◌∷◌, ◌++◌, length, map, refl, sym, ◌∙◌, ap, ap₂, subst, arith, append-nil, length-append, codes, inl, inr, Bool, true, false, cond, leb, Option, None, Some, Result, Ok, Err, IfErr}
+use Rattle.std.proofs.Common.{◌≡◌, ◌≢◌, ◌⊎◌, ℕ, ◌+◌, ◌<◌, ◌≤◌, List, [], ◌∷◌, ◌++◌, length, map, refl, sym, ◌∙◌, ap, ap₂, subst, arith, append_assoc, append-nil, length-append, codes, inl, inr, Bool, true, false, cond, leb, Option, None, Some, Result, Ok, Err, IfErr}
 use Rattle.std.proofs.lemmas.Bool.{leb-true}
 use Rattle.std.proofs.lemmas.List.Concat.{flat_map-append}
 use Rattle.std.specs.Io.KnownBytes.{Consumes, IsAtEnd}
-use Rattle.covline.specs.Lines.{line_feed, strip, line_of, pieces_of}
+use Rattle.covline.specs.Lines.{before_feed, line_feed, strip, line_of, pieces_of}
 use Rattle.covbook.specs.Op.{OpData, RenameOp, SubmitOp}
 use Rattle.covline.specs.Row.{SubmissionData}
 use Rattle.covreport.specs.Choice.{most_pattern_bytes}
 use Rattle.covbook.specs.Step.{answer_of, most_entries, table_of}
-use Rattle.covsession.specs.Broken.{Breaks, Fails, FailsAnswering, FailsBehind, FailsGiven, FailsSaying, FailsTaking, IsBroken}
-use Rattle.covsession.specs.Command.{Command, Format, Announces, Ask, RefusePattern, Submit, Unfinished, IsListOf, IsWord, asked_by, chosen_by, ops_asked, ops_of}
+use Rattle.covsession.specs.Broken.{Breaks, Fails, FailsAnswering, FailsBehind, FailsGiven, FailsSaying, FailsTaking, IsBroken, IsCausedBy, IsIdle, IsLinePart, IsOpen, IsPart, StopsAs}
+use Rattle.covsession.specs.Command.{Command, Format, Announces, IsBody, Ask, RefusePattern, Submit, Unfinished, IsListOf, IsWord, asked_by, chosen_by, ops_asked, ops_of}
 use Rattle.covsession.specs.Run.{IsDone, IsRun, IsSoFar}
 use Rattle.covsession.specs.Session.{answer_text, said, text_after}
-use Rattle.covsession.specs.Streams.{InputData, OutputData, EndsAs, Moment, Moves, Says, TakesLine, TakesPieces, line_bytes, line_pieces, unread}
+use Rattle.covsession.specs.Streams.{InputData, OutputData, EndsAs, Moment, Moves, Says, TakesLine, TakesPieces, line_bytes, line_pieces, moment, unread}
 use Rattle.covread.specs.declared.fault.ReadFault.{ReadFault}
 use Rattle.covsession.specs.Text.{IsAnsweredAs, IsTaken, IsToldAnswer, asked_for}
 use Rattle.covsession.specs.declared.session.command.word.Word.{Word}
 use Rattle.covsession.specs.declared.session.fault.SessionFault.{SessionFault}
-use Rattle.covsession.specs.declared.session.fault.SessionFault.TheVariants.{Write, Memory, Full}
+use Rattle.covsession.specs.declared.session.fault.SessionFault.TheVariants.{Read, Write, Memory, Full}
 use Rattle.covsession.specs.declared.session.text.LineEnd.{LineEnd}
 use Rattle.covsession.specs.declared.session.text.LineEnd.TheVariants.{Feed, Input}
 use Rattle.covsession.specs.declared.session.text.Taken.{Taken}
-use Rattle.covsession.proofs.SessionBreaks.{breaks_memory, breaks_more, fails_after, fails_output}
+use Rattle.covsession.proofs.SessionBreaks.{IsQuiet, breaks_memory, breaks_more, fails_after, fails_output, fails_sent, fails_write, no_read, taking_after, taking_first}
 use Rattle.covsession.proofs.SessionBytes.{Consumes-trans}
 use Rattle.covsession.proofs.SessionMoves.{consumes_none}
-use Rattle.covsession.proofs.SessionPieces.{cut_append, line_of_bytes}
+use Rattle.covsession.proofs.SessionPieces.{cut_append, cut_line, line_of_bytes}
+use Rattle.covsession.proofs.SessionOpen.{open_line}
 use Rattle.covsession.proofs.SessionRun.{run_more}
 use Rattle.covsession.proofs.SessionSteps.{IsLast, line_run, line_taken, more_text, open_rename_run, pieces_trans, rename_run, taken_run}
 
@@ -80,7 +81,7 @@ module _ (o p : OutputData) (before : List OpData) where
       let P : OutputData → Type 0 = λ q. FailsSaying o q before commands fault in
       let Q : SessionFault → Type 0 = λ f. FailsSaying o o before commands f in
       let text = text_after (table_of before) commands in
-      subst P (sym same) (subst Q (sym is) (saying_fails o o before commands Memory (λ e. (let no : ⊥ = cc in no)) (breaks_memory o o Memory text refl refl refl refl)))
+      subst P (sym same) (subst Q (sym is) (saying_fails o o before commands Memory (λ e. (let no : ⊥ = cc in no)) (breaks_memory o Memory text refl)))
 
 -- what was taken of a text was answered, but for the fault in the answer
 pub err_given : {A : Type 0} (format : Format) (taken : Taken A) (o p : OutputData) (before : List OpData) (commands : List Command) (r : Result (Unit {0}) SessionFault)
@@ -119,13 +120,35 @@ fails_line m n o line ending word before fault h is last same says =
       run = r.run;
     }
 
--- a fault while what follows a line is taken
-pub fails_behind_line : (m n o : Moment) (line : List ℕ) (ending : LineEnd) (fault : SessionFault)
-    → TakesLine m n line ending → FailsTaking n o fault → FailsTaking m o fault
-fails_behind_line m n o line ending fault h k = record {
-  fails = fails_after m n o fault (line_bytes ending line) [] [] h.moves k.fails;
-  not_full = k.not_full;
+-- a fault before a line was whole
+pub fails_in_line : (m n : Moment) (fault : SessionFault) → FailsTaking IsLinePart m n fault → FailsTaking (IsPart IsOpen) m n fault
+fails_in_line m n fault h = taking_first IsOpen m n fault open_line h
+
+-- what follows such a line is open with it
+abbrev pub Opens : (List ℕ → Type 0) → (List (List ℕ) → Type 0) → Type 0
+Opens Such Part = (first : List ℕ) (pieces : List (List ℕ)) → Such (line_of first) → Part pieces → IsOpen (first ∷ pieces)
+
+-- a part of it behind the line
+part_behind : (Such : List ℕ → Type 0) (Part : List (List ℕ) → Type 0) (line bytes : List ℕ) → before_feed line ≡ line → Such (strip line) → Opens Such Part
+    → IsPart Part bytes → IsPart IsOpen ((line ++ line_feed ∷ []) ++ bytes)
+part_behind Such Part line bytes one is opens p = record {
+  pieces = (line ++ line_feed ∷ []) ∷ p.pieces;
+  done = (line ++ line_feed ∷ []) ++ p.done;
+  line = p.line;
+  is = ap (λ (u : List ℕ). (line ++ line_feed ∷ []) ++ u) p.is ∙ sym (append_assoc (line ++ line_feed ∷ []) p.done p.line);
+  cut = cut_append Feed (line ++ line_feed ∷ []) p.done ((line ++ line_feed ∷ []) ∷ []) p.pieces (cut_line line one) p.cut;
+  one_line = p.one_line;
+  such = opens (line ++ line_feed ∷ []) p.pieces (subst Such (sym (line_of_bytes Feed line one)) is) p.such;
 }
+
+-- a fault while what follows a line is taken
+pub fails_behind_line : (Such : List ℕ → Type 0) (Part : List (List ℕ) → Type 0) (m n o : Moment) (line : List ℕ) (ending : LineEnd) (fault : SessionFault)
+    → TakesLine m n line ending → ending ≡ Feed → Such (strip line) → Opens Such Part → FailsTaking (IsPart Part) n o fault → FailsTaking (IsPart IsOpen) m o fault
+fails_behind_line Such Part m n o line ending fault h feed is opens k =
+    let F : LineEnd → Type 0 = λ u. TakesLine m n line u in
+    let taken : TakesLine m n line Feed = subst F feed h in
+    taking_after (IsPart Part) (IsPart IsOpen) m n o fault (line ++ line_feed ∷ []) taken.moves
+    (λ bytes p. part_behind Such Part line bytes h.one_line is opens p) k
 
 -- a fault in the answer to a line and what follows it
 pub fails_with_line : (Such : List ℕ → Type 0) (m n o : Moment) (line : List ℕ) (first : LineEnd) (before : List OpData) (fault : SessionFault)
@@ -144,18 +167,22 @@ fails_with_line Such m n o line first before fault h feed is t =
       run = t.run (line ++ line_feed ∷ []) (subst Such (sym (line_of_bytes Feed line h.one_line)) is);
     }
 
-pub either_with_line : (Such : List ℕ → Type 0) (m n o : Moment) (line : List ℕ) (first : LineEnd) (before : List OpData) (fault : SessionFault)
-    → TakesLine m n line first → first ≡ Feed → Such (strip line) → FailsTaking n o fault ⊎ FailsBehind Such n o before fault
-    → FailsTaking m o fault ⊎ FailsAnswering m o before fault
-either_with_line Such m n o line first before fault h feed is (inl t) = inl (fails_behind_line m n o line first fault h t)
-either_with_line Such m n o line first before fault h feed is (inr t) = inr (fails_with_line Such m n o line first before fault h feed is t)
+pub either_with_line : (Such : List ℕ → Type 0) (Part : List (List ℕ) → Type 0) (m n o : Moment) (line : List ℕ) (first : LineEnd) (before : List OpData) (fault : SessionFault)
+    → TakesLine m n line first → first ≡ Feed → Such (strip line) → Opens Such Part → FailsTaking (IsPart Part) n o fault ⊎ FailsBehind Such n o before fault
+    → FailsTaking (IsPart IsOpen) m o fault ⊎ FailsAnswering m o before fault
+either_with_line Such Part m n o line first before fault h feed is opens (inl t) = inl (fails_behind_line Such Part m n o line first fault h feed is opens t)
+either_with_line Such Part m n o line first before fault h feed is opens (inr t) = inr (fails_with_line Such m n o line first before fault h feed is t)
 
 -- what was taken of a text is answered in part, or not at all
 pub given_fails : {A : Type 0} (format : Format) (taken : Taken A) (m n o : Moment) (pieces : List (List ℕ)) (ending : LineEnd) (before : List OpData) (fault : SessionFault)
     → TakesPieces m n pieces ending [] → IsTaken pieces ending taken → o.input ≡ n.input → FailsGiven format taken n.output o.output before fault
-    → FailsTaking m o fault ⊎ FailsBehind (λ line. Announces format line) m o before fault
+    → FailsTaking (IsPart IsBody) m o fault ⊎ FailsBehind (λ line. Announces format line) m o before fault
 given_fails format taken m n o pieces ending before fault h is same (inl k) =
-    inl (record { fails = fails_after m n o fault h.bytes [] [] h.moves (fails_output n o fault [] same k.0); not_full = k.1 })
+    inl (record {
+      fails = fails_after m n o fault h.bytes [] [] [] h.moves (fails_output n o fault [] same k.0);
+      not_full = k.1;
+      part = λ e. absurd (no_read fault n.output.failed_writes o.output.failed_writes k.0.failed e);
+    })
 given_fails format taken m n o pieces ending before fault h is same (inr (commands, answered, says)) =
     inr (record {
       pieces = pieces;
@@ -206,21 +233,26 @@ unfinished_fails m n o before fault (pieces, taken, few) same other h = record {
 
 module _ (m n o : Moment) (history : List OpData) (fault : SessionFault) (s : IsSoFar m n history) where
   -- a fault before the next command was taken
-  pub taking_breaks : FailsTaking n o fault → IsBroken m o fault
+  pub taking_breaks : FailsTaking (IsPart IsOpen) n o fault → IsBroken m o fault
   taking_breaks h =
-      let P : List ℕ → Type 0 = λ u. Fails m o fault u in
+      let P : List ℕ → Type 0 = λ u. Fails m o fault u u in
       record {
         pieces = s.pieces;
         commands = s.commands;
+        answered = s.commands;
+        last = [];
+        are = sym (append-nil s.commands);
         ending = Feed;
         whole = s.bytes;
         more = h.fails.bytes;
         took = Consumes-trans (unread m.input) (unread n.input) (unread o.input) s.bytes h.fails.bytes s.moves.takes.took h.fails.took;
-        fails = subst P (append-nil (text_after [] s.commands)) (fails_after m n o fault s.bytes (text_after [] s.commands) [] s.moves h.fails);
+        fails = subst P (append-nil (text_after [] s.commands)) (fails_after m n o fault s.bytes (text_after [] s.commands) [] [] s.moves h.fails);
         cut = s.cut;
         run = s.run;
         ended = λ e. absurd (let no : ⊥ = cc in no);
         full = λ is. absurd (h.not_full is);
+        filled = λ is. absurd (h.not_full is);
+        stalled = λ is. (refl, refl, h.part is);
       }
 
   taken_too : (a : FailsAnswering n o history fault) → Consumes (unread m.input) (unread o.input) ((s.bytes ++ a.taken.bytes) ++ [])
@@ -232,14 +264,17 @@ module _ (m n o : Moment) (history : List OpData) (fault : SessionFault) (s : Is
       (Consumes-trans (unread m.input) (unread n.input) (unread k.input) s.bytes a.taken.bytes s.moves.takes.took a.taken.moves.takes.took)
       (consumes_none (unread k.input)))
 
-  fails_too : (a : FailsAnswering n o history fault) → Fails m o fault (text_after [] (s.commands ++ a.commands))
+  fails_too : (a : FailsAnswering n o history fault) → Fails m o fault (text_after [] s.commands) (text_after [] (s.commands ++ a.commands))
   fails_too a =
       let k = a.taken_at in
+      let before = text_after [] s.commands in
       let text = text_after (table_of history) a.commands in
-      let P : List ℕ → Type 0 = λ u. Fails m o fault u in
+      let P : List ℕ → Type 0 = λ u. Fails m o fault before u in
+      let Q : List ℕ → Type 0 = λ u. Fails m o fault u (before ++ text) in
       subst P (more_text history s.commands a.commands s.asked)
-      (fails_after m n o fault s.bytes (text_after [] s.commands) text s.moves
-      (fails_after n k o fault a.taken.bytes [] text a.taken.moves (fails_output k o fault text a.same_input a.says.breaks)))
+      (subst Q (append-nil before)
+      (fails_after m n o fault s.bytes before [] text s.moves
+      (fails_after n k o fault a.taken.bytes [] [] text a.taken.moves (fails_output k o fault text a.same_input a.says.breaks))))
 
   ends_too : (a : FailsAnswering n o history fault) → a.ending ≡ Input → IsAtEnd (unread o.input)
   ends_too a e =
@@ -263,6 +298,9 @@ module _ (m n o : Moment) (history : List OpData) (fault : SessionFault) (s : Is
   answering_breaks full a = record {
     pieces = s.pieces ++ a.pieces;
     commands = s.commands ++ a.commands;
+    answered = s.commands;
+    last = a.commands;
+    are = refl;
     ending = a.ending;
     whole = s.bytes ++ a.taken.bytes;
     more = [];
@@ -272,9 +310,11 @@ module _ (m n o : Moment) (history : List OpData) (fault : SessionFault) (s : Is
     run = run_more a.ending s.pieces a.pieces s.commands a.commands s.run a.run;
     ended = λ e. (refl, ends_too a e);
     full = full_too a full;
+    filled = λ is. sym (ap length s.asked) ∙ full is;
+    stalled = λ is. absurd (no_read fault a.taken_at.output.failed_writes o.output.failed_writes a.says.breaks.failed is);
   }
 
-  pub either_breaks : (fault ≡ Full → length history ≡ most_entries) → FailsTaking n o fault ⊎ FailsAnswering n o history fault → IsBroken m o fault
+  pub either_breaks : (fault ≡ Full → length history ≡ most_entries) → FailsTaking (IsPart IsOpen) n o fault ⊎ FailsAnswering n o history fault → IsBroken m o fault
   either_breaks full (inl h) = taking_breaks h
   either_breaks full (inr a) = answering_breaks full a
 
@@ -283,20 +323,25 @@ pub end_breaks : (m n o : Moment) (fault : SessionFault) → IsDone m n → o.in
 end_breaks m n o fault d same other h =
     let P : InputData → Type 0 = λ i. Consumes (unread m.input) (unread i) (d.bytes ++ []) in
     let E : InputData → Type 0 = λ i. IsAtEnd (unread i) in
-    let T : List ℕ → Type 0 = λ u. Fails m o fault u in
+    let T : List ℕ → Type 0 = λ u. Fails m o fault u u in
     record {
       pieces = pieces_of d.bytes;
       commands = d.commands;
+      answered = d.commands;
+      last = [];
+      are = sym (append-nil d.commands);
       ending = Input;
       whole = d.bytes;
       more = [];
       took = subst P (sym same) (Consumes-trans (unread m.input) (unread n.input) (unread n.input) d.bytes [] d.moves.takes.took (consumes_none (unread n.input)));
       fails = subst T (append-nil (text_after [] d.commands))
-          (fails_after m n o fault d.bytes (text_after [] d.commands) [] d.moves (fails_output n o fault [] same h));
+          (fails_after m n o fault d.bytes (text_after [] d.commands) [] [] d.moves (fails_output n o fault [] same h));
       cut = refl;
       run = d.run;
       ended = λ e. (refl, subst E (sym same) d.ended);
       full = λ is. absurd (other is);
+      filled = λ is. absurd (other is);
+      stalled = λ is. absurd (no_read fault n.output.failed_writes o.output.failed_writes h.failed is);
     }
 
 -- by how the last call ended
@@ -304,3 +349,94 @@ pub err_end : (m n o : Moment) (r : Result (Unit {0}) SessionFault) → IsDone m
     → IfErr r (λ f. IsBroken m o f)
 err_end m n o (Ok x) d same is h = tt
 err_end m n o (Err f) d same is h = end_breaks m n o f d same (λ full. (let e : Write ≡ Full = sym is ∙ full in let no : ⊥ = cc in no)) h
+
+-- the same session, whose output goes on without saying more
+module _ (m n o : Moment) (fault : SessionFault) (same : o.input ≡ n.input) (b : IsBroken m n fault) where
+  still_took : Consumes (unread m.input) (unread o.input) (b.whole ++ b.more)
+  still_took = let P : InputData → Type 0 = λ i. Consumes (unread m.input) (unread i) (b.whole ++ b.more) in subst P (sym same) b.took
+
+  still_ended : b.ending ≡ Input → (b.more ≡ []) × IsAtEnd (unread o.input)
+  still_ended e = let P : InputData → Type 0 = λ i. IsAtEnd (unread i) in ((b.ended e).0, subst P (sym same) (b.ended e).1)
+
+  -- it was sent on
+  broken_sent : fault ≢ Write → fault ≢ Read → Says n.output o.output [] → IsBroken m o fault
+  broken_sent no_write no_read says = record {
+    pieces = b.pieces;
+    commands = b.commands;
+    answered = b.answered;
+    last = b.last;
+    are = b.are;
+    ending = b.ending;
+    whole = b.whole;
+    more = b.more;
+    took = still_took;
+    fails = fails_sent m n o fault (text_after [] b.answered) (text_after [] b.commands) same no_write no_read b.fails says;
+    cut = b.cut;
+    run = b.run;
+    ended = still_ended;
+    full = b.full;
+    filled = b.filled;
+    stalled = b.stalled;
+  }
+
+  -- a write failed then
+  broken_write : fault ≢ Write → IsQuiet m n → Breaks n.output o.output Write [] → IsBroken m o Write
+  broken_write no_write quiet breaks = record {
+    pieces = b.pieces;
+    commands = b.commands;
+    answered = b.answered;
+    last = b.last;
+    are = b.are;
+    ending = b.ending;
+    whole = b.whole;
+    more = b.more;
+    took = still_took;
+    fails = fails_write m n o fault (text_after [] b.answered) (text_after [] b.commands) same no_write quiet b.fails breaks;
+    cut = b.cut;
+    run = b.run;
+    ended = still_ended;
+    full = λ is. absurd (let no : ⊥ = cc in no);
+    filled = λ is. absurd (let no : ⊥ = cc in no);
+    stalled = λ is. absurd (let no : ⊥ = cc in no);
+  }
+
+  -- nothing was written
+  broken_same : o.output ≡ n.output → IsBroken m o fault
+  broken_same out =
+      let P : InputData → Type 0 = λ i. IsBroken m (moment i o.output) fault in
+      let Q : OutputData → Type 0 = λ p. IsBroken m (moment n.input p) fault in
+      subst P (sym same) (subst Q (sym out) b)
+
+-- how a session ends after a fault
+abbrev pub IsStopped : Moment → Moment → SessionFault → Type 0
+IsStopped m o ended = IsBroken m o ended × (ended ≢ Write → IsIdle o.output)
+
+module _ (m n o : Moment) (ended : SessionFault) (same : o.input ≡ n.input) where
+  either_stops : (fault : SessionFault) → IsBroken m n fault → fault ≢ Write → fault ≢ Read → IsQuiet m n
+      → (Says n.output o.output [] × IsIdle o.output × (ended ≡ fault)) ⊎ (Breaks n.output o.output Write [] × (ended ≡ Write)) → IsStopped m o ended
+  either_stops fault b no_write no_read quiet (inl (says, idle, is)) =
+      let P : SessionFault → Type 0 = λ f. IsStopped m o f in
+      subst P (sym is) (broken_sent m n o fault same b no_write no_read says, λ no. idle)
+  either_stops fault b no_write no_read quiet (inr (breaks, is)) =
+      let P : SessionFault → Type 0 = λ f. IsStopped m o f in
+      subst P (sym is) (broken_write m n o fault same b no_write quiet breaks, λ no. absurd (no refl))
+
+  pub stopped : (fault : SessionFault) → IsBroken m n fault → StopsAs n.output o.output fault ended → IsStopped m o ended
+  stopped Read b (out, is) =
+      let P : SessionFault → Type 0 = λ f. IsStopped m o f in
+      subst P (sym is) (broken_same m n o Read same b out, λ no. subst IsIdle (sym out) (b.fails.idle refl).0)
+  stopped Write b (out, is) =
+      let P : SessionFault → Type 0 = λ f. IsStopped m o f in
+      subst P (sym is) (broken_same m n o Write same b out, λ no. absurd (no refl))
+  stopped Memory b how = either_stops Memory b (λ e. (let no : ⊥ = cc in no)) (λ e. (let no : ⊥ = cc in no)) b.fails.cause how
+  stopped Full b how = either_stops Full b (λ e. (let no : ⊥ = cc in no)) (λ e. (let no : ⊥ = cc in no)) b.fails.cause how
+
+-- at most one write had failed
+pub few_failed : (m n : Moment) (fault : SessionFault) → IsBroken m n fault → n.output.failed_writes ≤ m.output.failed_writes + 1
+few_failed m n fault b = few_caused m n fault b.fails.cause
+  where
+    few_caused : (m n : Moment) (fault : SessionFault) → IsCausedBy fault m n → n.output.failed_writes ≤ m.output.failed_writes + 1
+    few_caused m n Read h = let same = h.0 in omega arith
+    few_caused m n Write h = let more = h.1 in omega arith
+    few_caused m n Memory h = let same = h.1 in omega arith
+    few_caused m n Full h = let same = h.1 in omega arith

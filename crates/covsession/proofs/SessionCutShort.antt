@@ -1,21 +1,22 @@
 -- What a session that was cut short leaves, told of its source and its sink.
-use Rattle.std.proofs.Common.{◌≡◌, ◌⊎◌, ℕ, ◌+◌, ◌^◌, ◌<◌, ◌≤◌, List, [], ◌∷◌, ◌++◌, length, Option, None, Some, refl, sym, ◌∙◌, ap, subst, arith, append_assoc, append-nil, length-append, inl, inr, Result, Ok, Err, IfErr, IfSome, OnOk}
+use Rattle.std.proofs.Common.{◌≡◌, ◌≢◌, ◌⊎◌, ℕ, ◌+◌, ◌^◌, ◌<◌, ◌≤◌, List, [], ◌∷◌, ◌++◌, length, Option, None, Some, refl, sym, ◌∙◌, ap, subst, arith, append_assoc, append-nil, length-append, inl, inr, Result, Ok, Err, IfErr, IfSome, OnOk}
 use Rattle.std.proofs.lemmas.List.{append_cancel_left}
 use Rattle.std.proofs.lemmas.List.Concat.{flat_map-append}
 use Rattle.std.specs.Io.KnownBytes.{Consumes, Appends, IsAtEnd, append_known, prepend_known}
 use Rattle.covbook.specs.Step.{most_entries, table_of}
 use Rattle.covline.specs.Lines.{pieces_of}
-use Rattle.covsession.specs.Broken.{Fails, IsBroken, IsCausedBy}
+use Rattle.covsession.specs.Broken.{Fails, IsBroken, IsCausedBy, IsIdle, IsOpen, IsPart}
 use Rattle.covsession.specs.Command.{Command, AreCommands, ops_asked, ops_of}
-use Rattle.covsession.specs.Fault.{CallsData, HasBegun, HasCause, IsBeginning, IsCutShort, MayFollow, calls}
+use Rattle.covsession.specs.Fault.{CallsData, HasAnswered, HasBegun, HasCause, IsBeginning, IsCutShort, MayFollow, calls}
 use Rattle.covsession.specs.Run.{GoOnOnly, IsRun, IsSentOn}
 use Rattle.covsession.specs.Session.{IsSession, IsWholeSession, text_after}
-use Rattle.covsession.specs.Streams.{AreCut, Grows, InputData, Moment, OutputData, unread}
+use Rattle.covsession.specs.Streams.{AreCut, Grows, InputData, Moment, OutputData, line_pieces, unread}
 use Rattle.covsession.specs.declared.session.fault.SessionFault.{SessionFault}
 use Rattle.covsession.specs.declared.session.fault.SessionFault.TheVariants.{Read, Write, Memory, Full}
 use Rattle.covsession.specs.declared.session.text.LineEnd.{LineEnd}
 use Rattle.covsession.specs.declared.session.text.LineEnd.TheVariants.{Feed, Input}
 use Rattle.covsession.proofs.SessionMoves.{appends_none, consumes_none}
+use Rattle.covsession.proofs.SessionPieces.{cut_last}
 use Rattle.covsession.proofs.SessionRun.{text_more}
 use Rattle.covsession.proofs.SessionSteps.{IsEnded, few_reads, ok_map, only_at, whole_at}
 
@@ -34,6 +35,20 @@ text_begun (Some xs) (Some ys) waiting lost text none says (part, e) =
     sym (append_assoc xs part lost) ∙ ap (λ (u : List ℕ). u ++ lost) (sym e) ∙ says
     ∙ ap (λ (u : List ℕ). u ++ text) (ap (λ (u : List ℕ). xs ++ u) none ∙ append-nil xs) in
     (part, e, (lost, sym (append_cancel_left xs (part ++ lost) text whole)))
+
+-- the text was said and nothing else, and all of it was written
+pub said_written : (old new : Option (List ℕ)) (before after text : List ℕ) → before ≡ [] → after ≡ []
+    → Appends (append_known old before) (append_known new after) text → Appends old new text
+said_written None new before after text e f h = tt
+said_written (Some xs) None before after text e f h = absurd h
+said_written (Some xs) (Some ys) before after text e f h =
+    sym (append-nil ys) ∙ ap (λ (u : List ℕ). ys ++ u) (sym f) ∙ h ∙ ap (λ (u : List ℕ). u ++ text) (ap (λ (u : List ℕ). xs ++ u) e ∙ append-nil xs)
+
+-- what a session leaves: it was cut short, after whole answers where nothing waits
+abbrev Leaves : (fault : SessionFault) → (left left_after written written_after : Option (List ℕ)) → (waiting : List ℕ) → Type 0
+Leaves fault left left_after written written_after waiting =
+    IsCutShort fault left left_after written written_after
+    × (fault ≢ Write → waiting ≡ [] → HasAnswered fault left left_after written written_after)
 
 -- ---- what was read
 
@@ -83,6 +98,33 @@ module _ (ending : LineEnd) (whole behind : List ℕ) (pieces : List (List ℕ))
       let sum = length-append (ops_of commands) (ops_of m.more) in
       omega arith
 
+-- where a read failed the last command was being read
+pub all_but_one : (whole more : List ℕ) (pieces : List (List ℕ)) (commands answered last : List Command) (ending : LineEnd) → ending ≡ Feed
+    → AreCut ending whole pieces → IsRun ending pieces commands → commands ≡ answered ++ last → last ≡ [] → IsPart IsOpen more
+    → (others : List Command) → AreCommands (pieces_of (whole ++ more)) others → length others ≤ length answered + 1
+all_but_one whole more pieces commands answered last ending feed cut run are none part others h =
+    let C : LineEnd → Type 0 = λ u. AreCut u whole pieces in
+    let R : LineEnd → Type 0 = λ u. IsRun u pieces commands in
+    let cut_feed : AreCut Feed whole pieces = subst C feed cut in
+    let run_feed : IsRun Feed pieces commands = subst R feed run in
+    let P : List (List ℕ) → Type 0 = λ u. AreCommands u others in
+    let m = run_feed.only (pieces_of more) others (subst P (cut_feed more) h) in
+    let Q : List (List ℕ) → Type 0 = λ u. AreCommands u m.0 in
+    let tail = line_pieces Input part.line in
+    let these : pieces_of more ≡ part.pieces ++ tail =
+    ap pieces_of part.is ∙ part.cut part.line ∙ ap (λ (u : List (List ℕ)). part.pieces ++ u) (cut_last part.line part.one_line) in
+    let one = part.such tail (one_piece part.line) m.0 (subst Q these m.2) in
+    let size : length others ≡ length (commands ++ m.0) = ap length m.1 in
+    let sum = length-append commands m.0 in
+    let front : length commands ≡ length (answered ++ last) = ap length are in
+    let split = length-append answered last in
+    let zero : length last ≡ 0 = ap length none in
+    omega arith
+  where
+    one_piece : (line : List ℕ) → length (line_pieces Input line) < 2
+    one_piece [] = omega arith
+    one_piece (x ∷ xs) = omega arith
+
 -- ---- the source
 
 -- the bytes that were read of a source: those that were taken, and those that are still to be
@@ -112,6 +154,7 @@ module _ (fault : SessionFault) (m n : Moment) (b : IsBroken m n fault) (fresh :
 
   -- these bytes stand behind the commands that were taken
   module _ (pending : List ℕ) (left : Option (List ℕ)) (took : Consumes m.input.left left ((b.whole ++ b.more) ++ pending))
+      (drained : fault ≡ Read → pending ≡ [])
       (ends : (more : List ℕ) → MayFollow left more → b.ending ≡ Input → b.more ++ (pending ++ more) ≡ []) where
     behind_whole : (more : List ℕ) → ((b.whole ++ b.more) ++ pending) ++ more ≡ b.whole ++ (b.more ++ (pending ++ more))
     behind_whole more = append_assoc (b.whole ++ b.more) pending more ∙ append_assoc b.whole b.more (pending ++ more)
@@ -132,12 +175,35 @@ module _ (fault : SessionFault) (m n : Moment) (b : IsBroken m n fault) (fresh :
           (subst P (behind_whole more) are) (b.full is);
     }
 
+    answered_of : fault ≢ Write → n.output.waiting ≡ [] → HasAnswered fault m.input.left left m.output.written n.output.written
+    answered_of no_write none = record {
+      read = (b.whole ++ b.more) ++ pending;
+      answered = b.answered;
+      took = took;
+      wrote = said_written m.output.written n.output.written m.output.waiting n.output.waiting (text_after [] b.answered) empty none (b.fails.before no_write);
+      first = λ more others follows are.
+          let P : List ℕ → Type 0 = λ u. AreCommands (pieces_of u) others in
+          let f = same_first b.ending b.whole (b.more ++ (pending ++ more)) b.pieces b.commands (ends more follows) b.cut b.run others
+          (subst P (behind_whole more) are) in
+          (b.last ++ f.more, f.is ∙ ap (λ (u : List Command). u ++ f.more) b.are ∙ append_assoc b.answered b.last f.more);
+      filled = b.filled;
+      all = λ is commands are.
+          let P : List ℕ → Type 0 = λ u. AreCommands (pieces_of ((b.whole ++ b.more) ++ u)) commands in
+          let Q : List ℕ → Type 0 = λ u. AreCommands (pieces_of u) commands in
+          let s = b.stalled is in
+          all_but_one b.whole b.more b.pieces b.commands b.answered b.last b.ending s.0 b.cut b.run b.are s.1 s.2 commands
+          (subst Q (append-nil (b.whole ++ b.more)) (subst P (drained is) are));
+    }
+
+    leaves_of : Leaves fault m.input.left left m.output.written n.output.written n.output.waiting
+    leaves_of = (short_of, answered_of)
+
   -- by whether the source tells its bytes
-  short_known : (pending : List ℕ) (left : Option (List ℕ)) → n.input.pending ≡ pending → n.input.left ≡ left
-      → IsCutShort fault m.input.left left m.output.written n.output.written
-  short_known pending None p l =
+  leaves_known : (pending : List ℕ) (left : Option (List ℕ)) → n.input.pending ≡ pending → n.input.left ≡ left
+      → Leaves fault m.input.left left m.output.written n.output.written n.output.waiting
+  leaves_known pending None p l =
       let K : Option (List ℕ) → Type 0 = λ u. Consumes (unread m.input) (prepend_known n.input.pending u) (b.whole ++ b.more) in
-      short_of [] None (took_untold m.input.pending m.input.left n.input.pending (b.whole ++ b.more) (subst K l b.took))
+      leaves_of [] None (took_untold m.input.pending m.input.left n.input.pending (b.whole ++ b.more) (subst K l b.took)) (λ is. refl)
       (λ more follows e. no_more (b.ended e).0 more follows)
     where
       took_untold : (fresh : List ℕ) (first : Option (List ℕ)) (pending bytes : List ℕ) → Consumes (prepend_known fresh first) (prepend_known pending None) bytes
@@ -148,10 +214,11 @@ module _ (fault : SessionFault) (m n : Moment) (b : IsBroken m n fault) (fresh :
       no_more : b.more ≡ [] → (more : List ℕ) → MayFollow None more → b.more ++ ([] ++ more) ≡ []
       no_more none more (inl e) = ap (λ (u : List ℕ). u ++ more) none ∙ e
       no_more none more (inr e) = absurd (let no : ⊥ = cc in no)
-  short_known pending (Some ys) p l =
+  leaves_known pending (Some ys) p l =
       let K : Option (List ℕ) → Type 0 = λ u. Consumes (unread m.input) (prepend_known n.input.pending u) (b.whole ++ b.more) in
       let J : List ℕ → Type 0 = λ u. Consumes (unread m.input) (prepend_known u (Some ys)) (b.whole ++ b.more) in
-      short_of pending (Some ys) (read_all m.input.left m.input.pending pending (b.whole ++ b.more) (Some ys) fresh (subst J p (subst K l b.took)))
+      leaves_of pending (Some ys) (read_all m.input.left m.input.pending pending (b.whole ++ b.more) (Some ys) fresh (subst J p (subst K l b.took)))
+      (λ is. sym p ∙ (b.fails.idle is).1)
       (λ more follows e. at_end more follows (b.ended e))
     where
       at_end : (more : List ℕ) → MayFollow (Some ys) more → (b.more ≡ []) × IsAtEnd (unread n.input) → b.more ++ (pending ++ more) ≡ []
@@ -162,7 +229,10 @@ module _ (fault : SessionFault) (m n : Moment) (b : IsBroken m n fault) (fresh :
           ap (λ (u : List ℕ). u ++ (pending ++ more)) none ∙ ap (λ (u : List ℕ). u ++ more) both.0 ∙ nothing_follows ys more both.1 follows
 
   pub cut_short : IsCutShort fault m.input.left n.input.left m.output.written n.output.written
-  cut_short = short_known n.input.pending n.input.left refl refl
+  cut_short = (leaves_known n.input.pending n.input.left refl refl).0
+
+  pub has_answered : fault ≢ Write → n.output.waiting ≡ [] → HasAnswered fault m.input.left n.input.left m.output.written n.output.written
+  has_answered = (leaves_known n.input.pending n.input.left refl refl).1
 
 -- ---- the counts
 
@@ -226,3 +296,37 @@ short_none fault left written is = record {
   begins = λ more whole follows session. (whole, refl);
   full = λ full. absurd (let e : Memory ≡ Full = sym is ∙ full in let no : ⊥ = cc in no);
 }
+
+-- the same of the answers that were written whole
+pub answered_at : (m n : Moment) (left left_after written written_after : Option (List ℕ)) (r : Result (Unit {0}) SessionFault)
+    → m.input.pending ≡ [] → m.output.waiting ≡ []
+    → m.input.left ≡ left → left_after ≡ n.input.left → m.output.written ≡ written → written_after ≡ n.output.written
+    → IfErr r (λ f. IsBroken m n f) → IfErr r (λ f. f ≢ Write → IsIdle n.output) → IfErr r (λ f. f ≢ Write → HasAnswered f left left_after written written_after)
+answered_at m n left left_after written written_after (Ok x) fresh empty l la w wa h k = tt
+answered_at m n left left_after written written_after (Err f) fresh empty l la w wa h k = λ no.
+    let P : Option (List ℕ) → Type 0 = λ u. HasAnswered f u left_after written written_after in
+    let Q : Option (List ℕ) → Type 0 = λ u. HasAnswered f m.input.left u written written_after in
+    let R : Option (List ℕ) → Type 0 = λ u. HasAnswered f m.input.left n.input.left u written_after in
+    let S : Option (List ℕ) → Type 0 = λ u. HasAnswered f m.input.left n.input.left m.output.written u in
+    subst P l (subst Q (sym la) (subst R w (subst S (sym wa) (has_answered f m n h fresh empty no (k no).0))))
+
+-- no command was answered
+pub answered_none : (fault : SessionFault) (left written : Option (List ℕ)) → fault ≡ Memory → HasAnswered fault left left written written
+answered_none fault left written is = record {
+  read = [];
+  answered = [];
+  took = consumes_none left;
+  wrote = appends_none written;
+  first = λ more commands follows are. (commands, refl);
+  filled = λ full. absurd (let e : Memory ≡ Full = sym is ∙ full in let no : ⊥ = cc in no);
+  all = λ read. absurd (let e : Memory ≡ Read = sym is ∙ read in let no : ⊥ = cc in no);
+}
+
+-- the sink holds back nothing
+pub held_at : (p : OutputData) (old new : ℕ) (r : Result (Unit {0}) SessionFault) → new ≡ p.held → IfErr r (λ f. f ≢ Write → IsIdle p)
+    → IfErr r (λ f. f ≢ Write → new ≤ old)
+held_at p old new (Ok x) same h = tt
+held_at p old new (Err f) same h = λ no. let none = (h no).1 in omega arith
+
+pub sent_at : (m n : Moment) (new : ℕ) (r : Result (Unit {0}) SessionFault) → new ≡ n.output.held → OnOk r (IsSentOn m n) → OnOk r (new ≡ 0)
+sent_at m n new r same h = ok_map r (λ e. same ∙ e.sent) h

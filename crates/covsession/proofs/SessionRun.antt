@@ -124,13 +124,13 @@ shape those Unfinished (inr (first, behind, is, word, few)) =
     AnOpenRename (record { first = first; behind = behind; is = is; word = word; few = few; asked = refl })
 
 -- the first piece is a line `rename`
-abbrev BeginsRename : List (List ℕ) → Type 0
+abbrev pub BeginsRename : List (List ℕ) → Type 0
 BeginsRename those = (first : List ℕ) × (behind : List (List ℕ)) × (those ≡ first ∷ behind) × (line_of first ≡ codes "rename")
 
-rename_begins : (those : List (List ℕ)) (d : Command) → WholeRename those d → BeginsRename those
+pub rename_begins : (those : List (List ℕ)) (d : Command) → WholeRename those d → BeginsRename those
 rename_begins those d s = (s.first, s.second ∷ s.third ∷ [], s.is, s.word)
 
-open_begins : (those : List (List ℕ)) (d : Command) → OpenRename those d → BeginsRename those
+pub open_begins : (those : List (List ℕ)) (d : Command) → OpenRename those d → BeginsRename those
 open_begins those d s = (s.first, s.behind, s.is, s.word)
 
 -- it is no command of its own, and no text follows it
@@ -141,7 +141,7 @@ single_no_rename piece rest those further c h e (first, behind, is, word) =
     let same : piece ≡ first = cc in
     not_rename (line_of piece) c h (ap line_of same ∙ word)
 
-format_no_rename : (format : Format) (piece : List ℕ) (rest those further : List (List ℕ)) → Announces format (line_of piece) → piece ∷ rest ≡ those ++ further
+pub format_no_rename : (format : Format) (piece : List ℕ) (rest those further : List (List ℕ)) → Announces format (line_of piece) → piece ∷ rest ≡ those ++ further
     → BeginsRename those → ⊥
 format_no_rename format piece rest those further h e (first, behind, is, word) =
     let all : piece ∷ rest ≡ first ∷ (behind ++ further) = e ∙ ap (λ (u : List (List ℕ)). u ++ further) is in
@@ -198,7 +198,7 @@ single_determined piece rest c h = λ those further d e is ends. single_by piece
 one_command : (c d : Command) → c ∷ [] ≡ d ∷ [] → c ≡ d
 one_command c d e = cc
 
-open_ends : (d : Command) (further : List (List ℕ)) → d ≡ Unfinished → EndsInput d further → further ≡ []
+pub open_ends : (d : Command) (further : List (List ℕ)) → d ≡ Unfinished → EndsInput d further → further ≡ []
 open_ends Unfinished further e h = h
 open_ends Blank further e h = absurd (let nothing : ⊥ = cc in nothing)
 open_ends (Ask op) further e h = absurd (let nothing : ⊥ = cc in nothing)
@@ -272,19 +272,19 @@ open_determined format first body announces no_last = λ those further d e is en
     open_by format first body those further d announces no_last (sym (append-nil (first ∷ body)) ∙ e) ends (shape those d is)
 
 -- pieces that begin with a line `rename` are no command of one line, and no text
-rename_no_single : (first : List ℕ) (rest those further : List (List ℕ)) (d : Command) → line_of first ≡ codes "rename" → first ∷ rest ≡ those ++ further → Single those d → ⊥
+pub rename_no_single : (first : List ℕ) (rest those further : List (List ℕ)) (d : Command) → line_of first ≡ codes "rename" → first ∷ rest ≡ those ++ further → Single those d → ⊥
 rename_no_single first rest those further d word e s =
     let all : first ∷ rest ≡ s.piece ∷ further = e ∙ ap (λ (u : List (List ℕ)). u ++ further) s.is in
     let same : s.piece ≡ first = cc in
     not_rename (line_of s.piece) d s.says (ap line_of same ∙ word)
 
-rename_no_whole : (first : List ℕ) (rest those further : List (List ℕ)) (d : Command) → line_of first ≡ codes "rename" → first ∷ rest ≡ those ++ further → WholeText those d → ⊥
+pub rename_no_whole : (first : List ℕ) (rest those further : List (List ℕ)) (d : Command) → line_of first ≡ codes "rename" → first ∷ rest ≡ those ++ further → WholeText those d → ⊥
 rename_no_whole first rest those further d word e s =
     let all : first ∷ rest ≡ s.first ∷ ((s.body ++ s.last ∷ []) ++ further) = e ∙ ap (λ (u : List (List ℕ)). u ++ further) s.is in
     let same : s.first ≡ first = cc in
     text_no_rename s.format (line_of s.first) s.announces (ap line_of same ∙ word)
 
-rename_no_open : (first : List ℕ) (rest those further : List (List ℕ)) (d : Command) → line_of first ≡ codes "rename" → first ∷ rest ≡ those ++ further → OpenText those d → ⊥
+pub rename_no_open : (first : List ℕ) (rest those further : List (List ℕ)) (d : Command) → line_of first ≡ codes "rename" → first ∷ rest ≡ those ++ further → OpenText those d → ⊥
 rename_no_open first rest those further d word e s =
     let all : first ∷ rest ≡ s.first ∷ (s.body ++ further) = e ∙ ap (λ (u : List (List ℕ)). u ++ further) s.is in
     let same : s.first ≡ first = cc in
@@ -333,7 +333,7 @@ open_rename_determined first behind word few = λ those further d e is ends.
     open_rename_by first behind those further d word few (sym (append-nil (first ∷ behind)) ∙ e) ends (shape those d is)
 
 -- a command has a piece
-not_none : (those : List (List ℕ)) (d : Command) → Shape those d → those ≢ []
+pub not_none : (those : List (List ℕ)) (d : Command) → Shape those d → those ≢ []
 not_none those d (ASingle s) e = let bad : s.piece ∷ [] ≡ [] = sym s.is ∙ e in cc
 not_none those d (AWhole s) e = let bad : s.first ∷ (s.body ++ s.last ∷ []) ≡ [] = sym s.is ∙ e in cc
 not_none those d (AnOpen s) e = let bad : s.first ∷ s.body ≡ [] = sym s.is ∙ e in cc
@@ -344,7 +344,7 @@ front_none : (xs ys : List (List ℕ)) → xs ++ ys ≡ [] → xs ≡ []
 front_none [] ys e = refl
 front_none (x ∷ xs) ys e = absurd (let nothing : ⊥ = cc in nothing)
 
-none_only : (pieces : List (List ℕ)) (others : List Command) → pieces ≡ [] → AreCommands pieces others → others ≡ []
+pub none_only : (pieces : List (List ℕ)) (others : List Command) → pieces ≡ [] → AreCommands pieces others → others ≡ []
 none_only pieces [] e h = refl
 none_only pieces (d ∷ ds) e (those, rest, is, command, ends, more) =
     absurd (not_none those d (shape those d command) (front_none those rest (sym is ∙ e)))

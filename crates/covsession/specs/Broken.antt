@@ -1,19 +1,19 @@
 -- What stands after a fault in the middle of a session.
 use Rattle.std.specs.Io.KnownBytes.{Consumes, Appends, IsAtEnd, append_known}
-use Rattle.std.specs.Prelude.{◌≡◌, ◌≢◌, ◌⊎◌, ◌<◌, ℕ, ◌+◌, List, [], ◌∷◌, ◌++◌, length}
+use Rattle.std.specs.Prelude.{◌≡◌, ◌≢◌, ◌⊎◌, ◌<◌, ◌≤◌, ℕ, ◌+◌, List, [], ◌∷◌, ◌++◌, length}
 use Rattle.covbook.specs.Op.{OpData}
 use Rattle.covbook.specs.Step.{most_entries, table_of}
-use Rattle.covline.specs.Lines.{line_of}
-use Rattle.covsession.specs.Command.{Command, ops_of}
+use Rattle.covline.specs.Lines.{before_feed, line_of}
+use Rattle.covsession.specs.Command.{Command, AreCommands, ops_of}
 use Rattle.covsession.specs.Run.{IsRun}
 use Rattle.covsession.specs.Session.{text_after}
-use Rattle.covsession.specs.Streams.{InputData, OutputData, Moment, AreCut, Grows, TakesPieces, unread, said_so_far}
+use Rattle.covsession.specs.Streams.{InputData, OutputData, Moment, AreCut, Grows, Says, TakesPieces, unread, said_so_far}
 use Rattle.covsession.specs.Text.{IsAnsweredAs}
 use Rattle.covsession.specs.Command.{Format}
 use Rattle.covsession.specs.declared.session.fault.SessionFault.{SessionFault}
 use Rattle.covsession.specs.declared.session.fault.SessionFault.TheVariants.{Read, Write, Memory, Full}
 use Rattle.covsession.specs.declared.session.text.LineEnd.{LineEnd}
-use Rattle.covsession.specs.declared.session.text.LineEnd.TheVariants.{Input}
+use Rattle.covsession.specs.declared.session.text.LineEnd.TheVariants.{Feed, Input}
 use Rattle.covsession.specs.declared.session.text.Taken.{Taken}
 
 -- how many writes have failed after an output stopped so
@@ -23,20 +23,35 @@ CountsWrites Write before after = after ≡ before + 1
 CountsWrites Memory before after = after ≡ before
 CountsWrites Full before after = after ≡ before
 
--- an output stopped while this was said: a beginning of all that was said is written, and the rest is lost
+-- nothing waits to be written, and nothing is held back
+abbrev pub IsIdle : OutputData → Type 0
+IsIdle o = (o.waiting ≡ []) × (o.held ≡ 0)
+
+-- an output stopped while this was said: a beginning of all that was said is written, and the rest is lost. Unless a write
+-- failed it stopped before this
 pub record Breaks (o p : OutputData) (fault : SessionFault) (text : List ℕ) : Type 0 where
   pub lost : List ℕ
   pub says : Appends (said_so_far o) (append_known p.written lost) text
   pub grows : Grows o.written p.written
   pub failed : CountsWrites fault o.failed_writes p.failed_writes
   pub same_sink : p.sink ≡ o.sink
+  pub before : fault ≢ Write → Appends (said_so_far o) (said_so_far p) []
 
--- an input stopped, since a read failed or none was left: no byte was taken
+-- what was said before a fault was sent on, and the session ends with that fault, or with a write that failed then. After a
+-- read or a write that failed nothing is written
+abbrev pub StopsAs : (o p : OutputData) → (fault ended : SessionFault) → Type 0
+StopsAs o p Read ended = (p ≡ o) × (ended ≡ Read)
+StopsAs o p Write ended = (p ≡ o) × (ended ≡ Write)
+StopsAs o p Memory ended = (Says o p [] × IsIdle p × (ended ≡ Memory)) ⊎ (Breaks o p Write [] × (ended ≡ Write))
+StopsAs o p Full ended = (Says o p [] × IsIdle p × (ended ≡ Full)) ⊎ (Breaks o p Write [] × (ended ≡ Write))
+
+-- an input stopped, since a read failed or none was left: no byte was taken, and none is pending
 pub record Stalls (i j : InputData) : Type 0 where
   pub took : Consumes (unread i) (unread j) []
   pub counted : j.reads + j.reads_left ≡ i.reads + i.reads_left
   pub failed : (j.failed_reads ≡ i.failed_reads + 1) ⊎ ((j.failed_reads ≡ i.failed_reads) × (j.reads_left ≡ 0))
   pub same_source : j.source ≡ i.source
+  pub drained : j.pending ≡ []
 
 -- which call failed between two moments
 abbrev pub IsCausedBy : SessionFault → Moment → Moment → Type 0
@@ -47,8 +62,9 @@ IsCausedBy Write m n = (n.input.failed_reads ≡ m.input.failed_reads) × (n.out
 IsCausedBy Memory m n = (n.input.failed_reads ≡ m.input.failed_reads) × (n.output.failed_writes ≡ m.output.failed_writes)
 IsCausedBy Full m n = (n.input.failed_reads ≡ m.input.failed_reads) × (n.output.failed_writes ≡ m.output.failed_writes)
 
--- a fault came between two moments, while some bytes were taken and this was said
-pub record Fails (m n : Moment) (fault : SessionFault) (text : List ℕ) : Type 0 where
+-- a fault came between two moments, while some bytes were taken and this text was said: these answers, and then those that the
+-- fault came in. Unless a write failed, the former are said and nothing of the latter
+pub record Fails (m n : Moment) (fault : SessionFault) (answers text : List ℕ) : Type 0 where
   pub bytes : List ℕ
   pub took : Consumes (unread m.input) (unread n.input) bytes
   pub counted : n.input.reads + n.input.reads_left ≡ m.input.reads + m.input.reads_left
@@ -58,11 +74,36 @@ pub record Fails (m n : Moment) (fault : SessionFault) (text : List ℕ) : Type 
   pub grows : Grows m.output.written n.output.written
   pub same_sink : n.output.sink ≡ m.output.sink
   pub cause : IsCausedBy fault m n
+  pub cut : List ℕ
+  pub whole : text ≡ answers ++ cut
+  pub before : fault ≢ Write → Appends (said_so_far m.output) (said_so_far n.output) answers
+  pub idle : fault ≡ Read → IsIdle n.output × (n.input.pending ≡ [])
 
--- a fault came before a command was wholly taken, or before it was known what it asks
-pub record FailsTaking (m n : Moment) (fault : SessionFault) : Type 0 where
-  pub fails : Fails m n fault []
+-- a line was begun, and its line feed isn't among the bytes
+abbrev pub IsLinePart : List ℕ → Type 0
+IsLinePart bytes = before_feed bytes ≡ bytes
+
+-- the bytes are such pieces, and then a part of a line or nothing
+pub record IsPart (Such : List (List ℕ) → Type 0) (bytes : List ℕ) : Type 0 where
+  pub pieces : List (List ℕ)
+  pub done : List ℕ
+  pub line : List ℕ
+  pub is : bytes ≡ done ++ line
+  pub cut : AreCut Feed done pieces
+  pub one_line : IsLinePart line
+  pub such : Such pieces
+
+-- with a further piece or none they are one command at the most
+abbrev pub IsOpen : List (List ℕ) → Type 0
+IsOpen pieces =
+    (tail : List (List ℕ)) → length tail < 2 → (commands : List Command) → AreCommands (pieces ++ tail) commands → length commands ≤ 1
+
+-- a fault came before a command was wholly taken, or before it was known what it asks. Where a read failed these are the bytes
+-- that were taken of it
+pub record FailsTaking (Such : List ℕ → Type 0) (m n : Moment) (fault : SessionFault) : Type 0 where
+  pub fails : Fails m n fault [] []
   pub not_full : fault ≢ Full
+  pub part : fault ≡ Read → Such fails.bytes
 
 -- the answer to these commands was cut short; the history is full only where they ask the book something
 pub record FailsSaying (o p : OutputData) (before : List OpData) (commands : List Command) (fault : SessionFault) : Type 0 where
@@ -97,16 +138,22 @@ pub record FailsAnswering (m n : Moment) (before : List OpData) (fault : Session
   pub says : FailsSaying taken_at.output n.output before commands fault
   pub run : IsRun ending pieces commands
 
--- all that was taken are these commands, and perhaps a part of a further one; the answers to them were written in part
+-- all that was taken are these commands, and perhaps a part of a further one. The answers to all of them but the one that the
+-- fault came in were said, or were written in part where a write failed
 pub record IsBroken (m n : Moment) (fault : SessionFault) : Type 0 where
   pub pieces : List (List ℕ)
   pub commands : List Command
+  pub answered : List Command
+  pub last : List Command
+  pub are : commands ≡ answered ++ last
   pub ending : LineEnd
   pub whole : List ℕ
   pub more : List ℕ
   pub took : Consumes (unread m.input) (unread n.input) (whole ++ more)
-  pub fails : Fails m n fault (text_after [] commands)
+  pub fails : Fails m n fault (text_after [] answered) (text_after [] commands)
   pub cut : AreCut ending whole pieces
   pub run : IsRun ending pieces commands
   pub ended : ending ≡ Input → (more ≡ []) × IsAtEnd (unread n.input)
   pub full : fault ≡ Full → most_entries < length (ops_of commands)
+  pub filled : fault ≡ Full → length (ops_of answered) ≡ most_entries
+  pub stalled : fault ≡ Read → (ending ≡ Feed) × (last ≡ []) × IsPart IsOpen more

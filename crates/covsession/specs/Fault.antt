@@ -1,10 +1,10 @@
 -- What a session leaves that ends in a fault: that a beginning of its session text was written, and which call failed.
 use Rattle.std.specs.Io.KnownBytes.{Consumes, Appends}
-use Rattle.std.specs.Prelude.{◌≡◌, ◌⊎◌, ◌<◌, ℕ, ◌+◌, ◌^◌, List, [], ◌++◌, length, Option, Some}
+use Rattle.std.specs.Prelude.{◌≡◌, ◌⊎◌, ◌<◌, ◌≤◌, ℕ, ◌+◌, ◌^◌, List, [], ◌++◌, length, Option, Some}
 use Rattle.covbook.specs.Step.{most_entries}
 use Rattle.covline.specs.Lines.{pieces_of}
 use Rattle.covsession.specs.Command.{Command, AreCommands, ops_of}
-use Rattle.covsession.specs.Session.{IsSession}
+use Rattle.covsession.specs.Session.{IsSession, session_text}
 use Rattle.covsession.specs.declared.session.fault.SessionFault.{SessionFault}
 use Rattle.covsession.specs.declared.session.fault.SessionFault.TheVariants.{Read, Write, Memory, Full}
 
@@ -30,6 +30,23 @@ pub record IsCutShort (fault : SessionFault) (left left_after written written_af
   pub begins : (more whole : List ℕ) → MayFollow left_after more → IsSession (read ++ more) whole → IsBeginning output whole
   pub full : fault ≡ Full → (more : List ℕ) (commands : List Command) → MayFollow left_after more
       → AreCommands (pieces_of (read ++ more)) commands → most_entries < length (ops_of commands)
+
+-- the list begins with these commands
+abbrev pub AreFirst : (first all : List Command) → Type 0
+AreFirst first all = (more : List Command) × (all ≡ first ++ more)
+
+-- a session that ended in this fault, and not for a write: it has written the answers to some commands, whole and nothing else.
+-- They are the first ones of what it has read, and of the whole input. At `Full` they have filled the history, and at `Read` they
+-- are all of what it has read, but for the one that it was reading
+pub record HasAnswered (fault : SessionFault) (left left_after written written_after : Option (List ℕ)) : Type 0 where
+  pub read : List ℕ
+  pub answered : List Command
+  pub took : Consumes left left_after read
+  pub wrote : Appends written written_after (session_text answered)
+  pub first : (more : List ℕ) (commands : List Command) → MayFollow left_after more
+      → AreCommands (pieces_of (read ++ more)) commands → AreFirst answered commands
+  pub filled : fault ≡ Full → length (ops_of answered) ≡ most_entries
+  pub all : fault ≡ Read → (commands : List Command) → AreCommands (pieces_of read) commands → length commands ≤ length answered + 1
 
 -- how many reads were made of a source and how many of them failed, and how many calls of a sink failed
 pub record CallsData : Type 0 where

@@ -1,7 +1,7 @@
 -- What the program tells of a session's end: an exit status, and words where it ended in a fault.
 use Rattle.std.specs.Io.KnownBytes.{Appends}
-use Rattle.std.specs.Prelude.{◌≡◌, ◌≤◌, ℕ, ◌+◌, ◌^◌, List, [], Option, Result, Ok, Err, IfErr, OnOk, codes}
-use Rattle.covsession.specs.Fault.{CallsData, HasCause, IsCutShort}
+use Rattle.std.specs.Prelude.{◌≡◌, ◌≢◌, ◌≤◌, ℕ, ◌+◌, ◌^◌, List, [], Option, Result, Ok, Err, IfErr, OnOk, codes}
+use Rattle.covsession.specs.Fault.{CallsData, HasAnswered, HasCause, IsCutShort}
 use Rattle.covsession.specs.Session.{said, IsWholeSession}
 use Rattle.covsession.specs.declared.session.fault.SessionFault.{SessionFault}
 use Rattle.covsession.specs.declared.session.fault.SessionFault.TheVariants.{Read, Write, Memory, Full}
@@ -35,11 +35,13 @@ HasNoFault old new =
     (new.failed_reads ≡ old.failed_reads) × (new.failed_writes ≡ old.failed_writes) × (new.reads ≤ old.reads + 2 ^ 32)
 
 -- a status of 0 tells that a session ran over an input and an output and ended well. Another one tells a fault, for whose cause
--- the session was cut short; its words are on the stream for faults, unless a write there failed
+-- the session was cut short, after whole answers unless that is a write; its words are on the stream for faults, unless a write
+-- there failed
 abbrev pub TellsSession : (status : ℕ) → (left left_after written written_after told told_after : Option (List ℕ))
     → (before after : CallsData) → (failures failures_after : ℕ) → Type 0
 TellsSession status left left_after written written_after told told_after before after failures failures_after =
     (ended : Result (Unit {0}) SessionFault) × (status ≡ end_status ended)
     × OnOk ended (IsWholeSession left left_after written written_after × HasNoFault before after)
-    × IfErr ended (λ fault. IsCutShort fault left left_after written written_after × HasCause fault before after)
+    × IfErr ended (λ fault. IsCutShort fault left left_after written written_after × HasCause fault before after
+    × (fault ≢ Write → HasAnswered fault left left_after written written_after))
     × (failures_after ≡ failures → Appends told told_after (end_words ended))

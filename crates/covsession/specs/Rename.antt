@@ -22,3 +22,7 @@ TakesNames m n (Some names) =
     (second : List ℕ) × (third : List ℕ) × TakesPieces m n (second ∷ third ∷ []) names.ending []
     × (line_of second ≡ names.old) × (line_of third ≡ names.new)
 TakesNames m n None = (pieces : List (List ℕ)) × TakesPieces m n pieces Input [] × (length pieces < 2)
+
+-- the first name at the most
+abbrev pub HasNames : List (List ℕ) → Type 0
+HasNames pieces = length pieces < 2

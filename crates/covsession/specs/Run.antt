@@ -60,10 +60,11 @@ pub record IsDone (m n : Moment) : Type 0 where
   pub run : IsRun Input (pieces_of bytes) commands
   pub ended : IsAtEnd (unread n.input)
 
--- all commands were answered, and nothing waits to be written
+-- all commands were answered, and nothing waits to be written or is held back
 pub record IsSentOn (m n : Moment) : Type 0 where
   pub done_at : Moment
   pub done : IsDone m done_at
   pub same_input : n.input ≡ done_at.input
   pub says : Says done_at.output n.output []
   pub emptied : n.output.waiting ≡ []
+  pub sent : n.output.held ≡ 0

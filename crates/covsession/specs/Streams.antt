@@ -16,11 +16,12 @@ pub record InputData : Type 0 where
   pub failed_reads : ℕ
   pub source : GName
 
--- an output: the bytes that wait to be written, those that its sink took, and how many of its calls failed; and which
--- sink it was lent
+-- an output: the bytes that wait to be written, those that its sink took, how many of them it may hold back, and how many of
+-- its calls failed; and which sink it was lent
 pub record OutputData : Type 0 where
   pub waiting : List ℕ
   pub written : Option (List ℕ)
+  pub held : ℕ
   pub failed_writes : ℕ
   pub sink : GName
 

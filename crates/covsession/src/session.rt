@@ -1,11 +1,11 @@
 //! One session: commands in, answers out.
 
-ghost use Rattle.std.specs.Prelude.{◌≡◌, ◌↔◌, ◌⊎◌, ℕ, ◌+◌, ◌^◌, ◌<◌, ◌≤◌, length, List, Err, IsTrue, IfOk, IfErr, OnOk, IfSome, IfNone};
+ghost use Rattle.std.specs.Prelude.{◌≡◌, ◌≢◌, ◌↔◌, ◌⊎◌, ℕ, ◌+◌, ◌^◌, ◌<◌, ◌≤◌, length, List, Err, IsTrue, IfOk, IfErr, OnOk, IfSome, IfNone};
 ghost use Rattle.std.specs.Io.KnownBytes.{Appends};
 ghost use Rattle.covbook.specs.Step.{most_entries, ops_in};
 ghost use Rattle.covsession.specs.declared.session.command.word.Format.{Format as TextFormat};
-ghost use Rattle.covsession.specs.Broken.{FailsAnswering, FailsTaking, IsBroken};
-ghost use Rattle.covsession.specs.Fault.{calls, HasCause, IsCutShort};
+ghost use Rattle.covsession.specs.Broken.{FailsAnswering, FailsTaking, IsBroken, IsIdle, IsOpen, IsPart};
+ghost use Rattle.covsession.specs.Fault.{calls, HasAnswered, HasCause, IsCutShort};
 ghost use Rattle.covsession.specs.Session.{IsSession, IsWholeSession};
 ghost use Rattle.covsession.specs.Streams.{moment, CanCall};
 ghost use Rattle.covsession.specs.Run.{TakesCommand, IsDone, IsSentOn};
@@ -86,7 +86,7 @@ fn answer_command<I: Source, O: Sink, A: Allocator + Copy>(
     ensures takes { IfOk result (λ ending. TakesCommand (moment input.old output.old) (moment input.new output.new)
         (ops_in book.old.entries) (ops_in book.new.entries) ending) }
     ensures full { result ≡ Err faults.Full → length book.old.entries ≡ most_entries }
-    ensures fails { IfErr result (λ f. FailsTaking (moment input.old output.old) (moment input.new output.new) f
+    ensures fails { IfErr result (λ f. FailsTaking (IsPart IsOpen) (moment input.old output.old) (moment input.new output.new) f
         ⊎ FailsAnswering (moment input.old output.old) (moment input.new output.new) (ops_in book.old.entries) f) }
 {
     let mut line = Text::new(alloc, usize::MAX);
@@ -126,29 +126,35 @@ fn answer_all<I: Source, O: Sink, A: Allocator + Copy>(
     }
 }
 
-// Answers all commands, and has the answers sent on.
+// Answers all commands, and has the answers sent on, also those that were given before a fault.
 fn answer_to_the_end<I: Source, O: Sink, A: Allocator + Copy>(
     alloc: A,
     input: &mut SessionInput<'_, I, A>,
     output: &mut Output<'_, O, A>,
 ) -> Result<(), SessionFault>
-    requires { CanCall (moment input.old output.old) }
+    requires calls { CanCall (moment input.old output.old) }
+    requires few { output.old.failed_writes < 2 ^ 62 }
     ensures ended { OnOk result (IsSentOn (moment input.old output.old) (moment input.new output.new)) }
     ensures broken { IfErr result (λ f. IsBroken (moment input.old output.old) (moment input.new output.new) f) }
+    ensures idle { IfErr result (λ f. f ≢ faults.Write → IsIdle output.new) }
 {
-    answer_all(alloc, input, output)?;
-    output.finish()
+    match answer_all(alloc, input, output) {
+        Ok(()) => output.send_on(),
+        Err(fault) => Err(output.stop(fault)),
+    }
 }
 
 /// Runs one book, with job 0, on the commands of the source, and writes the answers to the sink. A text of more than
-/// 67,108,864 bytes isn't kept. At most 65,536 bytes of output wait: more is written at once, and all of it before each
-/// read and at the end.
+/// 67,108,864 bytes isn't kept. At most 65,536 bytes of output wait: more is written at once. Before each read and at the
+/// end all of it is written, and the sink is flushed if it took a byte since the last flush.
 ///
 /// # Errors
 ///
 /// `Read` where a read failed, or 4,294,967,296 reads were made. `Write` where a write or flush failed. `Memory` where a growth
 /// was refused. `Full` where the commands ask the book more than its history has room for. What the sink took till then is a
-/// beginning of the session text of the bytes that were read, and of the whole input.
+/// beginning of the session text of the bytes that were read, and of the whole input. Unless the fault is `Write` it is all
+/// the answers to the commands before the fault, and they were sent on. A write that fails after another fault is told in its
+/// place.
 pub fn session<I: Source, O: Sink, A: Allocator + Copy>(
     alloc: A,
     source: &mut I,
@@ -165,12 +171,18 @@ pub fn session<I: Source, O: Sink, A: Allocator + Copy>(
     // None of its calls failed.
     ensures no_failed_read { OnOk result (I.failed_reads source.new ≡ I.failed_reads source.old) }
     ensures no_failed_write { OnOk result (O.failed_writes sink.new ≡ O.failed_writes sink.old) }
+    // The sink holds back nothing.
+    ensures sent { OnOk result (O.held sink.new ≡ 0) }
     // However it ended, it made at most 4,294,967,296 reads.
     ensures few_reads { I.reads source.new ≤ I.reads source.old + 2 ^ 32 }
     // After a fault a beginning of the session text was written, and the counts show the fault's cause.
     ensures short { IfErr result (λ f. IsCutShort f (I.left source.old) (I.left source.new) (O.written sink.old) (O.written sink.new)) }
     ensures cause { IfErr result (λ f. HasCause f (calls (I.reads source.old) (I.failed_reads source.old) (O.failed_writes sink.old))
         (calls (I.reads source.new) (I.failed_reads source.new) (O.failed_writes sink.new))) }
+    // Unless a write failed, the answers that were given before the fault were written, and the sink holds back none of them.
+    ensures kept { IfErr result (λ f. f ≢ faults.Write
+        → HasAnswered f (I.left source.old) (I.left source.new) (O.written sink.old) (O.written sink.new)) }
+    ensures kept_sent { IfErr result (λ f. f ≢ faults.Write → O.held sink.new ≤ O.held sink.old) }
 {
     let block = block(alloc)?;
     let mut input = SessionInput::new(block, source);

@@ -36,6 +36,9 @@ pub trait Sink {
     // The bytes that it has taken, where it tells them.
     ghost written: { Self → Option (List ℕ) };
 
+    // How many of them it may still hold back.
+    ghost held: { Self → ℕ };
+
     // How many calls failed.
     ghost failed_writes: { Self → ℕ };
 
@@ -53,6 +56,7 @@ pub trait Sink {
     fn flush(&mut self) -> Result<(), Failed>
         requires { failed_writes self.old < 2 ^ 63 }
         ensures bytes { Keeps (written self.old) (written self.new) }
+        ensures sent { OnOk result (held self.new ≡ 0) }
         ensures good { OnOk result (failed_writes self.new ≡ failed_writes self.old) }
         ensures failed { OnErr result (failed_writes self.new ≡ failed_writes self.old + 1) };
 }
@@ -99,10 +103,11 @@ impl<R: io::Read> Source for FromRead<R> {
     }
 }
 
-/// A writer of std as a sink.
+/// A writer of std as a sink. What was written since the writer was last flushed it may hold back.
 #[derive(Drop)]
 pub struct FromWrite<W> {
     writer: W,
+    held: u64,
     failed: u64,
 }
 
@@ -110,20 +115,30 @@ impl<W: io::Write> FromWrite<W> {
     /// The writer's bytes, with no failures counted.
     pub fn new(writer: W) -> FromWrite<W>
         ensures bytes { ⟦<FromWrite<W> as Sink>⟧.written result ≡ W.contents writer }
+        ensures held { ⟦<FromWrite<W> as Sink>⟧.held result ≡ 0 }
         ensures failures { ⟦<FromWrite<W> as Sink>⟧.failed_writes result ≡ 0 }
     {
-        FromWrite { writer, failed: 0 }
+        FromWrite {
+            writer,
+            held: 0,
+            failed: 0,
+        }
     }
 }
 
 impl<W: io::Write> Sink for FromWrite<W> {
     ghost written = { λ s. W.contents s.writer };
 
+    ghost held = { λ s. s.held };
+
     ghost failed_writes = { λ s. s.failed };
 
     fn write(&mut self, bytes: &[u8]) -> Result<usize, Failed> {
         match self.writer.write(bytes) {
-            Ok(n) if n > 0 || bytes.is_empty() => Ok(n),
+            Ok(n) if n > 0 || bytes.is_empty() => {
+                self.held = self.held.saturating_add(n as u64);
+                Ok(n)
+            }
             _ => {
                 self.failed += 1;
                 Err(Failed)
@@ -133,7 +148,10 @@ impl<W: io::Write> Sink for FromWrite<W> {
 
     fn flush(&mut self) -> Result<(), Failed> {
         match self.writer.flush() {
-            Ok(()) => Ok(()),
+            Ok(()) => {
+                self.held = 0;
+                Ok(())
+            }
             Err(_) => {
                 self.failed += 1;
                 Err(Failed)

@@ -6,6 +6,7 @@ use std::test::*;
 
 mod annotated;
 mod calls;
+mod checks;
 mod hostile;
 mod limits;
 mod records;

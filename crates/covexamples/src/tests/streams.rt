@@ -1,11 +1,12 @@
 //! Readers and writers that are slow, narrow, failing, holding back or endless.
 
-ghost use Rattle.std.specs.Prelude.{None};
+ghost use Rattle.std.specs.Prelude.{None, length, ◌-◌};
 
 use super::session_end;
 use covsession::session::SessionFault;
 use covsession::{Failed, FromRead, FromWrite, Sink, Source, run_session};
 use std::alloc::Global;
+use std::cell::Cell;
 use std::io::{self, Read, Write};
 use std::test::*;
 
@@ -102,6 +103,8 @@ struct Narrow {
 
 impl Sink for Narrow {
     ghost written = { λ s. None };
+
+    ghost held = { λ s. 0 };
 
     ghost failed_writes = { λ s. s.failed };
 
@@ -222,6 +225,8 @@ struct Holding {
 impl Sink for Holding {
     ghost written = { λ s. None };
 
+    ghost held = { λ s. length s.held.items - s.sent };
+
     ghost failed_writes = { λ s. s.failed };
 
     fn write(&mut self, bytes: &[u8]) -> Result<usize, Failed> {
@@ -268,6 +273,131 @@ fn a_writer_that_holds_back(rt: HostRuntime) {
         by_flushes(rt.alloc(), false),
         (Err(SessionFault::Write), false)
     );
+}
+
+/// What two ends of a wire see of each other: how many bytes are written and not yet sent on, and how often they were sent on.
+#[derive(Drop)]
+struct Wire {
+    unsent: Cell<usize>,
+    flushes: Cell<usize>,
+}
+
+/// A reader that gives one byte at each call, and looks whether all that was written is sent on: one who waits for it would wait
+/// for ever.
+#[derive(Drop)]
+struct Waiting<'a> {
+    input: &'a [u8],
+    wire: &'a Wire,
+    starved: bool,
+    reads: u64,
+}
+
+impl<'a> Source for Waiting<'a> {
+    ghost left = { λ s. None };
+
+    ghost reads = { λ s. s.reads };
+
+    ghost failed_reads = { λ s. 0 };
+
+    fn read(&mut self, buffer: &mut [u8]) -> Result<usize, Failed> {
+        self.reads += 1;
+        if self.wire.unsent.get() > 0 {
+            self.starved = true;
+        }
+        let input = self.input;
+        match input.split_first() {
+            Some((first, rest)) if !buffer.is_empty() => {
+                buffer[0] = *first;
+                self.input = rest;
+                Ok(1)
+            }
+            _ => Ok(0),
+        }
+    }
+}
+
+/// A writer that holds all bytes back until they are sent on. The flush after so many good ones fails, and those behind it don't.
+#[derive(Drop)]
+struct Buffered<'a> {
+    wire: &'a Wire,
+    written: usize,
+    unsent: usize,
+    good_flushes: usize,
+    failed: u64,
+}
+
+impl<'a> Sink for Buffered<'a> {
+    ghost written = { λ s. None };
+
+    ghost held = { λ s. s.unsent };
+
+    ghost failed_writes = { λ s. s.failed };
+
+    fn write(&mut self, bytes: &[u8]) -> Result<usize, Failed> {
+        self.written = self.written.saturating_add(bytes.len());
+        self.unsent = self.unsent.saturating_add(bytes.len());
+        self.wire.unsent.set(self.unsent);
+        Ok(bytes.len())
+    }
+
+    fn flush(&mut self) -> Result<(), Failed> {
+        let flushes = self.wire.flushes.get();
+        if flushes == self.good_flushes && self.failed == 0 {
+            self.failed += 1;
+            return Err(Failed);
+        }
+        self.wire.flushes.set(flushes.saturating_add(1));
+        self.unsent = 0;
+        self.wire.unsent.set(0);
+        Ok(())
+    }
+}
+
+/// How a session ends over a wire whose flush after so many good ones fails, how many bytes it wrote and how often it sent them
+/// on, and whether a read came before all was sent on.
+fn over_a_wire(
+    alloc: Global,
+    good_flushes: usize,
+) -> (Result<(), SessionFault>, usize, usize, bool) {
+    let wire = Wire {
+        unsent: Cell::new(0),
+        flushes: Cell::new(0),
+    };
+    let mut source = Waiting {
+        input: INPUT,
+        wire: &wire,
+        starved: false,
+        reads: 0,
+    };
+    let mut sink = Buffered {
+        wire: &wire,
+        written: 0,
+        unsent: 0,
+        good_flushes,
+        failed: 0,
+    };
+    let ended = session_end(alloc, &mut source, &mut sink);
+    (ended, sink.written, wire.flushes.get(), source.starved)
+}
+
+/// Each answer is sent on before the next read: five flushes, one before the first read and one after each of four answers, and
+/// none where nothing was written.
+#[test]
+fn answers_are_sent_on_before_a_read(rt: HostRuntime) {
+    let ended = over_a_wire(rt.alloc(), 1_000);
+    assert_eq!(rt; ended, (Ok(()), 222, 5, false));
+}
+
+/// Each flush in turn fails: the session ends there, and answers no more.
+#[test]
+fn each_flush_fails(rt: HostRuntime) {
+    let mut good_flushes = 0;
+    for written in [0, 25, 50, 103, 222] {
+        let ended = over_a_wire(rt.alloc(), good_flushes);
+        let wanted = (Err(SessionFault::Write), written, good_flushes, false);
+        assert_eq!(rt; ended, wanted, "after {good_flushes} flushes");
+        good_flushes = good_flushes.saturating_add(1);
+    }
 }
 
 /// A writer of std that can't send on.
@@ -522,6 +652,8 @@ struct Counting {
 impl Sink for Counting {
     ghost written = { λ s. None };
 
+    ghost held = { λ s. 0 };
+
     ghost failed_writes = { λ s. 0 };
 
     fn write(&mut self, bytes: &[u8]) -> Result<usize, Failed> {
@@ -551,6 +683,53 @@ fn a_full_book(rt: HostRuntime) {
     let bytes = 117_440_512;
     assert_eq!(rt; summaries(rt.alloc(), most), (0, bytes, 0));
     assert_eq!(rt; summaries(rt.alloc(), most + 1), (3, bytes, 10));
+}
+
+/// A reader of the same command over and over, which gives as many of them as a block has room for.
+#[derive(Drop)]
+struct Blocks {
+    commands: usize,
+    reads: u64,
+}
+
+impl Source for Blocks {
+    ghost left = { λ s. None };
+
+    ghost reads = { λ s. s.reads };
+
+    ghost failed_reads = { λ s. 0 };
+
+    fn read(&mut self, buffer: &mut [u8]) -> Result<usize, Failed> {
+        self.reads += 1;
+        let mut filled = 0;
+        for room in buffer.chunks_exact_mut(DROP.len()) {
+            if self.commands == 0 {
+                break;
+            }
+            self.commands -= 1;
+            room.copy_from_slice(DROP);
+            filled += DROP.len();
+        }
+        Ok(filled)
+    }
+}
+
+/// A command that a book without tests answers with `no such test`.
+const DROP: &[u8] = b"drop x\n";
+
+/// A session whose history is full has written the answers to all commands before: 1,048,576 lines of 13 bytes. The last 32 of
+/// them are to commands of the block that it ends in.
+#[test]
+fn a_full_book_loses_no_answer(rt: HostRuntime) {
+    let mut source = Blocks {
+        commands: 1_048_577,
+        reads: 0,
+    };
+    let mut sink = Counting { bytes: 0 };
+    let mut faults = Counting { bytes: 0 };
+    let status = run_session(rt.alloc(), &mut source, &mut sink, &mut faults);
+    assert_eq!(rt; (status, sink.bytes, faults.bytes), (3, 13_631_488, 10));
+    assert_eq!(rt; source.reads, 113);
 }
 
 /// The exit status of the program after so many good reads and writes, and whether it says these words of its fault.

@@ -7,8 +7,9 @@ use super::texts::{ANNOTATED, TRACED};
 use super::{check_bytes, made};
 use bumpalo::Bump;
 use covsession::session::{SessionFault, session};
-use covsession::{Failed, FromWrite, Sink, Source};
+use covsession::{Failed, FromRead, FromWrite, Sink, Source};
 use std::alloc::{AllocError, Allocator, Global};
+use std::cell::Cell;
 use std::process::Abort;
 use std::test::*;
 
@@ -243,6 +244,56 @@ drop u
 > .
 > dropped 1",
     );
+}
+
+/// A tracefile, and a summary of it.
+const SMALL: &[u8] = b"trace\nTN:t\nSF:/a.c\nDA:1,2\nend_of_record\n.\nsummary\n";
+
+/// What it is answered: two answers of 25 and 119 bytes.
+const SMALL_ANSWER: &[u8] = b"\
+accepted 1 items 1 odd 0
+Summary coverage rate:
+  lines......: 100.0% (1 of 1 line)
+  functions..: no data found
+  branches...: no data found
+.
+";
+
+/// A session that reads all commands at once, as all its answers wait: whether it was refused memory. It has written whole
+/// answers then, and so many bytes are noted.
+fn is_refused_at_once(
+    rt: &(impl Abort + AllocGlobal),
+    heap: &Bump,
+    room: usize,
+    noted: &Cell<usize>,
+) -> bool {
+    narrow(rt, heap, room);
+    let mut output: Vec<u8> = Vec::new(rt.alloc());
+    let ended = {
+        let mut source = FromRead::new(SMALL);
+        let mut sink = FromWrite::new(&mut output);
+        session_end(heap, &mut source, &mut sink)
+    };
+    widen(heap);
+    let Err(fault) = ended else {
+        check_bytes(rt, output.as_slice(), SMALL_ANSWER);
+        return false;
+    };
+    assert_eq!(rt; fault, SessionFault::Memory);
+    assert!(rt; SMALL_ANSWER.starts_with(output.as_slice()), "no beginning");
+    assert!(rt; matches!(output.len(), 0 | 25), "a part of an answer");
+    noted.set(noted.get().max(output.len()));
+    true
+}
+
+/// The first answer is written where there is no memory for the second.
+#[test]
+fn answers_before_a_refusal(rt: HostRuntime) {
+    let noted = Cell::new(0);
+    check_rising_by(&rt, BLOCK, 64, |heap, room| {
+        is_refused_at_once(&rt, heap, room, &noted)
+    });
+    assert_eq!(rt; noted.get(), 25);
 }
 
 /// Annotated source, and its report.

@@ -1,6 +1,7 @@
 //! The shape of a line: the first of seven that fits. Nothing is copied.
 
-ghost use Rattle.std.specs.Prelude.{◌≡◌, option_map};
+ghost use Rattle.std.specs.Prelude.{◌≡◌, ◌↔◌, option_map, IsTrue};
+ghost use Rattle.covread.specs.Gcov.{IsShapeOf, Other};
 ghost use Rattle.covread.specs.GcovReading.{function_shape, function_of, branch_front, branch_rest, branch_shape, never_of, taken_of, block_of, numbered_rest, behind_mark, numbered_shape, other_shape, any_shape, shape_of};
 ghost use Rattle.covread.specs.GcovView.{shape_data};
 
@@ -40,6 +41,22 @@ pub(crate) enum Shape<'a> {
     },
     /// Any other line.
     Other,
+}
+
+/// Whether a line of gcov's text has none of the known shapes, so that it isn't read: it tells neither of template
+/// instances, of a function, of a branch nor of a block, and doesn't begin with a mark and the number of a line. A blank line
+/// has none.
+pub fn fits_no_shape(line: &[u8]) -> bool
+    ensures { IsTrue result ↔ IsShapeOf line.now Other }
+{
+    is_other(shape_of(line))
+}
+
+/// Whether this is the shape of the lines that aren't read.
+fn is_other(shape: Shape<'_>) -> bool
+    ensures { IsTrue result ↔ (shape_data shape.entry ≡ Other) }
+{
+    matches!(shape, Shape::Other)
 }
 
 /// The shape of the line.

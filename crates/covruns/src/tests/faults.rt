@@ -117,6 +117,8 @@ struct Closed {
 impl Sink for Closed {
     ghost written = { λ s. None };
 
+    ghost held = { λ s. 0 };
+
     ghost failed_writes = { λ s. s.failed };
 
     fn write(&mut self, bytes: &[u8]) -> Result<usize, Failed> {

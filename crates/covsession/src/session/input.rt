@@ -3,7 +3,7 @@
 ghost use Rattle.std.specs.Prelude.{◌≡◌, ◌≢◌, ℕ, ◌-◌, ◌+◌, ◌^◌, ◌<◌, ◌≤◌, List, [], ◌∷◌, ◌++◌, length, take, drop, IfOk, IfErr, OnOk, OnErr};
 ghost use Rattle.std.specs.Io.KnownBytes.{IsAtEnd};
 ghost use Rattle.covline.specs.Lines.{before_feed, line_feed};
-ghost use Rattle.covsession.specs.Broken.{Fails, Stalls};
+ghost use Rattle.covsession.specs.Broken.{FailsTaking, IsIdle, IsLinePart, Stalls};
 ghost use Rattle.covsession.specs.Streams.{unread, turns, moment, CanRead, CanCall, Takes, Moves, TakesPart, TakesLine};
 ghost use Rattle.covsession.specs.Text.{AreLines, HasCollected};
 ghost use Rattle.covsession.specs.declared.session.fault.SessionFault.TheVariants as session_faults;
@@ -120,11 +120,12 @@ impl<'s, I: Source, A: Allocator> SessionInput<'s, I, A> {
         self.from += count;
     }
 
-    // Reads the next block, after the last one was taken and all that was said was written: the read may have to wait
-    // for the one who is answered.
+    // Reads the next block, after the last one was taken and all that was said was written and sent on: the read may have
+    // to wait for the one who is answered.
     fn read<O: Sink>(&mut self, output: &Output<'_, O, A>) -> Result<(), SessionFault>
         requires taken { self.old.pending ≡ [] }
         requires answered { output.now.waiting ≡ [] }
+        requires sent { output.now.held ≡ 0 }
         requires few { CanRead self.old }
         ensures took { OnOk result (Takes self.old self.new []) }
         ensures ended { OnOk result (self.new.pending ≡ [] → IsAtEnd self.new.left) }
@@ -146,21 +147,21 @@ impl<'s, I: Source, A: Allocator> SessionInput<'s, I, A> {
         Ok(())
     }
 
-    // Sees to it that some byte is there to be taken, unless the source is at its end. What waits is written before
-    // a read.
+    // Sees to it that some byte is there to be taken, unless the source is at its end. What waits is written and sent on
+    // before a read.
     fn fill<O: Sink>(&mut self, output: &mut Output<'_, O, A>) -> Result<(), SessionFault>
         requires { CanCall (moment self.old output.old) }
         ensures moves { OnOk result (Moves (moment self.old output.old) (moment self.new output.new) [] []) }
         ensures ended { OnOk result (self.new.pending ≡ [] → IsAtEnd (unread self.new)) }
         ensures fewer { OnOk result (turns self.new ≤ turns self.old) }
-        ensures shown { OnOk result (self.old.pending ≡ [] → output.new.waiting ≡ []) }
+        ensures shown { OnOk result (self.old.pending ≡ [] → IsIdle output.new) }
         ensures fault { IfErr result (λ f. f ≢ session_faults.Full) }
-        ensures fails { IfErr result (λ f. Fails (moment self.old output.old) (moment self.new output.new) f []) }
+        ensures fails { IfErr result (λ f. FailsTaking (λ bytes. bytes ≡ []) (moment self.old output.old) (moment self.new output.new) f) }
     {
         if !self.pending().is_empty() {
             return Ok(());
         }
-        output.put_out()?;
+        output.send_on()?;
         self.read(output)
     }
 
@@ -215,7 +216,7 @@ impl<'s, I: Source, A: Allocator> SessionInput<'s, I, A> {
             × ((before : List ℕ) → (now : List ℕ) → HasCollected text.old before now → HasCollected text.new before (now ++ line))) }
         ensures limit { OnOk result (text.new.limit ≡ text.old.limit) }
         ensures fault { IfErr result (λ f. f ≢ session_faults.Full) }
-        ensures fails { IfErr result (λ f. Fails (moment self.old output.old) (moment self.new output.new) f []) }
+        ensures fails { IfErr result (λ f. FailsTaking IsLinePart (moment self.old output.old) (moment self.new output.new) f) }
     {
         loop {
             self.fill(output)?;

@@ -2,7 +2,7 @@
 
 ghost use Rattle.std.specs.Prelude.{◌≡◌, ◌≢◌, ◌^◌, ◌+◌, ◌<◌, ◌≤◌, [], length, IfErr, OnOk, OnErr};
 ghost use Rattle.std.specs.Io.KnownBytes.{Appends};
-ghost use Rattle.covsession.specs.Broken.{Breaks};
+ghost use Rattle.covsession.specs.Broken.{Breaks, IsIdle, StopsAs};
 ghost use Rattle.covsession.specs.Fault.{HasBegun};
 ghost use Rattle.covsession.specs.Streams.{Says};
 ghost use Rattle.covsession.specs.declared.session.fault.SessionFault.TheVariants as session_faults;
@@ -15,15 +15,18 @@ use std::marker::Model;
 /// How many bytes wait at the most before they are written.
 const MOST_WAITING: usize = 65_536;
 
-/// Bytes that wait to be written, and the sink that they are written to. Contracts see both, and how many calls of
-/// the sink failed.
+/// Bytes that wait to be written, and the sink that they are written to. Contracts see both, how many bytes the sink
+/// holds back, and how many of its calls failed.
 #[derive(Drop)]
 pub struct Output<'s, O: Sink, A: Allocator> {
     waiting: Vec<u8, A>,
+    // Whether the sink is known to hold nothing back.
+    is_sent: bool,
     sink: &'s mut O,
 }
 
 impl<'s, O: Sink, A: Allocator> Model for Output<'s, O, A> {
+    ghost use Rattle.std.specs.Prelude.{◌≡◌, IsTrue};
     ghost use Rattle.covsession.specs.Streams.{OutputData};
 
     ghost Value = { OutputData };
@@ -31,9 +34,12 @@ impl<'s, O: Sink, A: Allocator> Model for Output<'s, O, A> {
     ghost view = { λ o. record {
       waiting = o.waiting.items;
       written = O.written o.sink.now;
+      held = O.held o.sink.now;
       failed_writes = O.failed_writes o.sink.now;
       sink = o.sink.ghost_name;
     } };
+
+    ghost invariant = { λ o. IsTrue o.is_sent → O.held o.sink.now ≡ 0 };
 }
 
 impl<'s, O: Sink, A: Allocator> Output<'s, O, A> {
@@ -46,6 +52,7 @@ impl<'s, O: Sink, A: Allocator> Output<'s, O, A> {
     {
         Output {
             waiting: Vec::new(alloc),
+            is_sent: false,
             sink,
         }
     }
@@ -53,58 +60,100 @@ impl<'s, O: Sink, A: Allocator> Output<'s, O, A> {
     /// Gives the sink back. What waits is lost.
     pub fn into_sink(self) -> &'s mut O
         ensures written { O.written result.now ≡ self.entry.written }
+        ensures held { O.held result.now ≡ self.entry.held }
         ensures failed { O.failed_writes result.now ≡ self.entry.failed_writes }
         ensures same { result.ghost_name ≡ self.entry.sink }
     {
-        let Output { waiting, sink } = self;
+        let Output { waiting, sink, .. } = self;
         drop(waiting);
         sink
     }
 
-    /// Writes the bytes that wait.
-    pub fn put_out(&mut self) -> Result<(), SessionFault>
+    // Writes the bytes that wait.
+    fn put_out(&mut self) -> Result<(), SessionFault>
         requires { self.old.failed_writes < 2 ^ 63 }
         ensures says { OnOk result (Says self.old self.new []) }
         ensures emptied { OnOk result (self.new.waiting ≡ []) }
         ensures fault { IfErr result (λ f. f ≡ session_faults.Write) }
         ensures breaks { IfErr result (λ f. Breaks self.old self.new f []) }
     {
+        if self.waiting.is_empty() {
+            return Ok(());
+        }
+        self.is_sent = false;
         put_bytes(self.waiting.as_slice(), self.sink)?;
         self.waiting.clear();
         Ok(())
     }
 
-    /// Says the bytes: they wait, or are written with all that waits. At most 65,536 bytes wait then.
+    // Writes the bytes that wait, and then these.
+    fn put_through(&mut self, bytes: &[u8]) -> Result<(), SessionFault>
+        requires { self.old.failed_writes < 2 ^ 63 }
+        ensures says { OnOk result (Says self.old self.new bytes.now) }
+        ensures emptied { OnOk result (self.new.waiting ≡ []) }
+        ensures fault { IfErr result (λ f. f ≡ session_faults.Write) }
+        ensures breaks { IfErr result (λ f. Breaks self.old self.new f bytes.now) }
+    {
+        self.put_out()?;
+        self.is_sent = false;
+        put_bytes(bytes, self.sink)
+    }
+
+    /// Says the bytes: they wait, or are written with all that waits. At most 65,536 bytes wait then. Where there is no
+    /// memory for them to wait in they are written at once, so that no answer is lost in the middle.
     pub fn say(&mut self, bytes: &[u8]) -> Result<(), SessionFault>
         requires { self.old.failed_writes < 2 ^ 63 }
         ensures says { OnOk result (Says self.old self.new bytes.now) }
         ensures few { OnOk result (length self.new.waiting ≤ 65536) }
         ensures fault { IfErr result (λ f. f ≢ session_faults.Full) }
+        ensures write { IfErr result (λ f. f ≡ session_faults.Write) }
         ensures breaks { IfErr result (λ f. Breaks self.old self.new f bytes.now) }
     {
         if bytes.len() >= MOST_WAITING {
-            self.put_out()?;
-            return put_bytes(bytes, self.sink);
+            return self.put_through(bytes);
         }
-        self.waiting.extend_from_slice(bytes)?;
+        if self.waiting.extend_from_slice(bytes).is_err() {
+            return self.put_through(bytes);
+        }
         if self.waiting.len() > MOST_WAITING {
             return self.put_out();
         }
         Ok(())
     }
 
-    /// Writes the bytes that wait, and has the sink send on all that it took.
-    pub fn finish(&mut self) -> Result<(), SessionFault>
+    /// Writes the bytes that wait, and has the sink send on all that it holds back.
+    pub fn send_on(&mut self) -> Result<(), SessionFault>
         requires { self.old.failed_writes < 2 ^ 63 }
         ensures says { OnOk result (Says self.old self.new []) }
-        ensures emptied { OnOk result (self.new.waiting ≡ []) }
+        ensures idle { OnOk result (IsIdle self.new) }
         ensures fault { IfErr result (λ f. f ≡ session_faults.Write) }
         ensures breaks { IfErr result (λ f. Breaks self.old self.new f []) }
     {
         self.put_out()?;
+        if self.is_sent {
+            return Ok(());
+        }
         match self.sink.flush() {
-            Ok(()) => Ok(()),
+            Ok(()) => {
+                self.is_sent = true;
+                Ok(())
+            }
             Err(_) => Err(SessionFault::Write),
+        }
+    }
+
+    /// Sends on what was said before this fault, and answers the fault that the session ends with: a write that fails
+    /// now is told in its place. Before a read all was sent on, and a write that failed isn't made again.
+    pub fn stop(&mut self, fault: SessionFault) -> SessionFault
+        requires { self.old.failed_writes < 2 ^ 63 }
+        ensures { StopsAs self.old self.new fault result }
+    {
+        match fault {
+            SessionFault::Read | SessionFault::Write => fault,
+            SessionFault::Memory | SessionFault::Full => match self.send_on() {
+                Ok(()) => fault,
+                Err(failed) => failed,
+            },
         }
     }
 }

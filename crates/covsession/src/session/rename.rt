@@ -4,9 +4,9 @@ ghost use Rattle.std.specs.Prelude.{◌≡◌, ◌≢◌, ◌⊎◌, [], codes, 
 ghost use Rattle.covbook.specs.Op.{RenameOp};
 ghost use Rattle.covbook.specs.Step.{most_entries, ops_in};
 ghost use Rattle.covbook.specs.View.{op_data};
-ghost use Rattle.covsession.specs.Broken.{Fails, FailsBehind, FailsTaking};
+ghost use Rattle.covsession.specs.Broken.{FailsBehind, FailsTaking, IsLinePart, IsPart};
 ghost use Rattle.covsession.specs.Streams.{moment, CanCall};
-ghost use Rattle.covsession.specs.Rename.{IsThere, TakesName, TakesNames};
+ghost use Rattle.covsession.specs.Rename.{HasNames, IsThere, TakesName, TakesNames};
 ghost use Rattle.covsession.specs.Run.{TakesBehind};
 ghost use Rattle.covsession.specs.declared.session.fault.SessionFault.TheVariants as session_faults;
 
@@ -50,7 +50,7 @@ fn take_name<I: Source, O: Sink, A: Allocator + Copy>(
     requires { CanCall (moment input.old output.old) }
     ensures taken { IfOk result (λ name. TakesName (moment input.old output.old) (moment input.new output.new) name) }
     ensures fault { IfErr result (λ f. f ≢ session_faults.Full) }
-    ensures fails { IfErr result (λ f. Fails (moment input.old output.old) (moment input.new output.new) f []) }
+    ensures fails { IfErr result (λ f. FailsTaking IsLinePart (moment input.old output.old) (moment input.new output.new) f) }
 {
     let mut line = Text::new(alloc, usize::MAX);
     let ending = input.take_line(&mut line, output)?;
@@ -70,7 +70,7 @@ fn take_names<I: Source, O: Sink, A: Allocator + Copy>(
     requires { CanCall (moment input.old output.old) }
     ensures taken { IfOk result (λ names. TakesNames (moment input.old output.old) (moment input.new output.new) names) }
     ensures fault { IfErr result (λ f. f ≢ session_faults.Full) }
-    ensures fails { IfErr result (λ f. Fails (moment input.old output.old) (moment input.new output.new) f []) }
+    ensures fails { IfErr result (λ f. FailsTaking (IsPart HasNames) (moment input.old output.old) (moment input.new output.new) f) }
 {
     let Some((old, first)) = take_name(alloc, input, output)? else {
         return Ok(None);
@@ -102,7 +102,7 @@ pub fn answer_rename<I: Source, O: Sink, A: Allocator + Copy>(
     ensures takes { IfOk result (λ ending. TakesBehind (λ line. line ≡ codes "rename")
         (moment input.old output.old) (moment input.new output.new) (ops_in book.old.entries) (ops_in book.new.entries) ending) }
     ensures full { result ≡ Err session_faults.Full → length book.old.entries ≡ most_entries }
-    ensures fails { IfErr result (λ f. FailsTaking (moment input.old output.old) (moment input.new output.new) f
+    ensures fails { IfErr result (λ f. FailsTaking (IsPart HasNames) (moment input.old output.old) (moment input.new output.new) f
         ⊎ FailsBehind (λ line. line ≡ codes "rename") (moment input.old output.old) (moment input.new output.new) (ops_in book.old.entries) f) }
 {
     let Some(names) = take_names(alloc, input, output)? else {

@@ -6,9 +6,9 @@ ghost use Rattle.covbook.specs.Step.{most_entries, table_of, ops_in};
 ghost use Rattle.covread.specs.declared.fault.ReadFault.{ReadFault as Fault};
 ghost use Rattle.covread.specs.declared.fault.ReadFault.TheVariants as read_faults;
 ghost use Rattle.covread.specs.Outcome.{IsOrMemory};
-ghost use Rattle.covsession.specs.Command.{Command, format_of, IsReadAs};
+ghost use Rattle.covsession.specs.Command.{Command, format_of, IsBody, IsReadAs};
 ghost use Rattle.covsession.specs.Session.{refused_text, text_after, Asks};
-ghost use Rattle.covsession.specs.Broken.{Breaks, Fails, FailsGiven, FailsSaying};
+ghost use Rattle.covsession.specs.Broken.{Breaks, FailsGiven, FailsSaying, FailsTaking, IsPart};
 ghost use Rattle.covsession.specs.Streams.{moment, CanCall, Says, TakesPieces};
 ghost use Rattle.covsession.specs.Text.{asked_for, AnswersAs, IsAnsweredAs, IsTaken, IsTold, IsToldAnswer};
 ghost use Rattle.covsession.specs.declared.session.fault.SessionFault.TheVariants as session_faults;
@@ -39,7 +39,7 @@ pub fn take_text<I: Source, O: Sink, A: Allocator>(
         × TakesPieces (moment input.old output.old) (moment input.new output.new) pieces r.1 []
         × IsTaken pieces r.1 r.0) }
     ensures fault { IfErr result (λ f. f ≢ session_faults.Full) }
-    ensures fails { IfErr result (λ f. Fails (moment input.old output.old) (moment input.new output.new) f []) }
+    ensures fails { IfErr result (λ f. FailsTaking (IsPart IsBody) (moment input.old output.old) (moment input.new output.new) f) }
 {
     let mut text = Text::in_room(room, MOST_BYTES);
     loop {

@@ -2,7 +2,7 @@
 
 use super::collecting::{collected_of, trace, traces};
 use super::turns::SMALL;
-use covbook::JobLog;
+use covbook::{Entry, JobLog};
 use covjobs::{Gate, Input};
 use std::process::Abort;
 use std::sync::Wait;
@@ -126,6 +126,35 @@ impl Gate for Order {
     }
 }
 
+/// Job 1 waits before its first submit until job 0's first one is over. Job 0 goes on from there when job 1 comes to its second.
+#[derive(Drop)]
+struct Between {
+    over: Flag,
+    second: Flag,
+    met: Flag,
+}
+
+impl Gate for Between {
+    fn before<R: Wait>(&self, _rt: &R, job: u32, call: u64) {
+        match (job, call) {
+            (1, 0) => {
+                let _seen = self.over.is_seen();
+            }
+            (1, 1) => self.second.raise(),
+            _ => {}
+        }
+    }
+
+    fn after<R: Wait>(&self, _rt: &R, job: u32, call: u64) {
+        if job == 0 && call == 0 {
+            self.over.raise();
+            if self.second.is_seen() {
+                self.met.raise();
+            }
+        }
+    }
+}
+
 /// The calls around one job's submits, counted in their order.
 #[derive(Drop)]
 struct Steps {
@@ -225,6 +254,34 @@ fn first_job_waits(rt: HostRuntime) -> Result<(), Fail> {
 #[test]
 fn second_job_waits(rt: HostRuntime) -> Result<(), Fail> {
     is_second(&rt, 1)
+}
+
+/// The first entry is this job's.
+fn check_first(rt: &impl Abort, entries: &[Entry], job: u32) {
+    match entries.first() {
+        Some(entry) => assert_eq!(rt; entry.job, job),
+        None => panic!(rt; "no entry"),
+    }
+}
+
+/// Two jobs take two inputs each. Job 0 is held after its first submit until job 1 is done with its own first one.
+fn first_is_held<R: Threads + Wait + Sync + AllocGlobal + Abort>(rt: &R) -> Result<(), Fail> {
+    let inputs = traces(rt.alloc(), &[SMALL, SMALL, SMALL, SMALL])?;
+    let gate = Between {
+        over: Flag::new(),
+        second: Flag::new(),
+        met: Flag::new(),
+    };
+    let collected = collected_of(rt, inputs.as_slice(), 2, &gate);
+    assert!(rt; gate.met.is_up());
+    check_first(rt, collected.entries.get(), 0);
+    Ok(())
+}
+
+/// What is called after a submit is called after it: job 1 begins when job 0 is there, and still job 0's entry is the first one.
+#[test]
+fn after_is_after_the_submit(rt: HostRuntime) -> Result<(), Fail> {
+    first_is_held(&rt)
 }
 
 /// One job takes two inputs and one that can't be read, with this gate.

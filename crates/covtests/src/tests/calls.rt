@@ -1,10 +1,11 @@
 //! Calls of the crates below without what they promise: a test looks at values, and its proof is quicker that knows nothing
 //! of them.
 
+use covcheck::{Holding, check_gcov, check_trace, holding_line};
 use covline::{
     BadSubmission, BranchPoint, Bytes, Item, Items, Memory, Sect, Sects, Submission, TraceLine,
 };
-use covread::{ReadFault, read_gcov, read_trace};
+use covread::{ReadFault, fits_no_shape, read_gcov, read_trace};
 use std::alloc::Global;
 use std::test::*;
 
@@ -140,4 +141,20 @@ pub(super) fn text_of(alloc: Global, sects: &[Sect]) -> Result<Bytes, Memory> {
         put_sect(sect, &mut text)?;
     }
     Ok(text)
+}
+
+pub(super) fn checked(alloc: Global, text: &[u8]) -> Result<Holding<'_>, ReadFault> {
+    check_trace(alloc, text)
+}
+
+pub(super) fn checked_gcov(alloc: Global, text: &[u8]) -> Result<Holding<'_>, ReadFault> {
+    check_gcov(alloc, text)
+}
+
+pub(super) fn told(alloc: Global, holding: &Holding<'_>) -> Result<Vec<u8>, Memory> {
+    holding_line(alloc, holding)
+}
+
+pub(super) fn without_shape(line: &[u8]) -> bool {
+    fits_no_shape(line)
 }

@@ -1,13 +1,16 @@
-use Rattle.std.proofs.Common.{◌≡◌, ◌∙◌, List, Global, length, map, refl, ap, subst, arith}
+use Rattle.std.proofs.Common.{◌≡◌, ◌∙◌, ℕ, List, Global, length, map, refl, ap, subst, arith}
 use Rattle.std.proofs.lemmas.List.{length-map}
 use Rattle.covbook.specs.EntryView.{entry_data}
 use Rattle.covbook.specs.Gather.{LogData, IsGathered}
 use Rattle.covbook.specs.LogView.{log_data}
 use Rattle.covbook.specs.Op.{EntryData}
 use Rattle.covbook.specs.View.{op_data}
+use Rattle.covlock.specs.CloseFault.{told_job}
+use Rattle.covlock.specs.Handed.{IsLeastMissing}
 use Rattle.covjobs.specs.InputView.{input_data}
-use Rattle.covjobs.specs.Seat.{SeatData, first_seats}
-use Rattle.covjobs.specs.Work.{HaveDone, work_of}
+use Rattle.covlock.specs.Seat.{SeatData, first_seats}
+use Rattle.covjobs.specs.Work.{HaveDone, seats_in, work_of}
+use Rattle.covjobs.proofs.AllSeated.{none_missing, some_worker}
 use Rattle.covjobs.proofs.Everything.{all_collected}
 use Rattle.covjobs.proofs.Whole.{works_from}
 use Rattle.covjobs.proofs.collected.collect_named.Goals as goal
@@ -20,7 +23,7 @@ returns-clause-collected g c =
     let entries : List EntryData = c.in-Ok.entries in
     let done : HaveDone (works_from inputs jobs 0 jobs) workers =
     subst (λ (seats : List SeatData). HaveDone (map (work_of inputs jobs) seats) workers) (c.in_ok-book.ensures.seats ∙ ap first_seats c.requires.jobs)
-    (c.in_ok-work_at_once.ensures workers c.in_ok-workers.ensures) in
+    (c.in_ok-work_at_once.ensures workers c.in_ok-workers.ensures.workers) in
     let gathered : IsGathered entries c.in_ok-seats.logs =
     subst (λ (logs : List LogData). IsGathered entries logs) c.get-2.ensures
     (subst (λ (es : List EntryData). IsGathered es (map (log_data {A = Global}) c.get-2.result.now)) c.get.ensures (c.in_ok-gather.ensures.gathered.0 refl)) in
@@ -29,3 +32,28 @@ returns-clause-collected g c =
     all_collected inputs jobs c.in_ok-end.end (op_data c.args.last.now) workers c.ask_last.new.workers.items entries c.in_ok-seats.logs c.in_ok-seats.refused c.requires.some done
     c.in_ok-end.ensures c.in_ok-seats.ensures.logs c.in_ok-seats.ensures.refused c.in_ok-seats.ensures.ascending c.in-Ok.ensures.history c.in-Ok.ensures.lawful gathered long
     c.a_run_goes_on.ensures.answers c.order_does_not_matter.ensures.texts
+
+-- there is a worker, as there is a job
+pub ask_last-requires : goal.ask_last-requires
+ask_last-requires g c =
+    let inputs = map (input_data {A = Global}) c.args.inputs.now in
+    let jobs = c.args.jobs in
+    let workers = c.in_ok-workers.workers.items in
+    some_worker inputs jobs workers c.requires.some
+    (subst (λ (seats : List SeatData). HaveDone (map (work_of inputs jobs) seats) workers) (c.in_ok-book.ensures.seats ∙ ap first_seats c.requires.jobs)
+    (c.in_ok-work_at_once.ensures workers c.in_ok-workers.ensures.workers))
+
+-- no seat is missing, since each worker hands in its own
+pub unreachable-requires : goal.unreachable-requires
+unreachable-requires g c =
+    let inputs = map (input_data {A = Global}) c.args.inputs.now in
+    let jobs = c.args.jobs in
+    let workers = c.in_ok-workers.workers.items in
+    let after = c.ask_last.new.workers.items in
+    let done : HaveDone (works_from inputs jobs 0 jobs) workers =
+    subst (λ (seats : List SeatData). HaveDone (map (work_of inputs jobs) seats) workers) (c.in_ok-book.ensures.seats ∙ ap first_seats c.requires.jobs)
+    (c.in_ok-work_at_once.ensures workers c.in_ok-workers.ensures.workers) in
+    let job = told_job c.in-Err._back.2 in
+    none_missing inputs jobs c.in_ok-end.end (op_data c.args.last.now) workers after done c.in_ok-end.ensures job
+    (subst (λ (n : ℕ). IsLeastMissing n (seats_in after) job) (c.in_ok-book.ensures.jobs ∙ c.requires.jobs)
+    (subst (λ (seats : List SeatData). IsLeastMissing c.in_ok-book.book.jobs seats job) c.in_ok-seats.ensures.seats c.in-Err.ensures.seated))

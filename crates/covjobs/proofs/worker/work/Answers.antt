@@ -2,7 +2,7 @@ use Rattle.std.proofs.Common.{◌≡◌, ◌∙◌, ℕ, Option, length, map, op
 use Rattle.std.proofs.lemmas.Option.{slice_get-map, slice_get_read}
 use Rattle.covjobs.specs.Collect.{HasTaken}
 use Rattle.covjobs.specs.InputView.{input_data}
-use Rattle.covjobs.specs.Seat.{SeatData}
+use Rattle.covlock.specs.Seat.{SeatData}
 use Rattle.covjobs.specs.declared.input.Input.{Input}
 use Rattle.covjobs.proofs.ReadBehind.{none_read}
 use Rattle.covjobs.proofs.Taken.{none_taken, step_taken, step_past}

@@ -9,22 +9,22 @@ use Rattle.covsession.proofs.session.answers.say_answer.Goals as goal
 pub returns-in_err-line-in-Accepted-clause-breaks : goal.returns-in_err-line-in-Accepted-clause-breaks
 returns-in_err-line-in-Accepted-clause-breaks g c =
     let p = err_from_is_err_and c.from_residual.result c.from_residual.ensures.1 in
-    rw (p.1, p.2) (breaks_memory c.args.output.now _ c.in_err-line-in-Accepted.field-0.0 _ c.in_err-line-in-Accepted.ensures.fault refl refl refl)
+    rw (p.1, p.2) (breaks_memory c.args.output.now c.in_err-line-in-Accepted.field-0.0 _ c.in_err-line-in-Accepted.ensures.fault)
 
 pub returns-in_err-text-in-Clash-clause-breaks : goal.returns-in_err-text-in-Clash-clause-breaks
 returns-in_err-text-in-Clash-clause-breaks g c =
     let p = err_from_is_err_and c.from_residual-in_err-text-in-Clash.result c.from_residual-in_err-text-in-Clash.ensures.1 in
-    rw (p.1, p.2) (breaks_memory c.args.output.now _ c.in_err-text-in-Clash.field-0.0 _ c.in_err-text-in-Clash.ensures.fault refl refl refl)
+    rw (p.1, p.2) (breaks_memory c.args.output.now c.in_err-text-in-Clash.field-0.0 _ c.in_err-text-in-Clash.ensures.fault)
 
 pub returns-in_err-line-in-Dropped-clause-breaks : goal.returns-in_err-line-in-Dropped-clause-breaks
 returns-in_err-line-in-Dropped-clause-breaks g c =
     let p = err_from_is_err_and c.from_residual-in_err-line-in-Dropped.result c.from_residual-in_err-line-in-Dropped.ensures.1 in
-    rw (p.1, p.2) (breaks_memory c.args.output.now _ c.in_err-line-in-Dropped.field-0.0 _ c.in_err-line-in-Dropped.ensures.fault refl refl refl)
+    rw (p.1, p.2) (breaks_memory c.args.output.now c.in_err-line-in-Dropped.field-0.0 _ c.in_err-line-in-Dropped.ensures.fault)
 
 pub returns-in_err-line-in-Renamed-clause-breaks : goal.returns-in_err-line-in-Renamed-clause-breaks
 returns-in_err-line-in-Renamed-clause-breaks g c =
     let p = err_from_is_err_and c.from_residual-in_err-line-in-Renamed.result c.from_residual-in_err-line-in-Renamed.ensures.1 in
-    rw (p.1, p.2) (breaks_memory c.args.output.now _ c.in_err-line-in-Renamed.field-0.0 _ c.in_err-line-in-Renamed.ensures.fault refl refl refl)
+    rw (p.1, p.2) (breaks_memory c.args.output.now c.in_err-line-in-Renamed.field-0.0 _ c.in_err-line-in-Renamed.ensures.fault)
 
 pub returns-in-NoSuchTest-clause-breaks : goal.returns-in-NoSuchTest-clause-breaks
 returns-in-NoSuchTest-clause-breaks g c = rw c.in-NoSuchTest.is c.say-in-NoSuchTest.ensures.breaks
@@ -51,4 +51,4 @@ returns-in_ok-say-in-Text-clause-breaks g c =
     let P : List ℕ → Type 0 = λ u. Says c.args.output.now c.say-in-Text.new.self u in
     rw c.in-Text.is
     (err_after c.args.output.now c.say-in-Text.new.self c.say-in-Text-2.new.self c.in-Text.text (said (codes ".")) c.say-in-Text-2.result
-    (subst P same c.in_ok-say-in-Text.ensures.says) c.say-in-Text-2.ensures.breaks)
+    (subst P same c.in_ok-say-in-Text.ensures.says) c.say-in-Text-2.ensures.write c.say-in-Text-2.ensures.breaks)

@@ -2,6 +2,8 @@ use Rattle.std.proofs.Common.{◌≡◌, ◌++◌, [], ◌∷◌, rules, refl, s
 use Rattle.std.proofs.lemmas.Bool.{false≢true}
 use Rattle.std.specs.List.{concat}
 use Rattle.covline.specs.Lines.{line_feed}
+use Rattle.covsession.specs.Broken.{IsPart}
+use Rattle.covsession.specs.Command.{IsBody}
 use Rattle.covsession.specs.Streams.{moment, TakesLine, line_bytes, line_pieces}
 use Rattle.covsession.specs.Text.{line_after}
 use Rattle.covsession.specs.declared.session.text.LineSoFar.TheVariants.{Nothing, Dot}
@@ -10,7 +12,7 @@ use Rattle.covsession.specs.declared.session.text.LineEnd.TheVariants.{Feed, Inp
 use Rattle.covsession.proofs.SessionLines.{begun_more}
 use Rattle.covsession.proofs.SessionPieces.{takes_more, text_done, text_rest, is_taken, body_more, not_last, more_cut, more_moves, more_turns, more_collected, same_line}
 use Rattle.std.proofs.lemmas.Result.{err_from_is_err_and}
-use Rattle.covsession.proofs.SessionBreaks.{fails_after, fails_taken}
+use Rattle.covsession.proofs.SessionBreaks.{taking_behind, taking_taken}
 use Rattle.covsession.proofs.SessionMoves.{Moves-trans}
 use Rattle.covsession.proofs.session.submit.take_text.Goals as goal
 
@@ -82,7 +84,7 @@ returns-in_err-ending-clause-fails g c =
     let i = begun_more m (moment c.loop-text.input c.loop-text.output) c.take_lines.new.self c.loop-text.text c.take_lines.new.text lines.taken.0 c.loop-text.invariant
     lines.taken.1 lines.taken.2 lines.kept lines.fewer lines.taken.3 lines.limit in
     let p = err_from_is_err_and c.from_residual-in_err-ending.result c.from_residual-in_err-ending.ensures.1 in
-    rw (p.1, p.2) (fails_after m n o c.in_err-ending.field-0.0 (concat i.0) [] [] i.3 c.in_err-ending.ensures.fails)
+    rw (p.1, p.2) (taking_behind IsBody m n o c.in_err-ending.field-0.0 i.0 (concat i.0) i.2 i.1 i.3 c.in_err-ending.ensures.fails)
 
 pub returns-in_err-next_line-in-Feed-clause-fails : goal.returns-in_err-next_line-in-Feed-clause-fails
 returns-in_err-next_line-in-Feed-clause-fails g c =
@@ -94,5 +96,5 @@ returns-in_err-next_line-in-Feed-clause-fails g c =
     lines.taken.1 lines.taken.2 lines.kept lines.fewer lines.taken.3 lines.limit in
     let t = c.in_ok-ending.ensures.taken in
     let p = err_from_is_err_and c.from_residual-in_err-next_line-in-Feed.result c.from_residual-in_err-next_line-in-Feed.ensures.1 in
-    rw (p.1, p.2) (fails_taken m o c.in_err-next_line-in-Feed.field-0.0 _ c.in_err-next_line-in-Feed.ensures.fault
+    rw (p.1, p.2) (taking_taken (IsPart IsBody) m o c.in_err-next_line-in-Feed.field-0.0 _ c.in_err-next_line-in-Feed.ensures.fault
     (Moves-trans m n o (concat i.0) (line_bytes c.in_ok-ending.ending t.0) [] [] i.3 t.1.moves))

@@ -1,7 +1,7 @@
 use Rattle.std.proofs.Common.{◌≡◌, ◌∙◌, ◌++◌, IsTrue, List, [], Global, map, ap, arith}
 use Rattle.std.proofs.lemmas.List.{nil_from_length}
 use Rattle.covjobs.specs.InputView.{input_data}
-use Rattle.covjobs.specs.Seat.{SeatData}
+use Rattle.covlock.specs.Seat.{SeatData}
 use Rattle.covjobs.specs.Work.{WorkData, work_of}
 use Rattle.covjobs.proofs.Ended.{ends_well_if_ok}
 use Rattle.covjobs.proofs.workers.fn.work_at_once.scope.Goals as goal

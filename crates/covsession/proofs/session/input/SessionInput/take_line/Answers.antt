@@ -3,7 +3,8 @@ use Rattle.covsession.specs.Streams.{moment}
 use Rattle.covsession.proofs.SessionMoves.{line_end, line_on, line_on-line, line_on-turns, collected_on, taken_whole, taken_all}
 use Rattle.std.proofs.Common.{◌≡◌, [], rules}
 use Rattle.std.proofs.lemmas.Result.{err_from_is_err_and}
-use Rattle.covsession.proofs.SessionBreaks.{fails_after, fails_same, fails_taken}
+use Rattle.covsession.specs.Broken.{IsLinePart}
+use Rattle.covsession.proofs.SessionBreaks.{taking_line, taking_same, taking_taken}
 use Rattle.covsession.proofs.SessionMoves.{line_last, Moves-trans, nothing_at}
 use Rattle.covsession.proofs.session.input.SessionInput.take_line.Goals as goal
 
@@ -40,8 +41,8 @@ pub returns-in_err-fill-clause-fails : goal.returns-in_err-fill-clause-fails
 returns-in_err-fill-clause-fails g c =
     let p = err_from_is_err_and c.from_residual.result c.from_residual.ensures.1 in
     let i = c.loop-self.invariant in
-    rw (p.1, p.2) (fails_after (moment c.args.self.now c.args.output.now) (moment c.loop-self.self c.loop-self.output) (moment c.fill.new.self c.fill.new.output) c.in_err-fill.field-0.0
-    i.0 [] [] i.2 c.in_err-fill.ensures.fails)
+    rw (p.1, p.2) (taking_line (moment c.args.self.now c.args.output.now) (moment c.loop-self.self c.loop-self.output) (moment c.fill.new.self c.fill.new.output) c.in_err-fill.field-0.0
+    i.0 i.1 i.2 c.in_err-fill.ensures.fails)
 
 pub returns-then-is_empty-clause-taken : goal.returns-then-is_empty-clause-taken
 returns-then-is_empty-clause-taken g c =
@@ -60,5 +61,5 @@ returns-in_err-take_part-clause-fails g c =
     let m = moment c.args.self.now c.args.output.now in
     let n = moment c.loop-self.self c.loop-self.output in
     let o = moment c.fill.new.self c.fill.new.output in
-    rw (p.1, p.2) (fails_same m o c.take_part.new.self c.in_err-take_part.field-0.0 c.in_err-take_part.ensures.same
-    (fails_taken m o c.in_err-take_part.field-0.0 _ c.in_err-take_part.ensures.fault (Moves-trans m n o i.0 [] [] [] i.2 c.in_ok-fill.ensures.moves)))
+    rw (p.1, p.2) (taking_same IsLinePart m o c.take_part.new.self c.in_err-take_part.field-0.0 c.in_err-take_part.ensures.same
+    (taking_taken IsLinePart m o c.in_err-take_part.field-0.0 _ c.in_err-take_part.ensures.fault (Moves-trans m n o i.0 [] [] [] i.2 c.in_ok-fill.ensures.moves)))

@@ -1,32 +1,9 @@
-use Rattle.std.proofs.Common.{[], refl, rules}
-use Rattle.std.proofs.lemmas.Result.{err_from_is_err_and}
-use Rattle.covsession.proofs.SessionBreaks.{breaks_memory, breaks_more, err_put, err_written, ok_written}
+use Rattle.std.proofs.Common.{rules}
+use Rattle.covsession.proofs.SessionBreaks.{err_put}
 use Rattle.covsession.proofs.SessionMoves.{says_waiting_at}
 use Rattle.covsession.proofs.session.output.Output.say.Goals as goal
 
-pub returns-in_err-put_out-clause-breaks : goal.returns-in_err-put_out-clause-breaks
-returns-in_err-put_out-clause-breaks g c =
-    let p = err_from_is_err_and c.from_residual.result c.from_residual.ensures.1 in
-    rw (p.1, p.2) (breaks_more c.args.self.now c.put_out.new.self c.in_err-put_out.field-0.0 [] c.args.bytes.now c.in_err-put_out.ensures.breaks)
-
-pub returns-then-bytes-ge-MOST_WAITING-clause-says : goal.returns-then-bytes-ge-MOST_WAITING-clause-says
-returns-then-bytes-ge-MOST_WAITING-clause-says g c =
-    ok_written c.args.self.now c.put_out.new.self _ c.args.bytes.now (g.O.Sink.written c.self.inside.sink.now) (g.O.Sink.failed_writes c.self.inside.sink.now)
-    c.in_ok-put_out.ensures.says c.in_ok-put_out.ensures.emptied (search rules) (search rules) (search rules)
-    c.put_bytes.result (search rules) c.put_bytes.ensures.written c.put_bytes.ensures.failed
-
-pub returns-then-bytes-ge-MOST_WAITING-clause-breaks : goal.returns-then-bytes-ge-MOST_WAITING-clause-breaks
-returns-then-bytes-ge-MOST_WAITING-clause-breaks g c =
-    err_written c.args.self.now c.put_out.new.self _ c.args.bytes.now (g.O.Sink.written c.self.inside.sink.now) (g.O.Sink.failed_writes c.self.inside.sink.now)
-    c.in_ok-put_out.ensures.says c.in_ok-put_out.ensures.emptied (search rules) (search rules) (search rules)
-    c.put_bytes.result c.put_bytes.ensures.fault c.put_bytes.ensures.begun c.put_bytes.ensures.one
-
-pub returns-in_err-extend_from_slice-clause-breaks : goal.returns-in_err-extend_from_slice-clause-breaks
-returns-in_err-extend_from_slice-clause-breaks g c =
-    let p = err_from_is_err_and c.from_residual-in_err-extend_from_slice.result c.from_residual-in_err-extend_from_slice.ensures.1 in
-    rw p.1 (breaks_memory c.args.self.now _ p.0 c.args.bytes.now p.2 (search rules) (search rules) (search rules))
-
 pub returns-then-len-gt-MOST_WAITING-clause-breaks : goal.returns-then-len-gt-MOST_WAITING-clause-breaks
 returns-then-len-gt-MOST_WAITING-clause-breaks g c =
-    err_put c.args.self.now _ c.put_out-then-len-gt-MOST_WAITING.new.self c.args.bytes.now c.put_out-then-len-gt-MOST_WAITING.result
-    (says_waiting_at c.args.self.now _ c.args.bytes.now (search rules) (search rules) (search rules) (search rules)) c.put_out-then-len-gt-MOST_WAITING.ensures.breaks
+    err_put c.args.self.now _ c.put_out.new.self c.args.bytes.now c.put_out.result
+    (says_waiting_at c.args.self.now _ c.args.bytes.now (search rules) (search rules) (search rules) (search rules)) c.put_out.ensures.fault c.put_out.ensures.breaks

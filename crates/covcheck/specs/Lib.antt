@@ -1,0 +1,4 @@
+pub mod Skipped
+pub mod Holding
+pub mod Told
+pub mod CheckSteps

@@ -1,0 +1,39 @@
+-- Which lines of a text aren't read, and how one of them begins.
+use Rattle.std.specs.Prelude.{◌≡◌, ◌≢◌, ◌⊎◌, ℕ, Bool, ◌||◌, ◌==◌, if◌then◌else◌, List, [], ◌∷◌, take}
+use Rattle.covline.specs.Spells.{Spells, Skip}
+use Rattle.covread.specs.Gcov.{IsShapeOf, Other}
+
+-- a line of a tracefile that isn't read: it isn't blank, and begins neither with one of the twelve keys nor with
+-- `end_of_record`
+abbrev pub IsSkippedRecord : List ℕ → Type 0
+IsSkippedRecord line = (line ≢ []) × Spells line Skip
+
+-- a line of gcov's text that isn't read: it isn't blank, and has none of the known shapes
+abbrev pub IsSkippedGcov : List ℕ → Type 0
+IsSkippedGcov line = (line ≢ []) × IsShapeOf line Other
+
+-- the members of the list of which this holds, in their order
+abbrev pub AreThose : {X : Type 0} → (X → Type 0) → List X → List X → Type 0
+AreThose holds [] those = those ≡ []
+AreThose holds (x ∷ xs) those =
+    (holds x × (others : List _) × (those ≡ x ∷ others) × AreThose holds xs others) ⊎ (¬ holds x × AreThose holds xs those)
+
+-- ---- how a line begins
+
+-- a colon, a space or a tab
+abbrev pub is_cut : ℕ → Bool
+is_cut b = b == 58 || b == 32 || b == 9
+
+-- the bytes at the front, up to the first colon or blank
+abbrev pub word_at : List ℕ → List ℕ
+word_at [] = []
+word_at (b ∷ bs) = if is_cut b then [] else b ∷ word_at bs
+
+-- the same, with the colons and blanks that stand before them
+abbrev pub beginning_of : List ℕ → List ℕ
+beginning_of [] = []
+beginning_of (b ∷ bs) = if is_cut b then b ∷ beginning_of bs else b ∷ word_at bs
+
+-- the beginning of a line within its first 16 bytes. It is empty for a blank line alone
+abbrev pub start_of : List ℕ → List ℕ
+start_of line = beginning_of (take 16 line)

@@ -1,0 +1,66 @@
+//! Checking a text.
+
+ghost use Rattle.std.specs.Prelude.{◌≡◌, ◌⊎◌, [], Result, Err};
+ghost use Rattle.covline.specs.Row.{SubmissionData};
+ghost use Rattle.covread.specs.declared.fault.ReadFault.{ReadFault as Fault};
+ghost use Rattle.covread.specs.declared.fault.ReadFault.TheVariants.{Memory as NoMemory};
+ghost use Rattle.covread.specs.Outcome.{Answers, GrowsLate, IsOutcome};
+ghost use Rattle.covread.specs.GcovOutcome as gcov;
+ghost use Rattle.covcheck.specs.Holding.{Holds, Tells};
+ghost use Rattle.covcheck.specs.Skipped.{IsSkippedGcov, IsSkippedRecord};
+ghost use Rattle.covcheck.specs.CheckSteps.{IsSkippedIn};
+
+use crate::format::Format;
+use crate::holding::Holding;
+use crate::skipped_lines::skipped_lines_in;
+use covline::Submission;
+use covread::{ReadFault, read_gcov, read_trace};
+use std::alloc::Allocator;
+
+/// Reads a tracefile (geninfo(1) of LCOV 1.x, section FILES), and answers what it holds, or the fault that `read_trace`
+/// answers. What was read is let go.
+pub fn check_trace<'a, A: Allocator + Copy>(
+    alloc: A,
+    text: &'a [u8],
+) -> Result<Holding<'a>, ReadFault>
+    // It tells of what the reader answers: of what the text is read as, or that memory ran out behind a path.
+    ensures answers { (read : Result SubmissionData Fault) × Answers text.now read × GrowsLate text.now read × Tells IsSkippedRecord text.now read result }
+    // What the text is read as is what is told of, unless memory ran out.
+    ensures only { (outcome : Result SubmissionData Fault) → IsOutcome text.now outcome → (result ≡ Err NoMemory) ⊎ Tells IsSkippedRecord text.now outcome result }
+{
+    let submission = read_trace(alloc, text)?;
+    Ok(holding_of(&submission, text, Format::Trace))
+}
+
+/// Reads gcov's annotated source (gcov(1)), as the counts of the test with the empty name, and answers what it holds, or the
+/// fault that `read_gcov` answers. What was read is let go.
+pub fn check_gcov<'a, A: Allocator + Copy>(
+    alloc: A,
+    text: &'a [u8],
+) -> Result<Holding<'a>, ReadFault>
+    // It tells of what the reader answers: of what the text is read as, or that memory ran out behind a path or a function.
+    ensures answers { (read : Result SubmissionData Fault) × gcov.Answers [] text.now read × gcov.GrowsLate text.now read × Tells IsSkippedGcov text.now read result }
+    // What the text is read as is what is told of, unless memory ran out.
+    ensures only { (outcome : Result SubmissionData Fault) → gcov.IsOutcome [] text.now outcome → (result ≡ Err NoMemory) ⊎ Tells IsSkippedGcov text.now outcome result }
+{
+    let submission = read_gcov(alloc, b"", text)?;
+    Ok(holding_of(&submission, text, Format::Gcov))
+}
+
+/// What the text holds, which was read as this submission.
+fn holding_of<'a, A: Allocator>(
+    submission: &Submission<A>,
+    text: &'a [u8],
+    format: Format,
+) -> Holding<'a>
+    ensures { Holds (IsSkippedIn format) text.now submission.now result }
+{
+    let skipped = skipped_lines_in(text, format);
+    Holding {
+        sections: submission.sects().len() as u64,
+        items: submission.items(),
+        odd: submission.odd(),
+        skipped: skipped.count,
+        first: skipped.first,
+    }
+}

@@ -1,0 +1,28 @@
+//! What texts hold, without adding them up: how many sections and items, how many odd lines, and which lines aren't read.
+//!
+//! A text is read as covread reads it, so a check answers the same fault. Lines that aren't read are no fault: a tracefile
+//! may have records of later versions (`FNL:`), and gcov's text has `call` lines. They are counted, and the first of them
+//! is shown, since a text without a single line that is read, such as a page of HTML, is read as an empty submission.
+//!
+//! A sketch: the line of a tracefile.
+//!
+//! ```text
+//! match check_trace(alloc, text) {
+//!     Ok(holding) => line.extend_from_slice(holding_line(alloc, &holding)?.as_slice())?,
+//!     Err(fault) => println!(rt; "refused {fault}")?,
+//! }
+//! ```
+#![tactic(auto)]
+
+mod check;
+mod format;
+mod holding;
+pub mod laws;
+mod skipped_lines;
+mod start;
+mod told;
+
+pub use check::{check_gcov, check_trace};
+pub use holding::{Holding, SkippedLine};
+pub use laws::{a_beginning_is_one_word, skipped_lines_are_unique};
+pub use told::holding_line;

@@ -1,0 +1,65 @@
+//! Telling what a text holds.
+
+ghost use Rattle.std.specs.Prelude.{◌≡◌, ◌++◌, IfOk, OnOk, decimal, map};
+ghost use Rattle.covcheck.specs.Told.{first_text, holding_text, shown};
+
+use crate::holding::{Holding, SkippedLine};
+use covline::Memory;
+use itoa::Buffer;
+use std::alloc::Allocator;
+
+/// The line that tells what a text holds, without the name of its file and with a line feed:
+/// `sections 3 items 40 odd 6 skipped 9 first FNL at 3`.
+pub fn holding_line<A: Allocator>(alloc: A, holding: &Holding<'_>) -> Result<Vec<u8, A>, Memory>
+    ensures { IfOk result (λ line. line.items ≡ holding_text holding.now) }
+{
+    let mut line = Vec::new(alloc);
+    put_number(&mut line, b"sections ", holding.sections)?;
+    put_number(&mut line, b" items ", holding.items)?;
+    put_number(&mut line, b" odd ", holding.odd)?;
+    put_number(&mut line, b" skipped ", holding.skipped)?;
+    put_first(&mut line, holding.first)?;
+    line.push(b'\n')?;
+    Ok(line)
+}
+
+/// Appends words and the number that follows them.
+fn put_number<A: Allocator>(line: &mut Vec<u8, A>, words: &[u8], number: u64) -> Result<(), Memory>
+    ensures { OnOk result (line.new.items ≡ line.old.items ++ (words.now ++ decimal number)) }
+{
+    line.extend_from_slice(words)?;
+    line.extend_from_slice(Buffer::new().format(number).as_bytes())?;
+    Ok(())
+}
+
+/// Appends how the first line that isn't read begins, and its number, where there is one.
+fn put_first<A: Allocator>(
+    line: &mut Vec<u8, A>,
+    first: Option<SkippedLine<'_>>,
+) -> Result<(), Memory>
+    ensures { OnOk result (line.new.items ≡ line.old.items ++ first_text first.entry) }
+{
+    let Some(first) = first else {
+        return Ok(());
+    };
+    line.extend_from_slice(b" first ")?;
+    put_shown(line, first.start)?;
+    put_number(line, b" at ", first.at)
+}
+
+/// Appends the bytes as they are shown.
+fn put_shown<A: Allocator>(line: &mut Vec<u8, A>, text: &[u8]) -> Result<(), Memory>
+    ensures { OnOk result (line.new.items ≡ line.old.items ++ map shown text.now) }
+{
+    for byte in text {
+        line.push(shown(*byte))?;
+    }
+    Ok(())
+}
+
+/// The byte as it is shown: a question mark stands for what isn't printable ASCII, and for a blank.
+fn shown(byte: u8) -> u8
+    ensures { result ≡ shown byte }
+{
+    if byte.is_ascii_graphic() { byte } else { b'?' }
+}

@@ -1,0 +1,46 @@
+-- The seats that workers hand in are those of all jobs, and there is a worker as there is a job.
+use Rattle.std.proofs.Common.{◌≡◌, ◌∙◌, inl, inr, ℕ, zero, suc, ◌+◌, ◌<◌, ◌≤◌, ◌||◌, true, List, [], ◌∷◌, length, ap, sym, arith}
+use Rattle.std.proofs.Math.Dec.{eqb}
+use Rattle.std.proofs.lemmas.Bool.{cases_lt, eq-eqb, false≢true, or_left, or_right}
+use Rattle.std.proofs.lemmas.Bool.Decides.{eqb_tells}
+use Rattle.covlock.specs.Handed.{is_seated, IsLeastMissing}
+use Rattle.covbook.specs.Op.{OpData}
+use Rattle.covjobs.specs.Collect.{InputData}
+use Rattle.covjobs.specs.Work.{WorkerData, HaveDone, FirstAsks, seats_in}
+use Rattle.covjobs.proofs.Whole.{works_from}
+
+-- from a number on, each job has its worker
+seated_from : (inputs : List InputData) (jobs from some : ℕ) (workers : List WorkerData) → HaveDone (works_from inputs jobs from some) workers
+    → (job : ℕ) → from ≤ job → job < from + some → is_seated (seats_in workers) job ≡ true
+seated_from inputs jobs from zero workers done job least less = absurd (omega (arith, least, less))
+seated_from inputs jobs from (suc some) [] done job least less = absurd done
+seated_from inputs jobs from (suc some) (worker ∷ workers) done job least less = elim (eqb_tells job from) [
+  | inl (yes_is, same) ↦ or_left (eqb job worker.seat.job) (is_seated (seats_in workers) job) (eq-eqb job worker.seat.job (same ∙ sym done.0.own))
+  | inr (no_is, differs) ↦ or_right (eqb job worker.seat.job) (is_seated (seats_in workers) job)
+      (seated_from inputs jobs (from + 1) some workers done.1 job (above job from least differs) (omega (arith, less)))
+]
+  where
+    above : (job from : ℕ) → from ≤ job → (job ≡ from → ⊥) → from + 1 ≤ job
+    above job from least differs = elim (cases_lt from job) [
+      | inl less ↦ omega (arith, less)
+      | inr more ↦ absurd (differs (omega (arith, least, more)))
+    ]
+
+-- the last operation changes no worker's job
+same_seated : (workers after : List WorkerData) (end : ℕ) (last : OpData) → FirstAsks workers after end last → (job : ℕ) → is_seated (seats_in workers) job ≡ is_seated (seats_in after) job
+same_seated workers after end last asks job =
+    ap (λ (ws : List WorkerData). is_seated (seats_in ws) job) asks.old
+    ∙ ap (λ (j : ℕ). eqb job j || is_seated (seats_in asks.others) job) (sym asks.job)
+    ∙ sym (ap (λ (ws : List WorkerData). is_seated (seats_in ws) job) asks.new)
+
+-- so no job's seat is missing
+pub none_missing : (inputs : List InputData) (jobs end : ℕ) (last : OpData) (workers after : List WorkerData) → HaveDone (works_from inputs jobs 0 jobs) workers
+    → FirstAsks workers after end last → (job : ℕ) → IsLeastMissing jobs (seats_in after) job → ⊥
+none_missing inputs jobs end last workers after done asks job missing =
+    false≢true (sym missing.missing ∙ sym (same_seated workers after end last asks job) ∙ seated_from inputs jobs 0 jobs workers done job (omega arith) (omega (arith, missing.is_job)))
+
+-- where there is a job there is a worker
+pub some_worker : (inputs : List InputData) (jobs : ℕ) (workers : List WorkerData) → 0 < jobs → HaveDone (works_from inputs jobs 0 jobs) workers → 0 < length workers
+some_worker inputs zero workers some done = absurd (omega (arith, some))
+some_worker inputs (suc more) [] some done = absurd done
+some_worker inputs (suc more) (worker ∷ workers) some done = omega arith

@@ -1,8 +1,0 @@
--- The numbers of the faults of a start, the same from the first day on.
-use Rattle.std.specs.Prelude.{ℕ}
-use Rattle.covjobs.specs.declared.name.OpenFault.{OpenFault}
-use Rattle.covjobs.specs.declared.name.OpenFault.TheVariants.{BadJobs, Memory}
-
-abbrev pub open_number : OpenFault → ℕ
-open_number BadJobs = 1
-open_number Memory = 2

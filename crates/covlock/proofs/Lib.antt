@@ -1,0 +1,2 @@
+pub mod Seated
+pub mod Steps

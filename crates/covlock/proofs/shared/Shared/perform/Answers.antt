@@ -1,0 +1,11 @@
+use Rattle.covlock.proofs.shared.Shared.perform.Goals as goal
+
+-- what the step under the lock says is what the call says
+pub returns-clause-told : goal.returns-clause-told
+returns-clause-told g c = (c.deref_mut.result.now, c.in_ok-receipt.ensures.told)
+
+pub returns-clause-news : goal.returns-clause-news
+returns-clause-news g c = c.in_ok-receipt.ensures.news
+
+pub returns-clause-seen : goal.returns-clause-seen
+returns-clause-seen g c = c.in_ok-receipt.ensures.seen

@@ -1,0 +1,10 @@
+-- The fault of a close: its number, and the job that it tells.
+use Rattle.std.specs.Prelude.{ℕ}
+use Rattle.covlock.specs.declared.shared.CloseFault.{CloseFault}
+use Rattle.covlock.specs.declared.shared.CloseFault.TheVariants.{Missing}
+
+abbrev pub close_number : CloseFault → ℕ
+close_number (Missing job) = 1
+
+abbrev pub told_job : CloseFault → ℕ
+told_job (Missing job) = job

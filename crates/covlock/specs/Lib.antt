@@ -1,0 +1,8 @@
+pub mod Start
+pub mod Seat
+pub mod Handed
+pub mod Call
+pub mod Locked
+pub mod Shared
+pub mod OpenFault
+pub mod CloseFault

@@ -1,0 +1,8 @@
+-- The numbers of the faults of a start, the same from the first day on.
+use Rattle.std.specs.Prelude.{ℕ}
+use Rattle.covlock.specs.declared.name.OpenFault.{OpenFault}
+use Rattle.covlock.specs.declared.name.OpenFault.TheVariants.{BadJobs, Memory}
+
+abbrev pub open_number : OpenFault → ℕ
+open_number BadJobs = 1
+open_number Memory = 2

@@ -1,0 +1,121 @@
+//! Seats that are handed out and handed in.
+
+use crate::seat::Seat;
+use covline::Memory;
+use covnews::Name;
+use std::alloc::{Allocator, Global};
+use std::marker::Model;
+use std::sync::ledger::Share;
+
+/// A list of seats. Contracts see what they show.
+#[derive(Drop)]
+pub struct Seats<L: Name, A: Allocator = Global> {
+    seats: Vec<Seat<L>, A>,
+}
+
+impl<L: Name, A: Allocator> Model for Seats<L, A> {
+    ghost use Rattle.std.specs.Prelude.{List};
+    ghost use Rattle.covlock.specs.Seat.{SeatData};
+
+    ghost Value = { List SeatData };
+
+    ghost view = { λ a. a.seats.items };
+}
+
+impl<L: Name, A: Allocator> Seats<L, A> {
+    ghost use Rattle.std.specs.Prelude.{◌≡◌, ◌+◌, ◌≤◌, ◌++◌, [], ◌∷◌, length, IsTrue, OnOk, OnErr, true, MatchOption, IfOk};
+    ghost use Rattle.covlock.specs.Seat.{calls_in, first_seats};
+    ghost use Rattle.covlock.specs.Handed.{is_seated, AllAreSeated, IsLeastMissing};
+
+    /// The empty list. Takes no memory.
+    pub fn new(alloc: A) -> Seats<L, A>
+        ensures { result ≡ [] }
+    {
+        Seats {
+            seats: Vec::new(alloc),
+        }
+    }
+
+    /// The list of these seats. Takes no memory.
+    pub fn of(seats: Vec<Seat<L>, A>) -> Seats<L, A>
+        ensures { result ≡ seats.items }
+    {
+        Seats { seats }
+    }
+
+    /// The seats in order, to be taken out. Takes no memory.
+    pub fn into_vec(self) -> Vec<Seat<L>, A>
+        ensures { result.items ≡ self }
+    {
+        self.seats
+    }
+
+    /// Appends a seat. A refusal gives it up and leaves the list as it was.
+    pub fn push(&mut self, seat: Seat<L>) -> Result<(), Memory>
+        ensures ok { OnOk result (self.new ≡ self.old ++ seat ∷ []) }
+        ensures err { OnErr result (self.new ≡ self.old) }
+    {
+        self.seats.push(seat)?;
+        Ok(())
+    }
+
+    /// The seats in order.
+    pub fn get(&self) -> &[Seat<L>]
+        ensures { result.now ≡ self.now }
+    {
+        self.seats.as_slice()
+    }
+
+    /// Whether a seat of the job is among them.
+    fn has(&self, job: u32) -> bool
+        ensures { result ≡ is_seated self.now job }
+    {
+        self.get().iter().any(|seat| job == seat.job())
+    }
+
+    /// The least of so many jobs without a seat among them. Takes no memory.
+    pub(crate) fn missing(&self, jobs: u32) -> Option<u32>
+        ensures { MatchOption result (AllAreSeated jobs self.now) (λ job. IsLeastMissing jobs self.now job) }
+    {
+        for job in 0..jobs {
+            if !self.has(job) {
+                return Some(job);
+            }
+        }
+        None
+    }
+
+    /// The shares of all of them go to this one.
+    pub(crate) fn give_shares(self, to: &mut Share<L>)
+        requires few { to.old.parts ≤ L.parts }
+        ensures parts { to.new.parts ≡ to.old.parts + length self }
+        ensures few { to.new.parts ≤ L.parts }
+        ensures amount { to.new.amount ≡ to.old.amount + calls_in self }
+    {
+        for seat in self.seats {
+            to.merge(seat.into_share());
+        }
+    }
+}
+
+ghost use Rattle.std.specs.Prelude.{◌≡◌, IfOk};
+ghost use Rattle.covlock.specs.Seat.{first_seats};
+
+/// The seats of so many jobs, none of which has made a call. Each takes a part of the share.
+pub(crate) fn seats_for<L: Name, A: Allocator>(
+    alloc: A,
+    jobs: u32,
+    all: &mut Share<L>,
+) -> Result<Seats<L, A>, Memory>
+    requires parts { all.old.parts ≡ jobs }
+    requires none { all.old.amount ≡ 0 }
+    ensures seats { IfOk result (λ s. s ≡ first_seats jobs) }
+    ensures parts { IfOk result (λ _. all.new.parts ≡ 0) }
+    ensures none { IfOk result (λ _. all.new.amount ≡ 0) }
+{
+    let mut seats = Seats::new(alloc);
+    for job in 0..jobs {
+        seats.push(Seat::new(job, all.split_off(1, 0)))?;
+    }
+    Ok(seats)
+}

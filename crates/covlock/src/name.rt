@@ -1,0 +1,106 @@
+//! What a shared book is made of.
+
+use covbook::Book;
+use covline::Memory;
+use covnews::Opening;
+use std::alloc::{Allocator, Global};
+use std::marker::Model;
+use std::sync::ledger::Blank;
+use thiserror::Error;
+
+/// How many jobs share one book at the most.
+pub const MOST_JOBS: u32 = 64;
+
+/// Why no book is opened.
+#[derive(Clone, Copy, Debug, PartialEq, Eq, Error)]
+pub enum OpenFault {
+    /// There are no jobs, or more than 64. This is tested first.
+    #[error("BadJobs")]
+    BadJobs = 1,
+    /// A growth was refused.
+    #[error("out of memory")]
+    Memory = 2,
+}
+
+impl OpenFault {
+    ghost use Rattle.std.specs.Prelude.{◌≡◌};
+    ghost use Rattle.covlock.specs.OpenFault.{open_number};
+
+    /// The number of the fault, from 1.
+    pub fn number(self) -> u32
+        ensures { result ≡ open_number self }
+    {
+        self as u32
+    }
+}
+
+impl From<Memory> for OpenFault {
+    ghost use Rattle.std.specs.Prelude.{◌≡◌};
+    ghost use Rattle.covlock.specs.declared.name.OpenFault.TheVariants as faults;
+
+    ghost from_gives = { λ _ e. e ≡ faults.Memory };
+
+    fn from(_refused: Memory) -> OpenFault {
+        OpenFault::Memory
+    }
+}
+
+/// What a shared book is made of: an empty book, the count of its calls, and the opening of what is published of it. Contracts
+/// see the name of the count, how many jobs share the book, and the name of the book.
+#[derive(Drop)]
+pub struct Start<A: Allocator = Global> {
+    jobs: u32,
+    count: Blank,
+    book: Book<A>,
+    opening: Opening,
+}
+
+impl<A: Allocator> Model for Start<A> {
+    ghost use Rattle.covlock.specs.Start.{StartData, IsStart};
+
+    ghost Value = { StartData };
+
+    ghost view = { λ a. record { name = a.count.name; jobs = a.jobs; book = a.opening.book } };
+
+    ghost invariant = { λ a. IsStart a.jobs a.count.parts a.book.entries };
+}
+
+impl<A: Allocator + Copy> Start<A> {
+    ghost use Rattle.std.specs.Prelude.{◌≡◌, ◌↔◌, [], IfOk, Err};
+    ghost use Rattle.covlock.specs.declared.name.OpenFault.TheVariants as faults;
+    ghost use Rattle.covlock.specs.Start.{AreJobs};
+
+    /// What a book for so many jobs is made of. `BadJobs` where the jobs aren't 1 to 64. Nothing of it takes memory yet, so `Memory`
+    /// isn't answered.
+    pub fn new(alloc: A, jobs: u32) -> Result<Start<A>, OpenFault>
+        ensures jobs { IfOk result (λ s. s.jobs ≡ jobs) }
+        ensures bad { (result ≡ Err faults.BadJobs) ↔ (AreJobs jobs → ⊥) }
+    {
+        if jobs == 0 || jobs > MOST_JOBS {
+            return Err(OpenFault::BadJobs);
+        }
+        Ok(Start {
+            jobs,
+            count: Blank::new(u64::from(jobs)),
+            book: Book::new(alloc),
+            opening: Opening::new(),
+        })
+    }
+}
+
+impl<A: Allocator> Start<A> {
+    ghost use Rattle.std.specs.Prelude.{◌≡◌, []};
+    ghost use Rattle.covlock.specs.Start.{AreJobs};
+
+    /// How many jobs there are, the count without a call, the empty book, and the opening of what is published of it.
+    pub(crate) fn into_parts(self) -> (u32, Blank, Book<A>, Opening)
+        ensures jobs { result.0 ≡ self.jobs }
+        ensures bounds { AreJobs self.jobs }
+        ensures name { result.1.name ≡ self.name }
+        ensures parts { result.1.parts ≡ self.jobs }
+        ensures entries { result.2.entries ≡ [] }
+        ensures book { result.3.book ≡ self.book }
+    {
+        (self.jobs, self.count, self.book, self.opening)
+    }
+}

@@ -1,0 +1,88 @@
+//! The seat of a job: by it the job performs its steps.
+
+use covnews::Name;
+use std::marker::Model;
+use std::sync::ledger::{Book, Share};
+
+/// The seat of one job at a shared book. Contracts see the job, how many of its calls succeeded, and the place after the last
+/// of them.
+#[derive(Drop)]
+pub struct Seat<L: Name> {
+    job: u32,
+    calls: u64,
+    seen: u64,
+    share: Share<L>,
+}
+
+impl<L: Name> Model for Seat<L> {
+    ghost use Rattle.std.specs.Prelude.{◌≡◌};
+    ghost use Rattle.covlock.specs.Seat.{SeatData};
+
+    ghost Value = { SeatData };
+
+    ghost view = { λ a. record { job = a.job; calls = a.calls; seen = a.seen } };
+
+    ghost invariant = { λ a. (a.share.parts ≡ 1) × (a.share.amount ≡ a.calls) };
+}
+
+impl<L: Name> Seat<L> {
+    ghost use Rattle.std.specs.Prelude.{◌≡◌, ◌+◌, ◌<◌};
+    ghost use Rattle.covbook.specs.Step.{most_entries};
+    ghost use Rattle.covlock.specs.Seat.{fresh_seat, after_call};
+
+    /// The seat of a job that has made no call, with a share of the count.
+    pub(crate) fn new(job: u32, share: Share<L>) -> Seat<L>
+        requires part { share.parts ≡ 1 }
+        requires none { share.amount ≡ 0 }
+        ensures { result ≡ fresh_seat job }
+    {
+        Seat {
+            job,
+            calls: 0,
+            seen: 0,
+            share,
+        }
+    }
+
+    /// The job. Takes no memory, as the other two questions.
+    pub fn job(&self) -> u32
+        ensures { result ≡ self.now.job }
+    {
+        self.job
+    }
+
+    /// How many of the job's calls succeeded.
+    pub fn calls(&self) -> u64
+        ensures { result ≡ self.now.calls }
+    {
+        self.calls
+    }
+
+    /// The place after that of the last call that succeeded, and 0 before the first.
+    pub fn seen(&self) -> u64
+        ensures { result ≡ self.now.seen }
+    {
+        self.seen
+    }
+
+    /// Counts a call that is answered at this place, in the seat and in the book's count.
+    pub(crate) fn count_call(&mut self, count: &mut Book<L>, place: u64)
+        requires few { count.old.total < most_entries }
+        requires place { place < most_entries }
+        ensures seat { self.new ≡ after_call self.old place }
+        ensures total { count.new.total ≡ count.old.total + 1 }
+    {
+        count.audit(&mut self.share);
+        count.add(&mut self.share, 1);
+        self.calls += 1;
+        self.seen = place + 1;
+    }
+
+    /// The share of the count, which is given up with the seat.
+    pub(crate) fn into_share(self) -> Share<L>
+        ensures part { result.parts ≡ 1 }
+        ensures calls { result.amount ≡ self.calls }
+    {
+        self.share
+    }
+}

@@ -1,0 +1,156 @@
+//! The book that threads share.
+
+use crate::handed::{Seats, seats_for};
+use crate::locked::Locked;
+use crate::name::Start;
+use crate::seat::Seat;
+use covbook::{BookFault, Entries, Op, Receipt};
+use covline::Memory;
+use covnews::{Live, Name, News, Publisher, ReaderFault};
+use std::alloc::{Allocator, Global};
+use std::marker::Model;
+use std::sync::{Mutex, Wait};
+use thiserror::Error;
+
+/// How many readers are made of one book at the most.
+pub const MOST_READERS: u32 = 64;
+
+/// A book under a lock, which threads share by reference. Contracts see how many jobs it is for. A book that is dropped, and not
+/// closed, keeps the memory that it shares with its readers (some 17 KB).
+#[derive(Drop)]
+pub struct Shared<L: Name, A: Allocator = Global> {
+    jobs: u32,
+    locked: Mutex<Locked<L, A>>,
+}
+
+impl<L: Name, A: Allocator> Model for Shared<L, A> {
+    ghost use Rattle.std.specs.Prelude.{◌≡◌};
+    ghost use Rattle.covlock.specs.Shared.{SharedData};
+
+    ghost Value = { SharedData };
+
+    ghost view = { λ a. record { jobs = a.jobs } };
+
+    ghost invariant = { λ a. a.jobs ≡ L.parts };
+}
+
+/// What a call that succeeded is answered: its receipt, and news of the history that ends with its entry.
+#[derive(Drop)]
+pub struct Done<L: Name, A: Allocator = Global> {
+    pub receipt: Receipt<A>,
+    pub news: News<L>,
+}
+
+/// Why a book isn't closed.
+#[derive(Clone, Copy, Debug, PartialEq, Eq, Error)]
+pub enum CloseFault {
+    /// Fault 1: the seat of this job isn't handed in, and those of all lower ones are.
+    #[error("Missing {job}")]
+    Missing { job: u32 },
+}
+
+impl CloseFault {
+    ghost use Rattle.std.specs.Prelude.{◌≡◌};
+    ghost use Rattle.covlock.specs.CloseFault.{close_number};
+
+    /// The number of the fault, from 1.
+    pub fn number(self) -> u32
+        ensures { result ≡ close_number self }
+    {
+        match self {
+            CloseFault::Missing { job: _ } => 1,
+        }
+    }
+}
+
+ghost use Rattle.std.specs.Prelude.{◌≡◌, IfOk};
+ghost use Rattle.covlock.specs.Seat.{first_seats};
+
+/// Opens an empty book, with a seat for each job from 0 on. A refusal gives the start up.
+pub fn open_book<L: Name, A: Allocator + Copy>(
+    alloc: A,
+    start: Start<A>,
+) -> Result<(Shared<L, A>, Seats<L, A>), Memory>
+    requires name { start.name ≡ L.name }
+    requires jobs { start.jobs ≡ L.parts }
+    requires book { start.book ≡ L.book }
+    ensures jobs { IfOk result (λ r. r.0.jobs ≡ start.jobs) }
+    ensures seats { IfOk result (λ r. r.1 ≡ first_seats start.jobs) }
+{
+    let (jobs, count, book, opening) = start.into_parts();
+    let (count, mut all) = count.open::<L>();
+    let seats = seats_for(alloc, jobs, &mut all)?;
+    let publisher = Publisher::new(alloc, opening, MOST_READERS)?;
+    let locked = Mutex::new(Locked::new(book, count, all, publisher));
+    Ok((Shared { jobs, locked }, seats))
+}
+
+impl<L: Name, A: Allocator + Copy> Shared<L, A> {
+    ghost use Rattle.std.specs.Prelude.{◌≡◌, ◌≤◌, IfOk, MatchResult};
+    ghost use Rattle.covbook.specs.View.{op_data};
+    ghost use Rattle.covbook.specs.EntryView.{receipt_data};
+    ghost use Rattle.covlock.specs.Call.{IsTold, IsNewsOf};
+    ghost use Rattle.covlock.specs.Seat.{after_call};
+
+    /// One step of the book by the seat's job, answered as the table answers it behind a legal history. The news are of the history
+    /// that ends with the call's entry, which readers are shown from then on. Waits for the lock, and holds it for the step alone;
+    /// waits for readers that still read what was shown two steps ago. `Full` is answered where the history is full, and where it
+    /// is shorter than what the seat has seen, which no seat of this book meets. After a refusal the book's history and content,
+    /// what readers are shown, and the seat are as they were.
+    pub fn perform<R: Wait>(
+        &self,
+        rt: &R,
+        alloc: A,
+        seat: &mut Seat<L>,
+        op: &Op<A>,
+    ) -> Result<Done<L, A>, BookFault>
+        ensures asked { IfOk result (λ d. op_data d.receipt.op ≡ op_data op.now) }
+        ensures told { IfOk result (λ d. IsTold (op_data op.now) (receipt_data d.receipt)) }
+        ensures news { IfOk result (λ d. IsNewsOf seat.old.job (op_data op.now) (receipt_data d.receipt) d.news) }
+        ensures seen { IfOk result (λ d. seat.old.seen ≤ d.receipt.place) }
+        ensures seat { MatchResult result (λ d. seat.new ≡ after_call seat.old d.receipt.place) (λ _. seat.new ≡ seat.old) }
+    {
+        let (receipt, news) = self.locked.lock(rt).step(rt, alloc, seat, op)?;
+        Ok(Done { receipt, news })
+    }
+}
+
+impl<L: Name, A: Allocator> Shared<L, A> {
+    ghost use Rattle.std.specs.Prelude.{◌≡◌, length, IfOk, IfErr, MatchResult};
+    ghost use Rattle.covbook.specs.Op.{AreLawfulOps};
+    ghost use Rattle.covbook.specs.Step.{IsLegal, ops_in};
+    ghost use Rattle.covlock.specs.Seat.{calls_in};
+    ghost use Rattle.covnews.specs.declared.fault.ReaderFault.TheVariants as reader_faults;
+    ghost use Rattle.covlock.specs.Handed.{AllAreSeated, IsLeastMissing};
+    ghost use Rattle.covlock.specs.CloseFault.{told_job};
+
+    /// A reader of the totals, which waits for nobody once it is made. `NoPlace` if 64 readers were made, dropped ones among them,
+    /// or earlier if no free place is found. Takes no memory, so `Memory` isn't answered. Waits for the lock.
+    pub fn reader<R: Wait>(&self, rt: &R) -> Result<Live<L, A>, ReaderFault>
+        ensures legal { IfOk result (λ live. IsLegal live) }
+        ensures fault { IfErr result (λ fault. fault ≡ reader_faults.NoPlace) }
+    {
+        self.locked.lock(rt).reader()
+    }
+
+    /// Closes the book, where the seat of each job is handed in, and gives its history, whose submissions are lawful, with news of it. Else all is handed back,
+    /// with the least job whose seat is missing. Takes no memory. May wait for a reader to leave. Readers are then shown nothing
+    /// new: they answer the longest history that they saw or learned.
+    pub fn close<R: Wait>(
+        self,
+        rt: &R,
+        seats: Seats<L, A>,
+    ) -> Result<(Entries<A>, News<L>), (Shared<L, A>, Seats<L, A>, CloseFault)>
+        ensures seated { MatchResult result (λ _. AllAreSeated self.jobs seats) (λ back. IsLeastMissing self.jobs seats (told_job back.2)) }
+        ensures history { IfOk result (λ closed. IsLegal closed.0) }
+        ensures lawful { IfOk result (λ closed. AreLawfulOps (ops_in closed.0)) }
+        ensures calls { IfOk result (λ closed. length closed.0 ≡ calls_in seats) }
+        ensures news { IfOk result (λ closed. closed.1 ≡ closed.0) }
+        ensures back { MatchResult result (λ _. Unit {0}) (λ back. (back.0 ≡ self) × (back.1 ≡ seats)) }
+    {
+        if let Some(job) = seats.missing(self.jobs) {
+            return Err((self, seats, CloseFault::Missing { job }));
+        }
+        Ok(self.locked.into_inner().close(rt, seats))
+    }
+}

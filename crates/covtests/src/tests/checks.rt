@@ -1,0 +1,171 @@
+//! What a check tells of a text, with ample memory.
+
+use super::calls::{checked, checked_gcov, told, without_shape};
+use super::{check_bytes, push_line};
+use covcheck::Holding;
+use covread::ReadFault;
+use std::alloc::Global;
+use std::process::Abort;
+use std::test::*;
+
+/// As what a text is checked.
+#[derive(Clone, Copy)]
+enum Kind {
+    Trace,
+    Gcov,
+}
+
+fn check(alloc: Global, kind: Kind, text: &[u8]) -> Result<Holding<'_>, ReadFault> {
+    match kind {
+        Kind::Trace => checked(alloc, text),
+        Kind::Gcov => checked_gcov(alloc, text),
+    }
+}
+
+/// The line that is told of a text, or its fault.
+fn line_of(alloc: Global, kind: Kind, text: &[u8]) -> Result<Vec<u8>, Fail> {
+    match check(alloc, kind, text) {
+        Ok(holding) => Ok(told(alloc, &holding)?),
+        Err(fault) => {
+            let words = format!(in alloc; "{fault}\n")?;
+            Ok(Vec::from_slice(alloc, words.as_bytes())?)
+        }
+    }
+}
+
+/// The text is told so.
+fn check_told(
+    rt: &(impl Abort + AllocGlobal),
+    kind: Kind,
+    text: &[u8],
+    wanted: &[u8],
+) -> Result<(), Fail> {
+    let line = line_of(rt.alloc(), kind, text)?;
+    let told = line.as_slice().strip_suffix(b"\n").unwrap_or(b"");
+    check_bytes(rt, told, wanted);
+    Ok(())
+}
+
+/// Texts are lines of one literal; after each stands what is told of it.
+fn check_all(rt: &(impl Abort + AllocGlobal), kind: Kind, lines: &[u8]) -> Result<(), Fail> {
+    let mut text: Vec<u8> = Vec::new(rt.alloc());
+    for line in lines.split(|byte| *byte == b'\n') {
+        match line.strip_prefix(b"> ") {
+            None => push_line(&mut text, line)?,
+            Some(wanted) => {
+                check_told(rt, kind, text.as_slice(), wanted)?;
+                text.clear();
+            }
+        }
+    }
+    Ok(())
+}
+
+/// The second text has a blank line, a line of blanks begins the fifth, and the seventh begins with a byte order mark.
+#[test]
+fn checked_tracefiles(rt: HostRuntime) -> Result<(), Fail> {
+    check_all(
+        &rt,
+        Kind::Trace,
+        b"TN:t
+SF:/a.c
+FN:3,main
+FNDA:2,main
+FNL:0,3,9
+FNA:0,2,main
+
+DA:3,2
+DA:4,0
+BRDA:3,0,0,-
+LF:2
+LH:2
+end_of_record
+> sections 1 items 5 odd 1 skipped 2 first FNL at 5
+<html>
+
+<body class=\"x\">
+</body>
+> sections 0 items 0 odd 0 skipped 3 first <html> at 1
+> sections 0 items 0 odd 0 skipped 0
+
+ DA:1,1
+> sections 0 items 0 odd 0 skipped 1 first ?DA at 2
+\t  \n:x
+> sections 0 items 0 odd 0 skipped 2 first ??? at 1
+:x\tDA
+> sections 0 items 0 odd 0 skipped 1 first :x at 1
+\xEF\xBB\xBFTN:t
+> sections 0 items 0 odd 0 skipped 1 first ???TN at 1
+abcdefghijklmnopq:1
+> sections 0 items 0 odd 0 skipped 1 first abcdefghijklmnop at 1
+DA
+BRDA
+FN 3,main
+end_of_recor
+> sections 0 items 0 odd 0 skipped 4 first DA at 1
+FNL:0,3,9
+SF:/a.c
+> OpenEnd
+SF:/a.c
+FNL:0,3,9
+DA:1
+> BadLine at 3",
+    )
+}
+
+/// The second text is a tracefile.
+#[test]
+fn checked_annotated_source(rt: HostRuntime) -> Result<(), Fail> {
+    check_all(
+        &rt,
+        Kind::Gcov,
+        b"        -:    0:Source:tmp.c
+        -:    0:Runs:1
+function main called 1 returned 100% blocks executed 80%
+        1:    2:int main(void)
+
+branch  0 taken 2 (fallthrough)
+call    2 returned 3
+unconditional  3 taken 1
+> sections 1 items 3 odd 0 skipped 2 first call at 7
+TN:t
+SF:/a.c
+DA:1,1
+end_of_record
+> sections 0 items 0 odd 0 skipped 4 first TN at 1
+> sections 0 items 0 odd 0 skipped 0
+call    2 returned 3
+1:1:x
+> NoSource at 2",
+    )
+}
+
+/// Whether a tracefile has an item.
+fn check_has_item(rt: &(impl Abort + AllocGlobal), text: &[u8], wanted: bool) -> Result<(), Fail> {
+    let has_item = match checked(rt.alloc(), text) {
+        Ok(holding) => holding.has_item(),
+        Err(_) => !wanted,
+    };
+    assert_eq!(rt; has_item, wanted);
+    Ok(())
+}
+
+#[test]
+fn texts_with_and_without_items(rt: HostRuntime) -> Result<(), Fail> {
+    check_has_item(&rt, b"SF:/a.c\nDA:1,0\nend_of_record\n", true)?;
+    check_has_item(&rt, b"SF:/a.c\nend_of_record\n", false)?;
+    check_has_item(&rt, b"<html>\n", false)
+}
+
+/// Of a line of each shape, and of blank lines and lines of no shape.
+#[test]
+fn lines_of_no_shape(rt: HostRuntime) {
+    for line in b"------|function f called 1|branch 0 never executed|branch 0 taken 1|1: 2-block 3|1: 2:x".split(
+        |byte| *byte == b'|',
+    ) {
+        assert!(rt; !without_shape(line), "{line:?}");
+    }
+    for line in b"|  |call 0 returned 1|branch 0|1: 2|File 'a.c'".split(|byte| *byte == b'|') {
+        assert!(rt; without_shape(line), "{line:?}");
+    }
+}
