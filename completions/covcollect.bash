@@ -1,6 +1,18 @@
 # Completes the words of covcollect in bash. bash-completion reads this file by itself from share/bash-completion/completions,
 # as long as it is named covcollect there.
 
+# _covcollect_files SUFFIXES: suggests the files that have one of the suffixes, with | between them, and folders. Where no file
+# has one, it suggests any file.
+_covcollect_files() {
+    local path
+    _filedir "$1"
+    for path in "${COMPREPLY[@]}"; do
+        [[ -d ${path/#\~\//$HOME/} ]] || return
+    done
+    COMPREPLY=()
+    _filedir
+}
+
 # _covcollect_sources TRACEFILE: suggests the source files of the tracefile that begin with the word at the cursor, as patterns
 # that match just these. They are quoted for the shell as the word is.
 _covcollect_sources() {
@@ -29,14 +41,16 @@ _covcollect() {
     local cur prev words cword split
     _init_completion -s || return
 
-    # The words before the cursor without options: the subcommand, and how many come after it.
-    local subcommand='' tracefile='' others=0 ended='' i
+    # The words before the cursor without options: the subcommand, and how many come after it. What a tracefile's name ends in.
+    local subcommand='' tracefile='' others=0 ended='' annotated='' i
+    local tracefiles='info|lcov|dat'
     for ((i = 1; i < cword; i++)); do
         if [[ -z $ended && ${words[i]} == -- ]]; then
             ended=1
         elif [[ -z $ended && ${words[i]} == -* ]]; then
             # The value of an option is a word of its own, where it isn't part of the option's.
             [[ ${words[i]} == --jobs || ${words[i]} == --test ]] && ((i++))
+            [[ $subcommand${words[i]} == check--gcov ]] && annotated=1
         elif [[ -z $subcommand ]]; then
             subcommand=${words[i]}
         else
@@ -62,19 +76,20 @@ _covcollect() {
                 '') options+=' -V --version' ;;
                 merge) options+=' --jobs' ;;
                 gcov) options+=' --test' ;;
+                check) options+=' --gcov' ;;
             esac
             COMPREPLY=($(compgen -W "$options" -- "$cur"))
             return
         fi
     fi
 
-    case $subcommand in
-        '') COMPREPLY=($(compgen -W 'merge summary extract remove gcov' -- "$cur")) ;;
-        merge | summary) _filedir info ;;
-        gcov) _filedir gcov ;;
+    case $subcommand$annotated in
+        '') COMPREPLY=($(compgen -W 'merge summary extract remove gcov check' -- "$cur")) ;;
+        merge | summary | check) _covcollect_files "$tracefiles" ;;
+        gcov | check1) _covcollect_files gcov ;;
         extract | remove)
             if ((others == 0)); then
-                _filedir info
+                _covcollect_files "$tracefiles"
             else
                 _covcollect_sources "$tracefile"
             fi

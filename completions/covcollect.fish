@@ -36,7 +36,20 @@ function __covcollect_filters
     __covcollect_within extract remove; and test (count (__covcollect_words)) = 1
 end
 
-# The same, with its tracefile.
+# Whether the flag --gcov stands before the cursor. After -- it is a file's name.
+function __covcollect_has_gcov
+    for word in (commandline -opc)
+        switch $word
+            case --
+                return 1
+            case --gcov
+                return 0
+        end
+    end
+    return 1
+end
+
+# Whether a subcommand that filters stands there, with its tracefile.
 function __covcollect_chooses
     __covcollect_within extract remove; and test (count (__covcollect_words)) -gt 1
 end
@@ -46,9 +59,20 @@ function __covcollect_processors
     nproc 2>/dev/null | string replace -r -- '^(?:6[5-9]|[7-9].|.{3,})$' 64
 end
 
-# __covcollect_files SUFFIX: the files with the suffix, and folders.
+# __covcollect_files SUFFIX..: the files with one of the suffixes, and folders. Where no file has one, any file.
 function __covcollect_files
-    complete -C "__covcollect_no_command "(commandline -ct) | string match -r -- '^[^\t]*(?:/|'(string escape --style=regex -- $argv[1])')(?=\t|$)'
+    set -l names (complete -C "__covcollect_no_command "(commandline -ct) | string match -r -- '^[^\t]+')
+    set -l suffixes '(?:'(string join '|' (string escape --style=regex -- $argv))')$'
+    if string match -qr -- $suffixes $names
+        string match -r -- '^.*(?:/$|'$suffixes')' $names
+    else
+        string join \n -- $names
+    end
+end
+
+# Those that may be tracefiles.
+function __covcollect_tracefiles
+    __covcollect_files .info .lcov .dat
 end
 
 # The source files of the tracefile that stands before, as patterns that match just these.
@@ -67,9 +91,13 @@ complete -c covcollect -n __covcollect_begins -a summary -d 'Tell how much of th
 complete -c covcollect -n __covcollect_begins -a extract -d 'Keep the source files that match a pattern'
 complete -c covcollect -n __covcollect_begins -a remove -d 'Leave out the source files that match a pattern'
 complete -c covcollect -n __covcollect_begins -a gcov -d 'Make a tracefile of what gcov wrote'
+complete -c covcollect -n __covcollect_begins -a check -d 'Tell what is read of each file, and add nothing up'
 complete -c covcollect -n '__covcollect_within merge' -l jobs -x -a '(__covcollect_processors)' -d 'How many files are parsed at once, 1 to 64'
 complete -c covcollect -n '__covcollect_within gcov' -l test -x -d 'The test that the counts are of'
-complete -c covcollect -n '__covcollect_within merge summary' -a '(__covcollect_files .info)'
+complete -c covcollect -n '__covcollect_within check' -l gcov -d 'The files are what gcov wrote'
+complete -c covcollect -n '__covcollect_within merge summary' -a '(__covcollect_tracefiles)'
 complete -c covcollect -n '__covcollect_within gcov' -a '(__covcollect_files .gcov)'
-complete -c covcollect -n __covcollect_filters -a '(__covcollect_files .info)'
+complete -c covcollect -n '__covcollect_within check; and __covcollect_has_gcov' -a '(__covcollect_files .gcov)'
+complete -c covcollect -n '__covcollect_within check; and not __covcollect_has_gcov' -a '(__covcollect_tracefiles)'
+complete -c covcollect -n __covcollect_filters -a '(__covcollect_tracefiles)'
 complete -c covcollect -n __covcollect_chooses -a '(__covcollect_sources)'

@@ -1,10 +1,14 @@
 -- Calls by their words, computed.
 use Rattle.std.proofs.Common.{◌≡◌, List, [], ◌∷◌, true, refl, codes}
 use Rattle.clap.proofs.OnLiterals.{clap_on_literals}
-use Rattle.clap.specs.Walk.{Text}
-use Rattle.clap.specs.Words.{takes, fault_of}
+use Rattle.std.specs.Option.{option_map_or}
+use Rattle.clap.specs.Walk.{Row, Text}
+use Rattle.clap.specs.Words.{takes, fault_of, subcommand_of}
 use Rattle.clap.specs.declared.error.kind.ErrorKind.TheVariants as kind
+use Rattle.covcommand.specs.Asked.{AsksFor}
 use Rattle.covcommand.specs.CommandLine.{covcollect}
+use Rattle.covcommand.specs.declared.asked.Command.TheVariants.{Check}
+use Rattle.covcommand.specs.declared.asked.TextFormat.TheVariants as format
 
 pub session_taken : takes covcollect (codes "covcollect" ∷ []) ≡ true
 unfolding clap_on_literals
@@ -30,6 +34,30 @@ pub gcov_taken : takes covcollect (codes "covcollect" ∷ codes "gcov" ∷ codes
 unfolding clap_on_literals
 gcov_taken = refl
 
+pub check_taken : takes covcollect (codes "covcollect" ∷ codes "check" ∷ codes "--gcov" ∷ codes "a.c.gcov" ∷ []) ≡ true
+unfolding clap_on_literals
+check_taken = refl
+
+-- the rows of the subcommand that the words name
+abbrev rows_met : List Text → List Row
+rows_met words = option_map_or (λ met. met.1) (subcommand_of covcollect words) []
+
+pub tracefile_asked : AsksFor (subcommand_of covcollect (codes "covcollect" ∷ codes "check" ∷ codes "a.info" ∷ [])) (Check format.Tracefile (codes "a.info" ∷ []))
+unfolding clap_on_literals
+tracefile_asked = (rows_met (codes "covcollect" ∷ codes "check" ∷ codes "a.info" ∷ []), refl, refl, refl)
+
+pub before_asked : AsksFor (subcommand_of covcollect (codes "covcollect" ∷ codes "check" ∷ codes "--gcov" ∷ codes "a.c.gcov" ∷ [])) (Check format.Gcov (codes "a.c.gcov" ∷ []))
+unfolding clap_on_literals
+before_asked = (rows_met (codes "covcollect" ∷ codes "check" ∷ codes "--gcov" ∷ codes "a.c.gcov" ∷ []), refl, refl, refl)
+
+pub after_asked : AsksFor (subcommand_of covcollect (codes "covcollect" ∷ codes "check" ∷ codes "a.c.gcov" ∷ codes "--gcov" ∷ [])) (Check format.Gcov (codes "a.c.gcov" ∷ []))
+unfolding clap_on_literals
+after_asked = (rows_met (codes "covcollect" ∷ codes "check" ∷ codes "a.c.gcov" ∷ codes "--gcov" ∷ []), refl, refl, refl)
+
+pub name_asked : AsksFor (subcommand_of covcollect (codes "covcollect" ∷ codes "check" ∷ codes "--" ∷ codes "--gcov" ∷ [])) (Check format.Tracefile (codes "--gcov" ∷ []))
+unfolding clap_on_literals
+name_asked = (rows_met (codes "covcollect" ∷ codes "check" ∷ codes "--" ∷ codes "--gcov" ∷ []), refl, refl, refl)
+
 pub jobs_refused : fault_of covcollect (codes "covcollect" ∷ codes "merge" ∷ codes "--jobs" ∷ codes "65" ∷ codes "a.info" ∷ []) ≡ kind.ValueValidation ∷ []
 unfolding clap_on_literals
 jobs_refused = refl
@@ -45,6 +73,14 @@ extract_refused = refl
 pub gcov_refused : fault_of covcollect (codes "covcollect" ∷ codes "gcov" ∷ codes "a.c.gcov" ∷ []) ≡ kind.MissingRequiredArgument ∷ []
 unfolding clap_on_literals
 gcov_refused = refl
+
+pub check_refused : fault_of covcollect (codes "covcollect" ∷ codes "check" ∷ codes "--gcov" ∷ []) ≡ kind.MissingRequiredArgument ∷ []
+unfolding clap_on_literals
+check_refused = refl
+
+pub twice_refused : fault_of covcollect (codes "covcollect" ∷ codes "check" ∷ codes "--gcov" ∷ codes "--gcov" ∷ codes "a.c.gcov" ∷ []) ≡ kind.ArgumentConflict ∷ []
+unfolding clap_on_literals
+twice_refused = refl
 
 pub help_refused : fault_of covcollect (codes "covcollect" ∷ codes "merge" ∷ codes "--help" ∷ []) ≡ kind.DisplayHelp ∷ []
 unfolding clap_on_literals

@@ -13,29 +13,46 @@ use Rattle.clap.specs.Walk.{Row, Rule, Text, answers_to, has_row, nothing_held, 
 use Rattle.clap.specs.Simple.{App, Shape, argument_words, built, entered, filled, help_rule, label_of, names_of, rows_at, subcommand_of, with_index}
 use Rattle.clap.specs.Takes.{is_given}
 use Rattle.clap.specs.Faults.{built_fault, check_fault, entered_fault, fault_of, level_fault, repeat_fault, walk_fault}
-use Rattle.covcommand.specs.CommandLine.{covcollect, jobs, merge, several, single, test}
-use Rattle.covcommand.specs.Found.{Fits, HasFilter, HasJobs, HasSome, HasTest}
+use Rattle.covcommand.specs.CommandLine.{annotated, covcollect, jobs, merge, several, single, test}
+use Rattle.covcommand.specs.Found.{Fits, HasFilter, HasFlag, HasJobs, HasSome, HasTest}
 use Rattle.covcommand.proofs.Walks.{EachKeeps, Keeps, level_keeps, no_faults, settled_after}
-use Rattle.covcommand.proofs.Rows.{RowsFit, append_fits, defaulted, given_row, has_jobs, has_some, has_test, held_row, not_defaulted, numbers, set_fits}
+use Rattle.covcommand.proofs.Rows.{FitsValues, RowsFit, append_fits, defaulted, given_row, has_flag, has_jobs, has_some, has_test, held_row, not_defaulted, numbers, set_fits}
 
 no : {A : Type 0} → false ≡ true → A
 no e = absurd cc
 
 -- ---- each argument's uses
 
-several_keeps : (id : Text) (i : ℕ) → bytes_eq id (codes "jobs") ≡ false → Keeps RowsFit (with_index i (filled (several id)))
-several_keeps id i other again [] rows none fit = absurd cc
-several_keeps id i other again (v ∷ vs) rows none fit =
-    append_fits id AsWritten CommandLine (v ∷ vs) rows (λ e. no (sym other ∙ e)) fit
+-- the values of this argument may be any words
+abbrev IsFree : Text → Type 0
+IsFree id = (bytes_eq id (codes "jobs") ≡ false) × (bytes_eq id (codes "gcov") ≡ false)
 
-single_keeps : (id : Text) (i : ℕ) → bytes_eq id (codes "jobs") ≡ false → Keeps RowsFit (with_index i (filled (single id)))
-single_keeps id i other again [] rows none fit = absurd cc
-single_keeps id i other again (v ∷ vs) rows none fit =
-    set_fits id AsWritten (v ∷ vs) rows (λ e. no (sym other ∙ e)) fit
+any_fit : (id v : Text) (vs : List Text) → IsFree id → FitsValues id AsWritten (v ∷ vs)
+any_fit id v vs free = ((λ e. no (sym free.0 ∙ e)), (λ e. no (sym free.1 ∙ e)))
+
+several_keeps : (id : Text) (i : ℕ) → IsFree id → Keeps RowsFit (with_index i (filled (several id)))
+several_keeps id i free again [] rows none fit = absurd cc
+several_keeps id i free again (v ∷ vs) rows none fit =
+    append_fits id AsWritten CommandLine (v ∷ vs) rows (any_fit id v vs free) fit
+
+single_keeps : (id : Text) (i : ℕ) → IsFree id → Keeps RowsFit (with_index i (filled (single id)))
+single_keeps id i free again [] rows none fit = absurd cc
+single_keeps id i free again (v ∷ vs) rows none fit =
+    set_fits id AsWritten (v ∷ vs) rows (any_fit id v vs free) fit
 
 test_keeps : (i : ℕ) → Keeps RowsFit (with_index i (filled test))
 test_keeps i again [] rows none fit = absurd cc
-test_keeps i again (v ∷ vs) rows none fit = set_fits (codes "test") AsWritten (v ∷ vs) rows (λ e. no e) fit
+test_keeps i again (v ∷ vs) rows none fit =
+    set_fits (codes "test") AsWritten (v ∷ vs) rows (any_fit (codes "test") v vs (refl, refl)) fit
+
+abbrev annotated_built : ℕ → Rule
+annotated_built i = with_index i (filled annotated)
+
+-- a flag that is given says "true"
+annotated_keeps : (i : ℕ) → Keeps RowsFit (annotated_built i)
+annotated_keeps i again [] rows none fit =
+    set_fits (codes "gcov") AsWritten (codes "true" ∷ []) rows ((λ e. no e), (λ e. (refl, refl))) fit
+annotated_keeps i again (v ∷ vs) rows none fit = absurd cc
 
 accepted : (b : Bool) (k : ErrorKind) → cond b [] (k ∷ []) ≡ [] → b ≡ true
 accepted true k e = refl
@@ -51,7 +68,7 @@ jobs_keeps i again (v ∷ vs) rows none fit =
     (or_else (repeat_fault again (codes "jobs") rows) (values_kinds false numbers (v ∷ vs))) none in
     let sets = no_faults (repeat_fault again (codes "jobs") rows) (values_kinds false numbers (v ∷ vs)) acts.1 in
     let first = no_faults (value_kinds false numbers v) (values_kinds false numbers vs) sets.1 in
-    set_fits (codes "jobs") WithoutMinus (v ∷ vs) rows (λ e. (accepted _ _ first.0, refl)) fit
+    set_fits (codes "jobs") WithoutMinus (v ∷ vs) rows ((λ e. (accepted _ _ first.0, refl)), (λ e. no e)) fit
 
 help_keeps : (i : ℕ) → Keeps RowsFit (with_index i (filled help_rule))
 help_keeps i again values rows none fit =
@@ -83,14 +100,14 @@ merge_has rows fit none =
     let before = with_default (with_default rows (with_index 1 (filled (several (codes "FILE"))))) (jobs_built 2) in
     let same : all ≡ with_default rows (jobs_built 2) = not_defaulted (has_row (codes "help") before) before
     ∙ ap (λ (r : List Row). with_default r (jobs_built 2)) (not_defaulted (has_row (codes "FILE") rows) rows) in
-    let done = defaulted rows fit in
+    let done = defaulted (codes "jobs") WithoutMinus (codes "1") refl ((λ e. (refl, refl)), (λ e. no e)) rows fit in
     let fits : RowsFit all = subst RowsFit (sym same) done.0 in
     let has : has_row (codes "jobs") all ≡ true = ap (has_row (codes "jobs")) same ∙ done.1 in
     (has_jobs all (held_row (codes "jobs") all fits has), has_some (codes "FILE") all (given_row (codes "FILE") all fits (wanted _ _ _ none).0))
 
 merge_fits : SubFits (sub_at 0)
 merge_fits words none =
-    let each : EachKeeps RowsFit (sub_at 0).rules = (several_keeps (codes "FILE") 1 refl, (jobs_keeps 2, (help_keeps 2, tt))) in
+    let each : EachKeeps RowsFit (sub_at 0).rules = (several_keeps (codes "FILE") 1 (refl, refl), (jobs_keeps 2, (help_keeps 2, tt))) in
     let level = level_keeps RowsFit (sub_at 0) words each tt none in
     let has = merge_has (settled_after (sub_at 0) words) level.0 level.1 in
     record {
@@ -98,12 +115,13 @@ merge_fits words none =
       summary = λ e. no e;
       extract = λ e. no e;
       remove = λ e. no e;
-      others = λ m s x r. no (sym m);
+      gcov = λ e. no e;
+      others = λ m s x r g. no (sym m);
     }
 
 summary_fits : SubFits (sub_at 1)
 summary_fits words none =
-    let each : EachKeeps RowsFit (sub_at 1).rules = (several_keeps (codes "FILE") 1 refl, (help_keeps 2, tt)) in
+    let each : EachKeeps RowsFit (sub_at 1).rules = (several_keeps (codes "FILE") 1 (refl, refl), (help_keeps 2, tt)) in
     let level = level_keeps RowsFit (sub_at 1) words each tt none in
     let has = summary_has (settled_after (sub_at 1) words) level.0 level.1 in
     record {
@@ -111,7 +129,8 @@ summary_fits words none =
       summary = λ e. has;
       extract = λ e. no e;
       remove = λ e. no e;
-      others = λ m s x r. no (sym s);
+      gcov = λ e. no e;
+      others = λ m s x r g. no (sym s);
     }
   where
     summary_has : (rows : List Row) → RowsFit rows → check_fault (sub_at 1) (fold with_default rows (sub_at 1).rules) false ≡ []
@@ -128,7 +147,7 @@ abbrev filter_rules : List Rule
 filter_rules = with_index 1 (filled (single (codes "TRACEFILE"))) ∷ with_index 2 (filled (several (codes "PATTERN"))) ∷ with_index 3 (filled help_rule) ∷ []
 
 filter_keeps : EachKeeps RowsFit filter_rules
-filter_keeps = (single_keeps (codes "TRACEFILE") 1 refl, (several_keeps (codes "PATTERN") 2 refl, (help_keeps 3, tt)))
+filter_keeps = (single_keeps (codes "TRACEFILE") 1 (refl, refl), (several_keeps (codes "PATTERN") 2 (refl, refl), (help_keeps 3, tt)))
 
 filter_same : (rows : List Row) → fold with_default rows filter_rules ≡ rows
 filter_same rows =
@@ -159,7 +178,8 @@ extract_fits words none =
       summary = λ e. no e;
       extract = λ e. has;
       remove = λ e. no e;
-      others = λ m s x r. no (sym x);
+      gcov = λ e. no e;
+      others = λ m s x r g. no (sym x);
     }
 
 remove_fits : SubFits (sub_at 3)
@@ -171,7 +191,8 @@ remove_fits words none =
       summary = λ e. no e;
       extract = λ e. no e;
       remove = λ e. has;
-      others = λ m s x r. no (sym r);
+      gcov = λ e. no e;
+      others = λ m s x r g. no (sym r);
     }
 
 gcov_has : (rows : List Row) → RowsFit rows → check_fault (sub_at 4) (fold with_default rows (sub_at 4).rules) false ≡ []
@@ -189,7 +210,7 @@ gcov_has rows fit none =
 
 gcov_fits : SubFits (sub_at 4)
 gcov_fits words none =
-    let each : EachKeeps RowsFit (sub_at 4).rules = (several_keeps (codes "FILE") 1 refl, (test_keeps 2, (help_keeps 2, tt))) in
+    let each : EachKeeps RowsFit (sub_at 4).rules = (several_keeps (codes "FILE") 1 (refl, refl), (test_keeps 2, (help_keeps 2, tt))) in
     let level = level_keeps RowsFit (sub_at 4) words each tt none in
     let has = gcov_has (settled_after (sub_at 4) words) level.0 level.1 in
     record {
@@ -197,7 +218,34 @@ gcov_fits words none =
       summary = λ e. no e;
       extract = λ e. no e;
       remove = λ e. no e;
-      others = λ m s x r. (refl, has.0, has.1);
+      gcov = λ e. has;
+      others = λ m s x r g. no (sym g);
+    }
+
+check_has : (rows : List Row) → RowsFit rows → check_fault (sub_at 5) (fold with_default rows (sub_at 5).rules) false ≡ []
+    → HasFlag (fold with_default rows (sub_at 5).rules) × HasSome (codes "FILE") (fold with_default rows (sub_at 5).rules)
+check_has rows fit none =
+    let all = fold with_default rows (sub_at 5).rules in
+    let before = with_default (with_default rows (with_index 1 (filled (several (codes "FILE"))))) (annotated_built 2) in
+    let same : all ≡ with_default rows (annotated_built 2) = not_defaulted (has_row (codes "help") before) before
+    ∙ ap (λ (r : List Row). with_default r (annotated_built 2)) (not_defaulted (has_row (codes "FILE") rows) rows) in
+    let done = defaulted (codes "gcov") AsWritten (codes "false") refl ((λ e. no e), (λ e. (refl, refl))) rows fit in
+    let fits : RowsFit all = subst RowsFit (sym same) done.0 in
+    let has : has_row (codes "gcov") all ≡ true = ap (has_row (codes "gcov")) same ∙ done.1 in
+    (has_flag all (held_row (codes "gcov") all fits has), has_some (codes "FILE") all (given_row (codes "FILE") all fits (wanted _ _ _ none).0))
+
+check_fits : SubFits (sub_at 5)
+check_fits words none =
+    let each : EachKeeps RowsFit (sub_at 5).rules = (several_keeps (codes "FILE") 1 (refl, refl), (annotated_keeps 2, (help_keeps 2, tt))) in
+    let level = level_keeps RowsFit (sub_at 5) words each tt none in
+    let has = check_has (settled_after (sub_at 5) words) level.0 level.1 in
+    record {
+      merge = λ e. no e;
+      summary = λ e. no e;
+      extract = λ e. no e;
+      remove = λ e. no e;
+      gcov = λ e. no e;
+      others = λ m s x r g. (refl, has.0, has.1);
     }
 
 -- ---- the subcommand that is met
@@ -240,7 +288,7 @@ built_fits a words name rows each none met =
     entered_fits a stop name rows each below.0 met
 
 each_sub : EachSub (built covcollect).subs
-each_sub = (merge_fits, (summary_fits, (extract_fits, (remove_fits, (gcov_fits, tt)))))
+each_sub = (merge_fits, (summary_fits, (extract_fits, (remove_fits, (gcov_fits, (check_fits, tt))))))
 
 pub fits : (words : List Text) (name : Text) (rows : List Row) → fault_of covcollect words ≡ [] → subcommand_of covcollect words ≡ Some (name, rows) → Fits name rows
 fits words name rows none met = built_fits (built covcollect) (argument_words covcollect words) name rows each_sub none met

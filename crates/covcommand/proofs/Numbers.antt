@@ -1,5 +1,5 @@
--- What clap's getters answer: a number, words.
-use Rattle.std.proofs.Common.{◌≡◌, ◌∙◌, ◌≤◌, ℕ, List, [], Some, None, Option, IsSome, refl, sym, ap, subst, unwrap_or, option_map, arith}
+-- What clap's getters answer: a number, words, a flag.
+use Rattle.std.proofs.Common.{◌≡◌, ◌∙◌, ◌≤◌, ◌⊎◌, inl, inr, ℕ, Bool, true, false, true≢false, codes, List, [], Some, None, Option, IsSome, refl, sym, ap, subst, unwrap_or, option_map, arith}
 
 pub is_some_number : (r : Option ℕ) (n : ℕ) → r ≡ Some n → IsSome r
 is_some_number r n is = subst (λ (o : Option ℕ). IsSome o) (sym is) refl
@@ -14,3 +14,14 @@ values_are f got x all is same = ap (λ o. unwrap_or o []) (sym same ∙ ap (opt
 
 pub no_values : {X Y : Type 0} (f : X → List Y) (got : Option X) (all : Option (List Y)) → got ≡ None → option_map f got ≡ all → unwrap_or all [] ≡ []
 no_values f got all is same = ap (λ o. unwrap_or o []) (sym same ∙ ap (option_map f) is)
+
+-- a flag that is set says "true", and one that isn't says "false"
+pub is_set : (said : Option (List ℕ)) (flag : Bool) → (said ≡ Some (codes "true")) ⊎ (said ≡ Some (codes "false"))
+    → (said ≡ Some (codes "false") → flag ≡ false) → flag ≡ true → said ≡ Some (codes "true")
+is_set said flag (inl is) other on = is
+is_set said flag (inr is) other on = absurd (true≢false (sym on ∙ other is))
+
+pub is_not_set : (said : Option (List ℕ)) (flag : Bool) → (said ≡ Some (codes "true")) ⊎ (said ≡ Some (codes "false"))
+    → (said ≡ Some (codes "true") → flag ≡ true) → flag ≡ false → said ≡ Some (codes "false")
+is_not_set said flag (inl is) other off = absurd (true≢false (sym (other is) ∙ off))
+is_not_set said flag (inr is) other off = is

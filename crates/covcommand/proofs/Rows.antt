@@ -1,5 +1,6 @@
--- Rows whose values are there, and fit: those of `--jobs` begin with a number from 1 to 64.
-use Rattle.std.proofs.Common.{◌≡◌, ◌∙◌, ◌≤◌, ◌||◌, Bool, pos, true, false, List, [], ◌∷◌, ◌++◌, length, Option, Some, None, cond, refl, sym, ap, subst, option_map, unwrap_or, option_and_then, ap₂, codes, arith}
+-- Rows whose values are there, and fit: those of `--jobs` begin with a number from 1 to 64, and those of `--gcov` with what a
+-- flag says.
+use Rattle.std.proofs.Common.{◌≡◌, ◌∙◌, ◌≤◌, ◌||◌, ◌⊎◌, inl, inr, Bool, pos, true, false, List, [], ◌∷◌, ◌++◌, length, Option, Some, None, cond, refl, sym, ap, subst, option_map, unwrap_or, option_and_then, ap₂, codes, arith}
 use Rattle.std.specs.Prelude.{slice_get}
 use Rattle.std.specs.Option.{option_map_or}
 use Rattle.std.specs.List.{find}
@@ -12,12 +13,12 @@ use Rattle.clap.specs.Walk.{Row, Text, at_row, default_rows, has_row, more_value
 use Rattle.clap.specs.Takes.{is_given}
 use Rattle.clap.specs.Facts.{explicit_source}
 use Rattle.clap.specs.declared.builder.value_parser.Reading.{Reading}
-use Rattle.clap.specs.declared.builder.value_parser.Reading.TheVariants.{WithoutMinus}
+use Rattle.clap.specs.declared.builder.value_parser.Reading.TheVariants.{AsWritten, WithoutMinus}
 use Rattle.clap.specs.declared.builder.value_parser.ValueParser.{ValueParser}
 use Rattle.clap.specs.declared.builder.value_parser.ValueParser.TheVariants as parser
 use Rattle.clap.specs.declared.parser.matches.ValueSource.{ValueSource}
 use Rattle.clap.specs.declared.parser.matches.ValueSource.TheVariants.{CommandLine, DefaultValue}
-use Rattle.covcommand.specs.Found.{HasJobs, HasSome, HasTest}
+use Rattle.covcommand.specs.Found.{HasFlag, HasJobs, HasSome, HasTest}
 
 abbrev pub numbers : ValueParser
 numbers = parser.Signed (pos 1) (pos 64)
@@ -25,7 +26,8 @@ numbers = parser.Signed (pos 1) (pos 64)
 -- the values of an argument, and how they are read
 abbrev pub FitsValues : Text → Reading → List Text → Type 0
 FitsValues id how [] = ⊥
-FitsValues id how (v ∷ vs) = bytes_eq id (codes "jobs") ≡ true → (accepts false numbers v ≡ true) × (how ≡ WithoutMinus)
+FitsValues id how (v ∷ vs) = (bytes_eq id (codes "jobs") ≡ true → (accepts false numbers v ≡ true) × (how ≡ WithoutMinus))
+    × (bytes_eq id (codes "gcov") ≡ true → (accepts false parser.Bool v ≡ true) × (how ≡ AsWritten))
 
 abbrev pub RowFits : Row → Type 0
 RowFits r = FitsValues r.id r.reading r.values
@@ -134,7 +136,7 @@ has_test rows row =
 number_there : (how : Reading) (values : List Text) → FitsValues (codes "jobs") how values
     → (text : Text) × (slice_get values 0 ≡ Some text) × (accepts false numbers text ≡ true) × (how ≡ WithoutMinus)
 number_there how [] fits = absurd fits
-number_there how (v ∷ vs) fits = (v, refl, (fits refl).0, (fits refl).1)
+number_there how (v ∷ vs) fits = (v, refl, (fits.0 refl).0, (fits.0 refl).1)
 
 pub has_jobs : (rows : List Row) → RowOf (codes "jobs") rows → HasJobs rows
 has_jobs rows row =
@@ -144,32 +146,51 @@ has_jobs rows row =
     ∙ ap₂ (λ how o. option_map (read_as how) o) number.3 number.1 in
     (number.0, text, accepts-Accepts false numbers number.0 number.2)
 
--- ---- the default of `--jobs`
+flag_there : (how : Reading) (values : List Text) → FitsValues (codes "gcov") how values
+    → (text : Text) × (slice_get values 0 ≡ Some text) × (accepts false parser.Bool text ≡ true) × (how ≡ AsWritten)
+flag_there how [] fits = absurd fits
+flag_there how (v ∷ vs) fits = (v, refl, (fits.1 refl).0, (fits.1 refl).1)
 
-abbrev pub one : List Text
-one = codes "1" ∷ []
+either : (a b : Bool) → (a || b) ≡ true → (a ≡ true) ⊎ (b ≡ true)
+either true b e = inl refl
+either false b e = inr e
 
-at_row_has_step : (b : Bool) (x y : Row) (rows later : List Row) → bytes_eq y.id (codes "jobs") ≡ b → bytes_eq x.id (codes "jobs") ≡ b
-    → has_row (codes "jobs") later ≡ true → has_row (codes "jobs") (cond b (x ∷ rows) (y ∷ later)) ≡ true
-at_row_has_step true x y rows later is same has = rw same refl
-at_row_has_step false x y rows later is same has = rw is has
+pub has_flag : (rows : List Row) → RowOf (codes "gcov") rows → HasFlag rows
+has_flag rows row =
+    let same : row.0.id ≡ codes "gcov" = (bytes_eq-Decides row.0.id (codes "gcov")).0 row.2 in
+    let word = flag_there row.0.reading row.0.values (subst (λ (id : Text). FitsValues id row.0.reading row.0.values) same row.3) in
+    let text = ap (λ (o : Option Row). option_and_then row_text o) row.1
+    ∙ ap₂ (λ how o. option_map (read_as how) o) word.3 word.1 in
+    elim (either (bytes_eq word.0 (codes "true")) (bytes_eq word.0 (codes "false")) word.2) [
+      | inl is ↦ inl (text ∙ ap (λ t. Some t) ((bytes_eq-Decides word.0 (codes "true")).0 is))
+      | inr is ↦ inr (text ∙ ap (λ t. Some t) ((bytes_eq-Decides word.0 (codes "false")).0 is))
+    ]
 
-defaulted_has : (rows : List Row) → has_row (codes "jobs") (with_values (codes "jobs") WithoutMinus DefaultValue one rows) ≡ true
-defaulted_has [] = refl
-defaulted_has (r ∷ rows) =
-    at_row_has_step (bytes_eq r.id (codes "jobs")) _ r rows _ refl refl (defaulted_has rows)
+-- ---- defaults
 
-defaulted_at : (b : Bool) (rows : List Row) → has_row (codes "jobs") rows ≡ b → RowsFit rows
-    → RowsFit (cond b rows (default_rows (codes "jobs") WithoutMinus one rows)) × (has_row (codes "jobs") (cond b rows (default_rows (codes "jobs") WithoutMinus one rows)) ≡ true)
-defaulted_at true rows has fit = (fit, has)
-defaulted_at false rows has fit =
-    (append_fits (codes "jobs") WithoutMinus DefaultValue one rows (λ e. (refl, refl)) fit, defaulted_has rows)
+-- an option or a flag, as it is read, and the word that stands for it where it isn't given
+module _ (id : Text) (how : Reading) (word : Text) where
+  at_row_has_step : (b : Bool) (x y : Row) (rows later : List Row) → bytes_eq y.id id ≡ b → bytes_eq x.id id ≡ b
+      → has_row id later ≡ true → has_row id (cond b (x ∷ rows) (y ∷ later)) ≡ true
+  at_row_has_step true x y rows later is same has = rw same refl
+  at_row_has_step false x y rows later is same has = rw is has
 
--- with its default the option has a row
-pub defaulted : (rows : List Row) → RowsFit rows
-    → RowsFit (cond (has_row (codes "jobs") rows) rows (default_rows (codes "jobs") WithoutMinus one rows))
-    × (has_row (codes "jobs") (cond (has_row (codes "jobs") rows) rows (default_rows (codes "jobs") WithoutMinus one rows)) ≡ true)
-defaulted rows fit = defaulted_at (has_row (codes "jobs") rows) rows refl fit
+  defaulted_has : bytes_eq id id ≡ true → (rows : List Row) → has_row id (with_values id how DefaultValue (word ∷ []) rows) ≡ true
+  defaulted_has own [] = rw own refl
+  defaulted_has own (r ∷ rows) =
+      at_row_has_step (bytes_eq r.id id) _ r rows _ refl refl (defaulted_has own rows)
+
+  defaulted_at : bytes_eq id id ≡ true → FitsValues id how (word ∷ []) → (b : Bool) (rows : List Row) → has_row id rows ≡ b → RowsFit rows
+      → RowsFit (cond b rows (default_rows id how (word ∷ []) rows)) × (has_row id (cond b rows (default_rows id how (word ∷ []) rows)) ≡ true)
+  defaulted_at own fits true rows has fit = (fit, has)
+  defaulted_at own fits false rows has fit =
+      (append_fits id how DefaultValue (word ∷ []) rows fits fit, defaulted_has own rows)
+
+  -- with its default it has a row
+  pub defaulted : bytes_eq id id ≡ true → FitsValues id how (word ∷ []) → (rows : List Row) → RowsFit rows
+      → RowsFit (cond (has_row id rows) rows (default_rows id how (word ∷ []) rows))
+      × (has_row id (cond (has_row id rows) rows (default_rows id how (word ∷ []) rows)) ≡ true)
+  defaulted own fits rows fit = defaulted_at own fits (has_row id rows) rows refl fit
 
 -- and an argument without a default changes nothing
 pub not_defaulted : (b : Bool) (rows : List Row) → cond b rows rows ≡ rows

@@ -3,7 +3,9 @@ use Rattle.std.specs.Prelude.{◌≡◌, ◌≤◌, ◌++◌, ℕ, List, [], Opt
 use Rattle.std.specs.Str.Parse.{digits_value, without_leading_plus}
 use Rattle.clap.specs.Walk.{Row, Text, all_of, first_of, one_of}
 use Rattle.covcommand.specs.declared.asked.Command.{Command}
-use Rattle.covcommand.specs.declared.asked.Command.TheVariants.{Session, Merge, Summary, Extract, Remove, Gcov}
+use Rattle.covcommand.specs.declared.asked.Command.TheVariants.{Session, Merge, Summary, Extract, Remove, Gcov, Check}
+use Rattle.covcommand.specs.declared.asked.TextFormat.{TextFormat}
+use Rattle.covcommand.specs.declared.asked.TextFormat.TheVariants as format
 
 -- the words that clap found for the argument, in their order
 abbrev pub values_of : Text → List Row → List Text
@@ -17,6 +19,11 @@ IsNumberOf rows jobs = (text : Text) × (one_of (codes "jobs") rows ≡ Some tex
 -- the words of a tracefile and patterns, in their order
 abbrev pub tracefile_and_patterns : List Row → List Text
 tracefile_and_patterns rows = values_of (codes "TRACEFILE") rows ++ values_of (codes "PATTERN") rows
+
+-- the files are gcov's where clap sets the flag `--gcov`, and tracefiles where it doesn't
+abbrev pub IsFormatOf : List Row → TextFormat → Type 0
+IsFormatOf rows format.Tracefile = one_of (codes "gcov") rows ≡ Some (codes "false")
+IsFormatOf rows format.Gcov = one_of (codes "gcov") rows ≡ Some (codes "true")
 
 -- the call whose words name this subcommand, and give its arguments these words, asks for this command
 abbrev pub AsksFor : Option (Text × List Row) → Command → Type 0
@@ -32,6 +39,8 @@ AsksFor met (Remove names) = (rows : List Row) × (met ≡ Some (codes "remove",
 AsksFor met (Gcov test names) = (rows : List Row) × (met ≡ Some (codes "gcov", rows))
     × (first_of (codes "test") rows ≡ Some test)
     × (names ≡ values_of (codes "FILE") rows)
+AsksFor met (Check how names) = (rows : List Row) × (met ≡ Some (codes "check", rows))
+    × IsFormatOf rows how × (names ≡ values_of (codes "FILE") rows)
 
 -- a merge has 1 to 64 jobs, and there is at least one name, with patterns at least two
 abbrev pub IsInBounds : Command → Type 0
@@ -41,3 +50,4 @@ IsInBounds (Summary names) = 1 ≤ length names
 IsInBounds (Extract names) = 2 ≤ length names
 IsInBounds (Remove names) = 2 ≤ length names
 IsInBounds (Gcov test names) = 1 ≤ length names
+IsInBounds (Check how names) = 1 ≤ length names

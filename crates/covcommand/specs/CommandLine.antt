@@ -4,7 +4,7 @@ use Rattle.std.specs.Prelude.{[], ◌∷◌, Some, true, codes, pos}
 use Rattle.clap.specs.Lexer.{usize_max}
 use Rattle.clap.specs.Walk.{Rule, Text}
 use Rattle.clap.specs.Simple.{App, new_app, new_rule, on_top, with_rule, with_subcommand}
-use Rattle.clap.specs.declared.builder.action.ArgAction.TheVariants.{Set, Append}
+use Rattle.clap.specs.declared.builder.action.ArgAction.TheVariants.{Set, Append, SetTrue}
 use Rattle.clap.specs.declared.builder.value_parser.ValueParser.TheVariants as parser
 
 -- a required argument of one word or more: `FILE..`, `PATTERN..`
@@ -38,6 +38,10 @@ test = record (new_rule (codes "test")) {
   action = Some Set;
 }
 
+-- `--gcov`, a flag
+abbrev pub annotated : Rule
+annotated = record (new_rule (codes "gcov")) { long = Some (codes "gcov"); action = Some SetTrue }
+
 abbrev pub merge : App
 merge = with_rule (with_rule (new_app (codes "merge")) (several (codes "FILE"))) jobs
 
@@ -57,11 +61,14 @@ remove = filtering (codes "remove")
 abbrev pub gcov : App
 gcov = with_rule (with_rule (new_app (codes "gcov")) (several (codes "FILE"))) test
 
+abbrev pub check : App
+check = with_rule (with_rule (new_app (codes "check")) (several (codes "FILE"))) annotated
+
 -- the program, which has a version and no subcommand `help`
 abbrev pub program : App
 program = on_top (λ s. record s { disable_help_subcommand = true; has_version = true }) (new_app (codes "covcollect"))
 
 -- the program with its subcommands
 abbrev pub covcollect : App
-covcollect = with_subcommand (with_subcommand (with_subcommand (with_subcommand (with_subcommand program
-    merge.top) summary.top) extract.top) remove.top) gcov.top
+covcollect = with_subcommand (with_subcommand (with_subcommand (with_subcommand (with_subcommand (with_subcommand program
+    merge.top) summary.top) extract.top) remove.top) gcov.top) check.top

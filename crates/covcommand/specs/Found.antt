@@ -1,5 +1,5 @@
 -- Private steps: what clap found for the arguments of a subcommand.
-use Rattle.std.specs.Prelude.{◌≡◌, ◌≤◌, List, Some, true, false, codes, length, pos}
+use Rattle.std.specs.Prelude.{◌≡◌, ◌⊎◌, ◌≤◌, List, Some, true, false, codes, length, pos}
 use Rattle.std.specs.Str.{bytes_eq}
 use Rattle.clap.specs.Lexer.{without_minus}
 use Rattle.clap.specs.Values.{IsSignedIn}
@@ -18,6 +18,10 @@ HasTest rows = (text : Text) × (first_of (codes "test") rows ≡ Some text)
 abbrev pub HasJobs : List Row → Type 0
 HasJobs rows = (text : Text) × (one_of (codes "jobs") rows ≡ Some (without_minus text)) × IsSignedIn (pos 1) (pos 64) text
 
+-- the flag is set or it isn't
+abbrev pub HasFlag : List Row → Type 0
+HasFlag rows = (one_of (codes "gcov") rows ≡ Some (codes "true")) ⊎ (one_of (codes "gcov") rows ≡ Some (codes "false"))
+
 abbrev pub HasFilter : List Row → Type 0
 HasFilter rows = HasSome (codes "TRACEFILE") rows × HasSome (codes "PATTERN") rows
 
@@ -27,6 +31,8 @@ pub record Fits (name : Text) (rows : List Row) : Type 0 where
   pub summary : bytes_eq name (codes "summary") ≡ true → HasSome (codes "FILE") rows
   pub extract : bytes_eq name (codes "extract") ≡ true → HasFilter rows
   pub remove : bytes_eq name (codes "remove") ≡ true → HasFilter rows
+  pub gcov : bytes_eq name (codes "gcov") ≡ true → HasTest rows × HasSome (codes "FILE") rows
   pub others : bytes_eq name (codes "merge") ≡ false → bytes_eq name (codes "summary") ≡ false
       → bytes_eq name (codes "extract") ≡ false → bytes_eq name (codes "remove") ≡ false
-      → (name ≡ codes "gcov") × HasTest rows × HasSome (codes "FILE") rows
+      → bytes_eq name (codes "gcov") ≡ false
+      → (name ≡ codes "check") × HasFlag rows × HasSome (codes "FILE") rows

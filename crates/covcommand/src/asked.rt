@@ -37,4 +37,20 @@ pub enum Command {
         /// The files' paths, at least one.
         names: Names,
     },
+    /// `check`: what is read of each file, and what isn't.
+    Check {
+        /// How the files are read.
+        format: TextFormat,
+        /// The files' paths, at least one.
+        names: Names,
+    },
+}
+
+/// How the text of a file is read.
+#[derive(Clone, Copy)]
+pub enum TextFormat {
+    /// As a tracefile, which lcov writes.
+    Tracefile,
+    /// As annotated source, which gcov writes.
+    Gcov,
 }

@@ -23,7 +23,8 @@ pub(crate) fn described<'a>(alloc: Global) -> Result<Command<'a>, AllocError>
         .subcommand(summary(alloc)?)?
         .subcommand(extract(alloc)?)?
         .subcommand(remove(alloc)?)?
-        .subcommand(gcov(alloc)?)
+        .subcommand(gcov(alloc)?)?
+        .subcommand(check(alloc)?)
 }
 
 fn merge<'a>(alloc: Global) -> Result<Command<'a>, AllocError>
@@ -80,6 +81,17 @@ fn gcov<'a>(alloc: Global) -> Result<Command<'a>, AllocError>
         .arg(test(alloc))
 }
 
+fn check<'a>(alloc: Global) -> Result<Command<'a>, AllocError>
+    ensures { IfOk result (IsAlone line.check) }
+{
+    let check = Command::new(alloc, "check")
+        .about(help::CHECK)
+        .after_help(help::CHECK_END);
+    check
+        .arg(several(alloc, "FILE", help::CHECKED))?
+        .arg(annotated(alloc))
+}
+
 /// A required argument of one word or more.
 fn several<'a>(alloc: Global, id: &'a str, help: &'a str) -> Arg<'a>
     ensures { IsLocal (line.several id.entry.now) result }
@@ -124,4 +136,14 @@ fn test<'a>(alloc: Global) -> Arg<'a>
         .required(true)
         .action(ArgAction::Set)
         .help(help::TEST)
+}
+
+/// The flag that says that the files are gcov's.
+fn annotated<'a>(alloc: Global) -> Arg<'a>
+    ensures { IsLocal line.annotated result }
+{
+    Arg::new(alloc, "gcov")
+        .long("gcov")
+        .action(ArgAction::SetTrue)
+        .help(help::ANNOTATED)
 }

@@ -6,7 +6,7 @@ pub const VERSION: &str = "0.9.0";
 /// What the program is for.
 pub(crate) const PROGRAM: &str = "Merges, filters and sums up coverage data of lcov and gcov";
 
-/// Behind the list of the subcommands: the session, the calls of lcov, the exit statuses.
+/// After the list of the subcommands: the session, the calls of lcov, the exit statuses.
 pub(crate) const PROGRAM_END: &str = "\
 Without a subcommand a session is read from standard input: a command on each
 line, answered on standard output. covcollect(1) has its commands.
@@ -17,12 +17,16 @@ In place of lcov's calls write (with the patterns in quotes):
   lcov -r A.info '/usr/*' -o OUT     covcollect remove A.info '/usr/*' > OUT
   lcov --summary A.info              covcollect summary A.info
 
+Function records of LCOV 2 (FNL, FNA, and FN with an end line) aren't read:
+covcollect check shows whether a file has them.
+
 Exit status:
   0  done
   1  a file can't be read, or reading or writing failed
   2  the call is wrong: its words, a pattern or the name of a test
   3  memory ran out, or the history is full
-  4  a file was refused, or checksums clash; nothing is on standard output";
+  4  a file was refused, or checksums clash; nothing is printed, but by check
+  5  check found a file without items";
 
 /// What `merge` does.
 pub(crate) const MERGE: &str = "Merges tracefiles: counts add up by test and file (lcov -a)";
@@ -85,6 +89,19 @@ it without options, or by -b -c with functions and branches:
   gcov -b -c main.gcda
   covcollect gcov --test unit main.c.gcov > unit.info";
 
+/// What `check` does.
+pub(crate) const CHECK: &str = "Tells what is read of each file, and adds nothing up";
+
+/// How to call `check`.
+pub(crate) const CHECK_END: &str = "\
+Prints a line for each file: how many sections, items and odd lines it has, how
+many lines are skipped since their key isn't read, and the first of these. Of a
+refused file the line says why. Before a merge write
+  covcollect check A.info B.info
+and of what gcov wrote
+  covcollect check --gcov main.c.gcov
+The status is 4 where a file is refused, and else 5 where one has no items.";
+
 /// What stands for tracefiles.
 pub(crate) const TRACEFILES: &str = "Tracefiles, read in this order";
 
@@ -97,8 +114,14 @@ pub(crate) const PATTERNS: &str = "Patterns of whole paths, in quotes";
 /// What stands for annotated source.
 pub(crate) const SOURCES: &str = "Files that gcov wrote, read in this order";
 
+/// What stands for files that are looked at.
+pub(crate) const CHECKED: &str = "Tracefiles, looked at in this order";
+
 /// What `--jobs` says.
 pub(crate) const JOBS: &str = "How many files are parsed at once, 1 to 64";
 
 /// What `--test` says.
 pub(crate) const TEST: &str = "The test that the counts are of; --test= is the empty name";
+
+/// What `--gcov` says.
+pub(crate) const ANNOTATED: &str = "The files are what gcov wrote, and not tracefiles";

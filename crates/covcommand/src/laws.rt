@@ -3,7 +3,11 @@
 ghost use Rattle.std.specs.Prelude.{◌≡◌, [], ◌∷◌, true, codes};
 ghost use Rattle.clap.specs.Words.{takes, fault_of};
 ghost use Rattle.clap.specs.declared.error.kind.ErrorKind.TheVariants as kind;
+ghost use Rattle.clap.specs.Words.{subcommand_of};
+ghost use Rattle.covcommand.specs.Asked.{AsksFor};
 ghost use Rattle.covcommand.specs.CommandLine.{covcollect};
+ghost use Rattle.covcommand.specs.declared.asked.Command.TheVariants.{Check};
+ghost use Rattle.covcommand.specs.declared.asked.TextFormat.TheVariants as format;
 
 /// A call of each kind is taken: for these words `command` has no refusal but `Memory`.
 pub fn calls_are_taken()
@@ -13,6 +17,20 @@ pub fn calls_are_taken()
     ensures extract { takes covcollect (codes "covcollect" ∷ codes "extract" ∷ codes "a.info" ∷ codes "*.c" ∷ []) ≡ true }
     ensures remove { takes covcollect (codes "covcollect" ∷ codes "remove" ∷ codes "a.info" ∷ codes "*.c" ∷ []) ≡ true }
     ensures gcov { takes covcollect (codes "covcollect" ∷ codes "gcov" ∷ codes "--test=" ∷ codes "a.c.gcov" ∷ []) ≡ true }
+    ensures check { takes covcollect (codes "covcollect" ∷ codes "check" ∷ codes "--gcov" ∷ codes "a.c.gcov" ∷ []) ≡ true }
+{}
+
+/// What calls of `check` ask for: gcov's text where the flag stands among the words, before or after the files, and tracefiles
+/// where it doesn't. After `--` it is a file's name.
+pub fn checks_by_their_words()
+    ensures tracefile { AsksFor (subcommand_of covcollect (codes "covcollect" ∷ codes "check" ∷ codes "a.info" ∷ []))
+        (Check format.Tracefile (codes "a.info" ∷ [])) }
+    ensures before { AsksFor (subcommand_of covcollect (codes "covcollect" ∷ codes "check" ∷ codes "--gcov" ∷ codes "a.c.gcov" ∷ []))
+        (Check format.Gcov (codes "a.c.gcov" ∷ [])) }
+    ensures after { AsksFor (subcommand_of covcollect (codes "covcollect" ∷ codes "check" ∷ codes "a.c.gcov" ∷ codes "--gcov" ∷ []))
+        (Check format.Gcov (codes "a.c.gcov" ∷ [])) }
+    ensures name { AsksFor (subcommand_of covcollect (codes "covcollect" ∷ codes "check" ∷ codes "--" ∷ codes "--gcov" ∷ []))
+        (Check format.Tracefile (codes "--gcov" ∷ [])) }
 {}
 
 /// Calls that are refused, and by which kind of clap's. The program has a version, a subcommand has none.
@@ -25,6 +43,10 @@ pub fn calls_are_refused()
         ≡ kind.MissingRequiredArgument ∷ [] }
     ensures gcov { fault_of covcollect (codes "covcollect" ∷ codes "gcov" ∷ codes "a.c.gcov" ∷ [])
         ≡ kind.MissingRequiredArgument ∷ [] }
+    ensures check { fault_of covcollect (codes "covcollect" ∷ codes "check" ∷ codes "--gcov" ∷ [])
+        ≡ kind.MissingRequiredArgument ∷ [] }
+    ensures twice { fault_of covcollect (codes "covcollect" ∷ codes "check" ∷ codes "--gcov" ∷ codes "--gcov" ∷ codes "a.c.gcov" ∷ [])
+        ≡ kind.ArgumentConflict ∷ [] }
     ensures help { fault_of covcollect (codes "covcollect" ∷ codes "merge" ∷ codes "--help" ∷ [])
         ≡ kind.DisplayHelp ∷ [] }
     ensures version { fault_of covcollect (codes "covcollect" ∷ codes "--version" ∷ [])

@@ -20,9 +20,9 @@ pub mod laws;
 mod names;
 mod reading;
 
-pub use asked::Command;
+pub use asked::{Command, TextFormat};
 pub use fault::CommandFault;
 pub use help::VERSION;
-pub use laws::{calls_are_refused, calls_are_taken};
+pub use laws::{calls_are_refused, calls_are_taken, checks_by_their_words};
 pub use names::Names;
 pub use reading::command;

@@ -4,12 +4,12 @@ ghost use Rattle.std.specs.Prelude.{◌≡◌, ◌≤◌, ◌++◌, [], IfOk, If
 ghost use Rattle.std.specs.String.{string_bytes};
 ghost use Rattle.clap.specs.Words.{rows_of, found_of, subcommand_of, takes, fault_of, first_of};
 ghost use Rattle.covcommand.specs.CommandLine.{covcollect};
-ghost use Rattle.covcommand.specs.Asked.{AsksFor, IsInBounds, IsNumberOf, tracefile_and_patterns, values_of};
-ghost use Rattle.covcommand.specs.Found.{Fits, HasFilter, HasJobs, HasSome, HasTest};
+ghost use Rattle.covcommand.specs.Asked.{AsksFor, IsFormatOf, IsInBounds, IsNumberOf, tracefile_and_patterns, values_of};
+ghost use Rattle.covcommand.specs.Found.{Fits, HasFilter, HasFlag, HasJobs, HasSome, HasTest};
 ghost use Rattle.covcommand.specs.Fault.{IsToldOf};
 ghost use Rattle.covcommand.specs.declared.fault.CommandFault.TheVariants as faults;
 
-use crate::asked::Command;
+use crate::asked::{Command, TextFormat};
 use crate::described::described;
 use crate::fault::CommandFault;
 use crate::names::Names;
@@ -60,8 +60,12 @@ fn asked_by(alloc: Global, name: &str, found: &ArgMatches<'_>) -> Result<Command
         "remove" => Ok(Command::Remove {
             names: filter_of(alloc, found)?,
         }),
-        _ => Ok(Command::Gcov {
+        "gcov" => Ok(Command::Gcov {
             test: test_of(alloc, found)?,
+            names: files_of(alloc, found)?,
+        }),
+        _ => Ok(Command::Check {
+            format: format_of(found),
             names: files_of(alloc, found)?,
         }),
     }
@@ -106,6 +110,18 @@ fn test_of(alloc: Global, found: &ArgMatches<'_>) -> Result<Bytes, Memory>
 {
     let name = found.get_str("test").unwrap();
     Bytes::of(alloc, name.as_bytes())
+}
+
+/// How the files are read.
+fn format_of(found: &ArgMatches<'_>) -> TextFormat
+    requires { HasFlag (rows_of (found_of found.now)) }
+    ensures { IsFormatOf (rows_of (found_of found.now)) result }
+{
+    if found.get_flag("gcov") {
+        TextFormat::Gcov
+    } else {
+        TextFormat::Tracefile
+    }
 }
 
 /// Appends the words that clap found for the argument, in their order.

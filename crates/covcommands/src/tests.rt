@@ -3,7 +3,7 @@
 //!
 //! Examples are text, so that they cost the proof of these tests nothing: a line has a call and, behind ` => `, its answer.
 
-use covcommand::{Command, CommandFault, Names, command};
+use covcommand::{Command, CommandFault, Names, TextFormat, command};
 use std::alloc::Global;
 use std::process::Abort;
 use std::test::*;
@@ -41,7 +41,7 @@ fn refused(alloc: Global, fault: &CommandFault) -> Result<String, Fail> {
     Ok(format!(in alloc; "{} {} {first}", fault.number(), fault.status())?)
 }
 
-/// The command in words: its subcommand, its number of jobs or its test, and its names.
+/// The command in words: its subcommand, its number of jobs, its test or its format, and its names.
 fn told(alloc: Global, command: &Command) -> Result<String, Fail> {
     match command {
         Command::Session => Ok(String::from_str(alloc, "session")?),
@@ -55,6 +55,13 @@ fn told(alloc: Global, command: &Command) -> Result<String, Fail> {
         Command::Gcov { test, names } => {
             let test: String = String::from_utf8_lossy(alloc, test.get())?;
             with_names(format!(in alloc; "gcov ({test})")?, names)
+        }
+        Command::Check { format, names } => {
+            let format = match format {
+                TextFormat::Tracefile => "tracefile",
+                TextFormat::Gcov => "gcov",
+            };
+            with_names(format!(in alloc; "check ({format})")?, names)
         }
     }
 }

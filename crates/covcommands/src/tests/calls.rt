@@ -36,6 +36,11 @@ covcollect gcov --test= main.c.gcov => gcov () [main.c.gcov]
 covcollect merge -- --jobs 4 => merge (1) [--jobs] [4]
 covcollect extract a.info -- -x => extract [a.info] [-x]
 covcollect merge merge => merge (1) [merge]
+covcollect check b.info a.info => check (tracefile) [b.info] [a.info]
+covcollect check --gcov main.c.gcov util.c.gcov => check (gcov) [main.c.gcov] [util.c.gcov]
+covcollect check main.c.gcov --gcov util.c.gcov => check (gcov) [main.c.gcov] [util.c.gcov]
+covcollect check -- --gcov => check (tracefile) [--gcov]
+covcollect check gcov => check (tracefile) [gcov]
 ",
     )
 }
@@ -76,6 +81,12 @@ covcollect remove a.info => 2 2 error: the following required arguments were not
 covcollect gcov main.c.gcov => 2 2 error: the following required arguments were not provided:
 covcollect gcov --test unit => 2 2 error: the following required arguments were not provided:
 covcollect gcov --test unit --test unit main.c.gcov => 2 2 error: the argument '--test <NAME>' cannot be used multiple times
+covcollect check => 2 2 error: the following required arguments were not provided:
+covcollect check --gcov => 2 2 error: the following required arguments were not provided:
+covcollect check --gcov --gcov main.c.gcov => 2 2 error: the argument '--gcov' cannot be used multiple times
+covcollect check --gcov=true main.c.gcov => 2 2 error: unexpected value 'true' for '--gcov' found; no more were expected
+covcollect check --jobs 2 a.info => 2 2 error: unexpected argument '--jobs' found
+covcollect merge --gcov a.info => 2 2 error: unexpected argument '--gcov' found
 covcollect merge -o out a.info => 2 2 error: unexpected argument '-o' found
 covcollect -a a.info => 2 2 error: unexpected argument '-a' found
 covcollect bogus => 2 2 error: unrecognized subcommand 'bogus'

@@ -22,6 +22,8 @@ covcollect summary --help => 1 0 Tells how much of the code is hit (lcov --summa
 covcollect extract --help => 1 0 Keeps the source files that match a pattern (lcov -e)
 covcollect remove --help => 1 0 Leaves out the source files that match a pattern (lcov -r)
 covcollect gcov --help => 1 0 Makes a tracefile of what gcov wrote (geninfo)
+covcollect check --help => 1 0 Tells what is read of each file, and adds nothing up
+covcollect check --gcov main.c.gcov --help => 1 0 Tells what is read of each file, and adds nothing up
 ",
     )
 }
@@ -79,6 +81,7 @@ Commands:
   extract  Keeps the source files that match a pattern (lcov -e)
   remove   Leaves out the source files that match a pattern (lcov -r)
   gcov     Makes a tracefile of what gcov wrote (geninfo)
+  check    Tells what is read of each file, and adds nothing up
 
 Options:
   -h, --help     Print help
@@ -93,12 +96,16 @@ In place of lcov's calls write (with the patterns in quotes):
   lcov -r A.info '/usr/*' -o OUT     covcollect remove A.info '/usr/*' > OUT
   lcov --summary A.info              covcollect summary A.info
 
+Function records of LCOV 2 (FNL, FNA, and FN with an end line) aren't read:
+covcollect check shows whether a file has them.
+
 Exit status:
   0  done
   1  a file can't be read, or reading or writing failed
   2  the call is wrong: its words, a pattern or the name of a test
   3  memory ran out, or the history is full
-  4  a file was refused, or checksums clash; nothing is on standard output
+  4  a file was refused, or checksums clash; nothing is printed, but by check
+  5  check found a file without items
 ",
     )
 }
@@ -130,6 +137,36 @@ it without options, or by -b -c with functions and branches:
     )
 }
 
+/// The help of a subcommand with a flag is just this.
+#[test]
+fn the_whole_help_of_check(rt: HostRuntime) -> Result<(), Fail> {
+    let help = help_of(rt.alloc(), "covcollect check --help")?;
+    check_text(
+        &rt,
+        help.as_str(),
+        "\
+Tells what is read of each file, and adds nothing up
+
+Usage: covcollect check [OPTIONS] <FILE>...
+
+Arguments:
+  <FILE>...  Tracefiles, looked at in this order
+
+Options:
+      --gcov  The files are what gcov wrote, and not tracefiles
+  -h, --help  Print help
+
+Prints a line for each file: how many sections, items and odd lines it has, how
+many lines are skipped since their key isn't read, and the first of these. Of a
+refused file the line says why. Before a merge write
+  covcollect check A.info B.info
+and of what gcov wrote
+  covcollect check --gcov main.c.gcov
+The status is 4 where a file is refused, and else 5 where one has no items.
+",
+    )
+}
+
 fn check_text(rt: &impl Abort, given: &str, wanted: &str) -> Result<(), Fail> {
     assert!(rt; given == wanted, "{given}");
     Ok(())
@@ -143,7 +180,8 @@ fn examples_are_taken(rt: HostRuntime) -> Result<(), Fail> {
     check_examples(&rt, "covcollect summary --help", 1)?;
     check_examples(&rt, "covcollect extract --help", 2)?;
     check_examples(&rt, "covcollect remove --help", 2)?;
-    check_examples(&rt, "covcollect gcov --help", 1)
+    check_examples(&rt, "covcollect gcov --help", 1)?;
+    check_examples(&rt, "covcollect check --help", 2)
 }
 
 /// The help has so many calls of the program as examples, and takes each.

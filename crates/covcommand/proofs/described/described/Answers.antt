@@ -16,6 +16,8 @@ returns c =
     ∙ ap₂ with_subcommand with_summary (ap top c.in_ok-extract.ensures.0) in
     let with_remove = c.in_ok-subcommand-4.ensures.shape c.in_ok-remove.ensures.1
     ∙ ap₂ with_subcommand with_extract (ap top c.in_ok-remove.ensures.0) in
-    IfOk-weaker c.subcommand-5.result _ _
-    (λ r h. h.shape c.in_ok-gcov.ensures.1 ∙ ap₂ with_subcommand with_remove (ap top c.in_ok-gcov.ensures.0))
-    c.subcommand-5.ensures
+    let with_gcov = c.in_ok-subcommand-5.ensures.shape c.in_ok-gcov.ensures.1
+    ∙ ap₂ with_subcommand with_remove (ap top c.in_ok-gcov.ensures.0) in
+    IfOk-weaker c.subcommand-6.result _ _
+    (λ r h. h.shape c.in_ok-check.ensures.1 ∙ ap₂ with_subcommand with_gcov (ap top c.in_ok-check.ensures.0))
+    c.subcommand-6.ensures

@@ -1,4 +1,4 @@
-use Rattle.covcommand.proofs.Calls.{jobs_refused, no_jobs_refused, extract_refused, gcov_refused, help_refused, version_refused, version_of_one_refused}
+use Rattle.covcommand.proofs.Calls.{jobs_refused, no_jobs_refused, extract_refused, gcov_refused, check_refused, twice_refused, help_refused, version_refused, version_of_one_refused}
 use Rattle.covcommand.proofs.laws.calls_are_refused.Goals as goal
 
 pub returns : goal.returns
@@ -7,6 +7,8 @@ returns c = record {
   no_jobs = no_jobs_refused;
   extract = extract_refused;
   gcov = gcov_refused;
+  check = check_refused;
+  twice = twice_refused;
   help = help_refused;
   version = version_refused;
   version_of_one = version_of_one_refused;
