@@ -17,10 +17,12 @@
 mod check;
 mod format;
 mod holding;
+pub mod laws;
 mod skipped_lines;
 mod start;
 mod told;
 
 pub use check::{check_gcov, check_trace};
 pub use holding::{Holding, SkippedLine};
+pub use laws::{a_beginning_is_one_word, skipped_lines_are_unique};
 pub use told::holding_line;

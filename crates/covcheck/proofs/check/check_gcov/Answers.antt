@@ -2,8 +2,10 @@ use Rattle.std.proofs.Common.{◌≡◌, inl, inr, Result, Ok, Err, refl, sym, s
 use Rattle.std.proofs.lemmas.Result.{err_from_is_err_and}
 use Rattle.covline.specs.Row.{SubmissionData}
 use Rattle.covread.specs.declared.fault.ReadFault.{ReadFault}
+use Rattle.covread.specs.declared.fault.ReadFault.TheVariants.{Memory}
 use Rattle.covcheck.specs.Holding.{Tells}
 use Rattle.covcheck.specs.Skipped.{IsSkippedGcov}
+use Rattle.covcheck.proofs.Answered.{same_fault}
 use Rattle.covcheck.proofs.check.check_gcov.Goals as goal
 
 pub returns-in_err-submission-clause-answers : goal.returns-in_err-submission-clause-answers
@@ -16,7 +18,7 @@ returns-in_err-submission-clause-only g c = λ outcome is.
     let p = err_from_is_err_and c.from_residual.result c.from_residual.ensures.1 in
     rw (p.1, p.2)
     (elim (c.in_err-submission.ensures.only outcome is) [
-      | inl e ↦ inl e
+      | inl e ↦ inl (same_fault c.in_err-submission.field-0.0 Memory (Err c.in_err-submission.field-0.0) (Err c.in_err-submission.field-0.0) refl e refl)
       | inr e ↦ inr (subst (λ (o : Result SubmissionData ReadFault). Tells IsSkippedGcov c.args.text.now o (Err c.in_err-submission.field-0.0)) (sym e) refl)
     ])
 

@@ -7,7 +7,7 @@ pub returns : goal.returns
 returns g c =
     let found = c.skipped_lines_in-skipped.ensures in
     record {
-      sections = c.len.ensures ∙ sym (length-map sect_data c.sects.result.now) ∙ ap length c.sects.ensures.sects;
+      sections = sym (length-map c.sects.result.now sect_data) ∙ ap length c.sects.ensures.sects;
       items = c.items.ensures.count;
       odd = c.odd.ensures;
       lines = found.0;
