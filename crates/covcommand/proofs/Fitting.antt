@@ -1,5 +1,5 @@
 -- Where clap has no fault for the words, the arguments of the subcommand have what they have to.
-use Rattle.std.proofs.Common.{◌≡◌, ◌∙◌, ◌||◌, not, ℕ, Bool, true, false, List, [], ◌∷◌, length, Option, Some, None, cond, refl, sym, ap, subst, option_map, codes}
+use Rattle.std.proofs.Common.{◌≡◌, ◌∙◌, ◌||◌, not, ℕ, Bool, true, false, List, [], ◌∷◌, length, Option, Some, None, cond, refl, sym, ap, subst, option_map, codes, arith, eqb-true}
 use Rattle.std.specs.Prelude.{fold}
 use Rattle.std.specs.Option.{option_map_or}
 use Rattle.std.specs.List.{find, slice_index_or}
@@ -8,6 +8,7 @@ use Rattle.clap.specs.Kinds.{or_else, range_kinds, value_kinds, values_kinds}
 use Rattle.clap.specs.declared.error.kind.ErrorKind.{ErrorKind}
 use Rattle.clap.specs.declared.error.kind.ErrorKind.TheVariants as kind
 use Rattle.clap.specs.declared.builder.value_parser.Reading.TheVariants.{AsWritten, WithoutMinus}
+use Rattle.clap.specs.declared.builder.value_parser.ValueParser.TheVariants as parser
 use Rattle.clap.specs.declared.parser.matches.ValueSource.TheVariants.{CommandLine}
 use Rattle.clap.specs.Walk.{Row, Rule, Text, answers_to, has_row, nothing_held, rows_after, stop_after, walk, walk_from, with_default}
 use Rattle.clap.specs.Simple.{App, Shape, argument_words, built, entered, filled, help_rule, label_of, names_of, rows_at, subcommand_of, with_index}
@@ -22,6 +23,10 @@ no : {A : Type 0} → false ≡ true → A
 no e = absurd cc
 
 -- ---- each argument's uses
+
+accepted : (b : Bool) (k : ErrorKind) → cond b [] (k ∷ []) ≡ [] → b ≡ true
+accepted true k e = refl
+accepted false k e = absurd cc
 
 -- the values of this argument may be any words
 abbrev IsFree : Text → Type 0
@@ -52,11 +57,11 @@ annotated_built i = with_index i (filled annotated)
 annotated_keeps : (i : ℕ) → Keeps RowsFit (annotated_built i)
 annotated_keeps i again [] rows none fit =
     set_fits (codes "gcov") AsWritten (codes "true" ∷ []) rows ((λ e. no e), (λ e. (refl, refl))) fit
-annotated_keeps i again (v ∷ vs) rows none fit = absurd cc
-
-accepted : (b : Bool) (k : ErrorKind) → cond b [] (k ∷ []) ≡ [] → b ≡ true
-accepted true k e = refl
-accepted false k e = absurd cc
+annotated_keeps i again (v ∷ vs) rows none fit =
+    let range = no_faults (range_kinds 0 0 (length (v ∷ vs)))
+    (or_else (repeat_fault again (codes "gcov") rows) (values_kinds false parser.Bool (v ∷ vs))) none in
+    let nothing : 0 ≡ length (v ∷ vs) = eqb-true 0 (length (v ∷ vs)) (accepted _ _ range.0) in
+    absurd (omega (arith, nothing))
 
 abbrev jobs_built : ℕ → Rule
 jobs_built i = with_index i (filled jobs)

@@ -13,18 +13,24 @@ use std::alloc::{AllocError, Global};
 pub(crate) fn described<'a>(alloc: Global) -> Result<Command<'a>, AllocError>
     ensures { IfOk result (λ c. app_of c ≡ line.covcollect) }
 {
-    let program = Command::new(alloc, "covcollect")
-        .version(help::VERSION)
-        .about(help::PROGRAM)
-        .after_help(help::PROGRAM_END)
-        .disable_help_subcommand(true);
-    program
+    program(alloc)
         .subcommand(merge(alloc)?)?
         .subcommand(summary(alloc)?)?
         .subcommand(extract(alloc)?)?
         .subcommand(remove(alloc)?)?
         .subcommand(gcov(alloc)?)?
         .subcommand(check(alloc)?)
+}
+
+/// The program without its subcommands.
+fn program<'a>(alloc: Global) -> Command<'a>
+    ensures { app_of result ≡ line.program }
+{
+    Command::new(alloc, "covcollect")
+        .version(help::VERSION)
+        .about(help::PROGRAM)
+        .after_help(help::PROGRAM_END)
+        .disable_help_subcommand(true)
 }
 
 fn merge<'a>(alloc: Global) -> Result<Command<'a>, AllocError>

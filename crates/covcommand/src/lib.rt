@@ -1,6 +1,7 @@
 //! The command line of the coverage collector: which words ask for what, and what its help says.
 //!
-//! `described` tells clap of the command, `command` reads the words of a call, and `help` has the texts for the user.
+//! `word_at` takes a word of a call as text, `described` tells clap of the command, `command` reads the words, and `help` has the
+//! texts for the user.
 //!
 //! A sketch: the words of a merge.
 //!
@@ -19,6 +20,7 @@ mod help;
 pub mod laws;
 mod names;
 mod reading;
+mod word;
 
 pub use asked::{Command, TextFormat};
 pub use fault::CommandFault;
@@ -26,3 +28,4 @@ pub use help::VERSION;
 pub use laws::{calls_are_refused, calls_are_taken, checks_by_their_words};
 pub use names::Names;
 pub use reading::command;
+pub use word::word_at;

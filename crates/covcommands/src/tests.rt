@@ -10,6 +10,7 @@ use std::test::*;
 
 mod calls;
 mod help;
+mod words;
 
 /// What the words ask for, without what is promised of it: a test looks at what it does, and its proof is quicker so.
 fn asked(alloc: Global, words: &[String]) -> Result<Command, CommandFault> {

@@ -1,15 +1,13 @@
-use Rattle.std.proofs.Common.{rules, ◌≡◌, ◌∙◌, ap, ap₂}
+use Rattle.std.proofs.Common.{◌∙◌, ap, ap₂}
 use Rattle.std.proofs.lemmas.Result.{IfOk-weaker}
-use Rattle.clap.specs.Simple.{App, Shape, app_of, with_subcommand}
-use Rattle.covcommand.specs.CommandLine.{program}
+use Rattle.clap.specs.Simple.{App, Shape, with_subcommand}
 use Rattle.covcommand.proofs.described.described.Goals as goal
 
 pub returns : goal.returns
 returns c =
     let top : App → Shape = λ a. a.top in
-    let program_is : app_of c.disable_help_subcommand-program.result ≡ program = search rules in
     let with_merge = c.in_ok-subcommand.ensures.shape c.in_ok-merge.ensures.1
-    ∙ ap₂ with_subcommand program_is (ap top c.in_ok-merge.ensures.0) in
+    ∙ ap₂ with_subcommand c.program.ensures (ap top c.in_ok-merge.ensures.0) in
     let with_summary = c.in_ok-subcommand-2.ensures.shape c.in_ok-summary.ensures.1
     ∙ ap₂ with_subcommand with_merge (ap top c.in_ok-summary.ensures.0) in
     let with_extract = c.in_ok-subcommand-3.ensures.shape c.in_ok-extract.ensures.1

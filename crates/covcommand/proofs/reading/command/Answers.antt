@@ -25,6 +25,11 @@ returns-in-Err-clause-told c =
     let among = subst (λ (a : App). HasKind (fault_of a words) c.in-Err.error) c.in_ok-described.ensures has in
     told_of _ (fault_of covcollect words) _ c.of.ensures among
 
+pub returns-clause-fits : goal.returns-clause-fits
+returns-clause-fits c =
+    ap (λ (a : App). fault_of a (map string_bytes c.args.words.now)) (sym c.in_ok-described.ensures)
+    ∙ c.in-Ok.ensures.kinds (ap is_simple_and_free c.in_ok-described.ensures ∙ simple_and_free)
+
 pub asked_by-requires : goal.asked_by-requires
 asked_by-requires c =
     let words = map string_bytes c.args.words.now in

@@ -1,0 +1,59 @@
+//! A word of a call, which has to be text.
+
+ghost use Rattle.std.specs.Prelude.{◌≡◌, ◌++◌, ◌∷◌, [], IfOk, IfErr, OnOk, codes, encode_utf8, map};
+ghost use Rattle.std.specs.Str.{IsUtf8};
+ghost use Rattle.std.specs.String.{string_bytes};
+ghost use Rattle.covcommand.specs.Word.{shown, not_text, IsWordFault};
+ghost use Rattle.covcommand.specs.declared.fault.CommandFault.TheVariants as faults;
+
+use crate::fault::CommandFault;
+use covline::Memory;
+use itoa::Buffer;
+use std::alloc::Global;
+
+/// The word of a call at this place, as text. The program's name is at the place 1.
+///
+/// Faults: `Line` where the word isn't UTF-8, whose text says its place and shows it, with `?` for each byte that isn't printable
+/// ASCII; and `Memory`.
+pub fn word_at(alloc: Global, place: usize, word: &[u8]) -> Result<String, CommandFault>
+    ensures text { IfOk result (λ text. string_bytes text ≡ word.now) }
+    ensures takes { IsUtf8 word.now → IfErr result (λ fault. fault ≡ faults.Memory) }
+    ensures told { IfErr result (IsWordFault place word.now) }
+{
+    match std::str::from_utf8(word) {
+        Ok(text) => Ok(String::from_str(alloc, text)?),
+        Err(_) => Err(CommandFault::Line(not_text(alloc, place, word)?)),
+    }
+}
+
+/// What is said of a word that isn't text.
+fn not_text(alloc: Global, place: usize, word: &[u8]) -> Result<String, Memory>
+    ensures { IfOk result (λ text. string_bytes text ≡ not_text place word.now) }
+{
+    let mut text = String::from_str(alloc, "error: word ")?;
+    text.push_str(Buffer::new().format(place))?;
+    text.push_str(" isn't UTF-8: ")?;
+    push_shown(&mut text, word)?;
+    text.push_str("\n")?;
+    Ok(text)
+}
+
+/// Appends the bytes as they are shown.
+fn push_shown(text: &mut String, bytes: &[u8]) -> Result<(), Memory>
+    ensures { OnOk result (string_bytes text.new ≡ string_bytes text.old ++ map shown bytes.now) }
+{
+    for byte in bytes {
+        text.push(shown(*byte))?;
+    }
+    Ok(())
+}
+
+/// A byte as it is shown.
+fn shown(byte: u8) -> char
+    ensures { encode_utf8 result ≡ shown byte ∷ [] }
+{
+    match byte {
+        b' '..=b'~' => byte as char,
+        _ => '?',
+    }
+}
