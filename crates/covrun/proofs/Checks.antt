@@ -21,19 +21,23 @@ use Rattle.covsession.specs.Session.{said}
 use Rattle.covsession.specs.declared.session.fault.SessionFault.{SessionFault}
 use Rattle.covsession.specs.declared.session.fault.SessionFault.TheVariants as faults
 use Rattle.covrun.specs.Check.{OutcomeData, Unread, Refused, Held, IsOutcome, IsCheck, has_item, outcome_line, outcome_complaint, check_lines, check_complaints, is_unread, is_refused, is_empty}
-use Rattle.covrun.specs.Checked.{AnswersText, Says, TellsAll, TellsEach, TellsFile, TellsOne, of_holding, verdict_of, worse, worst_of}
-use Rattle.covrun.specs.Streams.{SinksData, Complains}
+use Rattle.covrun.specs.Checked.{AnswersText, Says, TellsEach, TellsOne, verdict_of, worse, worst_of}
+use Rattle.covrun.specs.Streams.{SinksData}
 use Rattle.covrun.specs.declared.verdict.Verdict.{Verdict}
 use Rattle.covrun.specs.declared.verdict.Verdict.TheVariants as verdicts
 
 -- ---- what a text is answered
+
+abbrev fault_of : Result SubmissionData ReadFault → ReadFault
+fault_of (Ok submission) = reads.Memory
+fault_of (Err fault) = fault
 
 -- where memory ran out for the reader, it is told so
 memory_told : (is_skipped : List ℕ → Type 0) (text : List ℕ) (read : Result SubmissionData ReadFault) (answer : Result Holding ReadFault)
     → read ≡ Err reads.Memory → Tells is_skipped text read answer → answer ≡ Err reads.Memory
 memory_told is_skipped text (Ok submission) answer is tells = absurd cc
 memory_told is_skipped text (Err fault) (Ok holding) is tells = absurd tells
-memory_told is_skipped text (Err fault) (Err told) is tells = ap Err tells ∙ is
+memory_told is_skipped text (Err fault) (Err told) is tells = ap Err (tells ∙ ap fault_of is)
 
 pub trace_answered : (text : List ℕ) (answer : Result Holding ReadFault)
     → (read : Result SubmissionData ReadFault) × trace.Answers text read × trace.GrowsLate text read × Tells IsSkippedRecord text read answer

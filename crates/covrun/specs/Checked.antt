@@ -1,7 +1,7 @@
 -- Private steps: what looking at files one after another has told so far.
 use Rattle.std.specs.Io.KnownBytes.{Appends}
 use Rattle.std.specs.List.{AllByRecursion, list_any}
-use Rattle.std.specs.Prelude.{◌≡◌, ◌≢◌, ◌⊎◌, ◌<◌, ◌≤◌, ◌+◌, ℕ, suc, List, length, if◌then◌else◌, Result, Ok, Err}
+use Rattle.std.specs.Prelude.{◌≡◌, ◌⊎◌, ◌<◌, ◌≤◌, ◌+◌, ℕ, suc, List, length, if◌then◌else◌, Result, Ok, Err}
 use Rattle.covcheck.specs.declared.holding.Holding.{Holding}
 use Rattle.covcommand.specs.declared.asked.TextFormat.{TextFormat}
 use Rattle.covread.specs.declared.fault.ReadFault.{ReadFault}

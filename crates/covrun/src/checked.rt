@@ -4,7 +4,7 @@ ghost use Rattle.std.specs.Prelude.{◌≡◌, ◌<◌, ◌≤◌, ◌^◌, ◌+
 ghost use Rattle.std.specs.Io.KnownBytes.{Appends};
 ghost use Rattle.std.specs.String.{string_bytes};
 ghost use Rattle.covread.specs.Outcome.{most_bytes};
-ghost use Rattle.covrun.specs.Check.{Unread, Refused, Held, outcome_complaint, IsCheck};
+ghost use Rattle.covrun.specs.Check.{Refused, Held, outcome_complaint, IsCheck};
 ghost use Rattle.covrun.specs.Checked.{of_holding, AnswersText, TellsFile, TellsOne, TellsEach};
 ghost use Rattle.covrun.specs.Streams.{sinks};
 ghost use Rattle.covsession.specs.declared.session.fault.SessionFault.TheVariants as session_faults;
