@@ -1,5 +1,5 @@
 -- A fault is the same, whatever is answered where there is none.
-use Rattle.std.proofs.Common.{◌≡◌, Result, Ok, Err, ap, ◌∙◌}
+use Rattle.std.proofs.Common.{◌≡◌, Result, Err, ap, ◌∙◌}
 use Rattle.covread.specs.declared.fault.ReadFault.{ReadFault}
 
 pub same_fault : {X Y : Type 0} (x y : ReadFault) (read : Result X ReadFault) (told : Result Y ReadFault) → read ≡ Err x → read ≡ Err y → told ≡ Err x → told ≡ Err y

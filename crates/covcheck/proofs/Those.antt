@@ -1,5 +1,5 @@
 -- The members of a list of which something holds are one list.
-use Rattle.std.proofs.Common.{◌≡◌, ◌⊎◌, inl, inr, List, [], ◌∷◌, sym, ap, ◌∙◌}
+use Rattle.std.proofs.Common.{◌≡◌, inl, inr, List, [], ◌∷◌, sym, ap, ◌∙◌}
 use Rattle.covcheck.specs.Skipped.{AreThose}
 
 pub those_are_one : {X : Type 0} (holds : X → Type 0) (all x y : List X) → AreThose holds all x → AreThose holds all y → x ≡ y

@@ -37,7 +37,11 @@ pub(crate) fn skipped_lines_in(text: &[u8], format: Format) -> SkippedLines<'_>
 }
 
 /// The first line that isn't read, where this one isn't and has this number.
-fn first_with<'a>(first: Option<SkippedLine<'a>>, line: &'a [u8], at: u64) -> Option<SkippedLine<'a>>
+fn first_with<'a>(
+    first: Option<SkippedLine<'a>>,
+    line: &'a [u8],
+    at: u64,
+) -> Option<SkippedLine<'a>>
     ensures kept { IfSome first.entry (λ f. result ≡ Some f) }
     ensures new { first.entry ≡ None → MatchOption result ⊥ (λ f. (f.at ≡ at) × (f.start.now ≡ start_of line.now)) }
 {

@@ -160,7 +160,9 @@ fn texts_with_and_without_items(rt: HostRuntime) -> Result<(), Fail> {
 /// Of a line of each shape, and of blank lines and lines of no shape.
 #[test]
 fn lines_of_no_shape(rt: HostRuntime) {
-    for line in b"------|function f called 1|branch 0 never executed|branch 0 taken 1|1: 2-block 3|1: 2:x".split(|byte| *byte == b'|') {
+    for line in b"------|function f called 1|branch 0 never executed|branch 0 taken 1|1: 2-block 3|1: 2:x".split(
+        |byte| *byte == b'|',
+    ) {
         assert!(rt; !without_shape(line), "{line:?}");
     }
     for line in b"|  |call 0 returned 1|branch 0|1: 2|File 'a.c'".split(|byte| *byte == b'|') {

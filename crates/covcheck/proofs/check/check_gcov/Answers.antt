@@ -1,4 +1,4 @@
-use Rattle.std.proofs.Common.{◌≡◌, inl, inr, Result, Ok, Err, refl, sym, subst}
+use Rattle.std.proofs.Common.{inl, inr, Result, Ok, Err, refl, sym, subst}
 use Rattle.std.proofs.lemmas.Result.{err_from_is_err_and}
 use Rattle.covline.specs.Row.{SubmissionData}
 use Rattle.covread.specs.declared.fault.ReadFault.{ReadFault}

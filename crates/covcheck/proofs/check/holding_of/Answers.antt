@@ -1,4 +1,4 @@
-use Rattle.std.proofs.Common.{length, map, ap, sym, ◌∙◌}
+use Rattle.std.proofs.Common.{length, ap, sym, ◌∙◌}
 use Rattle.std.proofs.lemmas.List.{length-map}
 use Rattle.covline.specs.SectView.{sect_data}
 use Rattle.covcheck.proofs.check.holding_of.Goals as goal

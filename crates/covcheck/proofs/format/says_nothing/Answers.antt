@@ -1,4 +1,4 @@
-use Rattle.std.proofs.Common.{List, ℕ, subst}
+use Rattle.std.proofs.Common.{subst}
 use Rattle.covline.specs.Spells.{Skip, Spells, LineData}
 use Rattle.covcheck.proofs.format.says_nothing.Goals as goal
 

@@ -1,4 +1,4 @@
-use Rattle.std.proofs.Common.{◌≡◌, ℕ, ◌+◌, List, length, ap, subst, arith}
+use Rattle.std.proofs.Common.{ℕ, ◌+◌, List, length, ap, subst, arith}
 use Rattle.std.specs.List.{enumerate_from}
 use Rattle.covline.specs.Lines.{lines_of}
 use Rattle.covcheck.specs.CheckSteps.{IsSkippedIn}
