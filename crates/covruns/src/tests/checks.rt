@@ -161,17 +161,17 @@ fn texts_of_gcov(rt: HostRuntime) -> Result<(), Fail> {
         &rt,
         process::id(rt.process()),
         "\
+TN:t
+SF:/a.c
+DA:1,2
+end_of_record
+@ a.info
         -:    0:Source:a.c
         -:    1:int f(void)
         2:    2:{ return 1; }
     #####:    3:g();
 call    0 returned 2
 @ a.gcov
-TN:t
-SF:/a.c
-DA:1,2
-end_of_record
-@ a.info
         -:    0:Source:a.c
         2:    1:if (x)
 branch  0 taken 90%
