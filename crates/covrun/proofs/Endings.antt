@@ -1,5 +1,5 @@
 -- How a call with work ends, from what its steps answer.
-use Rattle.std.proofs.Common.{◌≡◌, inl, inr, ℕ, List, ◌++◌, Option, Some, None, Ok, Err, map, codes, refl, sym, subst, ap, ◌∙◌}
+use Rattle.std.proofs.Common.{◌≡◌, inl, inr, ℕ, List, ◌++◌, Option, Ok, Err, map, codes, refl, sym, subst, ap, ◌∙◌}
 use Rattle.std.specs.Io.KnownBytes.{Appends}
 use Rattle.covsession.specs.Session.{said}
 use Rattle.covbook.specs.Op.{EntryData}
@@ -16,9 +16,12 @@ use Rattle.covrun.specs.declared.work.WorkFault.TheVariants.{Words, Memory}
 use Rattle.covcommand.specs.declared.fault.CommandFault.{CommandFault}
 use Rattle.covsession.specs.Fault.{calls}
 use Rattle.covsession.specs.Program.{TellsSession}
-use Rattle.covrun.specs.Call.{StopsEarly, AreTexts, WorkEnds, WorkTold, SourceData, SinksData, sinks, IsTold, of_line}
+use Rattle.covrun.specs.Call.{StopsEarly, AreTexts, WorkEnds, TaskTold, IsTold, of_line}
+use Rattle.covrun.specs.Check.{IsCheck}
+use Rattle.covrun.specs.Streams.{SourceData, SinksData, sinks}
 use Rattle.covrun.specs.Ending.{EndingData, Unreadable, of_collect, of_collected}
-use Rattle.covrun.specs.Work.{WorkData, input_of}
+use Rattle.covrun.specs.Work.{WorkData, TaskData, Serves, Collects, Checks, input_of}
+use Rattle.covcommand.specs.declared.asked.TextFormat.{TextFormat}
 
 -- its texts were collected
 pub ends_collected : (work : WorkData) (files : List (List ℕ)) → files ≡ work.files → (inputs slice : List InputData) → slice ≡ inputs → (entries : List EntryData) (logs : List LogData) (refused : List RefusedInput) (ending : EndingData)
@@ -41,18 +44,25 @@ ends_uncollected work files named inputs fault ending (texts, are, from) bad is 
     inr (inr (texts, Err fault, subst (λ (fs : List (List ℕ)). AreTexts fs texts) named are, bad, is))
 
 -- work that ended is told
-pub told_work : (work : WorkData) (asked : Option WorkData) (ending : EndingData) (status : ℕ) (before after : SourceData) (old new : SinksData)
-    → after ≡ before → Some work ≡ asked → WorkEnds work ending → IsTold ending status old new → WorkTold asked status before after old new
-told_work work asked ending status before after old new unread is ends told =
-    subst (λ (w : Option WorkData). WorkTold w status before after old new) is (unread, ending, ends, told)
+pub told_work : (work : WorkData) (task : TaskData) (ending : EndingData) (status : ℕ) (before after : SourceData) (old new : SinksData)
+    → after ≡ before → Collects work ≡ task → WorkEnds work ending → IsTold ending status old new → TaskTold task status before after old new
+told_work work task ending status before after old new unread is ends told =
+    subst (λ (t : TaskData). TaskTold t status before after old new) is (unread, ending, ends, told)
 
--- a command without work is a session
-pub told_session : (asked : Option WorkData) (status : ℕ) (before after : SourceData) (old new : SinksData) → None ≡ asked
+-- files were checked
+pub told_check : (format : TextFormat) (files named : List (List ℕ)) (task : TaskData) (status : ℕ) (before after : SourceData) (old new : SinksData)
+    → after ≡ before → named ≡ files → Checks format files ≡ task → IsCheck format named status old new → TaskTold task status before after old new
+told_check format files named task status before after old new unread same is checked =
+    subst (λ (t : TaskData). TaskTold t status before after old new) is
+    (unread, subst (λ (fs : List (List ℕ)). IsCheck format fs status old new) same checked)
+
+-- a command without a subcommand is a session
+pub told_session : (task : TaskData) (status : ℕ) (before after : SourceData) (old new : SinksData) → Serves ≡ task
     → TellsSession status before.left after.left old.output new.output old.faults new.faults
     (calls before.reads before.failed_reads old.failed_output) (calls after.reads after.failed_reads new.failed_output)
     old.failed_faults new.failed_faults
-    → WorkTold asked status before after old new
-told_session asked status before after old new is told = subst (λ (w : Option WorkData). WorkTold w status before after old new) is told
+    → TaskTold task status before after old new
+told_session task status before after old new is told = subst (λ (t : TaskData). TaskTold t status before after old new) is told
 
 -- words that give no command
 pub told_line : (fault : CommandFault) (ending : EndingData) → ending ≡ of_line fault → (status : ℕ) (old new : SinksData) → IsTold ending status old new

@@ -1,4 +1,5 @@
 pub mod Blocks
+pub mod Checks
 pub mod Endings
 pub mod Patterns
 pub mod Reading

@@ -1,7 +1,6 @@
 -- What a call of the program does: in which order its tests stand, and what it leaves on its streams.
-use Rattle.std.specs.Io.KnownBytes.{Appends}
 use Rattle.std.specs.List.{AllByRecursion}
-use Rattle.std.specs.Prelude.{◌≡◌, ◌⊎◌, ◌≤◌, ℕ, suc, List, [], ◌∷◌, ◌++◌, length, map, Option, Some, None, Result, Ok, Err, IfOk, IfErr, true}
+use Rattle.std.specs.Prelude.{◌≡◌, ◌⊎◌, ◌≤◌, ℕ, suc, List, [], ◌∷◌, ◌++◌, length, map, Result, Ok, Err, IfOk, IfErr, true}
 use Rattle.std.specs.String.{string_bytes}
 use Rattle.clap.specs.Words.{subcommand_of, takes, fault_of}
 use Rattle.covread.specs.Outcome.{most_bytes}
@@ -24,7 +23,9 @@ use Rattle.covsession.specs.Session.{said}
 use Rattle.covsession.specs.declared.session.fault.SessionFault.TheVariants as faults
 use Rattle.covrun.specs.declared.words_fault.WordsFault.{WordsFault}
 use Rattle.covrun.specs.Ending.{EndingData, Prints, BadLine, BadWords, Unreadable, Stopped, status_of, complaint, of_collect, of_collected}
-use Rattle.covrun.specs.Work.{WorkData, work_of, input_of, AreTaken, AreRefused}
+use Rattle.covrun.specs.Work.{WorkData, TaskData, Serves, Collects, Checks, task_of, input_of, AreTaken, AreRefused}
+use Rattle.covrun.specs.Check.{IsCheck}
+use Rattle.covrun.specs.Streams.{SourceData, SinksData, Complains, Withholds, Delivers}
 
 -- there is a text for each of the files, and none has more than a byte above what a text may have. What a file holds isn't told
 abbrev pub AreTexts : List (List ℕ) → List (List ℕ) → Type 0
@@ -71,44 +72,6 @@ of_line (line.Version text) = Prints (string_bytes text)
 of_line (line.Line text) = BadLine (string_bytes text)
 of_line line.Memory = Stopped faults.Memory
 
--- the stream that a call reads: what it has left, where it tells that, how often it was read, and how often in vain
-pub record SourceData : Type 0 where
-  pub left : Option (List ℕ)
-  pub reads : ℕ
-  pub failed_reads : ℕ
-
-abbrev pub source : Option (List ℕ) → (reads failed_reads : ℕ) → SourceData
-source left reads failed_reads = record { left = left; reads = reads; failed_reads = failed_reads }
-
--- the two streams that a call writes to: what each has taken, where it tells that, and how many of its writes failed
-pub record SinksData : Type 0 where
-  pub output : Option (List ℕ)
-  pub failed_output : ℕ
-  pub faults : Option (List ℕ)
-  pub failed_faults : ℕ
-
-abbrev pub sinks : Option (List ℕ) → ℕ → Option (List ℕ) → ℕ → SinksData
-sinks output failed_output faults failed_faults = record {
-  output = output;
-  failed_output = failed_output;
-  faults = faults;
-  failed_faults = failed_faults;
-}
-
--- these words went to the stream for faults, unless a write there failed: of that nobody is left to tell
-abbrev pub Complains : List ℕ → SinksData → SinksData → Type 0
-Complains words old new = new.failed_faults ≡ old.failed_faults → Appends old.faults new.faults words
-
--- nothing was written to the output
-abbrev pub Withholds : SinksData → SinksData → Type 0
-Withholds old new = (new.output ≡ old.output) × (new.failed_output ≡ old.failed_output)
-
--- all of the text went to the output, and nothing else anywhere
-abbrev pub Delivers : List ℕ → SinksData → SinksData → Type 0
-Delivers text old new =
-    Appends old.output new.output text × (new.failed_output ≡ old.failed_output)
-    × (new.faults ≡ old.faults) × (new.failed_faults ≡ old.failed_faults)
-
 -- a text is delivered, or a write of it failed behind a beginning of it, and that is told; any other ending is told by its status
 -- and its words
 abbrev pub IsTold : EndingData → (status : ℕ) → SinksData → SinksData → Type 0
@@ -126,20 +89,22 @@ pub record AreParsed (words : List (List ℕ)) (parsed : Result Command CommandF
   pub taken : takes covcollect words ≡ true → IfErr parsed (λ fault. fault ≡ line.Memory)
   pub told : IfErr parsed (IsToldOf (fault_of covcollect words))
 
--- a call that has work ends and is told, and doesn't read the input; one that has none is a session over it
-abbrev pub WorkTold : Option WorkData → (status : ℕ) → (before after : SourceData) → SinksData → SinksData → Type 0
-WorkTold (Some work) status before after old new =
-    (after ≡ before) × (ending : EndingData) × WorkEnds work ending × IsTold ending status old new
-WorkTold None status before after old new =
+-- a call that collects or checks files doesn't read the input. What it collects ends and is told; what it checks is told file by
+-- file. A session is one over the input
+abbrev pub TaskTold : TaskData → (status : ℕ) → (before after : SourceData) → SinksData → SinksData → Type 0
+TaskTold Serves status before after old new =
     TellsSession status before.left after.left old.output new.output old.faults new.faults
     (calls before.reads before.failed_reads old.failed_output) (calls after.reads after.failed_reads new.failed_output)
     old.failed_faults new.failed_faults
+TaskTold (Collects work) status before after old new =
+    (after ≡ before) × (ending : EndingData) × WorkEnds work ending × IsTold ending status old new
+TaskTold (Checks format files) status before after old new = (after ≡ before) × IsCheck format files status old new
 
 -- a command's words are refused, and the input isn't read; or they are taken and then the command is done
 abbrev pub CommandTold : Command → (status : ℕ) → (before after : SourceData) → SinksData → SinksData → Type 0
 CommandTold command status before after old new =
     ((after ≡ before) × (ending : EndingData) × StopsEarly command ending × IsTold ending status old new)
-    ⊎ (AreTaken command × WorkTold (work_of command) status before after old new)
+    ⊎ (AreTaken command × TaskTold (task_of command) status before after old new)
 
 -- words that give no command are told of, and the input isn't read
 abbrev pub CallTold : Result Command CommandFault → (status : ℕ) → (before after : SourceData) → SinksData → SinksData → Type 0

@@ -1,6 +1,9 @@
+pub mod Streams
 pub mod Work
 pub mod Ending
+pub mod Check
 pub mod Call
 pub mod View
 pub mod WorkFault
 pub mod Files
+pub mod Checked

@@ -1,14 +1,21 @@
 -- Values of the code, seen as plain data.
 use Rattle.std.specs.String.{string_bytes}
 use Rattle.covbook.specs.View.{op_data}
-use Rattle.covrun.specs.Work.{WorkData}
+use Rattle.covrun.specs.Work.{WorkData, TaskData, Serves, Collects, Checks}
 use Rattle.covrun.specs.Ending.{EndingData, Prints, BadLine, BadWords, Unreadable, Stopped, Ungathered, Refuses}
 use Rattle.covrun.specs.declared.work.Work.{Work}
+use Rattle.covrun.specs.declared.work.Task.{Task}
+use Rattle.covrun.specs.declared.work.Task.TheVariants as tasks
 use Rattle.covrun.specs.declared.ending.Ending.{Ending}
 use Rattle.covrun.specs.declared.ending.Ending.TheVariants as endings
 
 abbrev pub work_data : Work → WorkData
 work_data work = record { files = work.files; test = work.test; jobs = work.jobs; last = op_data work.last }
+
+abbrev pub task_data : Task → TaskData
+task_data tasks.Session = Serves
+task_data (tasks.Collect work) = Collects (work_data work)
+task_data (tasks.Check format files) = Checks format files
 
 abbrev pub ending_data : Ending → EndingData
 ending_data (endings.Done text) = Prints text

@@ -6,7 +6,8 @@ use Rattle.covreport.specs.Choice.{most_patterns, most_pattern_bytes}
 use Rattle.covbook.specs.Op.{OpData, ReportOp, SummaryOp, ExtractOp, RemoveOp}
 use Rattle.covjobs.specs.Collect.{InputData, TraceInput, GcovInput}
 use Rattle.covcommand.specs.declared.asked.Command.{Command}
-use Rattle.covcommand.specs.declared.asked.Command.TheVariants.{Session, Merge, Summary, Extract, Remove, Gcov}
+use Rattle.covcommand.specs.declared.asked.Command.TheVariants.{Session, Merge, Summary, Extract, Remove, Gcov, Check}
+use Rattle.covcommand.specs.declared.asked.TextFormat.{TextFormat}
 use Rattle.covrun.specs.declared.words_fault.WordsFault.{WordsFault}
 use Rattle.covrun.specs.declared.words_fault.WordsFault.TheVariants as words
 
@@ -21,14 +22,21 @@ pub record WorkData : Type 0 where
 abbrev pub filtering : (List (List ℕ) → OpData) → List (List ℕ) → WorkData
 filtering op names = record { files = take 1 names; test = None; jobs = 1; last = op (drop 1 names) }
 
+-- what a call has to do: a session; to collect files and answer what is asked at the end; or to look at files one by one
+pub data TaskData : Type 0 where
+  Serves : TaskData
+  Collects : (work : WorkData) → TaskData
+  Checks : (format : TextFormat) → (files : List (List ℕ)) → TaskData
+
 -- what each subcommand has to do; without one there is a session
-abbrev pub work_of : Command → Option WorkData
-work_of Session = None
-work_of (Merge jobs names) = Some (record { files = names; test = None; jobs = jobs; last = ReportOp })
-work_of (Summary names) = Some (record { files = names; test = None; jobs = 1; last = SummaryOp })
-work_of (Extract names) = Some (filtering ExtractOp names)
-work_of (Remove names) = Some (filtering RemoveOp names)
-work_of (Gcov test names) = Some (record { files = names; test = Some test; jobs = 1; last = ReportOp })
+abbrev pub task_of : Command → TaskData
+task_of Session = Serves
+task_of (Merge jobs names) = Collects (record { files = names; test = None; jobs = jobs; last = ReportOp })
+task_of (Summary names) = Collects (record { files = names; test = None; jobs = 1; last = SummaryOp })
+task_of (Extract names) = Collects (filtering ExtractOp names)
+task_of (Remove names) = Collects (filtering RemoveOp names)
+task_of (Gcov test names) = Collects (record { files = names; test = Some test; jobs = 1; last = ReportOp })
+task_of (Check format names) = Checks format names
 
 -- the text of a file, as what is collected
 abbrev pub input_of : Option (List ℕ) → List ℕ → InputData
@@ -59,6 +67,7 @@ AreTaken (Summary names) = Unit {0}
 AreTaken (Extract names) = ArePatterns (drop 1 names)
 AreTaken (Remove names) = ArePatterns (drop 1 names)
 AreTaken (Gcov test names) = IsGoodTest test
+AreTaken (Check format names) = Unit {0}
 
 -- they aren't, for this reason
 abbrev pub AreRefused : Command → WordsFault → Type 0
@@ -68,3 +77,4 @@ AreRefused (Summary names) fault = ⊥
 AreRefused (Extract names) fault = IsPatternFault (drop 1 names) fault
 AreRefused (Remove names) fault = IsPatternFault (drop 1 names) fault
 AreRefused (Gcov test names) fault = IsTestFault test fault
+AreRefused (Check format names) fault = ⊥

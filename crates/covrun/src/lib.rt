@@ -1,8 +1,8 @@
 //! The program as a function: its words, files and streams in, its exit status out.
 //!
-//! `run` reads the command line (covcommand). Without a subcommand it is a session (covsession). A subcommand becomes `Work`:
-//! its files are read (`files`), collected by covjobs, and the answer becomes an `Ending`, which `tell` tells by an exit status
-//! and on the two streams.
+//! `run` reads the command line (covcommand), and a command becomes a `Task`. Without a subcommand it is a session (covsession).
+//! Of `check` each file is read and told of by itself (`checked`). Any other subcommand is `Work`: its files are read (`files`),
+//! collected by covjobs, and the answer becomes an `Ending`, which `tell` tells by an exit status and on the two streams.
 //!
 //! A sketch: the program's main function.
 //!
@@ -16,12 +16,14 @@
 //! ```
 #![tactic(auto)]
 
+mod checked;
 mod collecting;
 mod ending;
 mod files;
 mod inputs;
 mod program;
 mod told;
+mod verdict;
 mod words_fault;
 mod work;
 

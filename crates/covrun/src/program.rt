@@ -2,12 +2,14 @@
 
 ghost use Rattle.std.specs.Prelude.{◌≡◌, ◌<◌, ◌^◌, map};
 ghost use Rattle.std.specs.String.{string_bytes};
-ghost use Rattle.covrun.specs.Call.{source, sinks, IsCall, CommandTold};
+ghost use Rattle.covrun.specs.Call.{IsCall, CommandTold};
+ghost use Rattle.covrun.specs.Streams.{sinks, source};
 
+use crate::checked::check_files;
 use crate::collecting::ending_of;
 use crate::ending::{ending_of_line, ending_of_work};
 use crate::told::tell;
-use crate::work::work_for;
+use crate::work::{Task, task_for};
 use covcommand::{Command, command};
 use covsession::{Sink, Source, run_session};
 use std::alloc::{AllocGlobal, Global};
@@ -17,11 +19,16 @@ use std::thread::Threads;
 
 /// Does what the program does, and answers its exit status. The first of the words is the program's name.
 ///
-/// Its tests stand in this order: the command line (2); the patterns, or the test's name of `gcov` (2); the files, of which the
+/// The tests of a call that collects files stand in this order: the command line (2); the patterns, or the test's name of `gcov` (2); the files, of which the
 /// first that can't be read is told (1); a fault of collecting (3); want of memory for one of the texts (3); texts that are
 /// refused, and clashes (4); the output (1). `out of memory` (3) may be told at any moment. Nothing but the text of a call that
-/// succeeds, or help, goes to the output, and a beginning of that text where a write fails. A session alone reads the input. The
-/// output is flushed, and `faults` isn't.
+/// succeeds, or help, goes to the output, and a beginning of that text where a write fails.
+///
+/// A call that checks files looks at one after another: a line goes to the output for each that can be read, and a file that
+/// can't be, or has no item, is complained of. Its status is 1 where a file can't be read, else 4 where one is refused, else 5
+/// where one has no item, else 0. A failed write of a line (1) and want of memory (3) end the call.
+///
+/// A session alone reads the input. The output is flushed, and `faults` isn't.
 /// Without a subcommand this is a session over the input and the output. Waits for the jobs.
 pub fn run<R: Files + AllocGlobal + Threads + Wait + Sync, I: Source, O: Sink, E: Sink>(
     rt: &R,
@@ -62,9 +69,12 @@ fn run_command<R: Files + Threads + Wait + Sync, I: Source, O: Sink, E: Sink>(
         (sinks (O.written output.old) (O.failed_writes output.old) (E.written faults.old) (E.failed_writes faults.old))
         (sinks (O.written output.new) (O.failed_writes output.new) (E.written faults.new) (E.failed_writes faults.new)) }
 {
-    match work_for(alloc, asked) {
-        Ok(Some(work)) => tell(&ending_of(rt, alloc, &work), output, faults),
-        Ok(None) => run_session(alloc, input, output, faults),
+    match task_for(alloc, asked) {
+        Ok(Task::Session) => run_session(alloc, input, output, faults),
+        Ok(Task::Collect(work)) => tell(&ending_of(rt, alloc, &work), output, faults),
+        Ok(Task::Check { format, files }) => {
+            check_files(rt, alloc, format, files.get(), output, faults)
+        }
         Err(fault) => tell(&ending_of_work(fault), output, faults),
     }
 }

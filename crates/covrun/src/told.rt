@@ -1,10 +1,11 @@
 //! Telling how a call ended: its text or its complaint goes to a stream, and the exit status is answered.
 
-ghost use Rattle.std.specs.Prelude.{◌≡◌, ◌<◌, ◌^◌, ◌++◌, IfErr, OnOk, OnErr, suc};
+ghost use Rattle.std.specs.Prelude.{◌≡◌, ◌<◌, ◌≤◌, ◌^◌, ◌++◌, IfErr, OnOk, OnErr, suc};
 ghost use Rattle.std.specs.Io.KnownBytes.{Appends};
 ghost use Rattle.covsession.specs.Fault.{HasBegun};
-ghost use Rattle.covrun.specs.Call.{sinks, IsTold};
+ghost use Rattle.covrun.specs.Call.{IsTold};
 ghost use Rattle.covrun.specs.Ending.{Prints};
+ghost use Rattle.covrun.specs.Streams.{sinks};
 ghost use Rattle.covrun.specs.View.{ending_data};
 ghost use Rattle.covsession.specs.declared.session.fault.SessionFault.TheVariants as session_faults;
 
@@ -46,7 +47,7 @@ fn print<O: Sink, E: Sink>(text: &[u8], output: &mut O, faults: &mut E) -> u8
 }
 
 /// Writes all of a text, and has the sink send it on.
-fn put_out<O: Sink>(text: &[u8], output: &mut O) -> Result<(), SessionFault>
+pub(crate) fn put_out<O: Sink>(text: &[u8], output: &mut O) -> Result<(), SessionFault>
     requires { O.failed_writes output.old < 2 ^ 62 }
     ensures written { OnOk result (Appends (O.written output.old) (O.written output.new) text.now) }
     ensures good { OnOk result (O.failed_writes output.new ≡ O.failed_writes output.old) }
@@ -61,16 +62,26 @@ fn put_out<O: Sink>(text: &[u8], output: &mut O) -> Result<(), SessionFault>
     }
 }
 
-/// Says these words in two parts on the stream for faults, and answers the exit status. Nobody is left to tell where that
-/// write fails.
+/// Says these words in two parts on the stream for faults, and answers the exit status.
 fn complain<E: Sink>(front: &[u8], words: &[u8], status: u8, faults: &mut E) -> u8
     requires { E.failed_writes faults.old < 2 ^ 62 }
     ensures status { result ≡ status }
     ensures said { E.failed_writes faults.new ≡ E.failed_writes faults.old
         → Appends (E.written faults.old) (E.written faults.new) (front.now ++ words.now) }
 {
+    say(front, words, faults);
+    status
+}
+
+/// Says these words in two parts on the stream for faults. Nobody is left to tell where that write fails.
+pub(crate) fn say<E: Sink>(front: &[u8], words: &[u8], faults: &mut E)
+    requires { E.failed_writes faults.old < 2 ^ 63 }
+    ensures said { E.failed_writes faults.new ≡ E.failed_writes faults.old
+        → Appends (E.written faults.old) (E.written faults.new) (front.now ++ words.now) }
+    ensures grows { E.failed_writes faults.old ≤ E.failed_writes faults.new }
+    ensures few { E.failed_writes faults.new ≤ suc (E.failed_writes faults.old) }
+{
     if put_bytes(front, faults).is_ok() {
         let _ = put_bytes(words, faults);
     }
-    status
 }

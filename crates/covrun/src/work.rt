@@ -1,8 +1,8 @@
-//! What a subcommand has to do.
+//! What a call has to do.
 
 use crate::words_fault::WordsFault;
 use covbook::Op;
-use covcommand::{Command, Names};
+use covcommand::{Command, Names, TextFormat};
 use covline::{Bytes, Memory, good_test};
 use covreport::{PatternFault, Patterns};
 use std::alloc::{AllocError, Global};
@@ -15,6 +15,22 @@ pub(crate) struct Work {
     pub(crate) test: Option<Bytes>,
     pub(crate) jobs: u32,
     pub(crate) last: Op,
+}
+
+/// What a call has to do.
+#[derive(Drop)]
+pub(crate) enum Task {
+    /// A session over the input and the output.
+    Session,
+    /// To collect files, and answer what is asked at the end.
+    Collect(Work),
+    /// To look at files one by one.
+    Check {
+        /// How the files are read.
+        format: TextFormat,
+        /// The files' paths.
+        files: Names,
+    },
 }
 
 /// Why a subcommand's work isn't begun.
@@ -63,37 +79,41 @@ impl From<PatternFault> for WorkFault {
     }
 }
 
-ghost use Rattle.std.specs.Prelude.{◌≡◌, ◌≤◌, ℕ, List, Option, None, Some, length, map, take, drop, IfOk, IfErr, option_map};
+ghost use Rattle.std.specs.Prelude.{◌≡◌, ◌≤◌, ℕ, List, Option, None, Some, length, map, take, drop, IfOk, IfErr};
 ghost use Rattle.std.specs.String.{string_bytes};
 ghost use Rattle.covline.specs.Lawful.{IsGoodTest};
 ghost use Rattle.covbook.specs.Op.{OpData};
-ghost use Rattle.covrun.specs.View.{work_data};
-ghost use Rattle.covrun.specs.Work.{work_of, filtering, ArePatterns, AreTaken};
+ghost use Rattle.covrun.specs.View.{task_data, work_data};
+ghost use Rattle.covrun.specs.Work.{task_of, filtering, ArePatterns, AreTaken};
 ghost use Rattle.covrun.specs.WorkFault.{IsRefusal, IsPatternRefusal, IsTestRefusal};
 ghost use Rattle.covrun.specs.declared.work.WorkFault.TheVariants as faults;
 
-/// What the command has to do, once its patterns and its test's name are tested. A session has nothing to do here.
-pub(crate) fn work_for(alloc: Global, command: Command) -> Result<Option<Work>, WorkFault>
-    ensures work { IfOk result (λ work. option_map work_data work ≡ work_of command) }
+/// What the command has to do, once its patterns and its test's name are tested.
+pub(crate) fn task_for(alloc: Global, command: Command) -> Result<Task, WorkFault>
+    ensures task { IfOk result (λ task. task_data task ≡ task_of command) }
     ensures taken { IfOk result (λ _. AreTaken command) }
     ensures refused { IfErr result (IsRefusal command) }
 {
     match command {
-        Command::Session => Ok(None),
-        Command::Merge { jobs, names } => Ok(Some(over(names, None, jobs, Op::Report))),
-        Command::Summary { names } => Ok(Some(over(names, None, 1, Op::Summary))),
+        Command::Session => Ok(Task::Session),
+        Command::Merge { jobs, names } => Ok(Task::Collect(over(names, None, jobs, Op::Report))),
+        Command::Summary { names } => Ok(Task::Collect(over(names, None, 1, Op::Summary))),
         Command::Extract { names } => {
             let (files, patterns) = split(alloc, &names)?;
-            Ok(Some(over(files, None, 1, Op::Extract(patterns))))
+            Ok(Task::Collect(over(files, None, 1, Op::Extract(patterns))))
         }
         Command::Remove { names } => {
             let (files, patterns) = split(alloc, &names)?;
-            Ok(Some(over(files, None, 1, Op::Remove(patterns))))
+            Ok(Task::Collect(over(files, None, 1, Op::Remove(patterns))))
         }
         Command::Gcov { test, names } => {
             test_name(&test)?;
-            Ok(Some(over(names, Some(test), 1, Op::Report)))
+            Ok(Task::Collect(over(names, Some(test), 1, Op::Report)))
         }
+        Command::Check { format, names } => Ok(Task::Check {
+            format,
+            files: names,
+        }),
     }
 }
 

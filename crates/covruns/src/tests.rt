@@ -15,6 +15,7 @@ use std::sync::Wait;
 use std::test::*;
 use std::thread::Threads;
 
+mod checks;
 mod commands;
 mod faults;
 mod files;
@@ -68,7 +69,7 @@ fn call<R: Files + AllocGlobal + Threads + Wait + Sync>(
 /// What a script has said since its last call: a text, and what the next call is to leave on its streams.
 #[derive(Drop)]
 struct Said {
-    text: String,
+    text: Vec<u8>,
     output: String,
     faults: String,
 }
@@ -77,8 +78,8 @@ struct Said {
 ///
 /// A line `@ NAME` makes a file of the text before it. A line `$ STATUS WORDS` is a call, with the text before it as its input:
 /// it ends with this status, and leaves the lines said behind `> ` on its output and those behind `! ` on the stream for faults;
-/// where the last of them is `...`, what follows there doesn't matter. Every other line is one of a text. In words and faults `~`
-/// is the folder.
+/// where the last of them is `...`, what follows there doesn't matter. A line `% HEX` stands for these bytes of a text, with no
+/// line feed after them. Every other line is one of a text. In words, outputs and faults `~` is the folder.
 fn play<R: Files + AllocGlobal + Threads + Wait + Abort + Sync>(
     rt: &R,
     process: u32,
@@ -87,7 +88,7 @@ fn play<R: Files + AllocGlobal + Threads + Wait + Abort + Sync>(
     let folder = format!(in rt.alloc(); "/tmp/covruns-{process}")?;
     fs::create_dir_all(rt, folder.as_str())?;
     let mut said = Said {
-        text: String::new(rt.alloc()),
+        text: Vec::new(rt.alloc()),
         output: String::new(rt.alloc()),
         faults: String::new(rt.alloc()),
     };
@@ -107,15 +108,18 @@ fn play_line<R: Files + AllocGlobal + Threads + Wait + Abort + Sync>(
 ) -> Result<(), Fail> {
     if let Some(name) = line.strip_prefix("@ ") {
         make_file(rt, folder, name, said)
+    } else if let Some(bytes) = line.strip_prefix("% ") {
+        push_bytes(&mut said.text, bytes)
     } else if let Some(answer) = line.strip_prefix("> ") {
-        push_line(&mut said.output, answer)
+        let answer = placed(rt.alloc(), answer, folder)?;
+        push_line(&mut said.output, answer.as_str())
     } else if let Some(fault) = line.strip_prefix("! ") {
         let fault = placed(rt.alloc(), fault, folder)?;
         push_line(&mut said.faults, fault.as_str())
     } else if let Some(call) = line.strip_prefix("$ ") {
         make_call(rt, folder, call, said)
     } else {
-        push_line(&mut said.text, line)
+        push_text(&mut said.text, line)
     }
 }
 
@@ -127,7 +131,7 @@ fn make_file<R: Files + AllocGlobal>(
     said: &mut Said,
 ) -> Result<(), Fail> {
     let path = format!(in rt.alloc(); "{folder}/{name}")?;
-    fs::write(rt, path.as_str(), said.text.as_str())?;
+    fs::write(rt, path.as_str(), said.text.as_slice())?;
     said.text.clear();
     Ok(())
 }
@@ -141,7 +145,7 @@ fn make_call<R: Files + AllocGlobal + Threads + Wait + Abort + Sync>(
 ) -> Result<(), Fail> {
     let (status, words) = asked.split_once(' ').unwrap_or((asked, ""));
     let words = words_of(rt.alloc(), words, folder)?;
-    let told = call(rt, words.as_slice(), said.text.as_bytes());
+    let told = call(rt, words.as_slice(), said.text.as_slice());
     let given = format!(in rt.alloc(); "{}", told.status)?;
     check_text(rt, asked, told.faults.as_slice(), said.faults.as_str())?;
     check_text(rt, asked, told.output.as_slice(), said.output.as_str())?;
@@ -178,6 +182,21 @@ fn placed(alloc: Global, text: &str, folder: &str) -> Result<String, Fail> {
 fn push_line(text: &mut String, line: &str) -> Result<(), Fail> {
     text.push_str(line)?;
     text.push('\n')?;
+    Ok(())
+}
+
+/// Appends a line of a text.
+fn push_text(text: &mut Vec<u8>, line: &str) -> Result<(), Fail> {
+    text.extend_from_slice(line.as_bytes())?;
+    text.push(b'\n')?;
+    Ok(())
+}
+
+/// Appends the bytes whose hexadecimal numbers these words are.
+fn push_bytes(text: &mut Vec<u8>, words: &str) -> Result<(), Fail> {
+    for word in words.split_whitespace() {
+        text.push(u8::from_str_radix(word, 16)?)?;
+    }
     Ok(())
 }
 

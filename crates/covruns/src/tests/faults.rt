@@ -159,14 +159,15 @@ fn call_closed<R: Files + AllocGlobal + Threads + Wait + Sync>(
     Ok((status, faults))
 }
 
-/// A call whose output is closed so tells that a write failed.
+/// A call whose output is closed so tells that a write failed, after what it complains of.
 fn check_closed<R: Files + AllocGlobal + Threads + Wait + Abort + Sync>(
     rt: &R,
     asked: &str,
     takes: bool,
+    told: &str,
 ) -> Result<(), Fail> {
     let (status, faults) = call_closed(rt, asked, takes)?;
-    check_text(rt, asked, faults.as_slice(), "write fault\n")?;
+    check_text(rt, asked, faults.as_slice(), told)?;
     assert!(rt; status == 1, "{asked}: the status is {status}");
     Ok(())
 }
@@ -175,9 +176,32 @@ fn check_closed<R: Files + AllocGlobal + Threads + Wait + Abort + Sync>(
 #[test]
 fn a_closed_output(rt: HostRuntime) -> Result<(), Fail> {
     for takes in [false, true] {
-        check_closed(&rt, "covcollect summary /dev/null", takes)?;
-        check_closed(&rt, "covcollect --help", takes)?;
-        check_closed(&rt, "covcollect merge /dev/null /dev/null", true)?;
+        check_closed(
+            &rt,
+            "covcollect summary /dev/null",
+            takes,
+            "write fault\n",
+        )?;
+        check_closed(&rt, "covcollect --help", takes, "write fault\n")?;
+    }
+    check_closed(
+        &rt,
+        "covcollect merge /dev/null /dev/null",
+        true,
+        "write fault\n",
+    )
+}
+
+/// A check whose line can't be written tells what it complains of up to this file, and looks at none after it.
+#[test]
+fn a_check_with_a_closed_output(rt: HostRuntime) -> Result<(), Fail> {
+    for takes in [false, true] {
+        check_closed(
+            &rt,
+            "covcollect check /tmp/covruns-none /dev/null /tmp/covruns-none",
+            takes,
+            "/tmp/covruns-none: can't read\n/dev/null: no items\nwrite fault\n",
+        )?;
     }
     Ok(())
 }

@@ -1,14 +1,22 @@
-use Rattle.std.proofs.Common.{inl, inr, refl, sym, ap, ◌∙◌, option_map}
-use Rattle.covrun.specs.View.{work_data, ending_data}
-use Rattle.covrun.proofs.Endings.{stops_early, told_work}
+use Rattle.std.proofs.Common.{inl, inr, refl, sym, ap, ◌∙◌}
+use Rattle.covrun.specs.View.{task_data, work_data, ending_data}
+use Rattle.covrun.proofs.Endings.{stops_early, told_check, told_work}
 use Rattle.covrun.proofs.program.run_command.Goals as goal
 
-pub returns-in-Ok-Some : goal.returns-in-Ok-Some
-returns-in-Ok-Some g c =
+pub returns-in-Ok-Collect : goal.returns-in-Ok-Collect
+returns-in-Ok-Collect g c =
     inr (
-      c.in-Ok-Some.ensures.taken,
-      told_work (work_data c.in-Ok-Some.work) _ (ending_data c.ending_of.result) _ _ _ _ _ refl
-          (ap (option_map work_data) (sym c.in-Ok-Some.field-0-is) ∙ c.in-Ok-Some.ensures.work) c.ending_of.ensures c.tell.ensures,
+      c.in-Ok-Collect.ensures.taken,
+      told_work (work_data c.in-Ok-Collect.work) _ (ending_data c.ending_of.result) _ _ _ _ _ refl
+          (ap task_data (sym c.in-Ok-Collect.field-0-is) ∙ c.in-Ok-Collect.ensures.task) c.ending_of.ensures c.tell.ensures,
+    )
+
+pub returns-in-Ok-Check : goal.returns-in-Ok-Check
+returns-in-Ok-Check g c =
+    inr (
+      c.in-Ok-Check.ensures.taken,
+      told_check _ _ _ _ _ _ _ _ _ refl c.get.ensures
+          (ap task_data (sym c.in-Ok-Check.field-0-is) ∙ c.in-Ok-Check.ensures.task) c.check_files.ensures,
     )
 
 pub returns-in-Err : goal.returns-in-Err

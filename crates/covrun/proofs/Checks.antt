@@ -1,0 +1,262 @@
+-- Files that are looked at one after another: what was told of the first of them, and of one more.
+use Rattle.std.proofs.Common.{◌≡◌, inl, inr, ℕ, suc, ◌+◌, ◌<◌, ◌≤◌, Bool, true, false, ◌||◌, if◌then◌else◌, List, [], ◌∷◌, ◌++◌, length, get_or, take, drop, map, Option, Result, Ok, Err, refl, sym, ap, ◌∙◌, subst, arith, append_assoc, length-append}
+use Rattle.std.proofs.KnownBytes.{Appends-trans}
+use Rattle.std.proofs.lemmas.List.{take_more, map-append, take-append-drop, drop_more, flat_map_more}
+use Rattle.std.proofs.lemmas.List.Folds.{list_any-append}
+use Rattle.std.specs.Io.KnownBytes.{Appends}
+use Rattle.std.specs.List.{AllByRecursion, flat_map, list_any, zip}
+use Rattle.covcheck.specs.Holding.{Tells}
+use Rattle.covcheck.specs.Skipped.{IsSkippedGcov, IsSkippedRecord}
+use Rattle.covcheck.specs.declared.holding.Holding.{Holding}
+use Rattle.covcommand.specs.declared.asked.TextFormat.{TextFormat}
+use Rattle.covcommand.specs.declared.asked.TextFormat.TheVariants.{Tracefile, Gcov}
+use Rattle.covline.specs.Row.{SubmissionData}
+use Rattle.covread.specs.GcovOutcome as gcov
+use Rattle.covread.specs.Outcome as trace
+use Rattle.covread.specs.declared.fault.ReadFault.{ReadFault}
+use Rattle.covread.specs.declared.fault.ReadFault.TheVariants as reads
+use Rattle.covsession.specs.Fault.{HasBegun}
+use Rattle.covsession.specs.Program.{fault_status, words_of_fault}
+use Rattle.covsession.specs.Session.{said}
+use Rattle.covsession.specs.declared.session.fault.SessionFault.{SessionFault}
+use Rattle.covsession.specs.declared.session.fault.SessionFault.TheVariants as faults
+use Rattle.covrun.specs.Check.{OutcomeData, Unread, Refused, Held, IsOutcome, IsCheck, has_item, outcome_line, outcome_complaint, check_lines, check_complaints, is_unread, is_refused, is_empty}
+use Rattle.covrun.specs.Checked.{AnswersText, Says, TellsEach, TellsOne, verdict_of, worse, worst_of}
+use Rattle.covrun.specs.Streams.{SinksData}
+use Rattle.covrun.specs.declared.verdict.Verdict.{Verdict}
+use Rattle.covrun.specs.declared.verdict.Verdict.TheVariants as verdicts
+
+-- ---- what a text is answered
+
+abbrev fault_of : Result SubmissionData ReadFault → ReadFault
+fault_of (Ok submission) = reads.Memory
+fault_of (Err fault) = fault
+
+-- where memory ran out for the reader, it is told so
+memory_told : (is_skipped : List ℕ → Type 0) (text : List ℕ) (read : Result SubmissionData ReadFault) (answer : Result Holding ReadFault)
+    → read ≡ Err reads.Memory → Tells is_skipped text read answer → answer ≡ Err reads.Memory
+memory_told is_skipped text (Ok submission) answer is tells = absurd cc
+memory_told is_skipped text (Err fault) (Ok holding) is tells = absurd tells
+memory_told is_skipped text (Err fault) (Err told) is tells = ap Err (tells ∙ ap fault_of is)
+
+pub trace_answered : (text : List ℕ) (answer : Result Holding ReadFault)
+    → (read : Result SubmissionData ReadFault) × trace.Answers text read × trace.GrowsLate text read × Tells IsSkippedRecord text read answer
+    → AnswersText Tracefile text answer
+trace_answered text answer (read, inl (short, is), late, tells) = inl (memory_told IsSkippedRecord text read answer is tells)
+trace_answered text answer (read, inr outcome, late, tells) = inr (read, outcome, tells)
+
+pub gcov_answered : (text : List ℕ) (answer : Result Holding ReadFault)
+    → (read : Result SubmissionData ReadFault) × gcov.Answers [] text read × gcov.GrowsLate text read × Tells IsSkippedGcov text read answer
+    → AnswersText Gcov text answer
+gcov_answered text answer (read, inl (short, good, is), late, tells) = inl (memory_told IsSkippedGcov text read answer is tells)
+gcov_answered text answer (read, inr outcome, late, tells) = inr (read, outcome, tells)
+
+-- ---- files beside their outcomes
+
+zip_none : {K V : Type 0} (ks : List K) → zip {K = K} {X = V} ks [] ≡ []
+zip_none [] = refl
+zip_none (k ∷ ks) = refl
+
+-- the next file has an outcome, and those after it have none
+zip_next : {K V : Type 0} (ks rest : List K) (vs : List V) (k : K) (v : V) → length vs ≡ length ks
+    → zip (ks ++ k ∷ rest) (vs ++ v ∷ []) ≡ zip ks vs ++ (k, v) ∷ []
+zip_next {K} {V} [] rest [] k v same = ap (λ (ps : List (K × V)). (k, v) ∷ ps) (zip_none rest)
+zip_next [] rest (w ∷ vs) k v same = absurd (omega (arith, same))
+zip_next (j ∷ ks) rest [] k v same = absurd (omega (arith, same))
+zip_next {K} {V} (j ∷ ks) rest (w ∷ vs) k v same =
+    ap (λ (ps : List (K × V)). (j, w) ∷ ps) (zip_next ks rest vs k v (omega (arith, same)))
+
+-- files after those that have an outcome don't matter
+zip_front : {K V : Type 0} (ks rest : List K) (vs : List V) → length vs ≡ length ks → zip (ks ++ rest) vs ≡ zip ks vs
+zip_front [] rest [] same = zip_none rest
+zip_front [] rest (w ∷ vs) same = absurd (omega (arith, same))
+zip_front (j ∷ ks) rest [] same = refl
+zip_front {K} {V} (j ∷ ks) rest (w ∷ vs) same = ap (λ (ps : List (K × V)). (j, w) ∷ ps) (zip_front ks rest vs (omega (arith, same)))
+
+-- what is told of each file, and of the next
+each_next : (told : List ℕ → OutcomeData → List ℕ) (files rest : List (List ℕ)) (outcomes : List OutcomeData) (file : List ℕ) (outcome : OutcomeData)
+    → length outcomes ≡ length files
+    → flat_map (λ (f : List ℕ × OutcomeData). told f.0 f.1) (zip files outcomes) ++ told file outcome
+    ≡ flat_map (λ (f : List ℕ × OutcomeData). told f.0 f.1) (zip (files ++ file ∷ rest) (outcomes ++ outcome ∷ []))
+each_next told files rest outcomes file outcome same =
+    flat_map_more (λ (f : List ℕ × OutcomeData). told f.0 f.1) [] (zip files outcomes) (file, outcome)
+    ∙ ap (flat_map (λ (f : List ℕ × OutcomeData). told f.0 f.1)) (sym (zip_next files rest outcomes file outcome same))
+
+all_next : (format : TextFormat) (outcomes : List OutcomeData) (outcome : OutcomeData) → AllByRecursion (IsOutcome format) outcomes
+    → IsOutcome format outcome → AllByRecursion (IsOutcome format) (outcomes ++ outcome ∷ [])
+all_next format [] outcome all fits = (fits, tt)
+all_next format (o ∷ outcomes) outcome all fits = (all.0, all_next format outcomes outcome all.1 fits)
+
+length_next : {X Y : Type 0} (xs : List X) (x : X) (ys : List Y) (y : Y) (rest : List Y) → length xs ≡ length ys
+    → length (xs ++ x ∷ []) ≤ length (ys ++ y ∷ rest)
+length_next xs x ys y rest same = omega (arith, same, length-append xs (x ∷ []), length-append ys (y ∷ rest))
+
+-- ---- the worst
+
+-- which verdict it is, by what became of some file
+abbrev worst : (unread refused empty : Bool) → Verdict
+worst unread refused empty =
+    if unread then verdicts.Unreadable else if refused then verdicts.Refused else if empty then verdicts.Empty else verdicts.Fine
+
+worst_held : (u r e b : Bool)
+    → worst (u || (false || false)) (r || (false || false)) (e || ((if b then false else true) || false))
+    ≡ worse (worst u r e) (if b then verdicts.Fine else verdicts.Empty)
+worst_held true r e b = refl
+worst_held false true e true = refl
+worst_held false true e false = refl
+worst_held false false true true = refl
+worst_held false false true false = refl
+worst_held false false false true = refl
+worst_held false false false false = refl
+
+worst_with : (u r e : Bool) (outcome : OutcomeData)
+    → worst (u || (is_unread outcome || false)) (r || (is_refused outcome || false)) (e || (is_empty outcome || false))
+    ≡ worse (worst u r e) (verdict_of outcome)
+worst_with u r e (Held holding) = worst_held u r e (has_item holding)
+worst_with true r e Unread = refl
+worst_with false true e Unread = refl
+worst_with false false true Unread = refl
+worst_with false false false Unread = refl
+worst_with true r e (Refused fault) = refl
+worst_with false true e (Refused fault) = refl
+worst_with false false true (Refused fault) = refl
+worst_with false false false (Refused fault) = refl
+
+worst_next : (outcomes : List OutcomeData) (outcome : OutcomeData) → worst_of (outcomes ++ outcome ∷ []) ≡ worse (worst_of outcomes) (verdict_of outcome)
+worst_next outcomes outcome =
+    rw (list_any-append is_unread outcomes (outcome ∷ []))
+    (rw (list_any-append is_refused outcomes (outcome ∷ []))
+    (rw (list_any-append is_empty outcomes (outcome ∷ []))
+    (worst_with (list_any is_unread outcomes) (list_any is_refused outcomes) (list_any is_empty outcomes) outcome)))
+
+-- ---- the streams
+
+says_next : (n m : ℕ) (words more : List ℕ) (a b d : SinksData) → Says n words a b → Says m more b d → Says (n + m) (words ++ more) a d
+says_next n m words more a b d (complained, grew, few) (complained', grew', few') =
+    (
+      λ good. Appends-trans a.faults b.faults d.faults words more (complained (omega (arith, good, grew, grew'))) (complained' (omega (arith, good, grew, grew'))),
+      omega (arith, grew, grew'),
+      omega (arith, few, few'),
+    )
+
+begun_next : (a b d : Option (List ℕ)) (xs ys : List ℕ) → Appends a b xs → HasBegun b d ys → HasBegun a d (xs ++ ys)
+begun_next a b d xs ys all (part, some, (rest, is)) =
+    (xs ++ part, Appends-trans a b d xs part all some, (rest, ap (λ (zs : List ℕ). xs ++ zs) is ∙ sym (append_assoc xs part rest)))
+
+-- ---- one file more
+
+told_next : (format : TextFormat) (files : List (List ℕ)) (file : List ℕ) (so_far verdict : Verdict) (a b d : SinksData)
+    → TellsEach format files (Ok so_far) a b → TellsOne format file (Ok verdict) b d
+    → TellsEach format (files ++ file ∷ []) (Ok (worse so_far verdict)) a d
+told_next format files file so_far verdict a b d (outcomes, all, (same, is, lines, good, says)) (outcome, fits, (is', line, good', says')) =
+    let longer : length (outcomes ++ outcome ∷ []) ≡ length outcomes + 1 = length-append outcomes (outcome ∷ []) in
+    (
+      outcomes ++ outcome ∷ [],
+      all_next format outcomes outcome all fits,
+      (
+        longer ∙ ap (λ (n : ℕ). n + 1) same ∙ sym (length-append files (file ∷ [])),
+        ap (λ (v : Verdict). worse v verdict) is ∙ ap (worse (worst_of outcomes)) is' ∙ sym (worst_next outcomes outcome),
+        subst (Appends a.output d.output) (each_next outcome_line files [] outcomes file outcome same)
+        (Appends-trans a.output b.output d.output _ _ lines line),
+        good' ∙ good,
+        subst (λ (n : ℕ). Says n (check_complaints (files ++ file ∷ []) (outcomes ++ outcome ∷ [])) a d) (sym longer)
+        (subst (λ (ws : List ℕ). Says (length outcomes + 1) ws a d) (each_next outcome_complaint files [] outcomes file outcome same)
+        (says_next (length outcomes) 1 _ _ a b d says says')),
+      ),
+    )
+
+-- the next file is the last that is looked at
+told_until : (format : TextFormat) (files rest : List (List ℕ)) (file : List ℕ) (so_far : Verdict) (fault : SessionFault) (a b d : SinksData)
+    → TellsEach format files (Ok so_far) a b → TellsOne format file (Err fault) b d
+    → TellsEach format (files ++ file ∷ rest) (Err fault) a d
+told_until format files rest file so_far faults.Write a b d (outcomes, all, (same, is, lines, good, says)) (outcome, fits, (begun, failed, says')) =
+    let longer : length (outcomes ++ outcome ∷ []) ≡ length outcomes + 1 = length-append outcomes (outcome ∷ []) in
+    (
+      outcomes ++ outcome ∷ [],
+      all_next format outcomes outcome all fits,
+      (
+        length_next outcomes outcome files file rest same,
+        subst (HasBegun a.output d.output) (each_next outcome_line files rest outcomes file outcome same)
+        (begun_next a.output b.output d.output _ _ lines begun),
+        failed ∙ ap suc good,
+        subst (λ (n : ℕ). Says n (check_complaints (files ++ file ∷ rest) (outcomes ++ outcome ∷ [])) a d) (sym longer)
+        (subst (λ (ws : List ℕ). Says (length outcomes + 1) ws a d) (each_next outcome_complaint files rest outcomes file outcome same)
+        (says_next (length outcomes) 1 _ _ a b d says says')),
+      ),
+    )
+told_until format files rest file so_far faults.Memory a b d (outcomes, all, (same, is, lines, good, says)) (outcome, fits, unchanged) =
+    let front : zip (files ++ file ∷ rest) outcomes ≡ zip files outcomes = zip_front files (file ∷ rest) outcomes same in
+    subst (λ (s : SinksData). TellsEach format (files ++ file ∷ rest) (Err faults.Memory) a s) (sym unchanged)
+    (
+      outcomes,
+      all,
+      (
+        omega (arith, same, length-append files (file ∷ rest)),
+        subst (Appends a.output b.output) (ap (flat_map (λ (f : List ℕ × OutcomeData). outcome_line f.0 f.1)) (sym front)) lines,
+        good,
+        subst (λ (ws : List ℕ). Says (length outcomes) ws a b) (ap (flat_map (λ (f : List ℕ × OutcomeData). outcome_complaint f.0 f.1)) (sym front)) says,
+      ),
+    )
+told_until format files rest file so_far faults.Read a b d before (outcome, fits, none) = absurd none
+told_until format files rest file so_far faults.Full a b d before (outcome, fits, none) = absurd none
+
+-- ---- in a slice of names
+
+-- the next file is told of
+pub told_more : {X : Type 0} (name : X → List ℕ) (format : TextFormat) (files : List X) (i : ℕ) (default : X) → i < length files
+    → (file : List ℕ) → file ≡ name (get_or files i default) → (so_far verdict after : Verdict) → after ≡ worse so_far verdict → (a b d : SinksData)
+    → TellsEach format (map name (take i files)) (Ok so_far) a b → TellsOne format file (Ok verdict) b d
+    → TellsEach format (map name (take (i + 1) files)) (Ok after) a d
+told_more name format files i default within file is so_far verdict after worse_is a b d before next =
+    let more : map name (take (i + 1) files) ≡ map name (take i files) ++ file ∷ []
+    = ap (map name) (take_more files i default within) ∙ map-append name (take i files) (get_or files i default ∷ [])
+    ∙ ap (λ (f : List ℕ). map name (take i files) ++ f ∷ []) (sym is) in
+    subst (λ (fs : List (List ℕ)). TellsEach format fs (Ok after) a d) (sym more)
+    (subst (λ (v : Verdict). TellsEach format (map name (take i files) ++ file ∷ []) (Ok v) a d) (sym worse_is)
+    (told_next format (map name (take i files)) file so_far verdict a b d before next))
+
+-- the next file is told of, and none after it
+pub told_last : {X : Type 0} (name : X → List ℕ) (format : TextFormat) (files : List X) (i : ℕ) (default : X) → i < length files
+    → (file : List ℕ) → file ≡ name (get_or files i default) → (so_far : Verdict) (fault : SessionFault) (a b d : SinksData)
+    → TellsEach format (map name (take i files)) (Ok so_far) a b → TellsOne format file (Err fault) b d
+    → TellsEach format (map name files) (Err fault) a d
+told_last {X} name format files i default within file is so_far fault a b d before next =
+    let cut : map name files ≡ map name (take i files) ++ map name (drop i files)
+    = ap (map name) (sym (take-append-drop i files)) ∙ map-append name (take i files) (drop i files) in
+    let rest : map name (drop i files) ≡ file ∷ map name (drop (i + 1) files)
+    = ap (map name) (drop_more files i default within) ∙ ap (λ (x : List ℕ). x ∷ map name (drop (i + 1) files)) (sym is) in
+    subst (λ (fs : List (List ℕ)). TellsEach format fs (Err fault) a d)
+    (sym (cut ∙ ap (λ (xs : List (List ℕ)). map name (take i files) ++ xs) rest))
+    (told_until format (map name (take i files)) (map name (drop (i + 1) files)) file so_far fault a b d before next)
+
+-- ---- the end
+
+-- the last words
+pub says_last : (words front spoken : List ℕ) (b d : SinksData) → front ++ spoken ≡ words
+    → (d.failed_faults ≡ b.failed_faults → Appends b.faults d.faults (front ++ spoken)) → b.failed_faults ≤ d.failed_faults
+    → d.failed_faults ≤ suc b.failed_faults → Says 1 words b d
+says_last words front spoken b d is complained grew few =
+    (λ good. subst (Appends b.faults d.faults) is (complained good), grew, omega (arith, few))
+
+-- a fault ended it, and was told
+pub check_ended : (format : TextFormat) (files : List (List ℕ)) (fault : SessionFault) (status : ℕ) (a b d : SinksData)
+    → TellsEach format files (Err fault) a b → status ≡ fault_status fault → d.output ≡ b.output → d.failed_output ≡ b.failed_output
+    → Says 1 (said (words_of_fault fault)) b d → IsCheck format files status a d
+check_ended format files faults.Write status a b d (outcomes, all, (some, begun, failed, says)) ends same unfailed told =
+    (outcomes, all, inr (inr (record {
+      some = some;
+      ends = ends;
+      lines = subst (λ (o : Option (List ℕ)). HasBegun a.output o (check_lines files outcomes)) (sym same) begun;
+      failed = unfailed ∙ failed;
+      complaints = (says_next (length outcomes) 1 _ _ a b d says told).0;
+    })))
+check_ended format files faults.Memory status a b d (outcomes, all, (some, lines, good, says)) ends same unfailed told =
+    (outcomes, all, inr (inl (record {
+      some = some;
+      ends = ends;
+      lines = subst (λ (o : Option (List ℕ)). Appends a.output o (check_lines files outcomes)) (sym same) lines;
+      written = unfailed ∙ good;
+      complaints = (says_next (length outcomes) 1 _ _ a b d says told).0;
+    })))
+check_ended format files faults.Read status a b d (outcomes, all, none) ends same unfailed told = absurd none
+check_ended format files faults.Full status a b d (outcomes, all, none) ends same unfailed told = absurd none

@@ -1,0 +1,94 @@
+-- Private steps: what looking at files one after another has told so far.
+use Rattle.std.specs.Io.KnownBytes.{Appends}
+use Rattle.std.specs.List.{AllByRecursion, list_any}
+use Rattle.std.specs.Prelude.{◌≡◌, ◌⊎◌, ◌<◌, ◌≤◌, ◌+◌, ℕ, suc, List, length, if◌then◌else◌, Result, Ok, Err}
+use Rattle.covcheck.specs.declared.holding.Holding.{Holding}
+use Rattle.covcommand.specs.declared.asked.TextFormat.{TextFormat}
+use Rattle.covread.specs.declared.fault.ReadFault.{ReadFault}
+use Rattle.covread.specs.declared.fault.ReadFault.TheVariants as reads
+use Rattle.covsession.specs.Fault.{HasBegun}
+use Rattle.covsession.specs.declared.session.fault.SessionFault.{SessionFault}
+use Rattle.covsession.specs.declared.session.fault.SessionFault.TheVariants as faults
+use Rattle.covrun.specs.Check.{OutcomeData, Unread, Refused, Held, IsTextOutcome, IsOutcome, has_item, outcome_line, outcome_complaint, check_lines, check_complaints, is_unread, is_refused, is_empty}
+use Rattle.covrun.specs.Streams.{SinksData, Complains}
+use Rattle.covrun.specs.declared.verdict.Verdict.{Verdict}
+use Rattle.covrun.specs.declared.verdict.Verdict.TheVariants as verdicts
+
+-- a text is answered so, or memory ran out
+abbrev pub AnswersText : TextFormat → List ℕ → Result Holding ReadFault → Type 0
+AnswersText format text answer = (answer ≡ Err reads.Memory) ⊎ IsTextOutcome format text answer
+
+abbrev pub of_holding : Holding → Verdict
+of_holding holding = if has_item holding then verdicts.Fine else verdicts.Empty
+
+abbrev pub verdict_of : OutcomeData → Verdict
+verdict_of Unread = verdicts.Unreadable
+verdict_of (Refused fault) = verdicts.Refused
+verdict_of (Held holding) = of_holding holding
+
+-- the worst that became of a file
+abbrev pub worst_of : List OutcomeData → Verdict
+worst_of outcomes =
+    if list_any is_unread outcomes then verdicts.Unreadable
+    else if list_any is_refused outcomes then verdicts.Refused
+    else if list_any is_empty outcomes then verdicts.Empty else verdicts.Fine
+
+abbrev pub verdict_status : Verdict → ℕ
+verdict_status verdicts.Fine = 0
+verdict_status verdicts.Unreadable = 1
+verdict_status verdicts.Refused = 4
+verdict_status verdicts.Empty = 5
+
+-- of two verdicts the one that decides the status
+abbrev pub worse : Verdict → Verdict → Verdict
+worse verdicts.Unreadable other = verdicts.Unreadable
+worse verdicts.Refused verdicts.Unreadable = verdicts.Unreadable
+worse verdicts.Refused verdicts.Refused = verdicts.Refused
+worse verdicts.Refused verdicts.Empty = verdicts.Refused
+worse verdicts.Refused verdicts.Fine = verdicts.Refused
+worse verdicts.Empty verdicts.Unreadable = verdicts.Unreadable
+worse verdicts.Empty verdicts.Refused = verdicts.Refused
+worse verdicts.Empty verdicts.Empty = verdicts.Empty
+worse verdicts.Empty verdicts.Fine = verdicts.Empty
+worse verdicts.Fine other = other
+
+-- these words went to the stream for faults, of whose writes at most so many failed
+abbrev pub Says : (most : ℕ) → List ℕ → SinksData → SinksData → Type 0
+Says most words old new =
+    Complains words old new × (old.failed_faults ≤ new.failed_faults) × (new.failed_faults ≤ old.failed_faults + most)
+
+-- how it was told what became of a file. Where memory ran out nothing was told
+abbrev pub TellsFile : (file : List ℕ) → OutcomeData → Result Verdict SessionFault → SinksData → SinksData → Type 0
+TellsFile file outcome (Ok verdict) old new =
+    (verdict ≡ verdict_of outcome) × Appends old.output new.output (outcome_line file outcome)
+    × (new.failed_output ≡ old.failed_output) × Says 1 (outcome_complaint file outcome) old new
+TellsFile file outcome (Err faults.Write) old new =
+    HasBegun old.output new.output (outcome_line file outcome)
+    × (new.failed_output ≡ suc old.failed_output) × Says 1 (outcome_complaint file outcome) old new
+TellsFile file outcome (Err faults.Memory) old new = new ≡ old
+TellsFile file outcome (Err faults.Read) old new = ⊥
+TellsFile file outcome (Err faults.Full) old new = ⊥
+
+-- what became of a file was told so
+abbrev pub TellsOne : TextFormat → (file : List ℕ) → Result Verdict SessionFault → SinksData → SinksData → Type 0
+TellsOne format file answer old new = (outcome : OutcomeData) × IsOutcome format outcome × TellsFile file outcome answer old new
+
+-- what became of files was told so. Where memory ran out the last of them weren't looked at
+abbrev pub TellsAll : TextFormat → (files : List (List ℕ)) → List OutcomeData → Result Verdict SessionFault → SinksData → SinksData → Type 0
+TellsAll format files outcomes (Ok verdict) old new =
+    (length outcomes ≡ length files) × (verdict ≡ worst_of outcomes)
+    × Appends old.output new.output (check_lines files outcomes) × (new.failed_output ≡ old.failed_output)
+    × Says (length outcomes) (check_complaints files outcomes) old new
+TellsAll format files outcomes (Err faults.Write) old new =
+    (length outcomes ≤ length files) × HasBegun old.output new.output (check_lines files outcomes)
+    × (new.failed_output ≡ suc old.failed_output) × Says (length outcomes) (check_complaints files outcomes) old new
+TellsAll format files outcomes (Err faults.Memory) old new =
+    (length outcomes < length files) × Appends old.output new.output (check_lines files outcomes)
+    × (new.failed_output ≡ old.failed_output) × Says (length outcomes) (check_complaints files outcomes) old new
+TellsAll format files outcomes (Err faults.Read) old new = ⊥
+TellsAll format files outcomes (Err faults.Full) old new = ⊥
+
+-- there are outcomes that were told so
+abbrev pub TellsEach : TextFormat → (files : List (List ℕ)) → Result Verdict SessionFault → SinksData → SinksData → Type 0
+TellsEach format files answer old new =
+    (outcomes : List OutcomeData) × AllByRecursion (IsOutcome format) outcomes × TellsAll format files outcomes answer old new

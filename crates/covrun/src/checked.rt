@@ -1,0 +1,194 @@
+//! A check of files: each is read and looked at by itself, and a line tells what it holds.
+
+ghost use Rattle.std.specs.Prelude.{◌≡◌, ◌<◌, ◌≤◌, ◌^◌, ◌++◌, codes, length, map, IfOk, IfErr, suc};
+ghost use Rattle.std.specs.Io.KnownBytes.{Appends};
+ghost use Rattle.std.specs.String.{string_bytes};
+ghost use Rattle.covread.specs.Outcome.{most_bytes};
+ghost use Rattle.covrun.specs.Check.{Refused, Held, outcome_complaint, IsCheck};
+ghost use Rattle.covrun.specs.Checked.{of_holding, AnswersText, TellsFile, TellsOne, TellsEach};
+ghost use Rattle.covrun.specs.Streams.{sinks};
+ghost use Rattle.covsession.specs.declared.session.fault.SessionFault.TheVariants as session_faults;
+
+use crate::files::{FileFault, file_text};
+use crate::told::{put_out, say};
+use crate::verdict::Verdict;
+use covcheck::{Holding, check_gcov, check_trace, holding_line};
+use covcommand::TextFormat;
+use covread::ReadFault;
+use covsession::{SessionFault, Sink, line_of, refused_line, status_of};
+use std::alloc::Global;
+use std::rt::Files;
+
+/// Looks at the files one after another, tells of each, and answers the exit status. The text of a file is let go before the next
+/// one is read.
+pub(crate) fn check_files<R: Files, O: Sink, E: Sink>(
+    rt: &R,
+    alloc: Global,
+    format: TextFormat,
+    files: &[String],
+    output: &mut O,
+    faults: &mut E,
+) -> u8
+    requires output { O.failed_writes output.old < 2 ^ 62 }
+    requires faults { E.failed_writes faults.old < 2 ^ 62 }
+    ensures { IsCheck format (map string_bytes files.now) result
+        (sinks (O.written output.old) (O.failed_writes output.old) (E.written faults.old) (E.failed_writes faults.old))
+        (sinks (O.written output.new) (O.failed_writes output.new) (E.written faults.new) (E.failed_writes faults.new)) }
+{
+    match check_each(rt, alloc, format, files, output, faults) {
+        Ok(worst) => worst.status(),
+        Err(fault) => {
+            say(b"", line_of(fault), faults);
+            status_of(fault)
+        }
+    }
+}
+
+/// Tells of each file, and answers the worst of their verdicts.
+fn check_each<R: Files, O: Sink, E: Sink>(
+    rt: &R,
+    alloc: Global,
+    format: TextFormat,
+    files: &[String],
+    output: &mut O,
+    faults: &mut E,
+) -> Result<Verdict, SessionFault>
+    requires output { O.failed_writes output.old < 2 ^ 62 }
+    requires faults { E.failed_writes faults.old < 2 ^ 62 }
+    ensures { TellsEach format (map string_bytes files.now) result
+        (sinks (O.written output.old) (O.failed_writes output.old) (E.written faults.old) (E.failed_writes faults.old))
+        (sinks (O.written output.new) (O.failed_writes output.new) (E.written faults.new) (E.failed_writes faults.new)) }
+{
+    let mut worst = Verdict::Fine;
+    for name in files {
+        let verdict = check_file(rt, alloc, format, name.as_str(), output, faults)?;
+        worst = worst.or(verdict);
+    }
+    Ok(worst)
+}
+
+/// Reads a file and tells of it.
+fn check_file<R: Files, O: Sink, E: Sink>(
+    rt: &R,
+    alloc: Global,
+    format: TextFormat,
+    name: &str,
+    output: &mut O,
+    faults: &mut E,
+) -> Result<Verdict, SessionFault>
+    requires output { O.failed_writes output.old < 2 ^ 62 }
+    requires faults { E.failed_writes faults.old < 2 ^ 63 }
+    ensures { TellsOne format name.now result
+        (sinks (O.written output.old) (O.failed_writes output.old) (E.written faults.old) (E.failed_writes faults.old))
+        (sinks (O.written output.new) (O.failed_writes output.new) (E.written faults.new) (E.failed_writes faults.new)) }
+{
+    match file_text(rt, alloc, name) {
+        Ok(text) => check_text(alloc, format, name, text.get(), output, faults),
+        Err(FileFault::Unreadable(_)) => {
+            say(name.as_bytes(), b": can't read\n", faults);
+            Ok(Verdict::Unreadable)
+        }
+        Err(FileFault::Memory) => Err(SessionFault::Memory),
+    }
+}
+
+/// Tells of a file that has this text.
+fn check_text<O: Sink, E: Sink>(
+    alloc: Global,
+    format: TextFormat,
+    name: &str,
+    text: &[u8],
+    output: &mut O,
+    faults: &mut E,
+) -> Result<Verdict, SessionFault>
+    requires short { length text.now ≤ suc most_bytes }
+    requires output { O.failed_writes output.old < 2 ^ 62 }
+    requires faults { E.failed_writes faults.old < 2 ^ 63 }
+    ensures { TellsOne format name.now result
+        (sinks (O.written output.old) (O.failed_writes output.old) (E.written faults.old) (E.failed_writes faults.old))
+        (sinks (O.written output.new) (O.failed_writes output.new) (E.written faults.new) (E.failed_writes faults.new)) }
+{
+    match answer(alloc, format, text) {
+        Ok(holding) => tell_holding(alloc, name, &holding, output, faults),
+        Err(ReadFault::Memory) => Err(SessionFault::Memory),
+        Err(fault) => tell_refusal(alloc, name, fault, output, faults),
+    }
+}
+
+/// What the text holds, read in this format, or why it is refused.
+fn answer(alloc: Global, format: TextFormat, text: &[u8]) -> Result<Holding<'_>, ReadFault>
+    ensures { AnswersText format text.now result }
+{
+    match format {
+        TextFormat::Tracefile => check_trace(alloc, text),
+        TextFormat::Gcov => check_gcov(alloc, text),
+    }
+}
+
+/// Tells what a file holds, and complains where it has no item.
+fn tell_holding<O: Sink, E: Sink>(
+    alloc: Global,
+    name: &str,
+    holding: &Holding<'_>,
+    output: &mut O,
+    faults: &mut E,
+) -> Result<Verdict, SessionFault>
+    requires output { O.failed_writes output.old < 2 ^ 62 }
+    requires faults { E.failed_writes faults.old < 2 ^ 63 }
+    ensures { TellsFile name.now (Held holding.now) result
+        (sinks (O.written output.old) (O.failed_writes output.old) (E.written faults.old) (E.failed_writes faults.old))
+        (sinks (O.written output.new) (O.failed_writes output.new) (E.written faults.new) (E.failed_writes faults.new)) }
+{
+    let told = holding_line(alloc, holding)?;
+    let line = line_of_file(alloc, name, told.as_slice())?;
+    let verdict = judge(name, holding, faults);
+    put_out(line.as_slice(), output)?;
+    Ok(verdict)
+}
+
+/// The verdict on a file that holds this. It is complained of where it has no item.
+fn judge<E: Sink>(name: &str, holding: &Holding<'_>, faults: &mut E) -> Verdict
+    requires { E.failed_writes faults.old < 2 ^ 63 }
+    ensures verdict { result ≡ of_holding holding.now }
+    ensures said { E.failed_writes faults.new ≡ E.failed_writes faults.old
+        → Appends (E.written faults.old) (E.written faults.new) (outcome_complaint name.now (Held holding.now)) }
+    ensures grows { E.failed_writes faults.old ≤ E.failed_writes faults.new }
+    ensures few { E.failed_writes faults.new ≤ suc (E.failed_writes faults.old) }
+{
+    if holding.has_item() {
+        return Verdict::Fine;
+    }
+    say(name.as_bytes(), b": no items\n", faults);
+    Verdict::Empty
+}
+
+/// Tells why a file is refused.
+fn tell_refusal<O: Sink, E: Sink>(
+    alloc: Global,
+    name: &str,
+    fault: ReadFault,
+    output: &mut O,
+    faults: &mut E,
+) -> Result<Verdict, SessionFault>
+    requires output { O.failed_writes output.old < 2 ^ 62 }
+    requires faults { E.failed_writes faults.old < 2 ^ 63 }
+    ensures { TellsFile name.now (Refused fault) result
+        (sinks (O.written output.old) (O.failed_writes output.old) (E.written faults.old) (E.failed_writes faults.old))
+        (sinks (O.written output.new) (O.failed_writes output.new) (E.written faults.new) (E.failed_writes faults.new)) }
+{
+    let told = refused_line(alloc, fault)?;
+    let line = line_of_file(alloc, name, told.as_slice())?;
+    put_out(line.as_slice(), output)?;
+    Ok(Verdict::Refused)
+}
+
+/// A line with the name of its file in front.
+fn line_of_file(alloc: Global, name: &str, told: &[u8]) -> Result<Vec<u8>, SessionFault>
+    ensures line { IfOk result (λ line. line.items ≡ name.now ++ codes ": " ++ told.now) }
+    ensures fault { IfErr result (λ fault. fault ≡ session_faults.Memory) }
+{
+    let mut line = Vec::from_slice(alloc, name.as_bytes())?;
+    line.extend_from_slice(b": ")?;
+    line.extend_from_slice(told)?;
+    Ok(line)
+}
