@@ -19,17 +19,16 @@
 //! ```
 #![tactic(auto)]
 
-ghost use Rattle.std.specs.Prelude.{◌<◌, ◌^◌};
-
+use covcommand::{CommandFault, word_at};
 pub use covlaws::{
     a_merge_of_merges_is_the_merge_of_all, each_report_of_a_history_reads_back, reports_read_back,
 };
-use covrun::run;
-use covsession::{FromRead, FromWrite, SessionFault, Sink, line_of, put_bytes, status_of};
-use std::io::ErrorKind;
+use covrun::{refuse, run};
+use covsession::{FromRead, FromWrite};
+use std::env::FillError;
+use std::io;
 use std::process::ExitCode;
 use std::rt::Env;
-use std::{env, io};
 
 fn main(rt: HostRuntime) -> ExitCode {
     let mut input = FromRead::new(rt.reader());
@@ -37,30 +36,43 @@ fn main(rt: HostRuntime) -> ExitCode {
     let mut faults = FromWrite::new(rt.stderr());
     let status = match words_of_call(&rt) {
         Ok(words) => run(&rt, words.as_slice(), &mut input, &mut output, &mut faults),
-        Err(fault) => refuse_words(fault.kind(), &mut faults),
+        Err(fault) => refuse(fault, &mut output, &mut faults),
     };
     ExitCode::from(status)
 }
 
-/// The words of the call, the program's name first. They are text: a word that isn't UTF-8 is a fault.
-fn words_of_call<R: Env + AllocGlobal>(rt: &R) -> io::Result<Vec<String>> {
+/// The words of the call as text, the program's name first.
+fn words_of_call<R: Env + AllocGlobal>(rt: &R) -> Result<Vec<String>, CommandFault> {
     let mut words = Vec::new(rt.alloc());
-    for word in env::args(rt)? {
+    for index in 0..usize::MAX {
+        let Some(bytes) = bytes_of_word(rt, index)? else {
+            break;
+        };
+        let word = word_at(rt.alloc(), index + 1, bytes.as_slice())?;
         if words.push(word).is_err() {
-            return Err(io::Error::from(ErrorKind::OutOfMemory));
+            return Err(CommandFault::Memory);
         }
     }
     Ok(words)
 }
 
-/// Tells why the words aren't known, and answers the exit status: 3 where memory ran out, else 2.
-fn refuse_words<E: Sink>(fault: ErrorKind, faults: &mut E) -> u8
-    requires { E.failed_writes faults.old < 2 ^ 62 }
-{
-    if fault == ErrorKind::OutOfMemory {
-        let _ = put_bytes(line_of(SessionFault::Memory), faults);
-        return status_of(SessionFault::Memory);
+/// The bytes of a word of the call, or none where it has no more. The program's name has the index 0.
+fn bytes_of_word<R: Env + AllocGlobal>(
+    rt: &R,
+    index: usize,
+) -> Result<Option<Vec<u8>>, CommandFault> {
+    let mut room: usize = 256;
+    for _ in 0..usize::BITS {
+        let mut word = Vec::new(rt.alloc());
+        word.resize(room, 0)?;
+        match rt.arg(index, word.as_mut_slice()) {
+            Ok(len) => {
+                word.truncate(len);
+                return Ok(Some(word));
+            }
+            Err(FillError::NotPresent) => return Ok(None),
+            Err(FillError::TooLong) => room = room.saturating_mul(2),
+        }
     }
-    let _ = put_bytes(b"error: a word of the call isn't UTF-8\n", faults);
-    2
+    Err(CommandFault::Memory)
 }

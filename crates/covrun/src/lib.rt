@@ -11,7 +11,10 @@
 //!     let mut input = FromRead::new(rt.reader());
 //!     let mut output = FromWrite::new(io::writer(&rt));
 //!     let mut faults = FromWrite::new(rt.stderr());
-//!     ExitCode::from(run(&rt, words, &mut input, &mut output, &mut faults))
+//!     ExitCode::from(match words_of_call(&rt) {
+//!         Ok(words) => run(&rt, words.as_slice(), &mut input, &mut output, &mut faults),
+//!         Err(fault) => refuse(fault, &mut output, &mut faults),
+//!     })
 //! }
 //! ```
 #![tactic(auto)]
@@ -27,5 +30,5 @@ mod verdict;
 mod words_fault;
 mod work;
 
-pub use program::run;
+pub use program::{refuse, run};
 pub use words_fault::WordsFault;

@@ -2,7 +2,7 @@
 
 ghost use Rattle.std.specs.Prelude.{◌≡◌, ◌<◌, ◌^◌, map};
 ghost use Rattle.std.specs.String.{string_bytes};
-ghost use Rattle.covrun.specs.Call.{IsCall, CommandTold};
+ghost use Rattle.covrun.specs.Call.{of_line, IsCall, IsTold, CommandTold};
 ghost use Rattle.covrun.specs.Streams.{sinks, source};
 
 use crate::checked::check_files;
@@ -10,7 +10,7 @@ use crate::collecting::ending_of;
 use crate::ending::{ending_of_line, ending_of_work};
 use crate::told::tell;
 use crate::work::{Task, task_for};
-use covcommand::{Command, command};
+use covcommand::{Command, CommandFault, command};
 use covsession::{Sink, Source, run_session};
 use std::alloc::{AllocGlobal, Global};
 use std::rt::Files;
@@ -77,4 +77,15 @@ fn run_command<R: Files + Threads + Wait + Sync, I: Source, O: Sink, E: Sink>(
         }
         Err(fault) => tell(&ending_of_work(fault), output, faults),
     }
+}
+
+/// Tells why the words of a call aren't known, and answers the exit status, as `run` does where they give no command.
+pub fn refuse<O: Sink, E: Sink>(fault: CommandFault, output: &mut O, faults: &mut E) -> u8
+    requires failed_writes { O.failed_writes output.old < 2 ^ 62 }
+    requires failed_words { E.failed_writes faults.old < 2 ^ 62 }
+    ensures { IsTold (of_line fault) result
+        (sinks (O.written output.old) (O.failed_writes output.old) (E.written faults.old) (E.failed_writes faults.old))
+        (sinks (O.written output.new) (O.failed_writes output.new) (E.written faults.new) (E.failed_writes faults.new)) }
+{
+    tell(&ending_of_line(fault), output, faults)
 }
