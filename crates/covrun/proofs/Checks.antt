@@ -132,12 +132,11 @@ worst_next outcomes outcome =
 -- ---- the streams
 
 says_next : (n m : ℕ) (words more : List ℕ) (a b d : SinksData) → Says n words a b → Says m more b d → Says (n + m) (words ++ more) a d
-says_next n m words more a b d (complained, grew, few) (complained', grew', few') =
-    (
-      λ good. Appends-trans a.faults b.faults d.faults words more (complained (omega (arith, good, grew, grew'))) (complained' (omega (arith, good, grew, grew'))),
-      omega (arith, grew, grew'),
-      omega (arith, few, few'),
-    )
+says_next n m words more a b d (complained, grew, few) (complained', grew', few') = (
+  λ good. Appends-trans a.faults b.faults d.faults words more (complained (omega (arith, good, grew, grew'))) (complained' (omega (arith, good, grew, grew'))),
+  omega (arith, grew, grew'),
+  omega (arith, few, few'),
+)
 
 begun_next : (a b d : Option (List ℕ)) (xs ys : List ℕ) → Appends a b xs → HasBegun b d ys → HasBegun a d (xs ++ ys)
 begun_next a b d xs ys all (part, some, (rest, is)) =
@@ -149,19 +148,18 @@ told_next : (format : TextFormat) (files : List (List ℕ)) (file : List ℕ) (s
     → TellsEach format files (Ok so_far) a b → TellsOne format file (Ok verdict) b d
     → TellsEach format (files ++ file ∷ []) (Ok (worse so_far verdict)) a d
 told_next format files file so_far verdict a b d (outcomes, all, (same, is, lines, good, says)) (outcome, fits, (is', line, good', says')) =
-    let longer : length (outcomes ++ outcome ∷ []) ≡ length outcomes + 1 = length-append outcomes (outcome ∷ []) in
-    (
+    let longer : length (outcomes ++ outcome ∷ []) ≡ length outcomes + 1 = length-append outcomes (outcome ∷ []) in (
       outcomes ++ outcome ∷ [],
       all_next format outcomes outcome all fits,
       (
         longer ∙ ap (λ (n : ℕ). n + 1) same ∙ sym (length-append files (file ∷ [])),
         ap (λ (v : Verdict). worse v verdict) is ∙ ap (worse (worst_of outcomes)) is' ∙ sym (worst_next outcomes outcome),
         subst (Appends a.output d.output) (each_next outcome_line files [] outcomes file outcome same)
-        (Appends-trans a.output b.output d.output _ _ lines line),
+            (Appends-trans a.output b.output d.output _ _ lines line),
         good' ∙ good,
         subst (λ (n : ℕ). Says n (check_complaints (files ++ file ∷ []) (outcomes ++ outcome ∷ [])) a d) (sym longer)
-        (subst (λ (ws : List ℕ). Says (length outcomes + 1) ws a d) (each_next outcome_complaint files [] outcomes file outcome same)
-        (says_next (length outcomes) 1 _ _ a b d says says')),
+            (subst (λ (ws : List ℕ). Says (length outcomes + 1) ws a d) (each_next outcome_complaint files [] outcomes file outcome same)
+            (says_next (length outcomes) 1 _ _ a b d says says')),
       ),
     )
 
@@ -170,24 +168,22 @@ told_until : (format : TextFormat) (files rest : List (List ℕ)) (file : List �
     → TellsEach format files (Ok so_far) a b → TellsOne format file (Err fault) b d
     → TellsEach format (files ++ file ∷ rest) (Err fault) a d
 told_until format files rest file so_far faults.Write a b d (outcomes, all, (same, is, lines, good, says)) (outcome, fits, (begun, failed, says')) =
-    let longer : length (outcomes ++ outcome ∷ []) ≡ length outcomes + 1 = length-append outcomes (outcome ∷ []) in
-    (
+    let longer : length (outcomes ++ outcome ∷ []) ≡ length outcomes + 1 = length-append outcomes (outcome ∷ []) in (
       outcomes ++ outcome ∷ [],
       all_next format outcomes outcome all fits,
       (
         length_next outcomes outcome files file rest same,
         subst (HasBegun a.output d.output) (each_next outcome_line files rest outcomes file outcome same)
-        (begun_next a.output b.output d.output _ _ lines begun),
+            (begun_next a.output b.output d.output _ _ lines begun),
         failed ∙ ap suc good,
         subst (λ (n : ℕ). Says n (check_complaints (files ++ file ∷ rest) (outcomes ++ outcome ∷ [])) a d) (sym longer)
-        (subst (λ (ws : List ℕ). Says (length outcomes + 1) ws a d) (each_next outcome_complaint files rest outcomes file outcome same)
-        (says_next (length outcomes) 1 _ _ a b d says says')),
+            (subst (λ (ws : List ℕ). Says (length outcomes + 1) ws a d) (each_next outcome_complaint files rest outcomes file outcome same)
+            (says_next (length outcomes) 1 _ _ a b d says says')),
       ),
     )
 told_until format files rest file so_far faults.Memory a b d (outcomes, all, (same, is, lines, good, says)) (outcome, fits, unchanged) =
     let front : zip (files ++ file ∷ rest) outcomes ≡ zip files outcomes = zip_front files (file ∷ rest) outcomes same in
-    subst (λ (s : SinksData). TellsEach format (files ++ file ∷ rest) (Err faults.Memory) a s) (sym unchanged)
-    (
+    subst (λ (s : SinksData). TellsEach format (files ++ file ∷ rest) (Err faults.Memory) a s) (sym unchanged) (
       outcomes,
       all,
       (
@@ -242,21 +238,27 @@ says_last words front spoken b d is complained grew few =
 pub check_ended : (format : TextFormat) (files : List (List ℕ)) (fault : SessionFault) (status : ℕ) (a b d : SinksData)
     → TellsEach format files (Err fault) a b → status ≡ fault_status fault → d.output ≡ b.output → d.failed_output ≡ b.failed_output
     → Says 1 (said (words_of_fault fault)) b d → IsCheck format files status a d
-check_ended format files faults.Write status a b d (outcomes, all, (some, begun, failed, says)) ends same unfailed told =
-    (outcomes, all, inr (inr (record {
-      some = some;
-      ends = ends;
-      lines = subst (λ (o : Option (List ℕ)). HasBegun a.output o (check_lines files outcomes)) (sym same) begun;
-      failed = unfailed ∙ failed;
-      complaints = (says_next (length outcomes) 1 _ _ a b d says told).0;
-    })))
-check_ended format files faults.Memory status a b d (outcomes, all, (some, lines, good, says)) ends same unfailed told =
-    (outcomes, all, inr (inl (record {
-      some = some;
-      ends = ends;
-      lines = subst (λ (o : Option (List ℕ)). Appends a.output o (check_lines files outcomes)) (sym same) lines;
-      written = unfailed ∙ good;
-      complaints = (says_next (length outcomes) 1 _ _ a b d says told).0;
-    })))
+check_ended format files faults.Write status a b d (outcomes, all, (some, begun, failed, says)) ends same unfailed told = (
+  outcomes,
+  all,
+  inr (inr (record {
+    some = some;
+    ends = ends;
+    lines = subst (λ (o : Option (List ℕ)). HasBegun a.output o (check_lines files outcomes)) (sym same) begun;
+    failed = unfailed ∙ failed;
+    complaints = (says_next (length outcomes) 1 _ _ a b d says told).0;
+  })),
+)
+check_ended format files faults.Memory status a b d (outcomes, all, (some, lines, good, says)) ends same unfailed told = (
+  outcomes,
+  all,
+  inr (inl (record {
+    some = some;
+    ends = ends;
+    lines = subst (λ (o : Option (List ℕ)). Appends a.output o (check_lines files outcomes)) (sym same) lines;
+    written = unfailed ∙ good;
+    complaints = (says_next (length outcomes) 1 _ _ a b d says told).0;
+  })),
+)
 check_ended format files faults.Read status a b d (outcomes, all, none) ends same unfailed told = absurd none
 check_ended format files faults.Full status a b d (outcomes, all, none) ends same unfailed told = absurd none

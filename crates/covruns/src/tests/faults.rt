@@ -176,12 +176,7 @@ fn check_closed<R: Files + AllocGlobal + Threads + Wait + Abort + Sync>(
 #[test]
 fn a_closed_output(rt: HostRuntime) -> Result<(), Fail> {
     for takes in [false, true] {
-        check_closed(
-            &rt,
-            "covcollect summary /dev/null",
-            takes,
-            "write fault\n",
-        )?;
+        check_closed(&rt, "covcollect summary /dev/null", takes, "write fault\n")?;
         check_closed(&rt, "covcollect --help", takes, "write fault\n")?;
     }
     check_closed(
