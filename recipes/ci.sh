@@ -138,7 +138,10 @@ if [ $capture = yes ]; then
     find . -name '*.gcda' -delete
     run build "$build"
     run tests "$tests"
-    [ -n "$(find . -name '*.gcda' -print -quit)" ] || { say "the tests wrote no counts (*.gcda): were they built with --coverage, in this folder?"; exit 1; }
+    if [ -z "$(find . -name '*.gcda' -print -quit)" ]; then
+        say "the tests wrote no counts (*.gcda): were they built with --coverage, in this folder?"
+        exit 1
+    fi
 fi
 
 # 2. Capture the counts, and a baseline with a count of 0 for every line that was compiled. Without the baseline, sources that no test
