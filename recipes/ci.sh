@@ -169,7 +169,7 @@ if [ ${#handed[@]} -gt 0 ]; then
         0) ;;
         4) say "a tracefile is refused, see above; $output is unchanged"; exit 4 ;;
         5) say "a tracefile has no record, see above (or use --empty skip); $output is unchanged"; exit 4 ;;
-        *) say "the tracefiles can't be read (status $status); $output is unchanged"; exit $status ;;
+        *) say "the tracefiles couldn't be read or checked (status $status); $output is unchanged"; exit $status ;;
     esac
 fi
 
