@@ -1,11 +1,18 @@
 #!/usr/bin/env bash
 # The coverage job of a C or C++ project: builds it with --coverage, runs its tests and writes a report. Tracefiles of other jobs can
-# be added. Copy ci.sh and lcov2.awk into one folder of your project and run ci.sh in the project's top folder:
+# be added. Copy ci.sh, intake and lcov2.awk into one folder of your project and run ci.sh in the project's top folder:
 #
 #     COVERAGE_BUILD='make CFLAGS="--coverage -O0"' COVERAGE_TEST='make check' ci/ci.sh --lines 80 jobs/*.info
 #
+# Or many jobs build and test, each keeps its coverage/all.info, and a last job merges these (its checkout must be in a folder of the
+# same name, since genhtml reads the sources):
+#
+#     ci/ci.sh --merge-only --lines 80 jobs/*.info
+#
 # ci.sh [OPTION]... [TRACEFILE]...
 #
+#     --merge-only       don't build and test: merge the tracefiles that are named, and nothing else
+#     --empty skip       a tracefile without a record is told and skipped (default: fail, since its job went wrong)
 #     --lines PERCENT    fail if fewer lines are hit, for example 80 or 79.95 (up to 6 decimals)
 #     --remove PATTERN   leave out source files that match; can be repeated (default: '/usr/*')
 #     --test-name NAME   the test name in the tracefile (default: unit)
@@ -18,15 +25,16 @@
 #     COVERAGE_LINES     the same as --lines
 #     COVERAGE_REMOVE    patterns like those of --remove, one on each line
 #     COVERAGE_GENINFO   more options for geninfo, for example --checksum or --gcov-tool gcov-13
+#     COVERAGE_GENHTML   more options for genhtml, for example --prefix /builds/project
 #     COVCOLLECT         the program (default: covcollect)
 #
 # COVERAGE_BUILD and COVERAGE_TEST run in bash -euo pipefail, so each can be several commands. The folder of results has all.info
 # (every source), own.info (without the removed ones), summary.txt and html/. If a step fails, the folder of the last run stays as it
-# is.
+# is. Tracefiles that are named are converted by lcov2.awk if they are of LCOV 2, and looked at by 'covcollect check' (see intake).
 #
-# Exit status: 0 done; 1 the tests wrote no counts; 2 wrong call, or something is missing; 4 a tracefile is refused or checksums clash
-# (covcollect names the file or the line on standard error); 5 too few lines are hit (the results are written); otherwise the status
-# of the command that failed.
+# Exit status: 0 done; 1 the tests wrote no counts, or a tracefile can't be read; 2 wrong call, or something is missing; 4 a tracefile is
+# refused or has no record, or checksums clash (the file or the line is named on standard error); 5 too few lines are hit (the results
+# are written); otherwise the status of the command that failed.
 set -euo pipefail
 
 say() { printf 'ci.sh: %s\n' "$*" >&2; }
@@ -43,10 +51,12 @@ name=unit
 output=coverage
 jobs=4
 html=yes
+capture=yes
+empty=fail
 handed=()
 while [ $# -gt 0 ]; do
     case $1 in
-        --lines|--remove|--test-name|--output|--jobs) [ $# -gt 1 ] || wrong "$1 needs a value" ;;
+        --lines|--remove|--test-name|--output|--jobs|--empty) [ $# -gt 1 ] || wrong "$1 needs a value" ;;
     esac
     case $1 in
         --lines) threshold=$2; shift ;;
@@ -55,6 +65,8 @@ while [ $# -gt 0 ]; do
         --output) output=$2; shift ;;
         --jobs) jobs=$2; shift ;;
         --no-html) html=no ;;
+        --merge-only) capture=no ;;
+        --empty) empty=$2; shift ;;
         --help) sed -n '2,/^set /{/^#/s/^# \{0,1\}//p}' "$0"; exit 0 ;;
         --) shift; handed+=("$@"); break ;;
         -*) wrong "unknown option $1, see ci.sh --help" ;;
@@ -63,6 +75,8 @@ while [ $# -gt 0 ]; do
     shift
 done
 [ ${#patterns[@]} -gt 0 ] || patterns=('/usr/*')
+case $empty in fail|skip) ;; *) wrong "--empty: $empty is neither fail nor skip" ;; esac
+[ $capture = yes ] || [ ${#handed[@]} -gt 0 ] || wrong '--merge-only needs tracefiles'
 if [ -n "$threshold" ]; then
     [[ $threshold =~ ^([0-9]{1,3})(\.([0-9]{1,6}))?$ ]] || wrong "--lines: $threshold isn't a percentage such as 80 or 79.95"
     # 79.95 becomes 7995 with a scale of 100.
@@ -74,11 +88,14 @@ fi
 
 here=$(cd "$(dirname "${BASH_SOURCE[0]}")" && pwd)
 program=${COVCOLLECT-covcollect}
-for needed in "$program" geninfo awk; do
-    command -v "$needed" >/dev/null || wrong "$needed isn't there (geninfo and genhtml are part of lcov)"
+for needed in "$program" awk; do
+    command -v "$needed" >/dev/null || wrong "$needed isn't there"
 done
+[ $capture = no ] || command -v geninfo >/dev/null || wrong "geninfo isn't there (it is part of lcov)"
 [ $html = no ] || command -v genhtml >/dev/null || wrong "genhtml isn't there (it is part of lcov; or use --no-html)"
-[ -f "$here/lcov2.awk" ] || wrong "$here/lcov2.awk isn't there: copy it beside ci.sh"
+for needed in lcov2.awk intake; do
+    [ -f "$here/$needed" ] || wrong "$here/$needed isn't there: copy it beside ci.sh"
+done
 for file in "${handed[@]}"; do
     [ -e "$file" ] || wrong "$file isn't there"
 done
@@ -108,46 +125,72 @@ collect() { # FILE WORDS...: runs covcollect WORDS and writes its output to FILE
     mv "$next/part" "$next/$file"
 }
 
+# The tracefiles to be merged are collected here.
+mkdir "$next/parts"
+
 # 1. Build and test. Without the find, counts of an earlier run in this folder would be added to those of this run.
-find . -name '*.gcda' -delete
 run() { # WHAT COMMAND
     local status=0
     bash -euo pipefail -c "$2" || status=$?
     [ $status -eq 0 ] || { say "the $1 failed with status $status"; exit $status; }
 }
-run build "$build"
-run tests "$tests"
-[ -n "$(find . -name '*.gcda' -print -quit)" ] || { say "the tests wrote no counts (*.gcda): were they built with --coverage, in this folder?"; exit 1; }
+if [ $capture = yes ]; then
+    find . -name '*.gcda' -delete
+    run build "$build"
+    run tests "$tests"
+    if [ -z "$(find . -name '*.gcda' -print -quit)" ]; then
+        say "the tests wrote no counts (*.gcda): were they built with --coverage, in this folder?"
+        exit 1
+    fi
+fi
 
 # 2. Capture the counts, and a baseline with a count of 0 for every line that was compiled. Without the baseline, sources that no test
 #    runs are missing and the rate is too high. LCOV 2 has another name for the branch option, fails if a project has no branches
 #    (empty), and writes records that lcov2.awk converts.
-branches=branch_coverage=1 options=(--ignore-errors empty)
-case $(geninfo --version 2>/dev/null) in *' 1.'*) branches=lcov_branch_coverage=1 options=() ;; esac
-read -r -a more <<<"${COVERAGE_GENINFO-}"
-options+=(--quiet --rc "$branches" --test-name "$name" "${more[@]}")
-geninfo "${options[@]}" --initial --output-filename "$next/baseline.new" . >&2
-geninfo "${options[@]}" --output-filename "$next/counted.new" . >&2
-for kind in baseline counted; do
-    LC_ALL=C awk -f "$here/lcov2.awk" "$next/$kind.new" >"$next/$kind.info"
-    rm "$next/$kind.new"
-done
-
-# 3. Merge, remove what isn't the project's own, summarize.
-collect all.info merge --jobs "$jobs" -- "$next/baseline.info" "$next/counted.info" "${handed[@]}"
-collect own.info remove -- "$next/all.info" "${patterns[@]}"
-collect summary.txt summary -- "$next/own.info"
-rm "$next/baseline.info" "$next/counted.info"
-if [ $html = yes ]; then
-    genhtml --quiet --rc "$branches" --branch-coverage --output-directory "$next/html" "$next/own.info" >&2
+old() { case $("$1" --version 2>/dev/null) in *' 1.'*) ;; *) return 1 ;; esac; } # whether the tool is of LCOV 1
+if [ $capture = yes ]; then
+    branches=branch_coverage=1 options=(--ignore-errors empty)
+    ! old geninfo || branches=lcov_branch_coverage=1 options=()
+    read -r -a more <<<"${COVERAGE_GENINFO-}"
+    options+=(--quiet --rc "$branches" --test-name "$name" "${more[@]}")
+    geninfo "${options[@]}" --initial --output-filename "$next/baseline.new" . >&2
+    geninfo "${options[@]}" --output-filename "$next/counted.new" . >&2
+    for kind in baseline counted; do
+        LC_ALL=C awk -f "$here/lcov2.awk" "$next/$kind.new" >"$next/parts/$kind.info"
+        rm "$next/$kind.new"
+    done
 fi
 
-# 4. Replace the results of the last run.
+# 3. Convert the tracefiles of other jobs and look at them.
+if [ ${#handed[@]} -gt 0 ]; then
+    status=0
+    printf '%s\0' "${handed[@]}" | bash "$here/intake" --empty $empty "$next/parts" || status=$?
+    case $status in
+        0) ;;
+        4) say "a tracefile is refused, see above; $output is unchanged"; exit 4 ;;
+        5) say "a tracefile has no record, see above (or use --empty skip); $output is unchanged"; exit 4 ;;
+        *) say "the tracefiles couldn't be read or checked (status $status); $output is unchanged"; exit $status ;;
+    esac
+fi
+
+# 4. Merge, remove what isn't the project's own, summarize.
+collect all.info merge --jobs "$jobs" -- "$next"/parts/*.info
+collect own.info remove -- "$next/all.info" "${patterns[@]}"
+collect summary.txt summary -- "$next/own.info"
+rm -r "$next/parts"
+if [ $html = yes ]; then
+    branches=branch_coverage=1
+    ! old genhtml || branches=lcov_branch_coverage=1
+    read -r -a more <<<"${COVERAGE_GENHTML-}"
+    genhtml --quiet --rc "$branches" --branch-coverage "${more[@]}" --output-directory "$next/html" "$next/own.info" >&2
+fi
+
+# 5. Replace the results of the last run.
 [ ! -e "$output" ] || mv "$output" "$next.old"
 mv "$next" "$output"
 cat "$output/summary.txt"
 
-# 5. Compare the counts with the threshold. The percentage in the summary is rounded, so it isn't used.
+# 6. Compare the counts with the threshold. The percentage in the summary is rounded, so it isn't used.
 if [ -n "$threshold" ]; then
     hit=0 found=0
     if [[ $(<"$output/summary.txt") =~ lines\.+:\ [0-9.]+%\ \(([0-9]+)\ of\ ([0-9]+)\ lines? ]]; then

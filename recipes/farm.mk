@@ -8,6 +8,9 @@
 # TOTAL        the merged tracefile (default: farm.info)
 # SHARES       a folder for the merge of each machine, for farm.mk alone (default: TOTAL.shares)
 # EMPTY        what to do with a machine that has no tracefile: skip it with a message, or fail (default: skip)
+# CHECK        no, fail or skip (default: no). With fail and skip each tracefile is converted by lcov2.awk if it is of LCOV 2, and
+#              looked at by 'covcollect check'; one without a record fails, or is told and skipped. Copy intake and lcov2.awk beside
+#              farm.mk for it
 # JOBS         how many tracefiles the last merge reads at once (default: 4)
 # COVCOLLECT   the program (default: covcollect)
 #
@@ -15,8 +18,14 @@
 # merge changed, or if a machine appeared or vanished. Each target is written to a temporary name and then moved. If a merge fails,
 # covcollect names the tracefile on standard error, make fails, and the target keeps its old content.
 #
+# It may run at any time, also while jobs still bring their tracefiles: the total is that of the tracefiles that were there, and the next
+# run adds what came later. For that a tracefile must appear whole: write or copy it to .NAME in the same folder, then rename it. (mv from
+# another file system copies, so a reader could see a part.) Runs of make exclude each other by a lock:
+#
+#     flock farm.lock make -f farm.mk -j 8
+#
 # Machine names consist of letters, digits, '.', '_' and '-' and begin with a letter or digit. Tracefile names end in .info, can have
-# any other bytes, and are ignored if they begin with a dot: so a machine can write to .NAME and rename it when it is complete.
+# any other bytes, and are ignored if they begin with a dot.
 #
 # That the result is that of a single merge rests on a proved law, for shares of at most 67,108,864 bytes (64 MiB), each one merge.
 # The last merge refuses a larger share (TooLong) and names it. Then use smaller folders, or a single merge. A total has up to some
@@ -26,6 +35,7 @@ FARM ?= machines
 TOTAL ?= farm.info
 SHARES ?= $(TOTAL).shares
 EMPTY ?= skip
+CHECK ?= no
 JOBS ?= 4
 COVCOLLECT ?= covcollect
 
@@ -37,6 +47,15 @@ MAKEFLAGS += --no-builtin-rules
 
 ifneq ($(filter-out skip fail,$(EMPTY)),)
     $(error EMPTY must be skip or fail, not '$(EMPTY)')
+endif
+ifneq ($(filter-out no fail skip,$(CHECK)),)
+    $(error CHECK must be no, fail or skip, not '$(CHECK)')
+endif
+intake := $(dir $(realpath $(lastword $(MAKEFILE_LIST))))intake
+ifneq ($(CHECK),no)
+    ifeq ($(wildcard $(intake)),)
+        $(error CHECK=$(CHECK) needs $(intake) and lcov2.awk: copy them beside farm.mk)
+    endif
 endif
 ifneq ($(words [$(FARM)] [$(TOTAL)] [$(SHARES)]),3)
     $(error FARM, TOTAL and SHARES must not have spaces)
@@ -80,17 +99,26 @@ $(TOTAL): $(SHARES)/machines $(machines:%=$(SHARES)/%.info)
 	@mv -f $@.new $@
 
 # The merge of one machine, of the files in its list. If they don't fit on one command line, xargs runs several merges. Their outputs
-# in a row are a tracefile too.
-$(machines:%=$(SHARES)/%.info): $(SHARES)/%.info: $(SHARES)/%.list
+# in a row are a tracefile too. Where they are to be checked, it is intake's copies that are merged.
+names = sed -z 's/^[^ ]* [^ ]* [^ ]* //' $<
+checked = rm -rf $@.files; mkdir $@.files; $(names) | bash $(intake) --empty $(CHECK) $@.files || { rm -rf $@.files; exit 1; }
+$(machines:%=$(SHARES)/%.info): $(SHARES)/%.info: $(SHARES)/%.list $(SHARES)/check
 	@echo 'farm.mk: makes $@' >&2
-	@sed -z 's/^[^ ]* [^ ]* [^ ]* //' $< | xargs -0 $(COVCOLLECT) merge -- >$@.new || { rm -f $@.new; exit 1; }
+	@$(if $(filter no,$(CHECK)),,$(checked))
+	@$(if $(filter no,$(CHECK)),$(names),printf '%s\0' $@.files/*.info) | \
+	    xargs -0 $(COVCOLLECT) merge -- >$@.new || { rm -rf $@.new $@.files; exit 1; }
+	@rm -rf $@.files
 	@mv -f $@.new $@
 
 # A machine's list has the inode, size, time and name of each tracefile. It is always made, but replaced only if it differs, so the
-# merge is made again only then. The list of machines does the same for the total.
+# merge is made again only then. The list of machines does the same for the total, and what CHECK says for all shares.
 replace = if cmp -s $@.new $@; then rm $@.new; else mv -f $@.new $@; fi
 $(machines:%=$(SHARES)/%.list): $(SHARES)/%.list: again | $(SHARES)/
 	@$(call tracefiles,$*) -printf '%i %s %T@ %p\0' | sort -z >$@.new
+	@$(replace)
+
+$(SHARES)/check: again | $(SHARES)/
+	@echo $(CHECK) >$@.new
 	@$(replace)
 
 $(SHARES)/machines: again | $(SHARES)/
