@@ -685,10 +685,10 @@ fn a_full_book(rt: HostRuntime) {
     assert_eq!(rt; summaries(rt.alloc(), most + 1), (3, bytes, 10));
 }
 
-/// A reader of the same command over and over, which gives as many of them as a block has room for.
+/// A reader of the same 24 commands over and over.
 #[derive(Drop)]
 struct Blocks {
-    commands: usize,
+    blocks: u64,
     reads: u64,
 }
 
@@ -701,35 +701,31 @@ impl Source for Blocks {
 
     fn read(&mut self, buffer: &mut [u8]) -> Result<usize, Failed> {
         self.reads += 1;
-        let mut filled = 0;
-        for room in buffer.chunks_exact_mut(DROP.len()) {
-            if self.commands == 0 {
-                break;
-            }
-            self.commands -= 1;
-            room.copy_from_slice(DROP);
-            filled += DROP.len();
+        if self.blocks == 0 {
+            return Ok(0);
         }
-        Ok(filled)
+        self.blocks -= 1;
+        let lines =
+            b"drop x\ndrop x\ndrop x\ndrop x\ndrop x\ndrop x\ndrop x\ndrop x\ndrop x\ndrop x\ndrop x\ndrop x\ndrop x\ndrop x\ndrop x\ndrop x\ndrop x\ndrop x\ndrop x\ndrop x\ndrop x\ndrop x\ndrop x\ndrop x\n";
+        let count = lines.len().min(buffer.len());
+        buffer[..count].copy_from_slice(&lines[..count]);
+        Ok(count)
     }
 }
 
-/// A command that a book without tests answers with `no such test`.
-const DROP: &[u8] = b"drop x\n";
-
-/// A session whose history is full has written the answers to all commands before: 1,048,576 lines of 13 bytes. The last 32 of
-/// them are to commands of the block that it ends in.
+/// A session whose history is full has written the answers to all commands before: a book without tests answers 1,048,576 drops
+/// by a line of 13 bytes each. The last 16 of them are to commands of the block that it ends in, the 43,691st.
 #[test]
 fn a_full_book_loses_no_answer(rt: HostRuntime) {
     let mut source = Blocks {
-        commands: 1_048_577,
+        blocks: 43_700,
         reads: 0,
     };
     let mut sink = Counting { bytes: 0 };
     let mut faults = Counting { bytes: 0 };
     let status = run_session(rt.alloc(), &mut source, &mut sink, &mut faults);
     assert_eq!(rt; (status, sink.bytes, faults.bytes), (3, 13_631_488, 10));
-    assert_eq!(rt; source.reads, 113);
+    assert_eq!(rt; source.reads, 43_691);
 }
 
 /// The exit status of the program after so many good reads and writes, and whether it says these words of its fault.
