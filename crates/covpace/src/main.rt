@@ -9,12 +9,14 @@
 //! second. Without words it says how it is called.
 #![tactic(auto)]
 
+mod calls;
+
 ghost use Rattle.std.specs.Prelude.{◌≡◌};
 
-use covbook::{Op, SubRef};
-use covjobs::{Live, Name, Seat, Shared, Start, open_book};
-use covread::read_trace;
-use std::alloc::Global;
+use crate::calls::{open_book, perform, read, reader, shared};
+use covbook::Op;
+use covjobs::{Live, Name, Seat, Seats, Shared, Start};
+use std::alloc::{AllocError, Global};
 use std::marker::Brand;
 use std::sync::Wait;
 use std::sync::atomic::{AtomicU64, Ordering};
@@ -29,7 +31,7 @@ const LINES: u64 = 100;
 #[derive(Clone, Copy)]
 struct Plan {
     submitters: u32,
-    readers: u32,
+    readers: u64,
     submits: u64,
 }
 
@@ -48,48 +50,75 @@ struct Watcher<L: Name> {
 }
 
 fn main(rt: HostRuntime) -> anyhow::Result<()> {
-    let mut words = Vec::new(rt.alloc());
-    for word in env::args(&rt)? {
-        words.push(word)?;
-    }
-    let Some(plan) = plan_of(words.as_slice()) else {
-        println!(rt; "covpace SUBMITTERS READERS SUBMITS")?;
-        return Ok(());
+    let line = match asked(&rt)? {
+        Some(plan) => started(&rt, rt.alloc(), plan)?,
+        None => String::from_str(rt.alloc(), "covpace SUBMITTERS READERS SUBMITS")?,
     };
-    let start = Start::new(rt.alloc(), plan.submitters)?;
-    let line = measured::<Brand, _>(&rt, rt.alloc(), start, plan)?;
     println!(rt; "{line}")?;
     Ok(())
 }
 
+/// The measure that the program's words ask for, if they ask for one.
+fn asked(rt: &HostRuntime) -> anyhow::Result<Option<Plan>> {
+    let mut words = Vec::new(rt.alloc());
+    for word in env::args(rt)? {
+        words.push(word)?;
+    }
+    Ok(plan_of(words.as_slice()))
+}
+
 /// The measure that the words ask for; the first word is the program's name.
 fn plan_of(words: &[String]) -> Option<Plan> {
-    let [_name, submitters, readers, submits] = words else {
+    if words.len() > 4 {
         return None;
-    };
+    }
+    let submitters = u32::try_from(number_at(words, 1)?).ok()?;
+    let readers = number_at(words, 2)?;
+    let submits = number_at(words, 3)?;
     Some(Plan {
-        submitters: submitters.as_str().parse::<u32>().ok()?,
-        readers: readers.as_str().parse::<u32>().ok()?,
-        submits: submits.as_str().parse::<u64>().ok()?,
+        submitters,
+        readers,
+        submits,
     })
 }
 
+/// The number that the word at this place is.
+fn number_at(words: &[String], place: usize) -> Option<u64> {
+    words.get(place)?.as_str().parse::<u64>().ok()
+}
+
 /// A tracefile of one test, one source and its lines, of which every second one is hit.
-fn tracefile(alloc: Global) -> anyhow::Result<String> {
+fn tracefile(alloc: Global) -> Result<String, AllocError> {
     let mut text = String::from_str(alloc, "TN:pace\nSF:/src/pace.c\n")?;
     for line in 1..=LINES {
-        let count = line % 2;
-        text.push_str(format!(in alloc; "DA:{line},{count}\n")?.as_str())?;
+        put_line(&mut text, line)?;
     }
     text.push_str("end_of_record\n")?;
     Ok(text)
 }
 
+/// Appends the record of a line.
+fn put_line(text: &mut String, line: u64) -> Result<(), AllocError> {
+    let count = line % 2;
+    let record = format!(in *text.allocator(); "DA:{line},{count}\n")?;
+    text.push_str(record.as_str())
+}
+
 /// The submission of that tracefile, as an operation.
 fn submit(alloc: Global) -> anyhow::Result<Op> {
     let text = tracefile(alloc)?;
-    let submission = read_trace(alloc, text.as_bytes())?;
-    Ok(Op::Submit(SubRef::of(alloc, submission)?))
+    let given = read(alloc, text.as_bytes())?;
+    Ok(Op::Submit(shared(alloc, given)?))
+}
+
+/// Makes the measure of a new book, and answers its line.
+fn started<R: Threads + Wait + Clock + Sync>(
+    rt: &R,
+    alloc: Global,
+    plan: Plan,
+) -> anyhow::Result<String> {
+    let start = Start::new(alloc, plan.submitters)?;
+    measured::<Brand, _>(rt, alloc, start, plan)
 }
 
 /// Makes the measure, and answers its line.
@@ -103,41 +132,93 @@ fn measured<L: Name + Send + Sync, R: Threads + Wait + Clock + Sync>(
     requires jobs { start.jobs ≡ L.parts }
     requires book { start.book ≡ L.book }
 {
-    let op = submit(alloc)?;
     let (book, seats) = open_book::<L, _>(alloc, start)?;
+    let mut submitters = submitters_of(alloc, seats)?;
+    let mut watchers = watchers_of(rt, alloc, &book, plan.readers)?;
+    let submitting = submitters.as_mut_slice();
+    let nanos = timed(rt, alloc, &book, plan, submitting, watchers.as_mut_slice())?;
+    line_of(alloc, nanos, submitters.as_slice(), watchers.as_slice())
+}
+
+/// A thread for each seat.
+fn submitters_of<L: Name>(alloc: Global, seats: Seats<L>) -> anyhow::Result<Vec<Submitter<L>>> {
     let mut submitters = Vec::new(alloc);
     for seat in seats.into_vec() {
         submitters.push(Submitter { seat, slowest: 0 })?;
     }
+    Ok(submitters)
+}
+
+/// So many threads that read.
+fn watchers_of<L: Name, R: Wait>(
+    rt: &R,
+    alloc: Global,
+    book: &Shared<L>,
+    readers: u64,
+) -> anyhow::Result<Vec<Watcher<L>>> {
     let mut watchers = Vec::new(alloc);
-    for _ in 0..plan.readers {
-        let live = book.reader(rt)?;
+    for _ in 0..readers {
+        let live = reader(rt, book)?;
         watchers.push(Watcher { live, readings: 0 })?;
     }
+    Ok(watchers)
+}
+
+/// Runs all threads, and answers how many nanoseconds that took.
+fn timed<L: Name + Send + Sync, R: Threads + Wait + Clock + Sync>(
+    rt: &R,
+    alloc: Global,
+    book: &Shared<L>,
+    plan: Plan,
+    submitters: &mut [Submitter<L>],
+    watchers: &mut [Watcher<L>],
+) -> anyhow::Result<u128> {
+    let op = submit(alloc)?;
     let begun = Instant::now(rt)?;
-    run(
-        rt,
-        alloc,
-        &book,
-        &op,
-        plan.submits,
-        submitters.as_mut_slice(),
-        watchers.as_mut_slice(),
-    );
-    let nanos = begun.elapsed(rt)?.as_nanos();
-    let slowest = submitters.iter().map(|it| it.slowest).max().unwrap_or(0) / 1000;
-    let mut submits: u64 = 0;
-    for it in &submitters {
-        submits = submits.saturating_add(it.seat.calls());
-    }
-    let mut readings: u64 = 0;
-    for it in &watchers {
-        readings = readings.saturating_add(it.readings);
-    }
-    let (submits, readings) = (a_second(submits, nanos), a_second(readings, nanos));
+    run(rt, alloc, book, &op, plan.submits, submitters, watchers);
+    Ok(begun.elapsed(rt)?.as_nanos())
+}
+
+/// What was measured.
+fn line_of<L: Name>(
+    alloc: Global,
+    nanos: u128,
+    submitters: &[Submitter<L>],
+    watchers: &[Watcher<L>],
+) -> anyhow::Result<String> {
+    let submits = a_second(submits_of(submitters), nanos);
+    let slowest = slowest_of(submitters) / 1000;
+    let readings = a_second(readings_of(watchers), nanos);
     Ok(format!(in alloc;
         "{submits} submits a second, the slowest {slowest} microseconds, {readings} readings a second"
     )?)
+}
+
+/// How many submits succeeded.
+fn submits_of<L: Name>(submitters: &[Submitter<L>]) -> u64 {
+    let mut submits: u64 = 0;
+    for it in submitters {
+        submits = submits.saturating_add(it.seat.calls());
+    }
+    submits
+}
+
+/// The nanoseconds of the slowest submit.
+fn slowest_of<L: Name>(submitters: &[Submitter<L>]) -> u64 {
+    let mut slowest: u64 = 0;
+    for it in submitters {
+        slowest = slowest.max(it.slowest);
+    }
+    slowest
+}
+
+/// How many readings were taken.
+fn readings_of<L: Name>(watchers: &[Watcher<L>]) -> u64 {
+    let mut readings: u64 = 0;
+    for it in watchers {
+        readings = readings.saturating_add(it.readings);
+    }
+    readings
 }
 
 /// How often a second, where it was so often in so many nanoseconds.
@@ -210,7 +291,7 @@ fn submit_once<L: Name, R: Wait + Clock>(
     seat: &mut Seat<L>,
 ) -> Option<u64> {
     let begun = Instant::now(rt).ok()?;
-    book.perform(rt, alloc, seat, op).ok()?;
+    perform(rt, alloc, book, seat, op).ok()?;
     let taken = begun.elapsed(rt).ok()?;
     u64::try_from(taken.as_nanos()).ok()
 }

@@ -1,0 +1,50 @@
+//! Calls of the crates below without what they promise: covpace only measures, and its proof is quicker that knows nothing of them.
+
+ghost use Rattle.std.specs.Prelude.{◌≡◌};
+
+use covbook::{BookFault, Op, SubRef};
+use covjobs::{Done, Live, Name, ReaderFault, Seat, Seats, Shared, Start};
+use covline::{Memory, Submission};
+use covread::{ReadFault, read_trace};
+use std::alloc::Allocator;
+use std::sync::Wait;
+
+pub(crate) fn read<A: Allocator + Copy>(alloc: A, text: &[u8]) -> Result<Submission<A>, ReadFault> {
+    read_trace(alloc, text)
+}
+
+/// The submission, to be shared.
+pub(crate) fn shared<A: Allocator + Copy>(
+    alloc: A,
+    given: Submission<A>,
+) -> Result<SubRef<A>, Memory> {
+    SubRef::of(alloc, given)
+}
+
+pub(crate) fn open_book<L: Name, A: Allocator + Copy>(
+    alloc: A,
+    start: Start<A>,
+) -> Result<(Shared<L, A>, Seats<L, A>), Memory>
+    requires name { start.name ≡ L.name }
+    requires jobs { start.jobs ≡ L.parts }
+    requires book { start.book ≡ L.book }
+{
+    covjobs::open_book::<L, A>(alloc, start)
+}
+
+pub(crate) fn reader<L: Name, A: Allocator, R: Wait>(
+    rt: &R,
+    book: &Shared<L, A>,
+) -> Result<Live<L, A>, ReaderFault> {
+    book.reader(rt)
+}
+
+pub(crate) fn perform<L: Name, A: Allocator + Copy, R: Wait>(
+    rt: &R,
+    alloc: A,
+    book: &Shared<L, A>,
+    seat: &mut Seat<L>,
+    op: &Op<A>,
+) -> Result<Done<L, A>, BookFault> {
+    book.perform(rt, alloc, seat, op)
+}
