@@ -1,5 +1,5 @@
 -- Files that are looked at one after another: what was told of the first of them, and of one more.
-use Rattle.std.proofs.Common.{◌≡◌, inl, inr, ℕ, suc, ◌+◌, ◌<◌, ◌≤◌, Bool, true, false, ◌||◌, if◌then◌else◌, List, [], ◌∷◌, ◌++◌, length, get_or, take, drop, map, Option, Result, Ok, Err, refl, sym, ap, ◌∙◌, subst, arith, append_assoc, length-append}
+use Rattle.std.proofs.Common.{◌≡◌, inl, inr, ℕ, suc, ◌+◌, ◌<◌, ◌≤◌, Bool, true, false, ◌||◌, if◌then◌else◌, List, [], ◌∷◌, ◌++◌, length, get_or, take, drop, map, Option, Result, Ok, Err, refl, sym, ap, ◌∙◌, subst, arith, length-append}
 use Rattle.std.proofs.KnownBytes.{Appends-trans}
 use Rattle.std.proofs.lemmas.List.{take_more, map-append, take-append-drop, drop_more, flat_map_more}
 use Rattle.std.proofs.lemmas.List.Folds.{list_any-append}
@@ -20,7 +20,7 @@ use Rattle.covsession.specs.Program.{fault_status, words_of_fault}
 use Rattle.covsession.specs.Session.{said}
 use Rattle.covsession.specs.declared.session.fault.SessionFault.{SessionFault}
 use Rattle.covsession.specs.declared.session.fault.SessionFault.TheVariants as faults
-use Rattle.covrun.specs.Check.{OutcomeData, Unread, Refused, Held, IsOutcome, IsCheck, has_item, outcome_line, outcome_complaint, check_lines, check_complaints, is_unread, is_refused, is_empty}
+use Rattle.covrun.specs.Check.{OutcomeData, Unread, Refused, Held, IsOutcome, IsCheck, EndsWithin, has_item, outcome_line, outcome_complaint, check_lines, check_complaints, is_unread, is_refused, is_empty}
 use Rattle.covrun.specs.Checked.{AnswersText, Says, TellsEach, TellsOne, verdict_of, worse, worst_of}
 use Rattle.covrun.specs.Streams.{SinksData}
 use Rattle.covrun.specs.declared.verdict.Verdict.{Verdict}
@@ -87,10 +87,6 @@ all_next : (format : TextFormat) (outcomes : List OutcomeData) (outcome : Outcom
 all_next format [] outcome all fits = (fits, tt)
 all_next format (o ∷ outcomes) outcome all fits = (all.0, all_next format outcomes outcome all.1 fits)
 
-length_next : {X Y : Type 0} (xs : List X) (x : X) (ys : List Y) (y : Y) (rest : List Y) → length xs ≡ length ys
-    → length (xs ++ x ∷ []) ≤ length (ys ++ y ∷ rest)
-length_next xs x ys y rest same = omega (arith, same, length-append xs (x ∷ []), length-append ys (y ∷ rest))
-
 -- ---- the worst
 
 -- which verdict it is, by what became of some file
@@ -138,9 +134,21 @@ says_next n m words more a b d (complained, grew, few) (complained', grew', few'
   omega (arith, few, few'),
 )
 
-begun_next : (a b d : Option (List ℕ)) (xs ys : List ℕ) → Appends a b xs → HasBegun b d ys → HasBegun a d (xs ++ ys)
-begun_next a b d xs ys all (part, some, (rest, is)) =
-    (xs ++ part, Appends-trans a b d xs part all some, (rest, ap (λ (zs : List ℕ). xs ++ zs) is ∙ sym (append_assoc xs part rest)))
+-- where the output is the same, a file's line ends within it as it did
+within_next : (files : List (List ℕ)) (outcomes : List OutcomeData) (a b d : SinksData) → d.output ≡ b.output → EndsWithin files outcomes a b → EndsWithin files outcomes a d
+within_next files outcomes a b d same within = record {
+  earlier = within.earlier;
+  file = within.file;
+  later = within.later;
+  files_are = within.files_are;
+  before = within.before;
+  last = within.last;
+  outcomes_are = within.outcomes_are;
+  each = within.each;
+  between = within.between;
+  whole = within.whole;
+  part = subst (λ (o : Option (List ℕ)). HasBegun within.between o (outcome_line within.file within.last)) (sym same) within.part;
+}
 
 -- ---- one file more
 
@@ -172,9 +180,19 @@ told_until format files rest file so_far faults.Write a b d (outcomes, all, (sam
       outcomes ++ outcome ∷ [],
       all_next format outcomes outcome all fits,
       (
-        length_next outcomes outcome files file rest same,
-        subst (HasBegun a.output d.output) (each_next outcome_line files rest outcomes file outcome same)
-            (begun_next a.output b.output d.output _ _ lines begun),
+        record {
+          earlier = files;
+          file = file;
+          later = rest;
+          files_are = refl;
+          before = outcomes;
+          last = outcome;
+          outcomes_are = refl;
+          each = same;
+          between = b.output;
+          whole = lines;
+          part = begun;
+        },
         failed ∙ ap suc good,
         subst (λ (n : ℕ). Says n (check_complaints (files ++ file ∷ rest) (outcomes ++ outcome ∷ [])) a d) (sym longer)
             (subst (λ (ws : List ℕ). Says (length outcomes + 1) ws a d) (each_next outcome_complaint files rest outcomes file outcome same)
@@ -238,13 +256,12 @@ says_last words front spoken b d is complained grew few =
 pub check_ended : (format : TextFormat) (files : List (List ℕ)) (fault : SessionFault) (status : ℕ) (a b d : SinksData)
     → TellsEach format files (Err fault) a b → status ≡ fault_status fault → d.output ≡ b.output → d.failed_output ≡ b.failed_output
     → Says 1 (said (words_of_fault fault)) b d → IsCheck format files status a d
-check_ended format files faults.Write status a b d (outcomes, all, (some, begun, failed, says)) ends same unfailed told = (
+check_ended format files faults.Write status a b d (outcomes, all, (within, failed, says)) ends same unfailed told = (
   outcomes,
   all,
   inr (inr (record {
-    some = some;
+    lines = within_next files outcomes a b d same within;
     ends = ends;
-    lines = subst (λ (o : Option (List ℕ)). HasBegun a.output o (check_lines files outcomes)) (sym same) begun;
     failed = unfailed ∙ failed;
     complaints = (says_next (length outcomes) 1 _ _ a b d says told).0;
   })),

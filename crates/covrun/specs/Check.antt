@@ -1,7 +1,7 @@
 -- What a check of files tells: a line for each of them, what is complained of, and a status.
 use Rattle.std.specs.Io.KnownBytes.{Appends}
 use Rattle.std.specs.List.{AllByRecursion, flat_map, list_any, zip}
-use Rattle.std.specs.Prelude.{◌≡◌, ◌⊎◌, ◌<◌, ◌≤◌, ℕ, suc, List, [], ◌++◌, length, Bool, true, false, if◌then◌else◌, nat_lt, Result, Ok, Err, codes}
+use Rattle.std.specs.Prelude.{◌≡◌, ◌⊎◌, ◌<◌, ◌≤◌, ℕ, suc, List, [], ◌∷◌, ◌++◌, length, Option, Bool, true, false, if◌then◌else◌, nat_lt, Result, Ok, Err, codes}
 use Rattle.covcheck.specs.Holding.{Tells}
 use Rattle.covcheck.specs.Skipped.{IsSkippedGcov, IsSkippedRecord}
 use Rattle.covcheck.specs.Told.{holding_text}
@@ -103,11 +103,25 @@ pub record IsCheckWithoutRoom (files : List (List ℕ)) (outcomes : List Outcome
   pub written : new.failed_output ≡ old.failed_output
   pub complaints : Complains (check_complaints files outcomes ++ said (words_of_fault faults.Memory)) old new
 
--- a write of a line failed, so that the output has a beginning of the lines, and the others weren't looked at; this is told last
+-- the output ends within the line of the last file that was looked at: it has the whole lines of the files before, and a beginning
+-- of that one
+pub record EndsWithin (files : List (List ℕ)) (outcomes : List OutcomeData) (old new : SinksData) : Type 0 where
+  pub earlier : List (List ℕ)
+  pub file : List ℕ
+  pub later : List (List ℕ)
+  pub files_are : files ≡ earlier ++ file ∷ later
+  pub before : List OutcomeData
+  pub last : OutcomeData
+  pub outcomes_are : outcomes ≡ before ++ last ∷ []
+  pub each : length before ≡ length earlier
+  pub between : Option (List ℕ)
+  pub whole : Appends old.output between (check_lines earlier before)
+  pub part : HasBegun between new.output (outcome_line file last)
+
+-- a write of a file's line failed, and no file after it was looked at; this is told last
 pub record IsCheckCutShort (files : List (List ℕ)) (outcomes : List OutcomeData) (status : ℕ) (old new : SinksData) : Type 0 where
-  pub some : length outcomes ≤ length files
+  pub lines : EndsWithin files outcomes old new
   pub ends : status ≡ fault_status faults.Write
-  pub lines : HasBegun old.output new.output (check_lines files outcomes)
   pub failed : new.failed_output ≡ suc old.failed_output
   pub complaints : Complains (check_complaints files outcomes ++ said (words_of_fault faults.Write)) old new
 

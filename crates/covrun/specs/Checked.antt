@@ -9,7 +9,7 @@ use Rattle.covread.specs.declared.fault.ReadFault.TheVariants as reads
 use Rattle.covsession.specs.Fault.{HasBegun}
 use Rattle.covsession.specs.declared.session.fault.SessionFault.{SessionFault}
 use Rattle.covsession.specs.declared.session.fault.SessionFault.TheVariants as faults
-use Rattle.covrun.specs.Check.{OutcomeData, Unread, Refused, Held, IsTextOutcome, IsOutcome, has_item, outcome_line, outcome_complaint, check_lines, check_complaints, is_unread, is_refused, is_empty}
+use Rattle.covrun.specs.Check.{OutcomeData, Unread, Refused, Held, IsTextOutcome, IsOutcome, EndsWithin, has_item, outcome_line, outcome_complaint, check_lines, check_complaints, is_unread, is_refused, is_empty}
 use Rattle.covrun.specs.Streams.{SinksData, Complains}
 use Rattle.covrun.specs.declared.verdict.Verdict.{Verdict}
 use Rattle.covrun.specs.declared.verdict.Verdict.TheVariants as verdicts
@@ -80,7 +80,7 @@ TellsAll format files outcomes (Ok verdict) old new =
     × Appends old.output new.output (check_lines files outcomes) × (new.failed_output ≡ old.failed_output)
     × Says (length outcomes) (check_complaints files outcomes) old new
 TellsAll format files outcomes (Err faults.Write) old new =
-    (length outcomes ≤ length files) × HasBegun old.output new.output (check_lines files outcomes)
+    EndsWithin files outcomes old new
     × (new.failed_output ≡ suc old.failed_output) × Says (length outcomes) (check_complaints files outcomes) old new
 TellsAll format files outcomes (Err faults.Memory) old new =
     (length outcomes < length files) × Appends old.output new.output (check_lines files outcomes)
