@@ -3,13 +3,13 @@
 #
 #     bench/readers.sh [PROGRAM]
 #
-# PROGRAM is crates/covpace/out/covpace, which `make` builds. Four threads submit a small tracefile to one shared book, beside
+# PROGRAM is crates/covbench/out/covbench, which `make` builds. Four threads submit a small tracefile to one shared book, beside
 # 0, 1, 8 and 32 threads that ask for the totals without a pause. Each submits 50,000 times. Of five runs the one with the
 # most submits a second is shown. The rows go to bench/results/readers.tsv too. Nothing else should run meanwhile; it takes
 # half a minute.
 set -euo pipefail
 cd "$(dirname "$0")/.."
-program=${1:-crates/covpace/out/covpace}
+program=${1:-crates/covbench/out/covbench}
 if [ ! -x "$program" ]; then
   echo "readers: $program isn't there; run 'make' first" >&2
   exit 1
@@ -28,7 +28,7 @@ trap 'rm -f "$rows"' EXIT
 for readers in 0 1 8 32; do
   best=''
   for _turn in 1 2 3 4 5; do
-    line=$("$program" "$submitters" "$readers" "$submits")
+    line=$("$program" pace "$submitters" "$readers" "$submits")
     numbers=$(sed -n 's/^\([0-9]*\) submits a second, the slowest \([0-9]*\) microseconds, \([0-9]*\) readings a second$/\1\t\2\t\3/p' <<<"$line")
     if [ -z "$numbers" ]; then
       echo "readers: $program printed: $line" >&2

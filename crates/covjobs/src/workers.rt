@@ -1,6 +1,7 @@
 //! The workers of all jobs, each in a thread of its own.
 
-ghost use Rattle.std.specs.Prelude.{◌≡◌, ◌<◌, Ok, IfOk, IsTrue, false, map};
+ghost use Rattle.std.specs.Prelude.{◌≡◌, ◌<◌, Ok, Err, IfOk, IsTrue, false, map, Contains};
+ghost use Rattle.covbook.specs.declared.book.BookFault.TheVariants as book_faults;
 ghost use Rattle.covjobs.specs.InputView.{input_data};
 ghost use Rattle.covjobs.specs.Work.{HasDone, AreDone, AreDoneIfWell, work_of};
 
@@ -95,6 +96,7 @@ fn end_all<'a, R: Threads, L: Name>(
 ) -> Result<Vec<Result<Worker<L>, BookFault>>, Memory>
     ensures done { IfOk result (λ ended. IsTrue all_started → AreDone (map (λ h. h.promise) handles.entry.items) ended.items) }
     ensures short { IfOk result (λ ended. all_started ≡ false → (workers : _) → map Ok workers ≡ ended.items → ⊥) }
+    ensures untold { IfOk result (λ ended. all_started ≡ false → Contains ended.items (Err book_faults.Memory)) }
 {
     let mut ended = join_all(rt, alloc, handles)?;
     if !all_started {

@@ -132,13 +132,14 @@ fn has_no_place<L: Name, R: Wait>(rt: &R, book: &Shared<L>) -> bool {
     }
 }
 
-/// There are places for 64 readers, which are let go before the book is closed.
+/// There are places for 64 readers, also after a call, and they are let go before the book is closed.
 fn all_places<L: Name, R: Wait + Abort + AllocGlobal>(rt: &R, start: Start)
     requires name { start.name ≡ L.name }
     requires jobs { start.jobs ≡ L.parts }
     requires book { start.book ≡ L.book }
 {
-    let (book, seats) = opened::<L, _>(rt, rt.alloc(), start);
+    let (book, mut seats) = opened::<L, _>(rt, rt.alloc(), start);
+    let _news = submitted(rt, rt.alloc(), &book, seats.as_mut_slice());
     let readers = readers_of(rt, rt.alloc(), &book, 64);
     assert!(rt; has_no_place(rt, &book));
     drop(readers);

@@ -1,4 +1,4 @@
-use Rattle.covsoak.proofs.one_round.Given as goal
+use Rattle.covbench.proofs.soak.one_round.Given as goal
 
 -- the book that is about to be opened
 abbrev pub ghosts-soaked-L-Ledger : goal.ghosts-soaked-L-Ledger

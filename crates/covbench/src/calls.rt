@@ -1,4 +1,4 @@
-//! Calls of the crates below without what they promise: covpace only measures, and its proof is quicker that knows nothing of them.
+//! Calls of the crates below without what they promise: a measure only makes them, and its proof is quicker that knows nothing of them.
 
 ghost use Rattle.std.specs.Prelude.{◌≡◌};
 

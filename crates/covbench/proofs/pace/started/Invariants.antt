@@ -1,4 +1,4 @@
-use Rattle.covpace.proofs.started.Given as goal
+use Rattle.covbench.proofs.pace.started.Given as goal
 
 -- the book that is about to be opened
 abbrev pub ghosts-measured-L-Ledger : goal.ghosts-measured-L-Ledger

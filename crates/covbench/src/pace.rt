@@ -1,15 +1,4 @@
-//! covpace measures what readers cost the threads that submit: `bench/readers.sh` calls it.
-//!
-//! ```text
-//! covpace SUBMITTERS READERS SUBMITS
-//! ```
-//!
-//! So many threads (1 to 64) submit one small tracefile to one shared book, each so many times, while so many others (0 to 64)
-//! ask for the totals without a pause. It prints one line: submits a second, the slowest submit in microseconds, and readings a
-//! second. Without words it says how it is called.
-#![tactic(auto)]
-
-mod calls;
+//! What readers cost the threads that submit.
 
 ghost use Rattle.std.specs.Prelude.{◌≡◌};
 
@@ -22,17 +11,17 @@ use std::sync::Wait;
 use std::sync::atomic::{AtomicU64, Ordering};
 use std::thread::Threads;
 use std::time::{Clock, Instant};
-use std::{env, thread};
+use std::thread;
 
 /// How many lines the submitted tracefile has of its source.
 const LINES: u64 = 100;
 
 /// What is asked of a measure.
 #[derive(Clone, Copy)]
-struct Plan {
-    submitters: u32,
-    readers: u64,
-    submits: u64,
+pub(crate) struct PacePlan {
+    pub(crate) submitters: u32,
+    pub(crate) readers: u64,
+    pub(crate) submits: u64,
 }
 
 /// A thread that submits: its seat, and the nanoseconds that its slowest submit took.
@@ -47,44 +36,6 @@ struct Submitter<L: Name> {
 struct Watcher<L: Name> {
     live: Live<L>,
     readings: u64,
-}
-
-fn main(rt: HostRuntime) -> anyhow::Result<()> {
-    let line = match asked(&rt)? {
-        Some(plan) => started(&rt, rt.alloc(), plan)?,
-        None => String::from_str(rt.alloc(), "covpace SUBMITTERS READERS SUBMITS")?,
-    };
-    println!(rt; "{line}")?;
-    Ok(())
-}
-
-/// The measure that the program's words ask for, if they ask for one.
-fn asked(rt: &HostRuntime) -> anyhow::Result<Option<Plan>> {
-    let mut words = Vec::new(rt.alloc());
-    for word in env::args(rt)? {
-        words.push(word)?;
-    }
-    Ok(plan_of(words.as_slice()))
-}
-
-/// The measure that the words ask for; the first word is the program's name.
-fn plan_of(words: &[String]) -> Option<Plan> {
-    if words.len() > 4 {
-        return None;
-    }
-    let submitters = u32::try_from(number_at(words, 1)?).ok()?;
-    let readers = number_at(words, 2)?;
-    let submits = number_at(words, 3)?;
-    Some(Plan {
-        submitters,
-        readers,
-        submits,
-    })
-}
-
-/// The number that the word at this place is.
-fn number_at(words: &[String], place: usize) -> Option<u64> {
-    words.get(place)?.as_str().parse::<u64>().ok()
 }
 
 /// A tracefile of one test, one source and its lines, of which every second one is hit.
@@ -111,11 +62,11 @@ fn submit(alloc: Global) -> anyhow::Result<Op> {
     Ok(Op::Submit(shared(alloc, given)?))
 }
 
-/// Makes the measure of a new book, and answers its line.
-fn started<R: Threads + Wait + Clock + Sync>(
+/// Makes the measure of a new book. Answers its line: submits a second, the slowest submit in microseconds, and readings a second.
+pub(crate) fn started<R: Threads + Wait + Clock + Sync>(
     rt: &R,
     alloc: Global,
-    plan: Plan,
+    plan: PacePlan,
 ) -> anyhow::Result<String> {
     let start = Start::new(alloc, plan.submitters)?;
     measured::<Brand, _>(rt, alloc, start, plan)
@@ -126,7 +77,7 @@ fn measured<L: Name + Send + Sync, R: Threads + Wait + Clock + Sync>(
     rt: &R,
     alloc: Global,
     start: Start,
-    plan: Plan,
+    plan: PacePlan,
 ) -> anyhow::Result<String>
     requires name { start.name ≡ L.name }
     requires jobs { start.jobs ≡ L.parts }
@@ -169,7 +120,7 @@ fn timed<L: Name + Send + Sync, R: Threads + Wait + Clock + Sync>(
     rt: &R,
     alloc: Global,
     book: &Shared<L>,
-    plan: Plan,
+    plan: PacePlan,
     submitters: &mut [Submitter<L>],
     watchers: &mut [Watcher<L>],
 ) -> anyhow::Result<u128> {

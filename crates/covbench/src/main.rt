@@ -1,0 +1,99 @@
+//! covbench puts the book that threads share to work: `bench/soak` and `bench/readers.sh` call it.
+//!
+//! ```text
+//! covbench soak THREADS ROUNDS CALLS SEED
+//! covbench pace SUBMITTERS READERS SUBMITS
+//! ```
+//!
+//! `soak`: in each round so many threads (1 to 64) make so many random calls each of one shared book, and read its totals in
+//! between. The book is then closed. Its history has to be gathered from what the threads kept, and one thread alone that takes
+//! the same steps in the same order has to be answered the same. Each round has the next seed. A difference ends the program
+//! with its seed and status 1; else it prints one line.
+//!
+//! `pace`: so many threads (1 to 64) submit one small tracefile to one shared book, each so many times, while so many others (0
+//! to 64) ask for the totals without a pause. It prints one line: submits a second, the slowest submit in microseconds, and
+//! readings a second.
+//!
+//! Other words are answered by these two lines.
+#![tactic(auto)]
+
+mod alone;
+mod asked;
+mod calls;
+mod job;
+mod pace;
+mod random;
+mod round;
+mod soak;
+
+use crate::pace::{PacePlan, started};
+use crate::soak::{SoakPlan, all_rounds};
+use std::env;
+
+/// How it is called.
+const USAGE: &str = "covbench soak THREADS ROUNDS CALLS SEED\ncovbench pace SUBMITTERS READERS SUBMITS";
+
+/// What is asked of the program.
+#[derive(Clone, Copy)]
+enum Plan {
+    Soak(SoakPlan),
+    Pace(PacePlan),
+}
+
+fn main(rt: HostRuntime) -> anyhow::Result<()> {
+    let mut words = Vec::new(rt.alloc());
+    for word in env::args(&rt)? {
+        words.push(word)?;
+    }
+    match plan_of(words.as_slice()) {
+        Some(Plan::Soak(plan)) => {
+            let calls = all_rounds(&rt, rt.alloc(), plan)?;
+            println!(rt; "rounds {} calls {calls} differences 0", plan.rounds)?;
+        }
+        Some(Plan::Pace(plan)) => {
+            let line = started(&rt, rt.alloc(), plan)?;
+            println!(rt; "{line}")?;
+        }
+        None => println!(rt; "{USAGE}")?,
+    }
+    Ok(())
+}
+
+/// The plan that the words tell; the first word is the program's name.
+fn plan_of(words: &[String]) -> Option<Plan> {
+    match words.get(1)?.as_str() {
+        "soak" => Some(Plan::Soak(soak_of(words)?)),
+        "pace" => Some(Plan::Pace(pace_of(words)?)),
+        _ => None,
+    }
+}
+
+/// The soak that the words tell.
+fn soak_of(words: &[String]) -> Option<SoakPlan> {
+    let [_name, _soak, threads, rounds, calls, seed] = words else {
+        return None;
+    };
+    Some(SoakPlan {
+        threads: threads.as_str().parse::<u32>().ok()?,
+        rounds: number(rounds)?,
+        calls: number(calls)?,
+        seed: number(seed)?,
+    })
+}
+
+/// The measure that the words tell.
+fn pace_of(words: &[String]) -> Option<PacePlan> {
+    let [_name, _pace, submitters, readers, submits] = words else {
+        return None;
+    };
+    Some(PacePlan {
+        submitters: submitters.as_str().parse::<u32>().ok()?,
+        readers: number(readers)?,
+        submits: number(submits)?,
+    })
+}
+
+/// The number that the word is.
+fn number(word: &String) -> Option<u64> {
+    word.as_str().parse::<u64>().ok()
+}

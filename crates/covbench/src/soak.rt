@@ -1,0 +1,41 @@
+//! Rounds of random calls, each of a new book.
+
+use crate::round::soaked;
+use covjobs::Start;
+use std::alloc::Global;
+use std::marker::Brand;
+use std::sync::Wait;
+use std::thread::Threads;
+
+/// What is asked of a soak.
+#[derive(Clone, Copy)]
+pub(crate) struct SoakPlan {
+    pub(crate) threads: u32,
+    pub(crate) rounds: u64,
+    pub(crate) calls: u64,
+    pub(crate) seed: u64,
+}
+
+/// Makes all rounds, and answers how many calls they made together. The first difference ends them, and is told with its seed.
+pub(crate) fn all_rounds<R: Threads + Wait + Sync>(rt: &R, alloc: Global, plan: SoakPlan) -> anyhow::Result<u64> {
+    let mut made: u64 = 0;
+    for turn in 0..plan.rounds {
+        let seed = plan.seed.wrapping_add(turn);
+        match one_round(rt, alloc, plan, seed) {
+            Ok(calls) => made = made.saturating_add(calls),
+            Err(fault) => return Err(anyhow::anyhow!("seed {seed}: {fault}")),
+        }
+    }
+    Ok(made)
+}
+
+/// Makes the round of this seed, and answers how many calls it made.
+fn one_round<R: Threads + Wait + Sync>(
+    rt: &R,
+    alloc: Global,
+    plan: SoakPlan,
+    seed: u64,
+) -> anyhow::Result<u64> {
+    let start = Start::new(alloc, plan.threads)?;
+    soaked::<Brand, _>(rt, alloc, start, plan.calls, seed)
+}
