@@ -5,7 +5,7 @@
 PREFIX ?= /usr/local
 PROGRAM = crates/covcollect
 
-.PHONY: all run rows test install uninstall package package-check clean help toolchain
+.PHONY: all run rows test check fmt install uninstall package package-check clean help toolchain
 
 ## make: proves every crate and builds the program, build/covcollect
 all: build/covcollect
@@ -46,6 +46,15 @@ package: build/covcollect
 ## make package-check: installs, tries and removes both packages in a fresh Debian (as root)
 package-check:
 	@scripts/package-check
+
+## make check CRATE=covread: proves one crate and those below it
+check: toolchain
+	@[ -d "crates/$(CRATE)/src" ] || { echo "usage: make check CRATE=NAME, with NAME a folder of crates/" >&2; exit 2; }
+	cd crates/$(CRATE) && rt check
+
+## make fmt: formats all sources, definitions and proofs
+fmt: toolchain
+	@for crate in crates/*/; do (cd "$$crate" && rt fmt) || exit 1; done
 
 ## make clean: removes all that was built
 clean:

@@ -31,7 +31,8 @@ use crate::soak::{SoakPlan, all_rounds};
 use std::env;
 
 /// How it is called.
-const USAGE: &str = "covbench soak THREADS ROUNDS CALLS SEED\ncovbench pace SUBMITTERS READERS SUBMITS";
+const USAGE: &str =
+    "covbench soak THREADS ROUNDS CALLS SEED\ncovbench pace SUBMITTERS READERS SUBMITS";
 
 /// What is asked of the program.
 #[derive(Clone, Copy)]

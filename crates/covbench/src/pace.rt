@@ -9,9 +9,9 @@ use std::alloc::{AllocError, Global};
 use std::marker::Brand;
 use std::sync::Wait;
 use std::sync::atomic::{AtomicU64, Ordering};
+use std::thread;
 use std::thread::Threads;
 use std::time::{Clock, Instant};
-use std::thread;
 
 /// How many lines the submitted tracefile has of its source.
 const LINES: u64 = 100;

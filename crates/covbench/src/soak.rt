@@ -17,7 +17,11 @@ pub(crate) struct SoakPlan {
 }
 
 /// Makes all rounds, and answers how many calls they made together. The first difference ends them, and is told with its seed.
-pub(crate) fn all_rounds<R: Threads + Wait + Sync>(rt: &R, alloc: Global, plan: SoakPlan) -> anyhow::Result<u64> {
+pub(crate) fn all_rounds<R: Threads + Wait + Sync>(
+    rt: &R,
+    alloc: Global,
+    plan: SoakPlan,
+) -> anyhow::Result<u64> {
     let mut made: u64 = 0;
     for turn in 0..plan.rounds {
         let seed = plan.seed.wrapping_add(turn);
