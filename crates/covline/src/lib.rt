@@ -31,6 +31,7 @@ mod print;
 mod reader;
 mod sect;
 mod submission;
+mod tail;
 mod tally;
 mod text_lines;
 mod trace_line;

@@ -1,15 +1,15 @@
 //! Printing one line of a tracefile.
 
-ghost use Rattle.std.specs.Prelude.{◌≡◌, ◌++◌, ◌∷◌, [], OnOk, OnErr, IsOk, ℕ, List, decimal, option_map};
+ghost use Rattle.std.specs.Prelude.{◌≡◌, ◌++◌, ◌∷◌, [], OnOk, OnErr, IsOk, ◌≤◌, ◌+◌, ℕ, List, codes, decimal, length, option_map};
 ghost use Rattle.covline.specs.Lines.{line_feed, lines_of};
 ghost use Rattle.covline.specs.Spells.{Branch, Line, Skip, line_data, comma, key_of, Spells};
-ghost use Rattle.covline.specs.Printed.{checksum_text, line_text, printed, taken_text, IsReadable};
+ghost use Rattle.covline.specs.Printed.{line_text, printed, taken_text, IsReadable};
 
 use crate::bytes::Bytes;
 use crate::memory::Memory;
 use crate::point::BranchPoint;
+use crate::tail::Tail;
 use crate::trace_line::{TotalKind, TraceLine};
-use itoa::Buffer;
 use std::alloc::Allocator;
 
 /// Appends the line that says this, and a line feed; nothing for a skipped line, which is never refused. A refusal leaves
@@ -82,13 +82,16 @@ fn append_named<A: Allocator>(
     name: &[u8],
     text: &mut Bytes<A>,
 ) -> Result<(), Memory>
+    requires { length key.now ≤ 5 }
     ensures ok { OnOk result
         (text.new ≡ text.old ++ (key.now ++ decimal number ++ comma ∷ name.now ++ line_feed ∷ [])) }
     ensures err { OnErr result ((more : List ℕ) × (text.new ≡ text.old ++ more)) }
 {
-    text.append(key)?;
-    append_field(number, text)?;
-    append_text(b"", name, text)
+    let mut front = Tail::new();
+    front.put(b',');
+    front.put_number(number);
+    front.put_text(key);
+    append_text(front.get(), name, text)
 }
 
 /// Appends the record of a branch.
@@ -99,33 +102,28 @@ fn append_branch<A: Allocator>(
 ) -> Result<(), Memory>
     ensures ok { OnOk result
         (text.new ≡ text.old ++ printed (Branch branch.line branch.block branch.branch taken)) }
-    ensures err { OnErr result ((more : List ℕ) × (text.new ≡ text.old ++ more)) }
-{
-    text.append(b"BRDA:")?;
-    append_place(branch, text)?;
-    append_taken(taken, text)?;
-    text.append(b"\n")
-}
-
-/// Appends a branch's three numbers, each with a comma.
-fn append_place<A: Allocator>(branch: BranchPoint, text: &mut Bytes<A>) -> Result<(), Memory>
-    ensures ok { OnOk result
-        (text.new ≡ text.old ++ (decimal branch.line ++ comma ∷ decimal branch.block ++ comma ∷ decimal branch.branch ++ comma ∷ [])) }
-    ensures err { OnErr result ((more : List ℕ) × (text.new ≡ text.old ++ more)) }
-{
-    append_field(u128::from(branch.line), text)?;
-    append_field(u128::from(branch.block), text)?;
-    append_field(u128::from(branch.branch), text)
-}
-
-/// Appends how often a branch was taken.
-fn append_taken<A: Allocator>(taken: Option<u128>, text: &mut Bytes<A>) -> Result<(), Memory>
-    ensures ok { OnOk result (text.new ≡ text.old ++ taken_text taken) }
     ensures err { OnErr result (text.new ≡ text.old) }
 {
+    let mut line = Tail::new();
+    line.put(b'\n');
+    put_taken(taken, &mut line);
+    line.put_field(u128::from(branch.branch));
+    line.put_field(u128::from(branch.block));
+    line.put_field(u128::from(branch.line));
+    line.put_text(b"BRDA:");
+    text.append(line.get())
+}
+
+/// Puts how often a branch was taken before the rest of its line.
+#[inline]
+fn put_taken(taken: Option<u128>, line: &mut Tail)
+    requires { length line.old + 39 ≤ 168 }
+    ensures text { line.new ≡ taken_text taken ++ line.old }
+    ensures size { length line.new ≤ length line.old + 39 }
+{
     match taken {
-        Some(taken) => append_number(taken, text),
-        None => text.append(b"-"),
+        Some(taken) => line.put_number(taken),
+        None => line.put(b'-'),
     }
 }
 
@@ -140,41 +138,23 @@ fn append_count<A: Allocator>(
         (text.new ≡ text.old ++ printed (Line line count (option_map (λ c. c.now) checksum.entry))) }
     ensures err { OnErr result ((more : List ℕ) × (text.new ≡ text.old ++ more)) }
 {
-    text.append(b"DA:")?;
-    append_field(u128::from(line), text)?;
-    append_number(count, text)?;
-    append_checksum(checksum, text)?;
-    text.append(b"\n")
+    match checksum {
+        Some(checksum) => append_text(line_up_to(line, count, b',').get(), checksum, text),
+        None => text.append(line_up_to(line, count, b'\n').get()),
+    }
 }
 
-/// Appends a comma and the checksum, where there is one.
-fn append_checksum<A: Allocator>(checksum: Option<&[u8]>, text: &mut Bytes<A>) -> Result<(), Memory>
-    ensures ok { OnOk result (text.new ≡ text.old ++ checksum_text (option_map (λ c. c.now) checksum.entry)) }
-    ensures err { OnErr result ((more : List ℕ) × (text.new ≡ text.old ++ more)) }
+/// The record of an instrumented line up to the byte after its count.
+#[inline]
+fn line_up_to(line: u64, count: u128, end: u8) -> Tail
+    ensures { result ≡ codes "DA:" ++ decimal line ++ comma ∷ decimal count ++ end ∷ [] }
 {
-    let Some(checksum) = checksum else {
-        return Ok(());
-    };
-    text.append(b",")?;
-    text.append(checksum)
-}
-
-/// Appends a number and a comma.
-fn append_field<A: Allocator>(number: u128, text: &mut Bytes<A>) -> Result<(), Memory>
-    ensures ok { OnOk result (text.new ≡ text.old ++ (decimal number ++ comma ∷ [])) }
-    ensures err { OnErr result ((more : List ℕ) × (text.new ≡ text.old ++ more)) }
-{
-    append_number(number, text)?;
-    text.append(b",")
-}
-
-/// Appends a number in decimal.
-fn append_number<A: Allocator>(number: u128, text: &mut Bytes<A>) -> Result<(), Memory>
-    ensures ok { OnOk result (text.new ≡ text.old ++ decimal number) }
-    ensures err { OnErr result (text.new ≡ text.old) }
-{
-    let mut digits = Buffer::new();
-    text.append(digits.format(number).as_bytes())
+    let mut front = Tail::new();
+    front.put(end);
+    front.put_number(count);
+    front.put_field(u128::from(line));
+    front.put_text(b"DA:");
+    front
 }
 
 /// Appends a total.
@@ -184,7 +164,7 @@ fn append_total<A: Allocator>(
     text: &mut Bytes<A>,
 ) -> Result<(), Memory>
     ensures ok { OnOk result (text.new ≡ text.old ++ (key_of kind ++ decimal value ++ line_feed ∷ [])) }
-    ensures err { OnErr result ((more : List ℕ) × (text.new ≡ text.old ++ more)) }
+    ensures err { OnErr result (text.new ≡ text.old) }
 {
     let key: &[u8] = match kind {
         TotalKind::FuncFound => b"FNF:",
@@ -194,7 +174,9 @@ fn append_total<A: Allocator>(
         TotalKind::LineFound => b"LF:",
         TotalKind::LineHit => b"LH:",
     };
-    text.append(key)?;
-    append_number(u128::from(value), text)?;
-    text.append(b"\n")
+    let mut line = Tail::new();
+    line.put(b'\n');
+    line.put_number(u128::from(value));
+    line.put_text(key);
+    text.append(line.get())
 }
