@@ -10,7 +10,7 @@ use std::alloc::{AllocError, Allocator};
 
 impl<K: Key + Drop, V: Value, A: Allocator + Copy> StagedMap<K, V, A> {
     /// Stages the sums of the staged values of a run of keys and their addends, in order, and puts behind what these tell.
-    /// Where the keys are those of slots side by side, none but the first is looked up.
+    /// Keys that ascend are looked up once for each page that they stand on.
     ///
     /// # Errors
     ///
@@ -49,8 +49,8 @@ impl<K: Key + Drop, V: Value, A: Allocator + Copy> StagedMap<K, V, A> {
         ensures told { IfOk result (λ count. told.new.items ≡ told.old.items ++ told_run K.cmp Q.named M.sum M.told (take count run.now) self.old.staged) }
     {
         let place = make_slots(&mut self.slots, &mut self.staged, alloc, run, self.cursor)?;
-        let count = self.staged.add_run(alloc, &self.slots, place, run, told)?;
-        self.cursor = place.plus(count - 1);
-        Ok(count)
+        let along = self.staged.add_run(alloc, &self.slots, place, run, told)?;
+        self.cursor = place.at(along.next);
+        Ok(along.count)
     }
 }

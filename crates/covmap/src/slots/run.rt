@@ -1,8 +1,8 @@
 //! Slots for the keys of a run.
 
-ghost use Rattle.std.specs.Prelude.{◌≡◌, ◌<◌, IfOk, OnErr, OnOk, length, take};
-ghost use Rattle.covmap.specs.Run.{AreBefore, AreHere, IsGrown};
-ghost use Rattle.covmap.specs.Slots.{filled, page_at, slots_of};
+ghost use Rattle.std.specs.Prelude.{◌≡◌, ◌<◌, IfOk, OnErr, OnOk, length};
+ghost use Rattle.covmap.specs.Run.{AreBefore, FirstHere, IsGrown};
+ghost use Rattle.covmap.specs.Slots.{IsAscending, filled, page_at, slots_of};
 ghost use Rattle.covmap.specs.Staged.{AreColumnsOf, staged_of};
 
 use crate::key::{Addend, Key, Query, Value};
@@ -13,11 +13,11 @@ use crate::slots::{PAGE, Place, Slots, push};
 use std::alloc::{AllocError, Allocator};
 
 impl Place {
-    /// The place so many slots behind on its page.
-    pub(crate) fn plus(self, count: usize) -> Place {
+    /// Another slot of its page.
+    pub(crate) fn at(self, index: usize) -> Place {
         Place {
             page: self.page,
-            index: self.index.saturating_add(count),
+            index,
         }
     }
 }
@@ -34,7 +34,8 @@ impl<K: Key, V, A: Allocator> Slots<K, V, A> {
     /// The page of this number, which is there.
     pub(crate) fn page_there(&self, number: usize) -> &Page<K, V, A>
         requires { number < length self.now }
-        ensures { result.now ≡ page_at self.now number }
+        ensures page { result.now ≡ page_at self.now number }
+        ensures ascending { IsAscending K.cmp (page_at self.now number) }
     {
         &self.pages[number]
     }
@@ -78,7 +79,7 @@ pub(crate) fn make_slots<
     ensures columns { AreColumnsOf slots.new staged.new }
     ensures committed { filled (slots_of slots.new) ≡ filled (slots_of slots.old) }
     ensures staged { OnOk result (filled (slots_of (staged_of slots.new staged.new)) ≡ filled (slots_of (staged_of slots.old staged.old))) }
-    ensures place { IfOk result (λ place. AreHere K.cmp Q.named (page_at slots.new place.page) place.index (take 1 run.now)) }
+    ensures place { IfOk result (λ place. FirstHere K.cmp Q.named (page_at slots.new place.page) place.index run.now) }
 {
     let (query, _) = run[0];
     match slots.find(query, guess) {
@@ -107,7 +108,7 @@ fn put_run<K: Key + Drop, V: Value, A: Allocator + Copy, Q: Query<K, A>, M: Adde
     ensures columns { AreColumnsOf slots.new staged.new }
     ensures committed { filled (slots_of slots.new) ≡ filled (slots_of slots.old) }
     ensures staged { OnOk result (filled (slots_of (staged_of slots.new staged.new)) ≡ filled (slots_of (staged_of slots.old staged.old))) }
-    ensures place { IfOk result (λ place. AreHere K.cmp Q.named (page_at slots.new place.page) place.index (take 1 run.now)) }
+    ensures place { IfOk result (λ place. FirstHere K.cmp Q.named (page_at slots.new place.page) place.index run.now) }
 {
     let count = slots.count();
     slots.push_run(alloc, run)?;
