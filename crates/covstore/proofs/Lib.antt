@@ -72,7 +72,6 @@ pub mod Assigned
 pub mod Fewer
 pub mod FewerTally
 pub mod FewerLoops
-pub mod FewerKeys
 pub mod FewerHolders
 pub mod FewerIndexed
 pub mod SeenTests

@@ -5,7 +5,6 @@ use Rattle.std.specs.Ordering.{nat_cmp}
 use Rattle.covstore.specs.declared.index.FileIndex.{FileIndex}
 use Rattle.covstore.specs.FileIndex.{FileIndexData}
 use Rattle.covmap.specs.Puts.{value_of}
-use Rattle.covstore.specs.TestView.{branches_data}
 
 abbrev pub empty_index : FileIndexData
 empty_index = record { lines = []; functions = []; branches = []; holders = []; texts = [] }
@@ -14,7 +13,7 @@ abbrev pub index_committed : {A : Type 0} → FileIndex A → FileIndexData
 index_committed counts = record {
   lines = counts.lines.committed;
   functions = counts.functions.committed;
-  branches = branches_data counts.branches.committed;
+  branches = counts.branches.committed;
   holders = counts.checksums.committed;
   texts = counts.checksums.texts;
 }
@@ -23,7 +22,7 @@ abbrev pub index_staged : {A : Type 0} → FileIndex A → FileIndexData
 index_staged counts = record {
   lines = counts.lines.staged;
   functions = counts.functions.staged;
-  branches = branches_data counts.branches.staged;
+  branches = counts.branches.staged;
   holders = counts.checksums.staged;
   texts = counts.checksums.texts;
 }

@@ -8,7 +8,7 @@ use Rattle.covstore.specs.Checksums.{held_more}
 use Rattle.covstore.specs.KindIndexCounts.{is_above_at}
 use Rattle.covstore.specs.State.{has_checksum}
 use Rattle.covstore.specs.Sums.{TestData, line_with}
-use Rattle.covstore.specs.TestView.{branches_data, test_committed}
+use Rattle.covstore.specs.TestView.{test_committed}
 use Rattle.covstore.proofs.StepsItems.{held_by_test, holders_few, with_lines}
 use Rattle.covstore.proofs.StepsKept.{keeps_line_bare, keeps_line_checked, room_for}
 use Rattle.covstore.proofs.StepsCounts.{line_bare, line_checked, line_stays}
@@ -46,12 +46,12 @@ returns-clause-counts g c =
           ∙ w.in_ok-hold.ensures.ok
           ∙ ap (λ (b : Bool). held_more line b old.checksums.staged) (w.is_checked-is_held.ensures ∙ ap (is_above_at has_checksum) told.before) in
           keeps_line_checked _ _ _ _ line value told.test stays refl refl (ap (λ (m : FileIndex g.row.A.Denot). m.lines.staged) w.index-is ∙ told.index)
-          (ap (λ (m : FileIndex g.row.A.Denot). m.functions.staged) w.index-is) (ap (λ (m : FileIndex g.row.A.Denot). branches_data m.branches.staged) w.index-is)
+          (ap (λ (m : FileIndex g.row.A.Denot). m.functions.staged) w.index-is) (ap (λ (m : FileIndex g.row.A.Denot). m.branches.staged) w.index-is)
           (ap (λ (b : Bool). (line_with count b before).has_checksum) some ∙ line_checked count before) holders
       | in_default w ↦
           let none = c.is_some.ensures ∙ ap is_some w.in_default.is in
           keeps_line_bare _ _ _ _ line value told.test stays refl refl (ap (λ (m : FileIndex g.row.A.Denot). m.lines.staged) w.index-is ∙ told.index)
-          (ap (λ (m : FileIndex g.row.A.Denot). m.functions.staged) w.index-is) (ap (λ (m : FileIndex g.row.A.Denot). branches_data m.branches.staged) w.index-is)
+          (ap (λ (m : FileIndex g.row.A.Denot). m.functions.staged) w.index-is) (ap (λ (m : FileIndex g.row.A.Denot). m.branches.staged) w.index-is)
           (ap (λ (b : Bool). (line_with count b before).has_checksum) none ∙ line_bare count before) (ap (λ (m : FileIndex g.row.A.Denot). m.checksums.staged) w.index-is)
     ]
 

@@ -10,7 +10,7 @@ use Rattle.covmap.specs.Puts.{put}
 use Rattle.covstore.specs.Renaming.{CopiesIn}
 use Rattle.covstore.specs.State.{FileData}
 use Rattle.covstore.specs.Sums.{TestData}
-use Rattle.covstore.specs.TestView.{branches_data, test_staged, test_committed}
+use Rattle.covstore.specs.TestView.{test_staged, test_committed}
 use Rattle.covstore.proofs.AddsFile.{no_test, test_value}
 use Rattle.covstore.proofs.AddsSettled.{test_settled}
 use Rattle.covstore.proofs.CopiesFile.{copies_holders, copies_in, copies_room}
@@ -87,7 +87,7 @@ returns-in-Some-get_mut-clause-committed g c =
                 (ap test_committed w.points-is ∙ w.add_values-added.ensures.test_committed);
             lines = index.lines;
             functions = index.functions;
-            branches = ap branches_data index.branches;
+            branches = index.branches;
             holders = index.holders;
             texts = index.texts;
           }

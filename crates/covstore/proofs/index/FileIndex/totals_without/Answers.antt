@@ -1,7 +1,5 @@
 use Rattle.std.proofs.Common.{map, refl, ◌∙◌}
-use Rattle.covstore.specs.State.{branch_above}
 use Rattle.covstore.specs.Sums.{TestData}
-use Rattle.covstore.proofs.FewerKeys.{branches_tally, branches_with}
 use Rattle.covstore.proofs.FewerIndexed.{totals_are}
 use Rattle.covstore.proofs.index.FileIndex.totals_without.Goals as goal
 
@@ -12,10 +10,7 @@ pub tally_without-requires-2 : goal.tally_without-requires-2
 tally_without-requires-2 g c = λ lifetimes. ((refl, tt), (map (λ (test : TestData). test.functions) c.requires.0, c.requires.1.functions))
 
 pub tally_without-requires-3 : goal.tally_without-requires-3
-tally_without-requires-3 g c = λ lifetimes. (
-  (refl, tt),
-  branches_with branch_above c.args.points.now.branches.committed c.args.self.now.branches.committed (map (λ (test : TestData). test.branches) c.requires.0, c.requires.1.branches),
-)
+tally_without-requires-3 g c = λ lifetimes. ((refl, tt), (map (λ (test : TestData). test.branches) c.requires.0, c.requires.1.branches))
 
 pub returns : goal.returns
 returns g c others rest are own =
@@ -23,5 +18,4 @@ returns g c others rest are own =
     ∙ totals_are rest c.tally_without.result c.tally_without-2.result c.tally_without-3.result
     (c.tally_without.ensures (map (λ (test : TestData). test.lines) others) rest.lines are.lines own.lines)
     (c.tally_without-2.ensures (map (λ (test : TestData). test.functions) others) rest.functions are.functions own.functions)
-    (branches_tally branch_above c.args.points.now.branches.committed c.args.self.now.branches.committed c.tally_without-3.result c.tally_without-3.ensures
-    (map (λ (test : TestData). test.branches) others) rest.branches are.branches own.branches)
+    (c.tally_without-3.ensures (map (λ (test : TestData). test.branches) others) rest.branches are.branches own.branches)
