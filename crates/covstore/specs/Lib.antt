@@ -12,6 +12,7 @@ pub mod Store
 pub mod RefuseView
 pub mod ValuesView
 pub mod Keys
+pub mod Kinds
 pub mod Sums
 pub mod KindIndexCounts
 pub mod State

@@ -8,14 +8,13 @@ use Rattle.covline.specs.Row.{ItemData, LineItem, FuncItem, BranchItem}
 use Rattle.covstore.specs.declared.sums.LineSum.{LineSum}
 use Rattle.covstore.specs.declared.sums.FunctionSum.{FunctionSum}
 use Rattle.covstore.specs.declared.sums.BranchSum.{BranchSum}
+use Rattle.covstore.specs.Kinds.{Each, PointsOf}
 use Rattle.covmap.specs.Puts.{put, value_of}
 use Rattle.covstore.specs.Value.{bounded, lines_in, line_value, line_checksum, names_in, function_start, function_count, branch_cmp, branches_in, branch_value}
 
 -- the lines, functions and branches of a test, each with what its items add up to
-pub record TestData : Type 0 where
-  pub lines : List (ℕ × LineSum)
-  pub functions : List (List ℕ × FunctionSum)
-  pub branches : List (BranchPoint × BranchSum)
+abbrev pub TestData : Type 0
+TestData = Each PointsOf
 
 abbrev pub line_sum : List ItemData → ℕ → ℕ × LineSum
 line_sum items line = (line, record { count = line_value line items; has_checksum = is_some (line_checksum line items) })
