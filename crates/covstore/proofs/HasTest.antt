@@ -72,7 +72,7 @@ module _ (test : List ℕ) where
       (λ e. subst (λ (name : List ℕ). value_of (slice_cmp nat_cmp) name tests ≡ None) (tells_apart names_order.exact pair.0 test e) (value_of_before names_order pair.0 tests sorted.0))
 
   any_in_file : (pair : List ℕ × FileData) → IsWholeFile pair.1 → list_any (of_test test) (sections_of_file pair) ≡ has_points_of test pair.1
-  any_in_file pair whole = any_seen pair.0 pair.1.texts pair.1.tests ∙ any_found pair.1.tests whole.ascending
+  any_in_file pair whole = any_seen pair.0 pair.1.index.texts pair.1.tests ∙ any_found pair.1.tests whole.ascending
 
   -- ---- the files
 

@@ -1,19 +1,15 @@
 -- The numbers that the code changes are those that one item more asks for.
-use Rattle.std.proofs.Common.{◌≡◌, ℕ, ◌+◌, Bool, true, false, ◌&&◌, ◌||◌, not, cond, nat_lt, Option, Some, None, List, refl, ap, ◌∙◌, arith}
+use Rattle.std.proofs.Common.{◌≡◌, ℕ, Bool, true, false, ◌&&◌, ◌||◌, not, cond, Option, Some, None, List, refl, ap, ◌∙◌}
 use Rattle.std.specs.declared.cmp.Ordering.{Ordering}
 use Rattle.std.specs.Option.{is_some}
-use Rattle.std.proofs.lemmas.Bool.{false≢true, lt-ltb, ltb-true}
 use Rattle.covstore.specs.declared.kind_index.PointChange.{PointChange}
-use Rattle.covstore.specs.declared.sums.FunctionSum.{FunctionSum}
 use Rattle.covstore.specs.declared.sums.LineSum.{LineSum}
-use Rattle.covstore.specs.declared.sums.BranchSum.{BranchSum}
 use Rattle.covstore.specs.declared.sums.Tests.{Tests}
 use Rattle.covstore.specs.KindIndex.{change_by, change_of, changed}
 use Rattle.covstore.specs.KindIndexCounts.{counts_with, is_above_at, tests_more}
 use Rattle.covmap.specs.Puts.{put, value_of}
-use Rattle.covstore.specs.State.{branch_above, function_above, has_checksum, line_above}
-use Rattle.covstore.specs.Sums.{branch_with, function_with, line_with, sum_taken}
-use Rattle.covstore.specs.Value.{bounded, is_taken}
+use Rattle.covstore.specs.State.{has_checksum}
+use Rattle.covstore.specs.Sums.{line_with}
 
 -- ---- the change of a point's numbers
 
@@ -36,29 +32,6 @@ module _ {K V : Type 0} (cmp : K → K → Ordering) (is_above : V → Bool) (ke
   changed_as change some was given before after e there above same =
       ap (λ (c : PointChange). changed cmp key c counts) (e ∙ ap (λ (b : Bool). change_of b was (is_above after)) there ∙ ap (λ (b : Bool). change_of (is_some given) b (is_above after)) above)
       ∙ changed_is given after ∙ ap (λ (committed : Option V). counts_with cmp is_above key committed after counts) same
-
--- ---- a value with one item more doesn't fall back to 0
-
-more_above : (committed count : ℕ) → nat_lt 0 committed ≡ true → nat_lt 0 (bounded (committed + count)) ≡ true
-more_above committed count e = lt-ltb 0 (bounded (committed + count)) (omega (arith, ltb-true 0 committed e))
-
-pub line_stays : (count : ℕ) (has_checksum : Bool) (before : Option LineSum) → is_above_at line_above before ≡ true → line_above (line_with count has_checksum before) ≡ true
-line_stays count has_checksum None e = absurd (false≢true e)
-line_stays count has_checksum (Some committed) e = more_above committed.count count e
-
-pub function_stays : (line count : ℕ) (before : Option FunctionSum) → is_above_at function_above before ≡ true → function_above (function_with line count before) ≡ true
-function_stays line count None e = absurd (false≢true e)
-function_stays line count (Some committed) e = more_above committed.count count e
-
-taken_stays : (committed taken : Option ℕ) → is_taken committed ≡ true → is_taken (sum_taken committed taken) ≡ true
-taken_stays None None e = absurd (false≢true e)
-taken_stays None (Some taken) e = absurd (false≢true e)
-taken_stays (Some committed) None e = e
-taken_stays (Some committed) (Some taken) e = more_above committed taken e
-
-pub branch_stays : (taken : Option ℕ) (before : Option BranchSum) → is_above_at branch_above before ≡ true → branch_above (branch_with taken before) ≡ true
-branch_stays taken None e = absurd (false≢true e)
-branch_stays taken (Some committed) e = taken_stays committed.times taken e
 
 -- ---- a line's checksum
 

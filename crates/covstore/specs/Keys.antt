@@ -1,6 +1,5 @@
 -- Branches go by line, block and number, and only equal ones are alike in that.
-use Rattle.std.specs.Prelude.{◌≡◌, ℕ, refl}
-use Rattle.std.proofs.Common.{ap, ◌∙◌}
+use Rattle.std.specs.Prelude.{◌≡◌, refl}
 use Rattle.std.specs.Cmp.{IsTotalOrder}
 use Rattle.std.specs.declared.cmp.Ordering.{Ordering}
 use Rattle.std.specs.declared.cmp.Ordering.TheVariants.{Less, Equal, Greater}
@@ -15,20 +14,13 @@ branch_key_total =
     then_total (on_total (λ (b : BranchPoint). b.line) nat_cmp_total)
     (then_total (on_total (λ (b : BranchPoint). b.block) nat_cmp_total) (on_total (λ (b : BranchPoint). b.branch) nat_cmp_total))
 
-both_equal : (o p : Ordering) → ordering_then o p ≡ Equal → (o ≡ Equal) × (p ≡ Equal)
+pub both_equal : (o p : Ordering) → ordering_then o p ≡ Equal → (o ≡ Equal) × (p ≡ Equal)
 both_equal Less p e = absurd cc
 both_equal Equal p e = (refl, e)
 both_equal Greater p e = absurd cc
 
-point_at : ℕ → ℕ → ℕ → BranchPoint
-point_at line block branch = record { line = line; block = block; branch = branch }
-
 pub branch_key_exact : (a b : BranchPoint) → branch_cmp a b ≡ Equal → a ≡ b
-unfolding point_at
 branch_key_exact a b e =
     let p = both_equal (nat_cmp a.line b.line) (ordering_then (nat_cmp a.block b.block) (nat_cmp a.branch b.branch)) e in
     let q = both_equal (nat_cmp a.block b.block) (nat_cmp a.branch b.branch) p.1 in
-    let line : a.line ≡ b.line = exact_unsigned a.line b.line p.0 in
-    let block : a.block ≡ b.block = exact_unsigned a.block b.block q.0 in
-    let branch : a.branch ≡ b.branch = exact_unsigned a.branch b.branch q.1 in
-    ap (λ (line : ℕ). point_at line a.block a.branch) line ∙ ap (λ (block : ℕ). point_at b.line block a.branch) block ∙ ap (λ (branch : ℕ). point_at b.line b.block branch) branch
+    λ i. record { line = exact_unsigned a.line b.line p.0 i; block = exact_unsigned a.block b.block q.0 i; branch = exact_unsigned a.branch b.branch q.1 i }

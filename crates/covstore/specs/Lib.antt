@@ -15,11 +15,12 @@ pub mod Keys
 pub mod Kinds
 pub mod Sums
 pub mod KindIndexCounts
+pub mod Stays
+pub mod FileIndex
 pub mod State
 pub mod TestView
 pub mod KindIndex
 pub mod Checksums
-pub mod FileIndex
 pub mod FileIndexView
 pub mod Items
 pub mod Section
@@ -32,7 +33,6 @@ pub mod TotalsExchanged
 pub mod ContentView
 pub mod Without
 pub mod KindIndexDrops
-pub mod FileIndexDrops
 pub mod FileDrops
 pub mod Renamed
 pub mod Renaming

@@ -85,11 +85,7 @@ returns-in-Some-get_mut-clause-committed g c =
             tests = same_back name test_committed new pairs c.match-get.self.tests.entries lent empty c.get_mut.ensures.ordered found_lent mid c.in-Some-get_mut.place.now points
                 (c.get_mut-2.follows.lender points).entries c.get_mut-2.ensures.ordered (sym c.in-Some-get_mut.ensures.value) (c.get_mut-2.follows.holds points).0
                 (ap test_committed w.points-is ∙ w.add_values-added.ensures.test_committed);
-            lines = index.lines;
-            functions = index.functions;
-            branches = index.branches;
-            holders = index.holders;
-            texts = index.texts;
+            index = index;
           }
       | in-None w ↦
           absurd
