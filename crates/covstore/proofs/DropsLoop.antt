@@ -28,6 +28,17 @@ totals_taken totals pair files =
     (one_more (found_at Function) pair files totals.ff) (one_more (hit_at Function) pair files totals.fh)
     (one_more (found_at Branch) pair files totals.bf) (one_more (hit_at Branch) pair files totals.bh)
 
+-- what is added to others, where all of it fits
+pub part_fits : (totals own rest whole : Totals) → together (together totals own) rest ≡ whole → FitTotals whole → FitTogether own totals
+part_fits totals own rest whole sum fit = record {
+  lf = omega (arith, fit.lf, ap (λ (t : Totals). t.lf) sum);
+  lh = omega (arith, fit.lh, ap (λ (t : Totals). t.lh) sum);
+  ff = omega (arith, fit.ff, ap (λ (t : Totals). t.ff) sum);
+  fh = omega (arith, fit.fh, ap (λ (t : Totals). t.fh) sum);
+  bf = omega (arith, fit.bf, ap (λ (t : Totals). t.bf) sum);
+  bh = omega (arith, fit.bh, ap (λ (t : Totals). t.bh) sum);
+}
+
 -- ---- the loop
 
 module _ (test : List ℕ) (all : List (List ℕ × FileData)) where
@@ -64,15 +75,7 @@ module _ (test : List ℕ) (all : List (List ℕ × FileData)) where
       fits_at : (after later : List (List ℕ × FileData)) → AreWithoutTest test (pair ∷ left) later → together totals (totals_in later) ≡ totals_in after → FitTotals (totals_in after) → FitTogether own totals
       fits_at after later are e fit =
           let next = taken after later are e in
-          let sum = next.2 in
-          record {
-            lf = omega (arith, fit.lf, ap (λ (t : Totals). t.lf) sum);
-            lh = omega (arith, fit.lh, ap (λ (t : Totals). t.lh) sum);
-            ff = omega (arith, fit.ff, ap (λ (t : Totals). t.ff) sum);
-            fh = omega (arith, fit.fh, ap (λ (t : Totals). t.fh) sum);
-            bf = omega (arith, fit.bf, ap (λ (t : Totals). t.bf) sum);
-            bh = omega (arith, fit.bh, ap (λ (t : Totals). t.bh) sum);
-          }
+          part_fits totals own (totals_in next.0) (totals_in after) next.2 fit
 
       pub next_fits : (after : List (List ℕ × FileData)) → AreWithoutTest test all after → FitTotals (totals_in after) → FitTogether own totals
       next_fits after are fit = let later = is.rest after are in fits_at after later.0 later.1 later.2 fit

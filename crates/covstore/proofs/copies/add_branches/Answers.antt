@@ -31,17 +31,8 @@ loop-point-preserved g c =
     c.add_branch.new.test c.add_branch.new.index e.test_committed e.index_committed (ok_unless c.add_branch.result is ok e.test) (ok_unless c.add_branch.result is ok e.counts) tt
     (ok_unless c.add_branch.result is ok e.others)
 
-pub returns-then-is_err-clause-test_committed : goal.returns-then-is_err-clause-test_committed
-returns-then-is_err-clause-test_committed g c = c.add_branch.ensures.test_committed ∙ c.loop-point.invariant.takes.same_test
-
 pub returns-then-is_err-clause-index_committed : goal.returns-then-is_err-clause-index_committed
 returns-then-is_err-clause-index_committed g c = held_both c.args.index.now c.loop-point.index c.add_branch.new.index c.loop-point.invariant.takes.same_index c.add_branch.ensures.index_committed
-
-pub returns-clause-test_committed : goal.returns-clause-test_committed
-returns-clause-test_committed g c = c.loop-point.invariant.takes.same_test
-
-pub returns-clause-index_committed : goal.returns-clause-index_committed
-returns-clause-index_committed g c = c.loop-point.invariant.takes.same_index
 
 pub returns-clause-ok : goal.returns-clause-ok
 returns-clause-ok g c =

@@ -1,16 +1,15 @@
-use Rattle.std.proofs.Common.{Bool, refl, sym, ap, ◌∙◌}
+use Rattle.std.proofs.Common.{Bool, sym, ap, ◌∙◌}
 use Rattle.std.specs.Option.{is_some}
 use Rattle.std.specs.Ordering.{nat_cmp}
-use Rattle.std.proofs.lemmas.Result.{err_from_is_err_and}
 use Rattle.covmap.specs.Puts.{value_of}
 use Rattle.covstore.specs.declared.index.FileIndex.{FileIndex}
 use Rattle.covstore.specs.Checksums.{held_more}
 use Rattle.covstore.specs.KindIndexCounts.{is_above_at}
 use Rattle.covstore.specs.State.{has_checksum}
 use Rattle.covstore.specs.Sums.{line_with}
-use Rattle.covstore.specs.TestView.{test_committed, test_staged}
-use Rattle.covstore.specs.FileIndexView.{index_committed, index_staged}
-use Rattle.covstore.specs.Kinds.{CountsOf, Line, PointsOf, with_at}
+use Rattle.covstore.specs.TestView.{test_staged}
+use Rattle.covstore.specs.FileIndexView.{index_staged}
+use Rattle.covstore.specs.Kinds.{Line}
 use Rattle.covstore.proofs.Axis.{room_in}
 use Rattle.covstore.proofs.StepsItems.{held_by_test, holders_few}
 use Rattle.covstore.proofs.StepsKept.{keeps_line_bare, keeps_line_checked}
@@ -52,45 +51,3 @@ returns-clause-counts g c =
           keeps_line_bare line value points kept test old _ told.test told.counts (ap (λ (m : FileIndex g.row.A.Denot). (index_staged m).counts) w.index-is)
           (ap (λ (b : Bool). (line_with count b before).has_checksum) none ∙ line_bare count before) (ap (λ (m : FileIndex g.row.A.Denot). m.checksums.staged) w.index-is)
     ]
-
-pub returns-in_err-before-clause-test_committed : goal.returns-in_err-before-clause-test_committed
-returns-in_err-before-clause-test_committed g c = ap (λ (lines : PointsOf Line). with_at Line lines (test_committed c.args.test.now)) c.in_err-before.ensures.test_committed
-
-pub returns-in_err-before-clause-index_committed : goal.returns-in_err-before-clause-index_committed
-returns-in_err-before-clause-index_committed g c = record { counts = ap (λ (lines : CountsOf Line). with_at Line lines (index_committed c.args.index.now).counts) c.in_err-before.ensures.index_committed; holders = refl; texts = λ line e. refl }
-
-pub returns-in_err-before-clause-test : goal.returns-in_err-before-clause-test
-returns-in_err-before-clause-test g c = let p = err_from_is_err_and c.from_residual.result c.from_residual.ensures.1 in rw p.1 tt
-
-pub returns-in_err-before-clause-counts : goal.returns-in_err-before-clause-counts
-returns-in_err-before-clause-counts g c = let p = err_from_is_err_and c.from_residual.result c.from_residual.ensures.1 in rw p.1 tt
-
-pub returns-in_err-before-clause-text : goal.returns-in_err-before-clause-text
-returns-in_err-before-clause-text g c = let p = err_from_is_err_and c.from_residual.result c.from_residual.ensures.1 in rw p.1 tt
-
-pub returns-in_err-before-clause-others : goal.returns-in_err-before-clause-others
-returns-in_err-before-clause-others g c = let p = err_from_is_err_and c.from_residual.result c.from_residual.ensures.1 in rw p.1 tt
-
-pub returns-in_err-before-clause-clash : goal.returns-in_err-before-clause-clash
-returns-in_err-before-clause-clash g c = let p = err_from_is_err_and c.from_residual.result c.from_residual.ensures.1 in rw (p.1, p.2) tt
-
-pub returns-in_err-hold-clause-test_committed : goal.returns-in_err-hold-clause-test_committed
-returns-in_err-hold-clause-test_committed g c = ap (λ (lines : PointsOf Line). with_at Line lines (test_committed c.args.test.now)) c.in_ok-before.ensures.test_committed
-
-pub returns-in_err-hold-clause-index_committed : goal.returns-in_err-hold-clause-index_committed
-returns-in_err-hold-clause-index_committed g c = record { counts = ap (λ (lines : CountsOf Line). with_at Line lines (index_committed c.args.index.now).counts) c.in_ok-before.ensures.index_committed; holders = c.in_err-hold.ensures.committed; texts = c.in_err-hold.ensures.stay }
-
-pub returns-in_err-hold-clause-test : goal.returns-in_err-hold-clause-test
-returns-in_err-hold-clause-test g c = let p = err_from_is_err_and c.from_residual-in_err-hold.result c.from_residual-in_err-hold.ensures.1 in rw p.1 tt
-
-pub returns-in_err-hold-clause-counts : goal.returns-in_err-hold-clause-counts
-returns-in_err-hold-clause-counts g c = let p = err_from_is_err_and c.from_residual-in_err-hold.result c.from_residual-in_err-hold.ensures.1 in rw p.1 tt
-
-pub returns-in_err-hold-clause-text : goal.returns-in_err-hold-clause-text
-returns-in_err-hold-clause-text g c = let p = err_from_is_err_and c.from_residual-in_err-hold.result c.from_residual-in_err-hold.ensures.1 in rw p.1 tt
-
-pub returns-in_err-hold-clause-others : goal.returns-in_err-hold-clause-others
-returns-in_err-hold-clause-others g c = let p = err_from_is_err_and c.from_residual-in_err-hold.result c.from_residual-in_err-hold.ensures.1 in rw p.1 tt
-
-pub returns-clause-test_committed : goal.returns-clause-test_committed
-returns-clause-test_committed g c = ap (λ (lines : PointsOf Line). with_at Line lines (test_committed c.args.test.now)) c.in_ok-before.ensures.test_committed

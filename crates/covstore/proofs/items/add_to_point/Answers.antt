@@ -9,11 +9,6 @@ use Rattle.covstore.proofs.items.add_to_point.Goals as goal
 pub add-requires-clause-room : goal.add-requires-clause-room
 add-requires-clause-room g c = room_at c.args.points.now.staged c.args.kept.now.staged c.requires (g.Q.Query.named c.args.query)
 
-pub returns-clause-test : goal.returns-clause-test
-returns-clause-test g c =
-    let added = c.in_ok-added.ensures in
-    added.ok ∙ ap (λ (sum : g.row.S.Denot). put g.K.Key.cmp (g.Q.Query.named c.args.query) sum c.args.points.now.staged) (added.after ∙ ap (g.M.Addend.sum c.args.addend) added.before)
-
 pub returns-clause-counts : goal.returns-clause-counts
 returns-clause-counts g c =
     let named = g.Q.Query.named c.args.query in

@@ -28,10 +28,3 @@ returns-clause-committed g c others are =
           (c.drop_kind-3.ensures.committed (map (at Branch) others) (are.counts Branch));
       holders = c.drop_checksums.ensures.committed others (holders_of_lines (test_committed c.args.points.now) others c.args.self.now.checksums.committed are.holders);
     }
-
-pub returns-clause-staged : goal.returns-clause-staged
-returns-clause-staged g c = λ i. record {
-  counts = record { lines = c.drop_kind.ensures.staged i; functions = c.drop_kind-2.ensures.staged i; branches = c.drop_kind-3.ensures.staged i };
-  holders = c.drop_checksums.ensures.staged i;
-  texts = c.drop_checksums.new.checksums.texts;
-}
