@@ -15,7 +15,7 @@ use Rattle.covline.specs.Reading.{behind_key, field_at, number_at}
 use Rattle.covline.specs.Fronts.{BeginsWithBranchLine, IsSmallIfAny, behind_feed, branch_behind_block, branch_behind_key, branch_behind_line, branch_behind_number, branch_end, branch_front, small_front, taken_front}
 use Rattle.covline.proofs.Cut.{HasNoFeed, NoReturn, cut_at, lines_at, strip-none}
 use Rattle.covline.proofs.ReadNumbers.{field_is, number_is}
-use Rattle.covline.proofs.CountedLines.{HasNumber, behind_some, mapped_some, same_some, small_field_has, small_is, small_number_has}
+use Rattle.covline.proofs.SmallNumbers.{HasNumber, behind_some, mapped_some, same_some, small_field_has, small_is, small_number_has}
 
 -- bytes above a line feed and a carriage return
 abbrev IsClean : List ℕ → Type 0

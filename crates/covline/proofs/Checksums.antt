@@ -1,19 +1,22 @@
 -- Which texts are checksums, as a test, and how the checksum behind a count is read.
-use Rattle.std.proofs.Common.{◌≡◌, ◌≢◌, ◌↔◌, ◌⊎◌, inl, inr, ℕ, Bool, true, false, ◌&&◌, not, eqb, List, [], ◌∷◌, All, Option, Some, None, refl, sym, ap, ◌∙◌, arith}
+use Rattle.std.proofs.Common.{◌≡◌, ◌≢◌, ◌↔◌, ◌⊎◌, inl, inr, ℕ, Bool, true, false, ◌&&◌, not, eqb, List, [], ◌∷◌, ◌++◌, length, take, ◌+◌, ◌-◌, ◌≤◌, All, Option, Some, None, refl, sym, ap, ◌∙◌, arith}
 use Rattle.std.specs.Prelude.{IsTrue}
 use Rattle.std.proofs.lemmas.Bool.{and_from, and_parts, ne_eqb, eq-eqb, cases_eq, cases_Bool, false≢true}
+use Rattle.std.proofs.lemmas.List.{length-append}
+use Rattle.std.proofs.Math.Seq.{take-append_seam}
 use Rattle.std.proofs.lemmas.List.Elements.{All-cons, All-nil, All-head, All-tail}
 use Rattle.covline.specs.Lawful.{IsChecksum, IsChecksumByte}
 use Rattle.covline.specs.Spells.{comma}
+use Rattle.covline.specs.Fronts.{behind_checksum, checksum_bytes, checksum_front, some_front}
 use Rattle.covline.specs.Reading.{is_checksum_byte, all_checksum_bytes, is_checksum, checksum_of}
 
 differ : (a b : ℕ) → not (eqb a b) ≡ true → a ≢ b
 differ a b e same = false≢true (sym (ap not (eq-eqb a b same)) ∙ e)
 
-byte_is : (b : ℕ) → IsChecksumByte b → is_checksum_byte b ≡ true
+pub byte_is : (b : ℕ) → IsChecksumByte b → is_checksum_byte b ≡ true
 byte_is b byte = rw (ne_eqb b 44 byte.no_comma, ne_eqb b 32 byte.no_space, ne_eqb b 9 byte.no_tab, ne_eqb b 13 byte.no_return, ne_eqb b 10 byte.no_feed) refl
 
-byte_from : (b : ℕ) → is_checksum_byte b ≡ true → IsChecksumByte b
+pub byte_from : (b : ℕ) → is_checksum_byte b ≡ true → IsChecksumByte b
 byte_from b e =
     let p = and_parts (not (eqb b 44)) (not (eqb b 32) && (not (eqb b 9) && (not (eqb b 13) && not (eqb b 10)))) e in
     let q = and_parts (not (eqb b 32)) (not (eqb b 9) && (not (eqb b 13) && not (eqb b 10))) p.1 in
@@ -49,6 +52,42 @@ checksum_test text false told =
       | inl holds ↦ absurd (false≢true (told.1 (checksum_from text holds)))
       | inr fails ↦ fails
     ]
+
+-- ---- at the front of a text, with what follows it
+
+pub checksum_parts : (text : List ℕ) → text ≡ checksum_bytes text ++ behind_checksum text
+checksum_parts [] = refl
+checksum_parts (b ∷ bs) =
+    elim (cases_Bool (is_checksum_byte b)) [
+      | inl holds ↦ rw holds (ap (λ (u : List ℕ). b ∷ u) (checksum_parts bs))
+      | inr fails ↦ rw fails refl
+    ]
+
+pub behind_fits : (text : List ℕ) → length (behind_checksum text) ≤ length text
+behind_fits text =
+    let e : length text ≡ length (checksum_bytes text) + length (behind_checksum text) = ap (λ (u : List ℕ). length u) (checksum_parts text) ∙ length-append (checksum_bytes text) (behind_checksum text) in
+    omega (arith, e)
+
+bytes_are : (text : List ℕ) → take (length text - length (behind_checksum text)) text ≡ checksum_bytes text
+bytes_are text =
+    let bytes : List ℕ = checksum_bytes text in
+    let behind : List ℕ = behind_checksum text in
+    let e : length text ≡ length bytes + length behind = ap (λ (u : List ℕ). length u) (checksum_parts text) ∙ length-append bytes behind in
+    let size : length text - length behind ≡ length bytes = omega (arith, e) in
+    ap (λ (n : ℕ). take n text) size ∙ ap (λ (u : List ℕ). take (length bytes) u) (checksum_parts text) ∙ take-append_seam bytes behind
+
+-- what stands before the rest is the checksum
+pub front_is : (text rest : List ℕ) → rest ≡ behind_checksum text → some_front (take (length text - length rest) text) rest ≡ checksum_front text
+front_is text rest e =
+    ap (λ (u : List ℕ). some_front (take (length text - length u) text) u) e ∙ ap (λ (u : List ℕ). some_front u (behind_checksum text)) (bytes_are text)
+
+pub no_front : (checksum rest : List ℕ) → eqb (length checksum) 0 ≡ true → None ≡ some_front checksum rest
+no_front [] rest e = refl
+no_front (b ∷ bs) rest e = absurd (false≢true (sym (ne_eqb (length (b ∷ bs)) 0 (λ none. omega (arith, none))) ∙ e))
+
+pub whole_front : (checksum rest : List ℕ) → eqb (length checksum) 0 ≡ false → Some (checksum, rest) ≡ some_front checksum rest
+whole_front [] rest e = absurd (false≢true (sym e))
+whole_front (b ∷ bs) rest e = refl
 
 -- ---- behind a count
 

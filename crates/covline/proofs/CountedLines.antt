@@ -1,212 +1,244 @@
--- The first line of a text, where it counts a line of a source file without a checksum.
-use Rattle.std.proofs.Common.{◌≡◌, ◌≢◌, ℕ, ◌<◌, ◌^◌, inl, inr, List, [], ◌∷◌, ◌++◌, length, All, Option, Some, None, option_map, refl, sym, ap, subst, ◌∙◌, arith, append_assoc}
+-- The first line of a text, where it counts a line of a source file and may tell the checksum of its text.
+use Rattle.std.proofs.Common.{◌≡◌, ℕ, ◌<◌, ◌^◌, inl, inr, Bool, true, false, cond, eqb, List, [], ◌∷◌, ◌++◌, length, All, Option, Some, None, option_map, refl, sym, ap, subst, ◌∙◌, arith, append_assoc}
 use Rattle.std.specs.Prelude.{codes, IfSome, MatchOption}
 use Rattle.std.specs.Option.{option_and_then}
-use Rattle.std.proofs.lemmas.Bool.{cases_lt}
-use Rattle.std.proofs.lemmas.List.{append-nil, same_from_push}
+use Rattle.std.proofs.lemmas.Bool.{cases_Bool, cases_eq, eq-eqb, ne_eqb}
 use Rattle.std.proofs.lemmas.Option.{none-some, option_and_then_some}
-use Rattle.std.proofs.lemmas.List.Elements.{All-nil, All-cons, All-head, All-tail, All-append}
-use Rattle.covline.specs.declared.reader.Number.{Number}
-use Rattle.covline.specs.declared.reader.Number.TheVariants.{Value, Wide, TooLarge}
-use Rattle.covline.specs.declared.reader.FirstCount.{FirstCount}
-use Rattle.covline.specs.Lines.{line_feed, carriage_return, lines_of, IsFirstCut}
-use Rattle.covline.specs.Spells.{Line, IsDigit, IsNumeral, BeginsWithLine, comma, digits_value}
-use Rattle.covline.specs.Reading.{sized_number, behind_key, number_at, field_at}
-use Rattle.covline.specs.Fronts.{BeginsWithCountLine, behind_feed, count_behind_key, count_behind_line, count_end, count_front, small_front, small_of}
-use Rattle.covline.proofs.Cut.{HasNoFeed, NoReturn, cut_at, lines_at, strip-none}
-use Rattle.covline.proofs.ReadKeys.{begins_or_not, behind_key-none, behind_key-same}
-use Rattle.covline.proofs.ReadNumbers.{sized_number_small, sized_number_wide, sized_number_large, numeral_or_none, field_or_none, field_read, field_is, number_is}
+use Rattle.std.proofs.lemmas.List.Elements.{All-nil, All-cons, All-head, All-tail, All-append, All-weaker}
+use Rattle.covline.specs.declared.reader.FirstLine.{FirstLine}
+use Rattle.covline.specs.Lawful.{IsChecksum, IsChecksumByte, IsGoodTest}
+use Rattle.covline.specs.Lines.{line_feed, lines_of, IsFirstCut}
+use Rattle.covline.specs.Spells.{LineData, Line, IsDigit, IsNumeral, Spells, BeginsWithLine, comma}
+use Rattle.covline.specs.Reading.{behind_key, field_at, is_checksum_byte, number_at, sized_number}
+use Rattle.covline.specs.Fronts.{BeginsWithCountedLine, EndsCount, behind_checksum, behind_feed, checked_end, checksum_bytes, checksum_front, count_end, counted_behind_key, counted_behind_line, counted_end, counted_front, plain_end, small_front, some_front}
+use Rattle.covline.proofs.Cut.{cut_at, lines_at, strip-none}
+use Rattle.covline.proofs.GoodTexts.{IsGoodTest-append, IsGoodTest-checksum, IsGoodTest-plain, IsPlain}
+use Rattle.covline.proofs.Checksums.{byte_from, byte_is, checksum_parts}
+use Rattle.covline.proofs.ReadNumbers.{field_is, number_is}
+use Rattle.covline.proofs.SmallNumbers.{behind_some, mapped_some, same_some, small_field_has, small_is, small_number_has}
 
-value_of : (n v : ℕ) → sized_number n ≡ Value v → (n ≡ v) × (n < 2 ^ 64)
-value_of n v e =
-    elim (cases_lt n (2 ^ 64)) [
-      | inl lt ↦ (let same : Value n ≡ Value v = sym (sized_number_small n lt) ∙ e in let is : n ≡ v = cc in is, lt)
-      | inr le ↦ elim (cases_lt n (2 ^ 128)) [
-        | inl lt ↦ (let other : Wide n ≡ Value v = sym (sized_number_wide n le lt) ∙ e in absurd cc)
-        | inr far ↦ (let other : TooLarge ≡ Value v = sym (sized_number_large n far) ∙ e in absurd cc)
-      ]
+-- a line that a line feed ends, and what it says
+good_line : (line rest : List ℕ) (says : LineData) → IsGoodTest line → Spells line says → BeginsWithLine (line ++ line_feed ∷ rest) says rest
+good_line line rest says good spells = record {
+  line = line;
+  cut = lines_at line rest good.one_line ∙ ap (λ (l : List ℕ). l ∷ lines_of rest) (strip-none line good.no_return);
+  front = subst (λ (l : List ℕ). IsFirstCut (line ++ line_feed ∷ rest) l rest) (strip-none line good.no_return) (cut_at (line ++ line_feed ∷ rest) line rest good.one_line refl);
+  spells = spells;
+}
+
+plain_digit : (b : ℕ) → IsDigit b → IsPlain b
+plain_digit b digit = omega (arith, digit.0)
+
+plain_digits : (digits rest : List ℕ) → All IsDigit digits → All IsPlain rest → All IsPlain (digits ++ rest)
+plain_digits digits rest each more = All-append IsPlain digits rest (All-weaker IsDigit IsPlain plain_digit digits each) more
+
+plain_comma : (rest : List ℕ) → All IsPlain rest → All IsPlain (comma ∷ rest)
+plain_comma rest more = All-cons IsPlain comma rest (omega arith) more
+
+plain_key : (rest : List ℕ) → All IsPlain rest → All IsPlain (codes "DA:" ++ rest)
+plain_key rest more = All-cons IsPlain 68 (65 ∷ 58 ∷ rest) (omega arith) (All-cons IsPlain 65 (58 ∷ rest) (omega arith) (All-cons IsPlain 58 rest (omega arith) more))
+
+module _ (digits counts checksum rest : List ℕ) (line count : ℕ) where
+  abbrev front : List ℕ
+  front = codes "DA:" ++ (digits ++ comma ∷ (counts ++ comma ∷ []))
+
+  abbrev whole : List ℕ
+  whole = codes "DA:" ++ (digits ++ comma ∷ (counts ++ comma ∷ checksum))
+
+  joined : (more : List ℕ) → codes "DA:" ++ (digits ++ comma ∷ (counts ++ comma ∷ more)) ≡ front ++ more
+  joined more =
+      ap (λ (u : List ℕ). codes "DA:" ++ u)
+      (ap (λ (u : List ℕ). digits ++ comma ∷ u) (sym (append_assoc counts (comma ∷ []) more)) ∙ sym (append_assoc digits (comma ∷ (counts ++ comma ∷ [])) more))
+
+  ended : codes "DA:" ++ (digits ++ comma ∷ (counts ++ comma ∷ (checksum ++ line_feed ∷ rest))) ≡ whole ++ line_feed ∷ rest
+  ended = joined (checksum ++ line_feed ∷ rest) ∙ sym (append_assoc front checksum (line_feed ∷ rest)) ∙ ap (λ (u : List ℕ). u ++ line_feed ∷ rest) (sym (joined checksum))
+
+  checked_line : IsNumeral digits line → IsNumeral counts count → IsChecksum checksum → line < 2 ^ 64 → count < 2 ^ 64
+      → BeginsWithLine (codes "DA:" ++ (digits ++ comma ∷ (counts ++ comma ∷ (checksum ++ line_feed ∷ rest)))) (Line line count (Some checksum)) rest
+  checked_line numeral counted checked small few =
+      let plain : All IsPlain front =
+      plain_key (digits ++ comma ∷ (counts ++ comma ∷ []))
+      (plain_digits digits (comma ∷ (counts ++ comma ∷ [])) numeral.each
+      (plain_comma (counts ++ comma ∷ []) (plain_digits counts (comma ∷ []) counted.each (plain_comma [] (All-nil IsPlain))))) in
+      let good : IsGoodTest whole = subst IsGoodTest (sym (joined checksum)) (IsGoodTest-append front checksum (IsGoodTest-plain front plain) (IsGoodTest-checksum checksum checked)) in
+      subst (λ (t : List ℕ). BeginsWithLine t (Line line count (Some checksum)) rest) (sym ended)
+      (good_line whole rest (Line line count (Some checksum)) good (record { form = (digits, counts, refl, numeral, inl counted, checked); small = (small, omega (arith, few)) }))
+
+-- the same without a checksum
+module _ (digits counts rest : List ℕ) (line count : ℕ) where
+  abbrev short : List ℕ
+  short = codes "DA:" ++ (digits ++ comma ∷ counts)
+
+  short_ended : codes "DA:" ++ (digits ++ comma ∷ (counts ++ line_feed ∷ rest)) ≡ short ++ line_feed ∷ rest
+  short_ended = ap (λ (u : List ℕ). codes "DA:" ++ u) (sym (append_assoc digits (comma ∷ counts) (line_feed ∷ rest)))
+
+  counted_line : IsNumeral digits line → IsNumeral counts count → line < 2 ^ 64 → count < 2 ^ 64
+      → BeginsWithLine (codes "DA:" ++ (digits ++ comma ∷ (counts ++ line_feed ∷ rest))) (Line line count None) rest
+  counted_line numeral counted small few =
+      let digits_plain : All IsPlain counts = All-weaker IsDigit IsPlain plain_digit counts counted.each in
+      let plain : All IsPlain short = plain_key (digits ++ comma ∷ counts) (plain_digits digits (comma ∷ counts) numeral.each (plain_comma counts digits_plain)) in
+      subst (λ (t : List ℕ). BeginsWithLine t (Line line count None) rest) (sym short_ended)
+      (good_line short rest (Line line count None) (IsGoodTest-plain short plain) (record { form = (digits, counts, refl, numeral, inl counted); small = (small, omega (arith, few)) }))
+
+-- such a first line says what it counts
+said : (digits counts end rest : List ℕ) (line count : ℕ) (checksum : Option (List ℕ)) → IsNumeral digits line → IsNumeral counts count → EndsCount end checksum rest → line < 2 ^ 64 → count < 2 ^ 64
+    → BeginsWithLine (codes "DA:" ++ (digits ++ comma ∷ (counts ++ end))) (Line line count checksum) rest
+said digits counts end rest line count None numeral counted ends small few =
+    subst (λ (e : List ℕ). BeginsWithLine (codes "DA:" ++ (digits ++ comma ∷ (counts ++ e))) (Line line count None) rest) (sym ends)
+    (counted_line digits counts rest line count numeral counted small few)
+said digits counts end rest line count (Some checksum) numeral counted ends small few =
+    subst (λ (e : List ℕ). BeginsWithLine (codes "DA:" ++ (digits ++ comma ∷ (counts ++ e))) (Line line count (Some checksum)) rest) (sym ends.0)
+    (checked_line digits counts checksum rest line count numeral counted ends.1 small few)
+
+counted_line_says : (text : List ℕ) (line count : ℕ) (checksum : Option (List ℕ)) (rest : List ℕ) → BeginsWithCountedLine text line count checksum rest → BeginsWithLine text (Line line count checksum) rest
+counted_line_says text line count checksum rest begins =
+    subst (λ (t : List ℕ). BeginsWithLine t (Line line count checksum) rest) (sym begins.parts)
+    (said begins.digits begins.counts begins.end rest line count checksum begins.line_is begins.count_is begins.end_is begins.line_small begins.count_small)
+
+-- ---- the end of such a line
+
+checksum_read : (checksum rest : List ℕ) → All IsChecksumByte checksum → (checksum_bytes (checksum ++ line_feed ∷ rest) ≡ checksum) × (behind_checksum (checksum ++ line_feed ∷ rest) ≡ line_feed ∷ rest)
+checksum_read [] rest each = (refl, refl)
+checksum_read (b ∷ bs) rest each =
+    let test : is_checksum_byte b ≡ true = byte_is b (All-head IsChecksumByte b bs each) in
+    let others = checksum_read bs rest (All-tail IsChecksumByte b bs each) in
+    (rw test (ap (λ (u : List ℕ). b ∷ u) others.0), rw test others.1)
+
+some_front_is : (checksum rest : List ℕ) → 0 < length checksum → some_front checksum rest ≡ Some (checksum, rest)
+some_front_is [] rest some = absurd (omega (arith, some))
+some_front_is (b ∷ bs) rest some = refl
+
+checksum_front_is : (checksum rest : List ℕ) → IsChecksum checksum → checksum_front (checksum ++ line_feed ∷ rest) ≡ Some (checksum, line_feed ∷ rest)
+checksum_front_is checksum rest checked =
+    let read = checksum_read checksum rest checked.each in
+    ap (λ (u : List ℕ). some_front u (behind_checksum (checksum ++ line_feed ∷ rest))) read.0 ∙ ap (some_front checksum) read.1 ∙ some_front_is checksum (line_feed ∷ rest) checked.some
+
+-- each end is read so
+count_end_is : (end : List ℕ) (checksum : Option (List ℕ)) (rest : List ℕ) → EndsCount end checksum rest → count_end end ≡ Some (checksum, rest)
+count_end_is end None rest ends = ap count_end ends
+count_end_is end (Some checksum) rest ends = ap count_end ends.0 ∙ ap (option_and_then checked_end) (checksum_front_is checksum rest ends.1)
+
+-- the bytes at the front are those of a checksum
+each_byte : (text : List ℕ) → All IsChecksumByte (checksum_bytes text)
+each_byte [] = All-nil IsChecksumByte
+each_byte (b ∷ bs) =
+    elim (cases_Bool (is_checksum_byte b)) [
+      | inl holds ↦ rw holds (All-cons IsChecksumByte b (checksum_bytes bs) (byte_from b holds) (each_byte bs))
+      | inr fails ↦ rw fails (All-nil IsChecksumByte)
     ]
 
--- digits have no line feed
-no_feed : (digits rest : List ℕ) → All IsDigit digits → HasNoFeed rest → HasNoFeed (digits ++ rest)
-no_feed [] rest each none = none
-no_feed (d ∷ ds) rest each none = All-cons (λ b. b ≢ line_feed) d (ds ++ rest) (λ e. let digit = All-head IsDigit d ds each in omega (arith, e, digit.0)) (no_feed ds rest (All-tail IsDigit d ds each) none)
+some_front_has : (checksum rest : List ℕ) (front : List ℕ × List ℕ) → some_front checksum rest ≡ Some front → (0 < length checksum) × (checksum ≡ front.0) × (rest ≡ front.1)
+some_front_has [] rest front e = absurd (none-some front e)
+some_front_has (b ∷ bs) rest front e =
+    let same : (b ∷ bs, rest) ≡ front = same_some (b ∷ bs, rest) front e in
+    (omega arith, ap (λ (p : List ℕ × List ℕ). p.0) same, ap (λ (p : List ℕ × List ℕ). p.1) same)
 
-no_return_behind : (front digits : List ℕ) (n : ℕ) → IsNumeral digits n → NoReturn (front ++ digits)
-no_return_behind front digits n numeral before e = last_digit digits numeral.each numeral.some front before e
+plain_from : (text : List ℕ) (end : Option (List ℕ) × List ℕ) → plain_end text ≡ Some end → EndsCount text end.0 end.1
+plain_from text end e =
+    let feed = mapped_some (λ (rest : List ℕ). (None, rest)) (behind_feed text) end e in
+    subst (λ (r : Option (List ℕ) × List ℕ). EndsCount text r.0 r.1) feed.2 (behind_some (line_feed ∷ []) text feed.0 (sym feed.1))
+
+checked_from : (text : List ℕ) (end : Option (List ℕ) × List ℕ) → option_and_then checked_end (checksum_front text) ≡ Some end → EndsCount (comma ∷ text) end.0 end.1
+checked_from text end e =
+    option_and_then_some checked_end (checksum_front text) end e (λ front read e1.
+    let some = some_front_has (checksum_bytes text) (behind_checksum text) front read in
+    let feed = mapped_some (λ (rest : List ℕ). (Some front.0, rest)) (behind_feed front.1) end e1 in
+    let behind : front.1 ≡ line_feed ∷ feed.0 = behind_some (line_feed ∷ []) front.1 feed.0 (sym feed.1) in
+    let parts : text ≡ front.0 ++ line_feed ∷ feed.0 = checksum_parts text ∙ ap (λ (u : List ℕ). u ++ behind_checksum text) some.1 ∙ ap (λ (u : List ℕ). front.0 ++ u) (some.2 ∙ behind) in
+    let checked : IsChecksum front.0 = subst IsChecksum some.1 (record { some = some.0; each = each_byte text }) in
+    subst (λ (r : Option (List ℕ) × List ℕ). EndsCount (comma ∷ text) r.0 r.1) feed.2 (ap (λ (u : List ℕ). comma ∷ u) parts, checked))
+
+-- what is read is such an end
+count_end_from : (text : List ℕ) (end : Option (List ℕ) × List ℕ) → count_end text ≡ Some end → EndsCount text end.0 end.1
+count_end_from [] end e = absurd (none-some end e)
+count_end_from (b ∷ bs) end e =
+    elim (cases_eq b comma) [
+      | inl same ↦ let test : eqb b comma ≡ true = eq-eqb b comma same in
+          subst (λ (c : ℕ). EndsCount (c ∷ bs) end.0 end.1) (sym same) (checked_from bs end (sym (choice b bs true test) ∙ e))
+      | inr differ ↦ let test : eqb b comma ≡ false = ne_eqb b comma differ in plain_from (b ∷ bs) end (sym (choice b bs false test) ∙ e)
+    ]
   where
-    last_digit : (ds : List ℕ) → All IsDigit ds → 0 < length ds → (front before : List ℕ) → front ++ ds ≡ before ++ carriage_return ∷ [] → ⊥
-    last_digit [] each some front before e = absurd (omega (arith, some))
-    last_digit (d ∷ []) each some front before e =
-        let digit = All-head IsDigit d [] each in
-        let same : d ≡ carriage_return = (same_from_push front before d carriage_return e).1 in
-        omega (arith, digit.0, same)
-    last_digit (d ∷ c ∷ ds) each some front before e = last_digit (c ∷ ds) (All-tail IsDigit d (c ∷ ds) each) (omega arith) (front ++ d ∷ []) before (append_assoc front (d ∷ []) (c ∷ ds) ∙ e)
-
--- the line and what it says
-counted_line : (digits counts rest : List ℕ) (line count : ℕ) → IsNumeral digits line → IsNumeral counts count → line < 2 ^ 64 → count < 2 ^ 64
-    → BeginsWithLine (codes "DA:" ++ (digits ++ comma ∷ (counts ++ line_feed ∷ rest))) (Line line count None) rest
-counted_line digits counts rest line count numeral counted small few =
-    let front : List ℕ = codes "DA:" ++ (digits ++ comma ∷ []) in
-    let whole : List ℕ = front ++ counts in
-    let one : whole ≡ codes "DA:" ++ (digits ++ comma ∷ counts) = ap (λ (u : List ℕ). codes "DA:" ++ u) (append_assoc digits (comma ∷ []) counts) in
-    let none : HasNoFeed counts = subst (λ (u : List ℕ). HasNoFeed u) (append-nil counts) (no_feed counts [] counted.each (All-nil (λ b. b ≢ line_feed))) in
-    let behind : HasNoFeed (digits ++ comma ∷ counts) = no_feed digits (comma ∷ counts) numeral.each (All-cons (λ b. b ≢ line_feed) comma counts (λ e. no_comma e) none) in
-    let clean : HasNoFeed whole = subst (λ (u : List ℕ). HasNoFeed u) (sym one) (All-append (λ b. b ≢ line_feed) (codes "DA:") (digits ++ comma ∷ counts) key_clean behind) in
-    let parts : codes "DA:" ++ (digits ++ comma ∷ (counts ++ line_feed ∷ rest)) ≡ whole ++ line_feed ∷ rest =
-    ap (λ (u : List ℕ). codes "DA:" ++ u) (sym (append_assoc digits (comma ∷ counts) (line_feed ∷ rest))) ∙ ap (λ (u : List ℕ). u ++ line_feed ∷ rest) (sym one) in
-    record {
-      line = whole;
-      cut = ap lines_of parts ∙ lines_at whole rest clean ∙ ap (λ (l : List ℕ). l ∷ lines_of rest) (strip-none whole (no_return_behind front counts count counted));
-      front = subst (λ (l : List ℕ). IsFirstCut (codes "DA:" ++ (digits ++ comma ∷ (counts ++ line_feed ∷ rest))) l rest) (strip-none whole (no_return_behind front counts count counted))
-          (cut_at (codes "DA:" ++ (digits ++ comma ∷ (counts ++ line_feed ∷ rest))) whole rest clean parts);
-      spells = record { form = (digits, counts, one, numeral, inl counted); small = (small, omega (arith, few)) };
-    }
-  where
-    no_comma : comma ≡ line_feed → ⊥
-    no_comma e = omega (arith, e)
-
-    key_clean : HasNoFeed (codes "DA:")
-    key_clean = All-cons (λ b. b ≢ line_feed) 68 (65 ∷ 58 ∷ []) (λ e. omega (arith, e)) (All-cons (λ b. b ≢ line_feed) 65 (58 ∷ []) (λ e. omega (arith, e)) (All-cons (λ b. b ≢ line_feed) 58 [] (λ e. omega (arith, e)) (All-nil (λ b. b ≢ line_feed))))
-
--- ---- from what the readers of the parts answer
-
-pub same_some : {A : Type 0} (x y : A) → Some x ≡ Some y → x ≡ y
-same_some x y e = cc
-
-pub behind_some : (key line rest : List ℕ) → Some rest ≡ behind_key key line → line ≡ key ++ rest
-behind_some key line rest e =
-    elim (begins_or_not key line) [
-      | inl begins ↦ let same : rest ≡ begins.0 = same_some rest begins.0 (e ∙ ap (behind_key key) begins.1 ∙ behind_key-same key begins.0) in begins.1 ∙ ap (λ (u : List ℕ). key ++ u) (sym same)
-      | inr other ↦ absurd (none-some rest (sym (e ∙ behind_key-none key line other)))
-    ]
-
--- digits, the number that they say and what follows them
-pub record HasNumber (front rest : List ℕ) (n : ℕ) (before : List ℕ → List ℕ) : Type 0 where
-  pub digits : List ℕ
-  pub numeral : IsNumeral digits n
-  pub small : n < 2 ^ 64
-  pub parts : front ≡ before digits ++ rest
-
-pub field_has : (fields rest : List ℕ) (a : Number) (n : ℕ) → Some (a, rest) ≡ field_at fields → a ≡ Value n → HasNumber fields rest n (λ digits. digits ++ comma ∷ [])
-field_has fields rest a n e is =
-    elim (field_or_none fields) [
-      | inl f ↦
-          let pair : (a, rest) ≡ (sized_number f.number, f.rest) = same_some (a, rest) (sized_number f.number, f.rest) (e ∙ field_read fields f) in
-          let value = value_of f.number n (sym (ap (λ (p : Number × List ℕ). p.0) pair) ∙ is) in
-          record {
-            digits = f.digits;
-            numeral = subst (λ (m : ℕ). IsNumeral f.digits m) value.0 f.numeral;
-            small = subst (λ (m : ℕ). m < 2 ^ 64) value.0 value.1;
-            parts = f.parts ∙ ap (λ (u : List ℕ). f.digits ++ comma ∷ u) (sym (ap (λ (p : Number × List ℕ). p.1) pair)) ∙ sym (append_assoc f.digits (comma ∷ []) rest);
-          }
-      | inr none ↦ absurd (none-some (a, rest) (sym (e ∙ none)))
-    ]
-
-pub number_has : (fields rest : List ℕ) (a : Number) (n : ℕ) → Some (a, rest) ≡ number_at fields → a ≡ Value n → HasNumber fields rest n (λ digits. digits)
-number_has fields rest a n e is =
-    elim (numeral_or_none fields) [
-      | inl f ↦
-          let number = digits_value f.digits in
-          let read : number_at fields ≡ Some (sized_number number, f.rest) = ap number_at f.parts ∙ number_is f.digits f.rest number f.numeral f.stops in
-          let pair : (a, rest) ≡ (sized_number number, f.rest) = same_some (a, rest) (sized_number number, f.rest) (e ∙ read) in
-          let value = value_of number n (sym (ap (λ (p : Number × List ℕ). p.0) pair) ∙ is) in
-          record {
-            digits = f.digits;
-            numeral = subst (λ (m : ℕ). IsNumeral f.digits m) value.0 f.numeral;
-            small = subst (λ (m : ℕ). m < 2 ^ 64) value.0 value.1;
-            parts = f.parts ∙ ap (λ (u : List ℕ). f.digits ++ u) (sym (ap (λ (p : Number × List ℕ). p.1) pair));
-          }
-      | inr none ↦ absurd (none-some (a, rest) (sym (e ∙ none)))
-    ]
+    choice : (b : ℕ) (bs : List ℕ) (test : Bool) → eqb b comma ≡ test → count_end (b ∷ bs) ≡ cond test (option_and_then checked_end (checksum_front bs)) (plain_end (b ∷ bs))
+    choice b bs test e = ap (λ (t : Bool). cond t (option_and_then checked_end (checksum_front bs)) (plain_end (b ∷ bs))) e
 
 -- ---- what is read in one pass
 
-pub mapped_some : {A B : Type 0} (f : A → B) (o : Option A) (y : B) → option_map f o ≡ Some y → (x : A) × (o ≡ Some x) × (f x ≡ y)
-mapped_some f None y e = absurd (none-some y e)
-mapped_some f (Some x) y e = (x, refl, same_some (f x) y e)
-
-front_is : (a : Number) (behind rest : List ℕ) (n : ℕ) → option_map {U = ℕ × List ℕ} (λ (m : ℕ). (m, behind)) (small_of a) ≡ Some (n, rest) → (a ≡ Value n) × (behind ≡ rest)
-front_is (Value v) behind rest n e = let same : (v, behind) ≡ (n, rest) = same_some (v, behind) (n, rest) e in (ap (λ (p : ℕ × List ℕ). Value p.0) same, ap (λ (p : ℕ × List ℕ). p.1) same)
-front_is (Wide v) behind rest n e = absurd (none-some (n, rest) e)
-front_is TooLarge behind rest n e = absurd (none-some (n, rest) e)
-
-pub small_field_has : (fields rest : List ℕ) (n : ℕ) → small_front (field_at fields) ≡ Some (n, rest) → HasNumber fields rest n (λ digits. digits ++ comma ∷ [])
-small_field_has fields rest n e =
-    option_and_then_some (λ (f : Number × List ℕ). option_map (λ (m : ℕ). (m, f.1)) (small_of f.0)) (field_at fields) (n, rest) e (λ x field small.
-    let is = front_is x.0 x.1 rest n small in
-    field_has fields rest x.0 n (sym (field ∙ ap (λ (r : List ℕ). Some (x.0, r)) is.1)) is.0)
-
-pub small_number_has : (fields rest : List ℕ) (n : ℕ) → small_front (number_at fields) ≡ Some (n, rest) → HasNumber fields rest n (λ digits. digits)
-small_number_has fields rest n e =
-    option_and_then_some (λ (f : Number × List ℕ). option_map (λ (m : ℕ). (m, f.1)) (small_of f.0)) (number_at fields) (n, rest) e (λ x number small.
-    let is = front_is x.0 x.1 rest n small in
-    number_has fields rest x.0 n (sym (number ∙ ap (λ (r : List ℕ). Some (x.0, r)) is.1)) is.0)
-
-pub small_is : (n : ℕ) (rest : List ℕ) → n < 2 ^ 64 → small_front (Some (sized_number n, rest)) ≡ Some (n, rest)
-small_is n rest small = ap (λ (a : Number). option_map (λ (m : ℕ). (m, rest)) (small_of a)) (sized_number_small n small)
+abbrev Read : Type 0
+Read = (ℕ × ℕ) × (Option (List ℕ) × List ℕ)
 
 -- the parts of a counted line, where it is read so
-pub count_line_of : (text fields : List ℕ) (line count : ℕ × List ℕ) (rest : List ℕ) → behind_key (codes "DA:") text ≡ Some fields → small_front (field_at fields) ≡ Some line
-    → small_front (number_at line.1) ≡ Some count → behind_feed count.1 ≡ Some rest → BeginsWithCountLine text line.0 count.0 rest
-count_line_of text fields line count rest key field number feed =
+counted_line_of : (text fields : List ℕ) (line count : ℕ × List ℕ) (end : Option (List ℕ) × List ℕ) → behind_key (codes "DA:") text ≡ Some fields → small_front (field_at fields) ≡ Some line
+    → small_front (number_at line.1) ≡ Some count → count_end count.1 ≡ Some end → BeginsWithCountedLine text line.0 count.0 end.0 end.1
+counted_line_of text fields line count end key field number last =
     let f = small_field_has fields line.1 line.0 field in
     let n = small_number_has line.1 count.1 count.0 number in
     record {
       digits = f.digits;
       counts = n.digits;
+      end = count.1;
       parts =
           behind_some (codes "DA:") text fields (sym key)
           ∙ ap (λ (u : List ℕ). codes "DA:" ++ u) (f.parts ∙ append_assoc f.digits (comma ∷ []) line.1)
-          ∙ ap (λ (u : List ℕ). codes "DA:" ++ (f.digits ++ comma ∷ u)) (n.parts ∙ ap (λ (u : List ℕ). n.digits ++ u) (behind_some (line_feed ∷ []) count.1 rest (sym feed)));
+          ∙ ap (λ (u : List ℕ). codes "DA:" ++ (f.digits ++ comma ∷ u)) n.parts;
       line_is = f.numeral;
       count_is = n.numeral;
+      end_is = count_end_from count.1 end last;
       line_small = f.small;
       count_small = n.small;
     }
 
-pub count_line_from : (text : List ℕ) (read : (ℕ × ℕ) × List ℕ) → count_front text ≡ Some read → BeginsWithCountLine text read.0.0 read.0.1 read.1
-count_line_from text read e =
-    option_and_then_some count_behind_key (behind_key (codes "DA:") text) read e (λ fields key e1.
-    option_and_then_some count_behind_line (small_front (field_at fields)) read e1 (λ line field e2.
-    option_and_then_some (count_end line.0) (small_front (number_at line.1)) read e2 (λ count number e3.
-    let end = mapped_some (λ (rest : List ℕ). ((line.0, count.0), rest)) (behind_feed count.1) read e3 in
-    subst (λ (r : (ℕ × ℕ) × List ℕ). BeginsWithCountLine text r.0.0 r.0.1 r.1) end.2 (count_line_of text fields line count end.0 key field number end.1))))
+counted_line_from : (text : List ℕ) (read : Read) → counted_front text ≡ Some read → BeginsWithCountedLine text read.0.0 read.0.1 read.1.0 read.1.1
+counted_line_from text read e =
+    option_and_then_some counted_behind_key (behind_key (codes "DA:") text) read e (λ fields key e1.
+    option_and_then_some counted_behind_line (small_front (field_at fields)) read e1 (λ line field e2.
+    option_and_then_some (counted_end line.0) (small_front (number_at line.1)) read e2 (λ count number e3.
+    let end = mapped_some (λ (last : Option (List ℕ) × List ℕ). ((line.0, count.0), last)) (count_end count.1) read e3 in
+    subst (λ (r : Read). BeginsWithCountedLine text r.0.0 r.0.1 r.1.0 r.1.1) end.2 (counted_line_of text fields line count end.0 key field number end.1))))
+
+-- no digit stands at an end's front
+counts_read : (counts end : List ℕ) (count : ℕ) (checksum : Option (List ℕ)) (rest : List ℕ) → IsNumeral counts count → EndsCount end checksum rest → number_at (counts ++ end) ≡ Some (sized_number count, end)
+counts_read counts end count None rest counted ends =
+    subst (λ (e : List ℕ). number_at (counts ++ e) ≡ Some (sized_number count, e)) (sym ends) (number_is counts (line_feed ∷ rest) count counted refl)
+counts_read counts end count (Some checksum) rest counted ends =
+    subst (λ (e : List ℕ). number_at (counts ++ e) ≡ Some (sized_number count, e)) (sym ends.0) (number_is counts (comma ∷ (checksum ++ line_feed ∷ rest)) count counted refl)
 
 -- and each such line is read so
-pub count_line_read : (text : List ℕ) (line count : ℕ) (rest : List ℕ) → BeginsWithCountLine text line count rest → count_front text ≡ Some ((line, count), rest)
-count_line_read text line count rest begins =
-    let field : small_front (field_at (begins.digits ++ comma ∷ (begins.counts ++ line_feed ∷ rest))) ≡ Some (line, begins.counts ++ line_feed ∷ rest) =
-    ap small_front (field_is begins.digits (begins.counts ++ line_feed ∷ rest) line begins.line_is) ∙ small_is line (begins.counts ++ line_feed ∷ rest) begins.line_small in
-    let number : small_front (number_at (begins.counts ++ line_feed ∷ rest)) ≡ Some (count, line_feed ∷ rest) =
-    ap small_front (number_is begins.counts (line_feed ∷ rest) count begins.count_is refl) ∙ small_is count (line_feed ∷ rest) begins.count_small in
-    ap count_front begins.parts ∙ ap (option_and_then count_behind_line) field ∙ ap (option_and_then (count_end line)) number
-
--- such a first line says what it counts
-pub count_line_says : (text : List ℕ) (line count : ℕ) (rest : List ℕ) → BeginsWithCountLine text line count rest → BeginsWithLine text (Line line count None) rest
-count_line_says text line count rest begins =
-    subst (λ (t : List ℕ). BeginsWithLine t (Line line count None) rest) (sym begins.parts)
-    (counted_line begins.digits begins.counts rest line count begins.line_is begins.count_is begins.line_small begins.count_small)
+counted_line_read : (text : List ℕ) (line count : ℕ) (checksum : Option (List ℕ)) (rest : List ℕ) → BeginsWithCountedLine text line count checksum rest
+    → counted_front text ≡ Some ((line, count), (checksum, rest))
+counted_line_read text line count checksum rest begins =
+    let field : small_front (field_at (begins.digits ++ comma ∷ (begins.counts ++ begins.end))) ≡ Some (line, begins.counts ++ begins.end) =
+    ap small_front (field_is begins.digits (begins.counts ++ begins.end) line begins.line_is) ∙ small_is line (begins.counts ++ begins.end) begins.line_small in
+    let number : small_front (number_at (begins.counts ++ begins.end)) ≡ Some (count, begins.end) =
+    ap small_front (counts_read begins.counts begins.end count checksum rest begins.count_is begins.end_is) ∙ small_is count begins.end begins.count_small in
+    ap counted_front begins.parts
+    ∙ ap (option_and_then counted_behind_line) field
+    ∙ ap (option_and_then (counted_end line)) number
+    ∙ ap (option_map (λ (end : Option (List ℕ) × List ℕ). ((line, count), end))) (count_end_is begins.end checksum rest begins.end_is)
 
 -- ---- what the reader of such lines answers
 
-abbrev pub count_seen : FirstCount → (ℕ × ℕ) × List ℕ
-count_seen f = ((f.line, f.count), f.rest.now)
+abbrev pub counted_seen : FirstLine → Read
+counted_seen f = ((f.line, f.count), (option_map (λ c. c.now) f.checksum, f.rest.now))
 
-pub count_form : (result : Option FirstCount) (text : List ℕ) → option_map count_seen result ≡ count_front text → IfSome result (λ f. BeginsWithCountLine text f.line f.count f.rest.now)
-count_form None text read = tt
-count_form (Some f) text read = count_line_from text (count_seen f) (sym read)
+pub counted_form : (result : Option FirstLine) (text : List ℕ) → option_map counted_seen result ≡ counted_front text
+    → IfSome result (λ f. BeginsWithCountedLine text f.line f.count (option_map (λ c. c.now) f.checksum) f.rest.now)
+counted_form None text read = tt
+counted_form (Some f) text read = counted_line_from text (counted_seen f) (sym read)
 
-pub count_says : (result : Option FirstCount) (text : List ℕ) → option_map count_seen result ≡ count_front text → IfSome result (λ f. BeginsWithLine text (Line f.line f.count None) f.rest.now)
-count_says None text read = tt
-count_says (Some f) text read = count_line_says text f.line f.count f.rest.now (count_line_from text (count_seen f) (sym read))
+pub counted_says : (result : Option FirstLine) (text : List ℕ) → option_map counted_seen result ≡ counted_front text
+    → IfSome result (λ f. BeginsWithLine text (Line f.line f.count (option_map (λ c. c.now) f.checksum)) f.rest.now)
+counted_says None text read = tt
+counted_says (Some f) text read =
+    counted_line_says text f.line f.count (option_map (λ c. c.now) f.checksum) f.rest.now (counted_line_from text (counted_seen f) (sym read))
 
-pub count_only : (result : Option FirstCount) (text : List ℕ) → option_map count_seen result ≡ count_front text → (line count : ℕ) (rest : List ℕ) → BeginsWithCountLine text line count rest
-    → MatchOption result ⊥ (λ f. (f.line ≡ line) × (f.count ≡ count) × (f.rest.now ≡ rest))
-count_only None text read line count rest begins = none-some ((line, count), rest) (read ∙ count_line_read text line count rest begins)
-count_only (Some f) text read line count rest begins =
-    let same : count_seen f ≡ ((line, count), rest) = same_some (count_seen f) ((line, count), rest) (read ∙ count_line_read text line count rest begins) in (
-      ap (λ (r : (ℕ × ℕ) × List ℕ). r.0.0) same,
-      ap (λ (r : (ℕ × ℕ) × List ℕ). r.0.1) same,
-      ap (λ (r : (ℕ × ℕ) × List ℕ). r.1) same,
+pub counted_only : (result : Option FirstLine) (text : List ℕ) → option_map counted_seen result ≡ counted_front text → (line count : ℕ) (checksum : Option (List ℕ)) (rest : List ℕ)
+    → BeginsWithCountedLine text line count checksum rest
+    → MatchOption result ⊥ (λ f. (f.line ≡ line) × (f.count ≡ count) × (option_map (λ c. c.now) f.checksum ≡ checksum) × (f.rest.now ≡ rest))
+counted_only None text read line count checksum rest begins = none-some ((line, count), (checksum, rest)) (read ∙ counted_line_read text line count checksum rest begins)
+counted_only (Some f) text read line count checksum rest begins =
+    let same : counted_seen f ≡ ((line, count), (checksum, rest)) = same_some (counted_seen f) ((line, count), (checksum, rest)) (read ∙ counted_line_read text line count checksum rest begins) in (
+      ap (λ (r : Read). r.0.0) same,
+      ap (λ (r : Read). r.0.1) same,
+      ap (λ (r : Read). r.1.0) same,
+      ap (λ (r : Read). r.1.1) same,
     )

@@ -1,8 +1,8 @@
 pub mod Copied
 pub mod Alike
 pub mod BranchLines
+pub mod SmallNumbers
 pub mod CountedLines
-pub mod CheckedLines
 pub mod GoodTexts
 pub mod Cut
 pub mod SectLaws

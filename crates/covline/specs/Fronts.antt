@@ -8,15 +8,22 @@ use Rattle.covline.specs.Lawful.{IsChecksum}
 use Rattle.covline.specs.Lines.{line_feed}
 use Rattle.covline.specs.Points.{BranchPoint}
 use Rattle.covline.specs.Spells.{comma, minus, IsNumeral, IsTaken}
-use Rattle.covline.specs.Reading.{behind_key, field_at, number_at}
+use Rattle.covline.specs.Reading.{behind_key, field_at, is_checksum_byte, number_at}
 
--- the text begins with `DA:`, the digits of these numbers and a line feed, and this follows
-pub record BeginsWithCountLine (text : List ℕ) (line count : ℕ) (rest : List ℕ) : Type 0 where
+-- behind a line's count: a line feed, or a comma, this checksum and a line feed
+abbrev pub EndsCount : List ℕ → Option (List ℕ) → List ℕ → Type 0
+EndsCount text None rest = text ≡ line_feed ∷ rest
+EndsCount text (Some checksum) rest = (text ≡ comma ∷ (checksum ++ line_feed ∷ rest)) × IsChecksum checksum
+
+-- the text begins with `DA:`, the digits of these numbers, this checksum where there is one, and a line feed, and this follows
+pub record BeginsWithCountedLine (text : List ℕ) (line count : ℕ) (checksum : Option (List ℕ)) (rest : List ℕ) : Type 0 where
   pub digits : List ℕ
   pub counts : List ℕ
-  pub parts : text ≡ codes "DA:" ++ (digits ++ comma ∷ (counts ++ line_feed ∷ rest))
+  pub end : List ℕ
+  pub parts : text ≡ codes "DA:" ++ (digits ++ comma ∷ (counts ++ end))
   pub line_is : IsNumeral digits line
   pub count_is : IsNumeral counts count
+  pub end_is : EndsCount end checksum rest
   pub line_small : line < 2 ^ 64
   pub count_small : count < 2 ^ 64
 
@@ -41,11 +48,6 @@ pub record BeginsWithBranchLine (text : List ℕ) (point : BranchPoint) (taken :
   pub branch_small : point.branch < 2 ^ 64
   pub taken_small : IsSmallIfAny taken
 
--- behind a line's count: a line feed, or a comma, this checksum and a line feed
-abbrev pub EndsCount : List ℕ → Option (List ℕ) → List ℕ → Type 0
-EndsCount text None rest = text ≡ line_feed ∷ rest
-EndsCount text (Some checksum) rest = (text ≡ comma ∷ (checksum ++ line_feed ∷ rest)) × IsChecksum checksum
-
 -- ---- how they are read: from left to right
 
 -- the number, where it is one of 64 bits
@@ -66,18 +68,46 @@ taken_front (b ∷ bs) = if b == minus then Some (None, bs) else option_map (λ 
 abbrev pub behind_feed : List ℕ → Option (List ℕ)
 behind_feed text = behind_key (line_feed ∷ []) text
 
+-- the bytes at the front that a checksum may have, and what follows them
+abbrev pub checksum_bytes : List ℕ → List ℕ
+checksum_bytes [] = []
+checksum_bytes (b ∷ bs) = if is_checksum_byte b then b ∷ checksum_bytes bs else []
+
+abbrev pub behind_checksum : List ℕ → List ℕ
+behind_checksum [] = []
+behind_checksum (b ∷ bs) = if is_checksum_byte b then behind_checksum bs else b ∷ bs
+
+-- a checksum isn't empty
+abbrev pub some_front : List ℕ → List ℕ → Option (List ℕ × List ℕ)
+some_front [] rest = None
+some_front (b ∷ bs) rest = Some (b ∷ bs, rest)
+
+abbrev pub checksum_front : List ℕ → Option (List ℕ × List ℕ)
+checksum_front text = some_front (checksum_bytes text) (behind_checksum text)
+
+-- the checksum behind a count, where there is one, and what follows the line feed
+abbrev pub checked_end : List ℕ × List ℕ → Option (Option (List ℕ) × List ℕ)
+checked_end front = option_map (λ (rest : List ℕ). (Some front.0, rest)) (behind_feed front.1)
+
+abbrev pub plain_end : List ℕ → Option (Option (List ℕ) × List ℕ)
+plain_end text = option_map (λ (rest : List ℕ). (None, rest)) (behind_feed text)
+
+abbrev pub count_end : List ℕ → Option (Option (List ℕ) × List ℕ)
+count_end [] = None
+count_end (b ∷ bs) = if b == comma then option_and_then checked_end (checksum_front bs) else plain_end (b ∷ bs)
+
 -- a counted line behind its key, its line and its count
-abbrev pub count_end : ℕ → ℕ × List ℕ → Option ((ℕ × ℕ) × List ℕ)
-count_end line count = option_map (λ (rest : List ℕ). ((line, count.0), rest)) (behind_feed count.1)
+abbrev pub counted_end : ℕ → ℕ × List ℕ → Option ((ℕ × ℕ) × (Option (List ℕ) × List ℕ))
+counted_end line count = option_map (λ (end : Option (List ℕ) × List ℕ). ((line, count.0), end)) (count_end count.1)
 
-abbrev pub count_behind_line : ℕ × List ℕ → Option ((ℕ × ℕ) × List ℕ)
-count_behind_line line = option_and_then (count_end line.0) (small_front (number_at line.1))
+abbrev pub counted_behind_line : ℕ × List ℕ → Option ((ℕ × ℕ) × (Option (List ℕ) × List ℕ))
+counted_behind_line line = option_and_then (counted_end line.0) (small_front (number_at line.1))
 
-abbrev pub count_behind_key : List ℕ → Option ((ℕ × ℕ) × List ℕ)
-count_behind_key fields = option_and_then count_behind_line (small_front (field_at fields))
+abbrev pub counted_behind_key : List ℕ → Option ((ℕ × ℕ) × (Option (List ℕ) × List ℕ))
+counted_behind_key fields = option_and_then counted_behind_line (small_front (field_at fields))
 
-abbrev pub count_front : List ℕ → Option ((ℕ × ℕ) × List ℕ)
-count_front text = option_and_then count_behind_key (behind_key (codes "DA:") text)
+abbrev pub counted_front : List ℕ → Option ((ℕ × ℕ) × (Option (List ℕ) × List ℕ))
+counted_front text = option_and_then counted_behind_key (behind_key (codes "DA:") text)
 
 -- a branch behind its key, its line, its block, its number and how often it was taken
 abbrev pub branch_end : BranchPoint → Option ℕ × List ℕ → Option ((BranchPoint × Option ℕ) × List ℕ)

@@ -37,7 +37,7 @@ pub enum Item<A: Allocator = Global> {
 impl<A: Allocator> Item<A> {
     ghost use Rattle.std.specs.Prelude.{◌≡◌, option_map, option_to_list};
     ghost use Rattle.covline.specs.Row.{item_data};
-    ghost use Rattle.covline.specs.Points.{line_point, func_point, branch_point, is_hit};
+    ghost use Rattle.covline.specs.Points.{line_point, branch_point, is_hit};
     ghost use Rattle.covline.specs.PointView.{branch_point_data};
 
     /// The line that a line's item speaks of.
@@ -47,16 +47,6 @@ impl<A: Allocator> Item<A> {
         match self {
             Item::Line { line, .. } => Some(*line),
             Item::Func { .. } | Item::Branch { .. } => None,
-        }
-    }
-
-    /// The name of the function that a function's item speaks of.
-    pub fn function_name(&self) -> Option<&[u8]>
-        ensures { option_to_list (option_map (λ n. n.now) result) ≡ func_point (item_data self.now) }
-    {
-        match self {
-            Item::Func { name, .. } => Some(name.get()),
-            Item::Line { .. } | Item::Branch { .. } => None,
         }
     }
 

@@ -44,9 +44,7 @@ pub use memory::Memory;
 pub use names::good_test;
 pub use point::BranchPoint;
 pub use print::put_line;
-pub use reader::{
-    FirstBranch, FirstCount, FirstLine, first_branch, first_count, first_counted, read_line,
-};
+pub use reader::{FirstBranch, FirstLine, first_branch, first_counted, read_line};
 pub use sect::{Sect, Sects};
 pub use submission::{BadSubmission, Submission};
 pub use tally::Tally;

@@ -6,8 +6,7 @@ ghost use Rattle.covline.specs.declared.trace_line.LineFault.{LineFault};
 ghost use Rattle.covline.specs.Points.{BranchPoint as BranchData};
 ghost use Rattle.covline.specs.PointView.{branch_point_data};
 ghost use Rattle.covline.specs.Spells.{LineData, Line, Branch, line_data, Spells, HasFault, BeginsWithLine};
-ghost use Rattle.covline.specs.Fronts.{BeginsWithBranchLine, BeginsWithCountLine, branch_front, EndsCount, count_front, small_front, small_of, taken_front};
-ghost use Rattle.covline.specs.Lawful.{IsChecksum, IsChecksumByte};
+ghost use Rattle.covline.specs.Fronts.{BeginsWithBranchLine, BeginsWithCountedLine, behind_checksum, branch_front, checksum_front, count_end, counted_front, small_front, small_of, taken_front};
 ghost use Rattle.covline.specs.Lines.{line_feed};
 ghost use Rattle.covline.specs.Reading.{Gives, behind_key, sized_number, with_digit, digits_from, number_at, number_of, count_at, before_comma, field_at, taken_of, only_checksum, checksum_of, fit, fit_count, start_fields, calls_fields, branch_of, branch_fields, line_fields, total_fields, path_fields, read_of};
 
@@ -476,17 +475,6 @@ pub fn read_line(line: &[u8]) -> Result<TraceLine<'_>, LineFault>
     read_any(line)
 }
 
-/// The first line of a text, which counts a line of a source file, and what stands behind it.
-#[derive(Clone, Copy)]
-pub struct FirstCount<'a> {
-    /// The line of the source file.
-    pub line: u64,
-    /// Its execution count.
-    pub count: u64,
-    /// What stands behind the first line.
-    pub rest: &'a [u8],
-}
-
 /// What follows the key of a counted line.
 fn behind_line_key(text: &[u8]) -> Option<&[u8]>
     ensures { option_map (λ rest. rest.now) result ≡ behind_key (codes "DA:") text.now }
@@ -507,28 +495,6 @@ fn behind_feed(text: &[u8]) -> Option<&[u8]>
     }
 }
 
-/// The first line, where it is `DA:<line>,<count>` of digits alone with numbers below 2^64, and a line feed ends it: most
-/// lines of a tracefile are so, and these are read in one pass. Any other first line is left to be cut and read.
-#[inline]
-pub fn first_count(text: &[u8]) -> Option<FirstCount<'_>>
-    ensures says { IfSome result (λ f. BeginsWithLine text.now (Line f.line f.count None) f.rest.now) }
-    ensures form { IfSome result (λ f. BeginsWithCountLine text.now f.line f.count f.rest.now) }
-    ensures only { (line count : ℕ) (rest : List ℕ) → BeginsWithCountLine text.now line count rest → MatchOption result ⊥ (λ f. (f.line ≡ line) × (f.count ≡ count) × (f.rest.now ≡ rest)) }
-{
-    front_count(text)
-}
-
-/// The same, as it is read.
-#[inline]
-fn front_count(text: &[u8]) -> Option<FirstCount<'_>>
-    ensures { option_map (λ f. ((f.line, f.count), f.rest.now)) result ≡ count_front text.now }
-{
-    let (line, rest) = small_field(behind_line_key(text)?)?;
-    let (count, rest) = small_number(rest)?;
-    let rest = behind_feed(rest)?;
-    Some(FirstCount { line, count, rest })
-}
-
 /// The first line of a text, which counts a line of a source file and may tell its checksum, and what stands behind it.
 #[derive(Clone, Copy)]
 pub struct FirstLine<'a> {
@@ -544,7 +510,7 @@ pub struct FirstLine<'a> {
 
 /// What stands behind the bytes at the front of the text that a checksum may have.
 fn behind_checksum(text: &[u8]) -> &[u8]
-    ensures { (front : List ℕ) × (text.now ≡ front ++ result.now) × All IsChecksumByte front }
+    ensures { result.now ≡ behind_checksum text.now }
 {
     let mut rest = text;
     while let Some((byte, after)) = rest.split_first() {
@@ -556,38 +522,47 @@ fn behind_checksum(text: &[u8]) -> &[u8]
     rest
 }
 
-/// The checksum at the front of the text, and what stands behind the line feed that follows it.
-fn split_checksum(text: &[u8]) -> Option<(&[u8], &[u8])>
-    ensures { IfSome result (λ f. (text.now ≡ f.0.now ++ line_feed ∷ f.1.now) × IsChecksum f.0.now) }
+/// The checksum at the front of the text, where there is one, and what stands behind it.
+fn front_checksum(text: &[u8]) -> Option<(&[u8], &[u8])>
+    ensures { option_map (λ front. (front.0.now, front.1.now)) result ≡ checksum_front text.now }
 {
-    let after = behind_checksum(text);
-    let checksum = &text[..text.len() - after.len()];
+    let rest = behind_checksum(text);
+    let checksum = &text[..text.len() - rest.len()];
     if checksum.is_empty() {
         return None;
     }
-    let rest = behind_feed(after)?;
     Some((checksum, rest))
 }
 
 /// The checksum behind a line's count, where there is one, and what stands behind the line feed.
 fn split_count_end(text: &[u8]) -> Option<(Option<&[u8]>, &[u8])>
-    ensures { IfSome result (λ f. EndsCount text.now (option_map (λ c. c.now) f.0) f.1.now) }
+    ensures { option_map (λ end. (option_map (λ c. c.now) end.0, end.1.now)) result ≡ count_end text.now }
 {
-    let [b',', fields @ ..] = text else {
-        return Some((None, behind_feed(text)?));
-    };
-    let (checksum, rest) = split_checksum(fields)?;
-    Some((Some(checksum), rest))
+    if let [b',', fields @ ..] = text {
+        let (checksum, rest) = front_checksum(fields)?;
+        return Some((Some(checksum), behind_feed(rest)?));
+    }
+    Some((None, behind_feed(text)?))
 }
 
 /// The first line, where it is `DA:<line>,<count>` of digits with numbers below 2^64, or that with a checksum behind it, and a
-/// line feed ends it: read in one pass, as by `first_count`. Any other first line is left to be cut and read.
+/// line feed ends it: most lines of a tracefile are so, and these are read in one pass. Any other first line is left to be
+/// cut and read.
 #[inline]
 pub fn first_counted(text: &[u8]) -> Option<FirstLine<'_>>
-    ensures { IfSome result (λ f. BeginsWithLine text.now (Line f.line f.count (option_map (λ c. c.now) f.checksum)) f.rest.now) }
+    ensures says { IfSome result (λ f. BeginsWithLine text.now (Line f.line f.count (option_map (λ c. c.now) f.checksum)) f.rest.now) }
+    ensures form { IfSome result (λ f. BeginsWithCountedLine text.now f.line f.count (option_map (λ c. c.now) f.checksum) f.rest.now) }
+    ensures only { (line count : ℕ) (checksum : Option (List ℕ)) (rest : List ℕ) → BeginsWithCountedLine text.now line count checksum rest → MatchOption result ⊥ (λ f. (f.line ≡ line) × (f.count ≡ count) × (option_map (λ c. c.now) f.checksum ≡ checksum) × (f.rest.now ≡ rest)) }
 {
-    let fields = behind_line_key(text)?;
-    let (line, rest) = small_field(fields)?;
+    front_counted(text)
+}
+
+/// The same, as it is read.
+#[inline]
+fn front_counted(text: &[u8]) -> Option<FirstLine<'_>>
+    ensures { option_map (λ f. ((f.line, f.count), (option_map (λ c. c.now) f.checksum, f.rest.now))) result ≡ counted_front text.now }
+{
+    let (line, rest) = small_field(behind_line_key(text)?)?;
     let (count, rest) = small_number(rest)?;
     let (checksum, rest) = split_count_end(rest)?;
     Some(FirstLine {
@@ -637,7 +612,7 @@ fn front_taken(text: &[u8]) -> Option<(Option<u64>, &[u8])>
 }
 
 /// The first line, where it is `BRDA:<line>,<block>,<branch>,<taken>` of digits (or `-` for how often the branch was taken)
-/// with numbers below 2^64, and a line feed ends it: read in one pass, as by `first_count`. Any other first line is left to
+/// with numbers below 2^64, and a line feed ends it: read in one pass, as by `first_counted`. Any other first line is left to
 /// be cut and read.
 #[inline]
 pub fn first_branch(text: &[u8]) -> Option<FirstBranch<'_>>

@@ -1,5 +1,7 @@
 //! The map.
 
+mod run;
+
 use crate::entries::Entries;
 use crate::key::{Addend, Key, Query, Value};
 use crate::slots::growth::make_slot;

@@ -14,6 +14,7 @@ ghost use Rattle.covmap.specs.SlotPlace.{at};
 
 pub(crate) mod growth;
 pub(crate) mod page;
+pub(crate) mod run;
 pub(crate) mod staged;
 
 use crate::entries::Entries;

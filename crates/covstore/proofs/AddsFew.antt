@@ -9,26 +9,24 @@ use Rattle.std.specs.List.Sorted.{IsStrictlySortedBy}
 use Rattle.std.specs.Ordering.{nat_cmp}
 use Rattle.std.proofs.lemmas.Cmp.{tied_itself}
 use Rattle.std.proofs.lemmas.List.{length-map}
-use Rattle.covline.specs.Points.{BranchPoint, line_point, func_point, branch_point}
 use Rattle.covline.specs.Row.{ItemData, Row}
-use Rattle.covstore.specs.declared.sums.FunctionSum.{FunctionSum}
-use Rattle.covstore.specs.declared.sums.LineSum.{LineSum}
-use Rattle.covstore.specs.declared.sums.BranchSum.{BranchSum}
 use Rattle.covstore.specs.declared.sums.Tests.{Tests}
 use Rattle.covstore.specs.Ascending.{ascending}
 use Rattle.covstore.specs.KindIndexCounts.{AreCounts}
 use Rattle.covmap.specs.Puts.{value_of}
 use Rattle.covstore.specs.State.{FileData, IsStateOf, IsWholeFile, points_in, tests_in}
-use Rattle.covstore.specs.Sums.{TestData, branch_sum, function_sum, line_sum, test_of}
-use Rattle.covstore.specs.Value.{Key, branches_in, has_key, items_at, lines_in, names_in}
+use Rattle.covstore.specs.Sums.{TestData, sum_at, test_of}
+use Rattle.covstore.specs.Value.{Key, has_key, items_at}
+use Rattle.covstore.specs.Kinds.{KeyOf, Kind, PointsOf, SumOf, at, cmp_of, point_of}
 use Rattle.covstore.proofs.Ascend.{IsExactOrder, In-ascending, In-to_ascending, ascending_sorted, length-ascending}
 use Rattle.covstore.proofs.ContentsLists.{In-flat, In-unfilter, In-unflat}
 use Rattle.covstore.proofs.CountsFound.{points_kept, points_of, sorted_keys}
 use Rattle.covstore.proofs.Few.{few_parts, one_branch, one_function, one_line}
 use Rattle.covstore.proofs.Members.{In, All-in, In-unmap}
-use Rattle.covstore.proofs.Orders.{branches_order, lines_order, names_order}
+use Rattle.covstore.proofs.Orders.{names_order}
 use Rattle.covstore.proofs.Puts.{pair_in, value_of_pair}
 use Rattle.covstore.proofs.StateSections.{points_there}
+use Rattle.covstore.proofs.Axis.{each_kind, of_all, order_of}
 
 -- ---- ascending lists, one within the other
 
@@ -111,32 +109,27 @@ module _ (rows : List Row) (files : List (List ℕ × FileData)) (state : IsStat
       (known (items_at sums.0 rows) k (subst (λ (pairs : List (K × V)). In k (points_of pairs)) (sym test.2 ∙ ap part sums.1) list.2)) in
       omega (arith, kept_within o (map part (tests_in file)) counts are all within, few_parts (λ (row : Row). point row.item) (λ row. one row.item) rows)
 
--- ---- the three kinds
+-- ---- all kinds
 
-line_spoken : (items : List ItemData) (line : ℕ) → In line (points_of (test_of items).lines) → In line (flat_map line_point items)
-line_spoken items line i =
-    let pair = In-unmap (λ (pair : ℕ × LineSum). pair.0) (test_of items).lines line i in
-    let own = In-unmap (line_sum items) (lines_in items) pair.0 pair.1 in
-    In-ascending lines_order.exact line (flat_map line_point items) (subst (λ (n : ℕ). In n (lines_in items)) (ap (λ (p : ℕ × LineSum). p.0) own.2 ∙ pair.2) own.1)
+-- what items add up to has points of which the items speak
+spoken : (kind : Kind) (items : List ItemData) (key : KeyOf kind) → In key (points_of (at kind (test_of items))) → In key (flat_map (point_of kind) items)
+spoken kind items = of_all (λ kind (pairs : PointsOf kind). (key : KeyOf kind) → In key (points_of pairs) → In key (flat_map (point_of kind) items)) sums own kind
+  where
+    keys : (kind : Kind) → List (KeyOf kind)
+    keys kind = ascending (cmp_of kind) (flat_map (point_of kind) items)
 
-function_spoken : (items : List ItemData) (name : List ℕ) → In name (points_of (test_of items).functions) → In name (flat_map func_point items)
-function_spoken items name i =
-    let pair = In-unmap (λ (pair : List ℕ × FunctionSum). pair.0) (test_of items).functions name i in
-    let own = In-unmap (function_sum items) (names_in items) pair.0 pair.1 in
-    In-ascending names_order.exact name (flat_map func_point items) (subst (λ (n : List ℕ). In n (names_in items)) (ap (λ (p : List ℕ × FunctionSum). p.0) own.2 ∙ pair.2) own.1)
+    sums : (kind : Kind) → PointsOf kind
+    sums kind = map (λ key. (key, sum_at kind items key)) (ascending (cmp_of kind) (flat_map (point_of kind) items))
 
-branch_spoken : (items : List ItemData) (point : BranchPoint) → In point (points_of (test_of items).branches) → In point (flat_map branch_point items)
-branch_spoken items point i =
-    let pair = In-unmap (λ (pair : BranchPoint × BranchSum). pair.0) (test_of items).branches point i in
-    let own = In-unmap (branch_sum items) (branches_in items) pair.0 pair.1 in
-    In-ascending branches_order.exact point (flat_map branch_point items) (subst (λ (p : BranchPoint). In p (branches_in items)) (ap (λ (p : BranchPoint × BranchSum). p.0) own.2 ∙ pair.2) own.1)
+    own : (kind : Kind) (key : KeyOf kind) → In key (points_of (sums kind)) → In key (flat_map (point_of kind) items)
+    own kind key i =
+        let pair = In-unmap (λ (pair : KeyOf kind × SumOf kind). pair.0) (sums kind) key i in
+        let from = In-unmap (λ key. (key, sum_at kind items key)) (keys kind) pair.0 pair.1 in
+        In-ascending (order_of kind).exact key (flat_map (point_of kind) items) (subst (λ (k : KeyOf kind). In k (keys kind)) (ap (λ (p : KeyOf kind × SumOf kind). p.0) from.2 ∙ pair.2) from.1)
 
 -- a file of a state has no more points of a kind than there are rows
 pub kept_few : (rows : List Row) (files : List (List ℕ × FileData)) → IsStateOf rows files → (name : List ℕ) (file : FileData) → value_of (slice_cmp nat_cmp) name files ≡ Some file
-    → (length file.lines ≤ length rows) × (length file.functions ≤ length rows) × (length file.branches ≤ length rows)
-kept_few rows files state name file there =
-    let kept = (its_whole rows files state name file there).kept in (
-      few_kept rows files state name file there lines_order (λ (t : TestData). t.lines) line_point file.lines line_spoken one_line kept.lines,
-      few_kept rows files state name file there names_order (λ (t : TestData). t.functions) func_point file.functions function_spoken one_function kept.functions,
-      few_kept rows files state name file there branches_order (λ (t : TestData). t.branches) branch_point file.branches branch_spoken one_branch kept.branches,
-    )
+    → (kind : Kind) → length (at kind file.index.counts) ≤ length rows
+kept_few rows files state name file there kind =
+    few_kept rows files state name file there (order_of kind) (at kind) (point_of kind) (at kind file.index.counts) (spoken kind)
+    (each_kind (λ (kind : Kind). (item : ItemData) → length (point_of kind item) ≤ 1) one_line one_function one_branch kind) ((its_whole rows files state name file there).kept.counts kind)

@@ -12,9 +12,9 @@ use Rattle.covstore.specs.declared.stop.Stop.{Stop}
 use Rattle.covstore.specs.declared.stop.Stop.TheVariants.{Clash, Memory}
 use Rattle.covstore.specs.Section.{Adds, Clashes, HasRoomFor, IsIn}
 use Rattle.covstore.specs.FileSection.{AddsItems, ClashesIn, HasFile, HasRoomIn}
-use Rattle.covstore.specs.FileIndex.{FileIndexData, file_with}
+use Rattle.covstore.specs.FileIndex.{FileIndexData}
 use Rattle.covmap.specs.Puts.{put, value_of}
-use Rattle.covstore.specs.State.{FileData}
+use Rattle.covstore.specs.State.{FileData, file_with}
 use Rattle.covstore.specs.Sums.{TestData}
 use Rattle.covstore.proofs.AddsLists.{put_there}
 use Rattle.covstore.proofs.MapKeys.{seen, seen_ascend, seen_set, seen_value}

@@ -7,9 +7,9 @@ use Rattle.std.proofs.lemmas.List.Concat.{flat_map-append}
 use Rattle.covline.specs.Row.{ItemData, LineItem, FuncItem, BranchItem, Row}
 use Rattle.covstore.specs.Section.{Adds, IsIn}
 use Rattle.covstore.specs.Clash.{Agree, Checksum, checksum_of, checksum_of_row, checksums_in, first_clash}
-use Rattle.covstore.specs.FileIndex.{FileIndexData, file_with}
+use Rattle.covstore.specs.FileIndex.{FileIndexData}
 use Rattle.covmap.specs.Puts.{put, value_of}
-use Rattle.covstore.specs.State.{FileData, IsStateOf}
+use Rattle.covstore.specs.State.{FileData, IsStateOf, file_with}
 use Rattle.covstore.specs.Items.{IsTextOf, KeepsCounts, KeepsTextsOf}
 use Rattle.covstore.specs.Sums.{TestData, with_item}
 use Rattle.covstore.proofs.AddsPlace.{checksum_held, state_agrees, text_kept, whole_after}

@@ -28,7 +28,7 @@ none_taken left test index room = record {
   adds = adds_none (test_staged test) (index_staged index);
   room = room;
   same_test = refl;
-  same_index = record { lines = refl; functions = refl; branches = refl; holders = refl; texts = λ line committed. refl };
+  same_index = record { counts = refl; holders = refl; texts = λ line committed. refl };
 }
 
 module _ {A : Type 0} (taken : List ItemData) (item : ItemData) (left : List ItemData) (test : Test A) (index : FileIndex A) (test_now : Test A) (index_now : FileIndex A)

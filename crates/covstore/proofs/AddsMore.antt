@@ -11,9 +11,9 @@ use Rattle.std.proofs.lemmas.Slice.Eq.{bytes_eq-Decides}
 use Rattle.covline.specs.Row.{ItemData, LineItem, FuncItem, BranchItem, Row, rows_of_sect}
 use Rattle.covstore.specs.Section.{Adds, ClashesAt, IsIn, clash_told, files_with, section_of_items}
 use Rattle.covstore.specs.Clash.{Agree, Checksum, checksum_of_row, checksums_in, clash_of, differs, first_clash}
-use Rattle.covstore.specs.FileIndex.{FileIndexData, file_with}
+use Rattle.covstore.specs.FileIndex.{FileIndexData}
 use Rattle.covmap.specs.Puts.{put}
-use Rattle.covstore.specs.State.{FileData}
+use Rattle.covstore.specs.State.{FileData, file_with}
 use Rattle.covstore.specs.Items.{IsClashAt, IsOtherText}
 use Rattle.covstore.specs.Sums.{TestData}
 use Rattle.covstore.proofs.AddsLists.{clash_before, clash_behind, put_there, put_twice}

@@ -17,9 +17,9 @@ use Rattle.covstore.specs.declared.sums.LineSum.{LineSum}
 use Rattle.covstore.specs.Section.{IsIn}
 use Rattle.covstore.specs.Clash.{Agree, Checksum, checksum_of_row, checksums_in}
 use Rattle.covstore.specs.KindIndexCounts.{is_above_at}
-use Rattle.covstore.specs.FileIndex.{FileIndexData, file_with}
+use Rattle.covstore.specs.FileIndex.{FileIndexData}
 use Rattle.covmap.specs.Puts.{put, value_of}
-use Rattle.covstore.specs.State.{AreKept, FileData, IsStateOf, IsWholeFile, has_checksum, holders_at, holding, points_in, tests_in, text_in}
+use Rattle.covstore.specs.State.{FileData, IsIndexOf, IsStateOf, IsWholeFile, file_with, has_checksum, holders_at, holding, points_in, tests_in, text_in}
 use Rattle.covstore.specs.Items.{KeepsCounts}
 use Rattle.covstore.specs.Sums.{TestData, line_sum, test_of}
 use Rattle.covstore.specs.Value.{Key, checksum_said, first_of, items_at, key_of_row, has_key, line_checksum}
@@ -116,10 +116,7 @@ holder_of line tests e =
     let found = in_from_any holds tests (sym (any_counted holds tests) ∙ sym (some_if (nat_lt 0 (holding line tests)) (holding line tests)) ∙ e) in
     (found.0, found.1, above_sum (value_of nat_cmp line found.0.lines) found.2)
 
--- ---- the numbers of a file, beside whatever list of tests they stand
-
-pub kept_beside : (list others : List (List ℕ × TestData)) (tests : List TestData) (index : FileIndexData) → AreKept tests (file_with list index) → AreKept tests (file_with others index)
-kept_beside list others tests index kept = record { lines = kept.lines; functions = kept.functions; branches = kept.branches; holders = kept.holders }
+-- ---- where a test stands
 
 module _ {rows : List Row} {files : List (List ℕ × FileData)} {file name : List ℕ} {tests : List (List ℕ × TestData)} {test : TestData} {index : FileIndexData} (is : IsIn rows files file name tests test index) where
   pub its_whole : IsWholeFile (file_with tests index)
@@ -151,16 +148,14 @@ module _ {rows : List Row} {files : List (List ℕ × FileData)} {file name : Li
   tests_after : (other : TestData) → map (λ (pair : List ℕ × TestData). pair.1) (put (slice_cmp nat_cmp) name other tests) ≡ its_front ++ other ∷ its_back
   tests_after other = ap (λ (list : List (List ℕ × TestData)). map (λ (pair : List ℕ × TestData). pair.1) list) (its_place.after other) ∙ tests_around other
 
-  pub its_kept : AreKept (its_front ++ test ∷ its_back) (file_with [] index)
-  its_kept = kept_beside tests [] (its_front ++ test ∷ its_back) index (subst (λ (list : List TestData). AreKept list (file_with tests index)) tests_before its_whole.kept)
+  pub its_kept : IsIndexOf (its_front ++ test ∷ its_back) index
+  its_kept = subst (λ (list : List TestData). IsIndexOf list index) tests_before its_whole.kept
 
   pub whole_after : (other : TestData) (more : FileIndexData) → KeepsCounts test other index more → IsWholeFile (file_with (put (slice_cmp nat_cmp) name other tests) more)
-  whole_after other more keeps =
-      let list = put (slice_cmp nat_cmp) name other tests in
-      record {
-        ascending = ArePairs-put names_order name other tests its_whole.ascending;
-        kept = subst (λ (all : List TestData). AreKept all (file_with list more)) (sym (tests_after other)) (kept_beside [] list (its_front ++ other ∷ its_back) more (keeps its_front its_back its_kept));
-      }
+  whole_after other more keeps = record {
+    ascending = ArePairs-put names_order name other tests its_whole.ascending;
+    kept = subst (λ (all : List TestData). IsIndexOf all more) (sym (tests_after other)) (keeps its_front its_back its_kept);
+  }
 
   pub as_many : length (its_front ++ test ∷ its_back) ≡ length tests
   as_many = ap (λ (all : List TestData). length all) (sym tests_before) ∙ length-map tests (λ (pair : List ℕ × TestData). pair.1)

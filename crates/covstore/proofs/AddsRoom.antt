@@ -4,8 +4,9 @@ use Rattle.std.specs.Cmp.Lexicographic.{slice_cmp}
 use Rattle.std.specs.Ordering.{nat_cmp}
 use Rattle.std.proofs.lemmas.List.{length-append}
 use Rattle.covline.specs.Row.{ItemData, Row}
+use Rattle.covstore.specs.State.{file_with}
 use Rattle.covstore.specs.Section.{Adds, HasRoomFor, files_with}
-use Rattle.covstore.specs.FileIndex.{FileIndexData, file_with}
+use Rattle.covstore.specs.FileIndex.{FileIndexData}
 use Rattle.covmap.specs.Puts.{put}
 use Rattle.covstore.specs.Items.{HasRoom}
 use Rattle.covstore.specs.Sums.{TestData}
@@ -21,10 +22,8 @@ has_room items test index room =
       front = its_front room.stands;
       back = its_back room.stands;
       kept = its_kept room.stands;
-      few = omega (arith, as_many room.stands, room.few_tests);
-      lines = omega (arith, kept.0, room.few);
-      functions = omega (arith, kept.1, room.few);
-      branches = omega (arith, kept.2, room.few);
+      few_tests = omega (arith, as_many room.stands, room.few_tests);
+      few = λ kind. omega (arith, kept kind, room.few);
     }
 
 pub room_later : (item : ItemData) (items : List ItemData) (test test_after : TestData) (index index_after : FileIndexData) → HasRoomFor (item ∷ items) test index → Adds (item ∷ []) test index test_after index_after

@@ -53,19 +53,12 @@ all_three true true false e = absurd (false≢true e)
 all_three true false z e = absurd (false≢true e)
 all_three false y z e = absurd (false≢true e)
 
-branch_with : ℕ → ℕ → ℕ → BranchPoint
-branch_with line block branch = record { line = line; block = block; branch = branch }
-
-other_branch : (point : BranchPoint) (line block branch : ℕ) → (In point (branch_with line block branch ∷ []) → ⊥) → is_branch point line block branch ≡ false
-unfolding branch_with
+other_branch : (point : BranchPoint) (line block branch : ℕ) → (In point (record { line = line; block = block; branch = branch } ∷ []) → ⊥) → is_branch point line block branch ≡ false
 other_branch point line block branch none =
     unless (is_branch point line block branch)
     (λ e.
     let all = all_three (eqb line point.line) (eqb block point.block) (eqb branch point.branch) e in
-    none (inl
-    (ap (λ (n : ℕ). branch_with n block branch) (eqb-true line point.line all.0)
-    ∙ ap (λ (n : ℕ). branch_with point.line n branch) (eqb-true block point.block all.1)
-    ∙ ap (λ (n : ℕ). branch_with point.line point.block n) (eqb-true branch point.branch all.2))))
+    none (inl (λ i. record { line = eqb-true line point.line all.0 i; block = eqb-true block point.block all.1 i; branch = eqb-true branch point.branch all.2 i })))
 
 -- ---- lines
 
@@ -80,13 +73,8 @@ checksum_unsaid line (LineItem at count None) none = refl
 checksum_unsaid line (FuncItem name start count) none = refl
 checksum_unsaid line (BranchItem at block branch taken) none = refl
 
-line_with : ℕ → ℕ → Option (List ℕ) → LineValueData
-line_with line count checksum = record { line = line; count = count; checksum = checksum }
-
 pub same_line : (line : ℕ) (xs ys : List ItemData) → line_value line xs ≡ line_value line ys → line_checksum line xs ≡ line_checksum line ys → line_at xs line ≡ line_at ys line
-unfolding line_with
-same_line line xs ys count checksum =
-    ap (λ (n : ℕ). line_with line n (line_checksum line xs)) count ∙ ap (λ (c : Option (List ℕ)). line_with line (line_value line ys) c) checksum
+same_line line xs ys count checksum = λ i. record { line = line; count = count i; checksum = checksum i }
 
 -- a bounded sum with more added is decided by the bounded sum before
 pub bounded_more : (a b n : ℕ) → bounded a ≡ bounded b → bounded (a + n) ≡ bounded (b + n)
@@ -172,13 +160,8 @@ same_least name xs ys e there back =
     ∙ sym (nothing_said func_point (start_said name) name (start_unsaid name) ys (λ i. none (back i)))))
     (In-or_not (slice_cmp nat_cmp) names_order name (func_points xs))
 
-function_with : ℕ → List ℕ → ℕ → FunctionValueData
-function_with line name count = record { line = line; name = name; count = count }
-
 pub same_function : (name : List ℕ) (xs ys : List ItemData) → least (flat_map (start_said name) xs) ≡ least (flat_map (start_said name) ys) → function_count name xs ≡ function_count name ys → function_at xs name ≡ function_at ys name
-unfolding function_with
-same_function name xs ys start count =
-    ap (λ (o : Option ℕ). function_with (unwrap_or o 0) name (function_count name xs)) start ∙ ap (λ (n : ℕ). function_with (function_start name ys) name n) count
+same_function name xs ys start count = λ i. record { line = unwrap_or (start i) 0; name = name; count = count i }
 
 pub functions_kind : IsKind (slice_cmp nat_cmp) func_points function_at (λ (v : FunctionValueData). v.name)
 functions_kind = record {
@@ -199,7 +182,6 @@ functions_kind = record {
 -- ---- branches
 
 pub taken_unsaid : (point : BranchPoint) (item : ItemData) → (In point (branch_point item) → ⊥) → taken_said point item ≡ []
-unfolding branch_with
 taken_unsaid point (BranchItem line block branch (Some taken)) none = cond-false (is_branch point line block branch) (taken ∷ []) [] (other_branch point line block branch none)
 taken_unsaid point (BranchItem line block branch None) none = refl
 taken_unsaid point (LineItem line count checksum) none = refl
@@ -215,12 +197,8 @@ sum_if_more (x ∷ xs) (y ∷ ys) zs e =
     ap (λ (n : ℕ). Some n)
     (ap bounded (sum_by-append add (x ∷ xs) zs) ∙ bounded_more (sum_by add (x ∷ xs)) (sum_by add (y ∷ ys)) (sum_by add zs) same ∙ sym (ap bounded (sum_by-append add (y ∷ ys) zs)))
 
-taken_with : BranchPoint → Option ℕ → BranchValueData
-taken_with point taken = record { point = point; taken = taken }
-
 pub same_branch : (point : BranchPoint) (xs ys : List ItemData) → branch_value point xs ≡ branch_value point ys → branch_at xs point ≡ branch_at ys point
-unfolding taken_with
-same_branch point xs ys taken = ap (λ (o : Option ℕ). taken_with point o) taken
+same_branch point xs ys taken = λ i. record { point = point; taken = taken i }
 
 pub branches_kind : IsKind branch_cmp branch_points branch_at (λ (v : BranchValueData). v.point)
 branches_kind = record {

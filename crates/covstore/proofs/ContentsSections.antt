@@ -21,9 +21,6 @@ items_at-append key xs ys = ap (map (λ (row : Row). row.item)) (filter-append (
 
 -- ---- the section of a key that no row has
 
-key_with : List ℕ → List ℕ → Key
-key_with file test = record { file = file; test = test }
-
 pub both : (x y : Bool) → (x && y) ≡ true → (x ≡ true) × (y ≡ true)
 both true true e = (refl, refl)
 both true false e = absurd (false≢true e)
@@ -31,11 +28,9 @@ both false y e = absurd (false≢true e)
 
 -- the row has this key, where the test says so
 pub own_key : (key : Key) (row : Row) → has_key key row ≡ true → key_of_row row ≡ key
-unfolding key_with
 own_key key row e =
     let same = both (bytes_eq row.file key.file) (bytes_eq row.test key.test) e in
-    ap (λ (file : List ℕ). key_with file row.test) ((bytes_eq-Decides row.file key.file).0 same.0)
-    ∙ ap (λ (test : List ℕ). key_with key.file test) ((bytes_eq-Decides row.test key.test).0 same.1)
+    λ i. record { file = (bytes_eq-Decides row.file key.file).0 same.0 i; test = (bytes_eq-Decides row.test key.test).0 same.1 i }
 
 pub no_row : (key : Key) (rows : List Row) → (In key (map key_of_row rows) → ⊥) → filter (has_key key) rows ≡ []
 no_row key [] none = refl
@@ -47,16 +42,9 @@ no_row key (row ∷ rows) none = by (has_key key row) refl (no_row key rows (λ 
 
 -- ---- the section of a key with more rows
 
-section_from : Key → List FunctionValueData → List BranchValueData → List LineValueData → SectionData
-section_from key functions branches lines = record { key = key; functions = functions; branches = branches; lines = lines }
-
 pub same_section : (key : Key) (xs ys : List ItemData) → (section_with key xs).functions ≡ (section_with key ys).functions → (section_with key xs).branches ≡ (section_with key ys).branches
     → (section_with key xs).lines ≡ (section_with key ys).lines → section_with key xs ≡ section_with key ys
-unfolding section_from
-same_section key xs ys functions branches lines =
-    ap (λ (fs : List FunctionValueData). section_from key fs (section_with key xs).branches (section_with key xs).lines) functions
-    ∙ ap (λ (bs : List BranchValueData). section_from key (section_with key ys).functions bs (section_with key xs).lines) branches
-    ∙ ap (λ (ls : List LineValueData). section_from key (section_with key ys).functions (section_with key ys).branches ls) lines
+same_section key xs ys functions branches lines = λ i. record { key = key; functions = functions i; branches = branches i; lines = lines i }
 
 section_more : (key : Key) (xs ys zs : List ItemData) → section_with key xs ≡ section_with key ys → section_with key (xs ++ zs) ≡ section_with key (ys ++ zs)
 section_more key xs ys zs e =

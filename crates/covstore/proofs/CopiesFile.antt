@@ -5,10 +5,11 @@ use Rattle.std.specs.Cmp.Lexicographic.{slice_cmp}
 use Rattle.std.specs.Ordering.{nat_cmp}
 use Rattle.std.proofs.lemmas.List.Concat.{flat_map-append}
 use Rattle.covline.specs.Row.{ItemData, Row}
+use Rattle.covstore.specs.State.{file_with}
 use Rattle.covstore.specs.Section.{Adds, HasRoomFor}
 use Rattle.covstore.specs.Clash.{Agree, Checksum, checksum_of_row, checksums_in}
 use Rattle.covstore.specs.FileSection.{HasFile}
-use Rattle.covstore.specs.FileIndex.{FileIndexData, file_with}
+use Rattle.covstore.specs.FileIndex.{FileIndexData}
 use Rattle.covmap.specs.Puts.{put, value_of}
 use Rattle.covstore.specs.Renaming.{CopiesIn, HasHolders, HasRoomToCopyIn, copied_rows, items_of_test, key_of}
 use Rattle.covstore.specs.StoreSection.{rows_of_items}

@@ -5,24 +5,20 @@ use Rattle.std.specs.Option.{is_some}
 use Rattle.std.specs.Ordering.{nat_cmp}
 use Rattle.std.proofs.lemmas.Bool.{false≢true}
 use Rattle.std.proofs.lemmas.List.{append-nil, length-append, length-map, map-append}
-use Rattle.std.proofs.lemmas.Simd.{map-map}
-use Rattle.covline.specs.declared.point.BranchPoint as code
-use Rattle.covline.specs.PointView.{branch_point_data}
 use Rattle.covline.specs.Row.{ItemData, LineItem, Row, rows_of_sect}
 use Rattle.covstore.specs.declared.index.FileIndex.{FileIndex}
 use Rattle.covstore.specs.declared.sums.LineSum.{LineSum}
-use Rattle.covstore.specs.declared.sums.BranchSum.{BranchSum}
 use Rattle.covstore.specs.declared.test.Test.{Test}
 use Rattle.covstore.specs.Section.{Adds, HasRoomFor, files_with, section_of_items}
 use Rattle.covstore.specs.KindIndexCounts.{is_above_at}
 use Rattle.covstore.specs.FileIndex.{FileIndexData}
 use Rattle.covstore.specs.FileIndexView.{KeepsCommitted, index_staged}
 use Rattle.covmap.specs.Puts.{ArePairs, put, value_of}
-use Rattle.covstore.specs.Renaming.{HasHolders, branch_item, line_item}
+use Rattle.covstore.specs.Renaming.{HasHolders, line_item}
 use Rattle.covstore.specs.State.{has_checksum, text_at}
 use Rattle.covstore.specs.Items.{HasRoom, IsTextOf, KeepsCounts, KeepsTextsOf}
 use Rattle.covstore.specs.Sums.{TestData, with_item}
-use Rattle.covstore.specs.TestView.{branches_data, test_staged, test_committed}
+use Rattle.covstore.specs.TestView.{test_staged, test_committed}
 use Rattle.covstore.proofs.AddsLists.{length-put_there}
 use Rattle.covstore.proofs.AddsLoop.{HasTaken, next_has_room, none_taken, one_taken}
 use Rattle.covstore.proofs.AddsPlace.{its_whole}
@@ -155,11 +151,3 @@ module _ {A : Type 0} (all : List (ℕ × LineSum)) (test : Test A) (index : Fil
             any_key lines_order (λ (other : ℕ). is_above_at has_checksum (value_of nat_cmp other rest) ≡ true → is_some (value_of nat_cmp other (index_staged index).holders) ≡ true) line
             (λ e. absurd (false≢true (sym (ap (is_above_at has_checksum) (value_of_before lines_order line rest sorted.0)) ∙ e)))
             (λ other apart e. is.holders other (ap (is_above_at has_checksum) (ap (value_of nat_cmp other) first ∙ value_of_later lines_order other (line, sum) rest apart) ∙ e))
-
--- ---- the branches, whose points are of the code
-
-abbrev pub code_branch_item : code.BranchPoint × BranchSum → ItemData
-code_branch_item pair = branch_item (branch_point_data pair.0, pair.1)
-
-pub all_branches : (pairs : List (code.BranchPoint × BranchSum)) → map code_branch_item pairs ≡ map branch_item (branches_data pairs)
-all_branches pairs = sym (map-map branch_item (λ pair. (branch_point_data pair.0, pair.1)) pairs)

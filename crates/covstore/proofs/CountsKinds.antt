@@ -3,7 +3,7 @@ use Rattle.std.proofs.Common.{◌≡◌, ℕ, Bool, true, false, ◌==◌, ◌&&
 use Rattle.std.specs.declared.cmp.Ordering.{Ordering}
 use Rattle.std.specs.declared.cmp.Ordering.TheVariants.{Less}
 use Rattle.std.specs.Cmp.Lexicographic.{slice_cmp}
-use Rattle.std.specs.List.{AllByRecursion, count_by}
+use Rattle.std.specs.List.{AllByRecursion, count_by, flat_map, list_any}
 use Rattle.std.specs.List.Sorted.{IsStrictlySortedBy}
 use Rattle.std.specs.Ordering.{is_eq, nat_cmp}
 use Rattle.std.specs.Str.{bytes_eq}
@@ -11,29 +11,60 @@ use Rattle.std.proofs.lemmas.Bool.{eqb-true, eq-eqb}
 use Rattle.std.proofs.lemmas.Cmp.{tied_itself}
 use Rattle.std.proofs.lemmas.Map.Views.{tells_apart}
 use Rattle.std.proofs.lemmas.Slice.Eq.{bytes_eq-Decides}
-use Rattle.covline.specs.Points.{BranchPoint, line_points, func_points, branch_points}
-use Rattle.covline.specs.Row.{Row}
-use Rattle.covstore.specs.declared.sums.Tests.{Tests}
-use Rattle.covstore.specs.Content.{BranchValueData, FunctionValueData, LineValueData, SectionData, branch_at, content_of, function_at, line_at, section_of}
+use Rattle.covline.specs.Points.{branch_points, func_points, line_points}
+use Rattle.covline.specs.Row.{ItemData, Row}
+use Rattle.covstore.specs.Ascending.{ascending}
+use Rattle.covstore.specs.Content.{BranchValueData, FunctionValueData, LineValueData, SectionData, branch_at, content_of, function_at, line_at, section_of, section_with}
 use Rattle.covstore.specs.KindIndexCounts.{AreCounts, found_of, hit_of}
 use Rattle.covmap.specs.Puts.{ArePairs}
-use Rattle.covstore.specs.Totals.{branches_found, functions_found, is_branch_hit, is_function_hit, is_line_hit, lines_found, sections_of}
-use Rattle.covstore.specs.Value.{Key, branch_cmp, is_branch, is_taken, items_at, keys_of}
+use Rattle.covstore.specs.Totals.{sections_of}
+use Rattle.covstore.specs.Value.{Key, branch_cmp, branches_in, is_branch, is_taken, items_at, keys_of, lines_in, names_in}
+use Rattle.covstore.specs.Kinds.{Branch, CountsOf, Function, KeyOf, Kind, Line, cmp_of}
 use Rattle.covstore.proofs.Ascend.{IsExactOrder, ascending_sorted}
 use Rattle.covstore.proofs.CountsFound.{section_points_found, section_points_hit}
 use Rattle.covstore.proofs.Orders.{branches_order, lines_order, names_order}
 use Rattle.covstore.proofs.TotalsKinds.{itself, same_branch}
 use Rattle.covstore.proofs.TotalsRows.{same_truth}
+use Rattle.covstore.proofs.Axis.{order_of}
+
+-- ---- what is seen of a kind
+
+abbrev pub ValueOf : Kind → Type 0
+ValueOf Line = LineValueData
+ValueOf Function = FunctionValueData
+ValueOf Branch = BranchValueData
+
+abbrev pub key_in : (kind : Kind) → ValueOf kind → KeyOf kind
+key_in Line l = l.line
+key_in Function f = f.name
+key_in Branch b = b.point
+
+abbrev pub above_in : (kind : Kind) → ValueOf kind → Bool
+above_in Line l = nat_lt 0 l.count
+above_in Function f = nat_lt 0 f.count
+above_in Branch b = is_taken b.taken
+
+abbrev pub values_in : (kind : Kind) → SectionData → List (ValueOf kind)
+values_in Line s = s.lines
+values_in Function s = s.functions
+values_in Branch s = s.branches
 
 -- the points of a section with their values
-abbrev pub lines_of : SectionData → List (ℕ × LineValueData)
-lines_of s = map (λ l. (l.line, l)) s.lines
+abbrev pub valued : (kind : Kind) → SectionData → List (KeyOf kind × ValueOf kind)
+valued kind s = map (λ v. (key_in kind v, v)) (values_in kind s)
 
-abbrev pub functions_of : SectionData → List (List ℕ × FunctionValueData)
-functions_of s = map (λ f. (f.name, f)) s.functions
+-- the value is that of this point
+abbrev is_at : (kind : Kind) → KeyOf kind → ValueOf kind → Bool
+is_at Line line l = l.line == line
+is_at Function name f = bytes_eq f.name name
+is_at Branch point b = is_branch point b.point.line b.point.block b.point.branch
 
-abbrev pub branches_of : SectionData → List (BranchPoint × BranchValueData)
-branches_of s = map (λ b. (b.point, b)) s.branches
+-- the points that sections have, each once, and those of which some section has a value above 0
+abbrev pub found_in : (kind : Kind) → List SectionData → List (KeyOf kind)
+found_in kind sections = ascending (cmp_of kind) (flat_map (λ s. map (key_in kind) (values_in kind s)) sections)
+
+abbrev pub is_hit_in : (kind : Kind) → List SectionData → KeyOf kind → Bool
+is_hit_in kind sections key = list_any (λ s. list_any (λ v. is_at kind key v && above_in kind v) (values_in kind s)) sections
 
 -- a test that tells things apart is the one of their order
 same_test : {X : Type 0} {cmp : X → X → Ordering} → IsExactOrder cmp → (equal : X → X → Bool) → ((x y : X) → equal x y ≡ true → x ≡ y) → ((x : X) → equal x x ≡ true)
@@ -43,41 +74,19 @@ same_test {X} {cmp} o equal to self x y =
     (λ h. subst (λ (z : X). is_eq (cmp x z) ≡ true) (to x y h) (ap is_eq (tied_itself o.total x)))
     (λ h. subst (λ (z : X). equal x z ≡ true) (tells_apart o.exact x y h) (self x))
 
--- ---- each kind
+at_is : (kind : Kind) (key : KeyOf kind) (v : ValueOf kind) → is_at kind key v ≡ is_eq (cmp_of kind (key_in kind v) key)
+at_is Line line l = same_test lines_order (λ x y. x == y) eqb-true (λ x. eq-eqb x x refl) l.line line
+at_is Function name f = same_test names_order bytes_eq (λ x y. (bytes_eq-Decides x y).0) (λ x. (bytes_eq-Decides x x).1 refl) f.name name
+at_is Branch point b = same_test branches_order (λ x y. is_branch y x.line x.block x.branch) (λ x y h. same_branch y x.line x.block x.branch h) itself b.point point
 
-module _ (own : List SectionData) where
-  pub lines_counted : (counts : List (ℕ × Tests)) → AllByRecursion (λ s. ArePairs nat_cmp (lines_of s)) own → AreCounts nat_cmp (λ l. nat_lt 0 l.count) (map lines_of own) counts
-      → (length (lines_found own) ≡ found_of counts) × (count_by (is_line_hit own) (lines_found own) ≡ hit_of counts)
-  lines_counted counts sorted are =
-      let at = λ (l : LineValueData). l.line in
-      let above = λ (l : LineValueData). nat_lt 0 l.count in (
-        section_points_found lines_order (λ (s : SectionData). s.lines) at above own counts are,
-        section_points_hit lines_order (λ (s : SectionData). s.lines) at above own counts are (λ line l. l.line == line && nat_lt 0 l.count)
-            (λ line l. ap (λ (b : Bool). b && nat_lt 0 l.count) (same_test lines_order (λ x y. x == y) eqb-true (λ x. eq-eqb x x refl) l.line line)) sorted,
-      )
-
-  pub functions_counted : (counts : List (List ℕ × Tests)) → AllByRecursion (λ s. ArePairs (slice_cmp nat_cmp) (functions_of s)) own
-      → AreCounts (slice_cmp nat_cmp) (λ f. nat_lt 0 f.count) (map functions_of own) counts
-      → (length (functions_found own) ≡ found_of counts) × (count_by (is_function_hit own) (functions_found own) ≡ hit_of counts)
-  functions_counted counts sorted are =
-      let at = λ (f : FunctionValueData). f.name in
-      let above = λ (f : FunctionValueData). nat_lt 0 f.count in (
-        section_points_found names_order (λ (s : SectionData). s.functions) at above own counts are,
-        section_points_hit names_order (λ (s : SectionData). s.functions) at above own counts are (λ name f. bytes_eq f.name name && nat_lt 0 f.count)
-            (λ name f. ap (λ (b : Bool). b && nat_lt 0 f.count)
-            (same_test names_order bytes_eq (λ x y. (bytes_eq-Decides x y).0) (λ x. (bytes_eq-Decides x x).1 refl) f.name name)) sorted,
-      )
-
-  pub branches_counted : (counts : List (BranchPoint × Tests)) → AllByRecursion (λ s. ArePairs branch_cmp (branches_of s)) own → AreCounts branch_cmp (λ b. is_taken b.taken) (map branches_of own) counts
-      → (length (branches_found own) ≡ found_of counts) × (count_by (is_branch_hit own) (branches_found own) ≡ hit_of counts)
-  branches_counted counts sorted are =
-      let at = λ (b : BranchValueData). b.point in
-      let above = λ (b : BranchValueData). is_taken b.taken in (
-        section_points_found branches_order (λ (s : SectionData). s.branches) at above own counts are,
-        section_points_hit branches_order (λ (s : SectionData). s.branches) at above own counts are (λ point b. is_branch point b.point.line b.point.block b.point.branch && is_taken b.taken)
-            (λ point b. ap (λ (equal : Bool). equal && is_taken b.taken)
-            (same_test branches_order (λ x y. is_branch y x.line x.block x.branch) (λ x y h. same_branch y x.line x.block x.branch h) itself b.point point)) sorted,
-      )
+-- the counts of the sections' points tell how many are found, and how many of them hit
+pub counted : (kind : Kind) (own : List SectionData) (counts : CountsOf kind) → AllByRecursion (λ s. ArePairs (cmp_of kind) (valued kind s)) own → AreCounts (cmp_of kind) (above_in kind) (map (valued kind) own) counts
+    → (length (found_in kind own) ≡ found_of counts) × (count_by (is_hit_in kind own) (found_in kind own) ≡ hit_of counts)
+counted kind own counts sorted are = (
+  section_points_found (order_of kind) (values_in kind) (key_in kind) (above_in kind) own counts are,
+  section_points_hit (order_of kind) (values_in kind) (key_in kind) (above_in kind) own counts are (λ key v. is_at kind key v && above_in kind v)
+      (λ key v. ap (λ (b : Bool). b && above_in kind v) (at_is kind key v)) sorted,
+)
 
 -- ---- the sections of a content are ascending
 
@@ -101,24 +110,12 @@ made_ascending cmp at make same [] sorted = tt
 made_ascending {X} {Y} cmp at make same (x ∷ xs) sorted =
     (made_behind (λ z. cmp (at (make x)) z ≡ Less) at make same xs (subst (λ (z : X). AllByRecursion (λ w. cmp z w ≡ Less) xs) (sym (same x)) sorted.0), made_ascending cmp at make same xs sorted.1)
 
-module _ (file : List ℕ) (rows : List Row) where
-  own_file : SectionData → Bool
-  own_file s = bytes_eq s.key.file file
+section_ascends : (kind : Kind) (items : List ItemData) (key : Key) → ArePairs (cmp_of kind) (valued kind (section_with key items))
+section_ascends Line items key = made_ascending nat_cmp (λ (l : LineValueData). l.line) (line_at items) (λ x. refl) (lines_in items) (ascending_sorted lines_order.total (line_points items))
+section_ascends Function items key =
+    made_ascending (slice_cmp nat_cmp) (λ (f : FunctionValueData). f.name) (function_at items) (λ x. refl) (names_in items) (ascending_sorted names_order.total (func_points items))
+section_ascends Branch items key = made_ascending branch_cmp (λ (b : BranchValueData). b.point) (branch_at items) (λ x. refl) (branches_in items) (ascending_sorted branches_order.total (branch_points items))
 
-  pub lines_ascend : AllByRecursion (λ s. ArePairs nat_cmp (lines_of s)) (sections_of file (content_of rows))
-  unfolding own_file
-  lines_ascend =
-      All-made (λ s. ArePairs nat_cmp (lines_of s)) own_file (section_of rows)
-      (λ (key : Key). made_ascending nat_cmp (λ (l : LineValueData). l.line) (line_at (items_at key rows)) (λ x. refl) _ (ascending_sorted lines_order.total (line_points (items_at key rows)))) (keys_of rows)
-
-  pub functions_ascend : AllByRecursion (λ s. ArePairs (slice_cmp nat_cmp) (functions_of s)) (sections_of file (content_of rows))
-  unfolding own_file
-  functions_ascend =
-      All-made (λ s. ArePairs (slice_cmp nat_cmp) (functions_of s)) own_file (section_of rows)
-      (λ (key : Key). made_ascending (slice_cmp nat_cmp) (λ (f : FunctionValueData). f.name) (function_at (items_at key rows)) (λ x. refl) _ (ascending_sorted names_order.total (func_points (items_at key rows)))) (keys_of rows)
-
-  pub branches_ascend : AllByRecursion (λ s. ArePairs branch_cmp (branches_of s)) (sections_of file (content_of rows))
-  unfolding own_file
-  branches_ascend =
-      All-made (λ s. ArePairs branch_cmp (branches_of s)) own_file (section_of rows)
-      (λ (key : Key). made_ascending branch_cmp (λ (b : BranchValueData). b.point) (branch_at (items_at key rows)) (λ x. refl) _ (ascending_sorted branches_order.total (branch_points (items_at key rows)))) (keys_of rows)
+pub ascend : (kind : Kind) (file : List ℕ) (rows : List Row) → AllByRecursion (λ s. ArePairs (cmp_of kind) (valued kind s)) (sections_of file (content_of rows))
+ascend kind file rows =
+    All-made (λ s. ArePairs (cmp_of kind) (valued kind s)) (λ s. bytes_eq s.key.file file) (section_of rows) (λ (key : Key). section_ascends kind (items_at key rows) key) (keys_of rows)

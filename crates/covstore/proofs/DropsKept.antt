@@ -5,21 +5,17 @@ use Rattle.std.specs.declared.cmp.Ordering.{Ordering}
 use Rattle.std.specs.Ordering.{nat_cmp}
 use Rattle.std.proofs.lemmas.List.{map-append}
 use Rattle.covstore.specs.declared.sums.Tests.{Tests}
-use Rattle.covstore.specs.KindIndexCounts.{AreCounts, found_of, hit_of, is_above_at}
-use Rattle.covstore.specs.FileIndexDrops.{IsIndexOf}
+use Rattle.covstore.specs.Kinds.{PointsOf, above_of, at, cmp_of}
+use Rattle.covstore.specs.KindIndexCounts.{AreCounts, is_above_at}
 use Rattle.covstore.specs.FileDrops.{IsWithoutTest, tests_without}
-use Rattle.covstore.specs.FileIndex.{FileIndexData, file_with}
+use Rattle.covstore.specs.FileIndex.{FileIndexData, counts_totals, index_totals}
 use Rattle.covmap.specs.Puts.{value_of}
-use Rattle.covstore.specs.State.{AreKept, FileData, IsWholeFile, branch_above, file_totals, function_above, has_checksum, holders_at, line_above, tests_in}
+use Rattle.covstore.specs.State.{FileData, IsIndexOf, IsWholeFile, file_totals, file_with, has_checksum, holders_at, tests_in}
 use Rattle.covstore.specs.Sums.{TestData}
-use Rattle.covstore.specs.Value.{branch_cmp}
-use Rattle.covstore.proofs.AddsPlace.{kept_beside}
-use Rattle.covstore.proofs.Ascend.{IsExactOrder}
 use Rattle.covstore.proofs.Counts.{count_by-between, tests_at-between}
 use Rattle.covstore.proofs.DropsTests.{IsBetween, between, others_ascend, others_of_none}
-use Rattle.covstore.proofs.Orders.{branches_order, lines_order, names_order}
-use Rattle.covstore.proofs.Puts.{same_pairs}
-use Rattle.covstore.proofs.TotalsKinds.{same_totals}
+use Rattle.covstore.proofs.Axis.{map_between, order_of, same_each}
+use Rattle.covstore.proofs.Fewer.{one_rest}
 
 -- ---- the test first
 
@@ -30,40 +26,25 @@ counts_first cmp is_above front pairs back counts are = record {
   counted = λ key. are.counted key ∙ tests_at-between cmp is_above key front pairs back ∙ sym (tests_at-between cmp is_above key [] pairs (front ++ back));
 }
 
--- the same of a part of each test
-module _ {K V : Type 0} (cmp : K → K → Ordering) (is_above : V → Bool) (part : TestData → List (K × V)) where
-  parts_first : (front : List TestData) (test : TestData) (back : List TestData) (counts : List (K × Tests))
-      → AreCounts cmp is_above (map part (front ++ test ∷ back)) counts → AreCounts cmp is_above (map part (test ∷ front ++ back)) counts
-  parts_first front test back counts are =
-      subst (λ (all : List (List (K × V))). AreCounts cmp is_above (part test ∷ all) counts) (sym (map-append part front back))
-      (counts_first cmp is_above (map part front) (part test) (map part back) counts
-      (subst (λ (all : List (List (K × V))). AreCounts cmp is_above all counts) (map-append part front (test ∷ back)) are))
-
 holders_first : (line : ℕ) (front : List TestData) (test : TestData) (back : List TestData) → holders_at line (front ++ test ∷ back) ≡ holders_at line (test ∷ front ++ back)
 holders_first line front test back =
     let holds = λ (t : TestData). is_above_at has_checksum (value_of nat_cmp line t.lines) in
     ap (λ (n : ℕ). if nat_lt 0 n then Some n else None) (count_by-between holds front test back ∙ sym (count_by-between holds [] test (front ++ back)))
 
-pub kept_first : (front : List TestData) (test : TestData) (back : List TestData) (file : FileData) → AreKept (front ++ test ∷ back) file → AreKept (test ∷ front ++ back) file
-kept_first front test back file kept = record {
-  lines = parts_first nat_cmp line_above (λ (t : TestData). t.lines) front test back file.lines kept.lines;
-  functions = parts_first (slice_cmp nat_cmp) function_above (λ (t : TestData). t.functions) front test back file.functions kept.functions;
-  branches = parts_first branch_cmp branch_above (λ (t : TestData). t.branches) front test back file.branches kept.branches;
+pub kept_first : (front : List TestData) (test : TestData) (back : List TestData) (index : FileIndexData) → IsIndexOf (front ++ test ∷ back) index → IsIndexOf (test ∷ front ++ back) index
+kept_first front test back index kept = record {
+  counts = λ kind.
+      subst (λ (all : List (PointsOf kind)). AreCounts (cmp_of kind) (above_of kind) (at kind test ∷ all) (at kind index.counts)) (sym (map-append (at kind) front back))
+      (counts_first (cmp_of kind) (above_of kind) (map (at kind) front) (at kind test) (map (at kind) back) (at kind index.counts)
+      (subst (λ (all : List (PointsOf kind)). AreCounts (cmp_of kind) (above_of kind) all (at kind index.counts)) (map_between (at kind) front test back) (kept.counts kind)));
   holders = λ line. kept.holders line ∙ holders_first line front test back;
 }
 
 -- ---- one list counts the tests
 
-one_counts : {K V : Type 0} {cmp : K → K → Ordering} → IsExactOrder cmp → (is_above : V → Bool) (tests : List (List (K × V))) (counts more : List (K × Tests))
-    → AreCounts cmp is_above tests counts → AreCounts cmp is_above tests more → counts ≡ more
-one_counts o is_above tests counts more are also = same_pairs o counts more are.ascending also.ascending (λ key. are.counted key ∙ sym (also.counted key))
-
-pub one_totals : (tests : List TestData) (file other : FileData) → AreKept tests file → AreKept tests other → file_totals file ≡ file_totals other
-one_totals tests file other kept also =
-    let lines = one_counts lines_order line_above (map (λ (t : TestData). t.lines) tests) file.lines other.lines kept.lines also.lines in
-    let functions = one_counts names_order function_above (map (λ (t : TestData). t.functions) tests) file.functions other.functions kept.functions also.functions in
-    let branches = one_counts branches_order branch_above (map (λ (t : TestData). t.branches) tests) file.branches other.branches kept.branches also.branches in
-    same_totals (file_totals file) (file_totals other) (ap found_of lines) (ap hit_of lines) (ap found_of functions) (ap hit_of functions) (ap found_of branches) (ap hit_of branches)
+pub one_totals : (tests : List TestData) (index other : FileIndexData) → IsIndexOf tests index → IsIndexOf tests other → index_totals index ≡ index_totals other
+one_totals tests index other kept also =
+    ap counts_totals (same_each index.counts other.counts (λ kind. one_rest (order_of kind) {is_above = above_of kind} (map (at kind) tests) (at kind index.counts) (at kind other.counts) (kept.counts kind) (also.counts kind)))
 
 -- ---- a file, one of whose tests goes
 
@@ -83,26 +64,18 @@ module _ (name : List ℕ) (points : TestData) (tests : List (List ℕ × TestDa
       let back = points_of_all place.back in
       let all : points_of_all tests ≡ front ++ points ∷ back = ap points_of_all place.all ∙ map-append (λ (pair : List ℕ × TestData). pair.1) place.front ((name, points) ∷ place.back) in
       let rest : points_of_all (tests_without name tests) ≡ front ++ back = ap points_of_all place.without ∙ map-append (λ (pair : List ℕ × TestData). pair.1) place.front place.back in
-      subst (λ (others : List TestData). AreKept (points ∷ others) (file_with [] index)) (sym rest)
-      (kept_first front points back (file_with [] index)
-      (subst (λ (list : List TestData). AreKept list (file_with [] index)) all (kept_beside tests [] (points_of_all tests) index whole.kept)))
+      subst (λ (others : List TestData). IsIndexOf (points ∷ others) index) (sym rest) (kept_first front points back index (subst (λ (list : List TestData). IsIndexOf list index) all whole.kept))
 
   pub without_found : (rest : FileIndexData) → rest.texts ≡ index.texts → IsIndexOf (points_of_all (tests_without name tests)) rest
       → IsWithoutTest name (file_with tests index) (file_with (tests_without name tests) rest)
   without_found rest texts are = record {
     tests = refl;
     texts = texts;
-    whole = record { ascending = others_ascend name tests whole.ascending; kept = kept_beside [] (tests_without name tests) (points_of_all (tests_without name tests)) rest are };
+    whole = record { ascending = others_ascend name tests whole.ascending; kept = are };
   }
 
--- what is kept of a file that is given so
-abbrev pub index_in : FileData → FileIndexData
-index_in file = record { lines = file.lines; functions = file.functions; branches = file.branches; holders = file.holders; texts = file.texts }
-
-pub index_after : (name : List ℕ) (before after : FileData) → IsWithoutTest name before after → IsIndexOf (points_of_all (tests_without name before.tests)) (index_in after)
-index_after name before after is =
-    kept_beside after.tests [] (points_of_all (tests_without name before.tests)) (index_in after)
-    (subst (λ (tests : List (List ℕ × TestData)). AreKept (points_of_all tests) after) is.tests is.whole.kept)
+pub index_after : (name : List ℕ) (before after : FileData) → IsWithoutTest name before after → IsIndexOf (points_of_all (tests_without name before.tests)) after.index
+index_after name before after is = subst (λ (tests : List (List ℕ × TestData)). IsIndexOf (points_of_all tests) after.index) is.tests is.whole.kept
 
 -- the test isn't there
 module _ (name : List ℕ) (file : FileData) (whole : IsWholeFile file) (none : value_of (slice_cmp nat_cmp) name file.tests ≡ None) where
@@ -111,5 +84,5 @@ module _ (name : List ℕ) (file : FileData) (whole : IsWholeFile file) (none : 
 
   pub totals_unfound : (after : FileData) → IsWithoutTest name file after → file_totals file ≡ file_totals after
   totals_unfound after is =
-      one_totals (tests_in file) file after whole.kept
-      (subst (λ (tests : List (List ℕ × TestData)). AreKept (points_of_all tests) after) (is.tests ∙ others_of_none name file.tests none) is.whole.kept)
+      one_totals (tests_in file) file.index after.index whole.kept
+      (subst (λ (tests : List (List ℕ × TestData)). IsIndexOf (points_of_all tests) after.index) (is.tests ∙ others_of_none name file.tests none) is.whole.kept)

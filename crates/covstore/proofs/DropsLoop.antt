@@ -3,10 +3,10 @@ use Rattle.std.proofs.Common.{◌≡◌, ℕ, ◌+◌, ◌<◌, ◌^◌, Bool, c
 use Rattle.std.specs.List.{AllByRecursion, count_by, sum_by}
 use Rattle.std.proofs.lemmas.List.Sums.{count_by-le-length, sum_by-cons}
 use Rattle.covstore.specs.declared.totals.Totals.{Totals}
-use Rattle.covstore.specs.KindIndexCounts.{found_of, hit_of}
 use Rattle.covstore.specs.FileDrops.{AreWithoutTest, IsWithoutTest}
 use Rattle.covstore.specs.TotalsExchanged.{FitTogether, FitTotals, no_totals, together}
-use Rattle.covstore.specs.State.{FileData, IsWholeFile, file_totals, has_points_of, totals_in}
+use Rattle.covstore.specs.State.{FileData, IsWholeFile, file_totals, found_at, has_points_of, hit_at, totals_in}
+use Rattle.covstore.specs.Kinds.{Branch, Function, Line}
 use Rattle.covstore.proofs.TotalsKinds.{same_totals}
 
 -- ---- totals of files
@@ -24,9 +24,20 @@ one_more f pair files n = omega (arith, sum_by-cons f pair files)
 pub totals_taken : (totals : Totals) (pair : List ℕ × FileData) (files : List (List ℕ × FileData)) → together (together totals (file_totals pair.1)) (totals_in files) ≡ together totals (totals_in (pair ∷ files))
 totals_taken totals pair files =
     same_totals (together (together totals (file_totals pair.1)) (totals_in files)) (together totals (totals_in (pair ∷ files)))
-    (one_more (λ p. found_of p.1.lines) pair files totals.lf) (one_more (λ p. hit_of p.1.lines) pair files totals.lh)
-    (one_more (λ p. found_of p.1.functions) pair files totals.ff) (one_more (λ p. hit_of p.1.functions) pair files totals.fh)
-    (one_more (λ p. found_of p.1.branches) pair files totals.bf) (one_more (λ p. hit_of p.1.branches) pair files totals.bh)
+    (one_more (found_at Line) pair files totals.lf) (one_more (hit_at Line) pair files totals.lh)
+    (one_more (found_at Function) pair files totals.ff) (one_more (hit_at Function) pair files totals.fh)
+    (one_more (found_at Branch) pair files totals.bf) (one_more (hit_at Branch) pair files totals.bh)
+
+-- what is added to others, where all of it fits
+pub part_fits : (totals own rest whole : Totals) → together (together totals own) rest ≡ whole → FitTotals whole → FitTogether own totals
+part_fits totals own rest whole sum fit = record {
+  lf = omega (arith, fit.lf, ap (λ (t : Totals). t.lf) sum);
+  lh = omega (arith, fit.lh, ap (λ (t : Totals). t.lh) sum);
+  ff = omega (arith, fit.ff, ap (λ (t : Totals). t.ff) sum);
+  fh = omega (arith, fit.fh, ap (λ (t : Totals). t.fh) sum);
+  bf = omega (arith, fit.bf, ap (λ (t : Totals). t.bf) sum);
+  bh = omega (arith, fit.bh, ap (λ (t : Totals). t.bh) sum);
+}
 
 -- ---- the loop
 
@@ -64,15 +75,7 @@ module _ (test : List ℕ) (all : List (List ℕ × FileData)) where
       fits_at : (after later : List (List ℕ × FileData)) → AreWithoutTest test (pair ∷ left) later → together totals (totals_in later) ≡ totals_in after → FitTotals (totals_in after) → FitTogether own totals
       fits_at after later are e fit =
           let next = taken after later are e in
-          let sum = next.2 in
-          record {
-            lf = omega (arith, fit.lf, ap (λ (t : Totals). t.lf) sum);
-            lh = omega (arith, fit.lh, ap (λ (t : Totals). t.lh) sum);
-            ff = omega (arith, fit.ff, ap (λ (t : Totals). t.ff) sum);
-            fh = omega (arith, fit.fh, ap (λ (t : Totals). t.fh) sum);
-            bf = omega (arith, fit.bf, ap (λ (t : Totals). t.bf) sum);
-            bh = omega (arith, fit.bh, ap (λ (t : Totals). t.bh) sum);
-          }
+          part_fits totals own (totals_in next.0) (totals_in after) next.2 fit
 
       pub next_fits : (after : List (List ℕ × FileData)) → AreWithoutTest test all after → FitTotals (totals_in after) → FitTogether own totals
       next_fits after are fit = let later = is.rest after are in fits_at after later.0 later.1 later.2 fit

@@ -11,18 +11,18 @@ use Rattle.std.proofs.lemmas.List.Sums.{sum_by-cons}
 use Rattle.std.proofs.lemmas.Map.Views.{tells_apart}
 use Rattle.std.proofs.lemmas.Option.{none-some}
 use Rattle.covstore.specs.declared.sums.Tests.{Tests}
+use Rattle.covstore.specs.Kinds.{CountsOf, Kind, above_of, at, cmp_of, of_each}
 use Rattle.covstore.specs.KindIndexCounts.{AreCounts, count_above, count_with, is_above_at, tests_at}
-use Rattle.covstore.specs.FileIndexDrops.{IsIndexOf}
 use Rattle.covstore.specs.FileDrops.{AreWithoutTest, IsWithoutTest, tests_without}
-use Rattle.covstore.specs.FileIndex.{FileIndexData, file_with}
+use Rattle.covstore.specs.FileIndex.{FileIndexData}
 use Rattle.covmap.specs.Puts.{ArePairs, value_of}
-use Rattle.covstore.specs.State.{FileData, IsWholeFile, branch_above, function_above, has_checksum, holders_at, holding, line_above}
+use Rattle.covstore.specs.State.{FileData, IsIndexOf, IsWholeFile, file_with, has_checksum, holders_at, holding}
 use Rattle.covstore.specs.Sums.{TestData}
-use Rattle.covstore.specs.Value.{branch_cmp}
 use Rattle.covstore.proofs.Ascend.{IsExactOrder}
-use Rattle.covstore.proofs.DropsKept.{index_first, index_in, points_of_all, without_found, without_unfound}
-use Rattle.covstore.proofs.Orders.{branches_order, lines_order, names_order}
+use Rattle.covstore.proofs.DropsKept.{index_first, points_of_all, without_found, without_unfound}
+use Rattle.covstore.proofs.Orders.{lines_order}
 use Rattle.covstore.proofs.Puts.{value_of_first, value_of_later}
+use Rattle.covstore.proofs.Axis.{of_all, order_of}
 
 -- ---- pairs, each with another value, or none
 
@@ -122,22 +122,18 @@ rest_counts {K} {V} {cmp} o is_above pairs others counts are = record {
 
 pub rest_of : (test : TestData) (others : List TestData) (index : FileIndexData) → IsIndexOf (test ∷ others) index → (rest : FileIndexData) × (rest.texts ≡ index.texts) × IsIndexOf others rest
 rest_of test others index are = (
-  record {
-    lines = renewed (λ line. tests_at nat_cmp line_above line (map (λ t. t.lines) others)) index.lines;
-    functions = renewed (λ name. tests_at (slice_cmp nat_cmp) function_above name (map (λ t. t.functions) others)) index.functions;
-    branches = renewed (λ point. tests_at branch_cmp branch_above point (map (λ t. t.branches) others)) index.branches;
-    holders = renewed (λ line. holders_at line others) index.holders;
-    texts = index.texts;
-  },
+  record { counts = of_each rest_of_kind; holders = renewed (λ line. holders_at line others) index.holders; texts = index.texts },
   refl,
   record {
-    lines = rest_counts lines_order line_above test.lines (map (λ t. t.lines) others) index.lines are.lines;
-    functions = rest_counts names_order function_above test.functions (map (λ t. t.functions) others) index.functions are.functions;
-    branches = rest_counts branches_order branch_above test.branches (map (λ t. t.branches) others) index.branches are.branches;
+    counts = of_all (λ kind (counts : CountsOf kind). AreCounts (cmp_of kind) (above_of kind) (map (at kind) others) counts) rest_of_kind
+        (λ kind. rest_counts (order_of kind) (above_of kind) (at kind test) (map (at kind) others) (at kind index.counts) (are.counts kind));
     holders = λ line. renewed_is (λ l. holders_at l others) lines_order line index.holders
         (λ none. none_of_others (λ t. is_above_at has_checksum (value_of nat_cmp line t.lines)) test others (holding line (test ∷ others)) (holding line others) (sym (are.holders line) ∙ none));
   },
 )
+  where
+    rest_of_kind : (kind : Kind) → CountsOf kind
+    rest_of_kind kind = renewed (λ key. tests_at (cmp_of kind) (above_of kind) key (map (at kind) others)) (at kind index.counts)
 
 -- ---- files
 
@@ -154,6 +150,6 @@ file_without name tests index whole = by (value_of (slice_cmp nat_cmp) name test
 pub files_without : (name : List ℕ) (files : List (List ℕ × FileData)) → AllByRecursion (λ pair. IsWholeFile pair.1) files → (after : List (List ℕ × FileData)) × AreWithoutTest name files after
 files_without name [] whole = ([], tt)
 files_without name (pair ∷ files) whole =
-    let one = file_without name pair.1.tests (index_in pair.1) whole.0 in
+    let one = file_without name pair.1.tests pair.1.index whole.0 in
     let rest = files_without name files whole.1 in
     ((pair.0, one.0) ∷ rest.0, (refl, one.1, rest.1))

@@ -1,11 +1,11 @@
 -- What the files have is counted, one after the other: their totals, and in how many of them a test has points.
-use Rattle.std.proofs.Common.{◌≡◌, ℕ, ◌+◌, ◌<◌, ◌^◌, Bool, cond, List, [], ◌∷◌, length, sym, ap, ◌∙◌, arith}
+use Rattle.std.proofs.Common.{◌≡◌, ℕ, ◌+◌, ◌<◌, ◌^◌, Bool, cond, List, [], ◌∷◌, length, sym, ◌∙◌, arith}
 use Rattle.std.specs.List.{count_by}
 use Rattle.std.proofs.lemmas.List.Sums.{count_by-le-length, sum_by-cons}
 use Rattle.covstore.specs.declared.totals.Totals.{Totals}
 use Rattle.covstore.specs.TotalsExchanged.{FitTogether, FitTotals, no_totals, together}
 use Rattle.covstore.specs.State.{FileData, file_totals, has_points_of, totals_in}
-use Rattle.covstore.proofs.DropsLoop.{no_totals_behind, no_totals_more, totals_taken}
+use Rattle.covstore.proofs.DropsLoop.{no_totals_behind, no_totals_more, part_fits, totals_taken}
 
 -- ---- totals
 
@@ -22,14 +22,7 @@ module _ (all : List (List ℕ × FileData)) where
     one_added = totals_taken totals pair left ∙ is
 
     pub one_fits : FitTotals (totals_in all) → FitTogether (file_totals pair.1) totals
-    one_fits fit = record {
-      lf = omega (arith, fit.lf, ap (λ (t : Totals). t.lf) one_added);
-      lh = omega (arith, fit.lh, ap (λ (t : Totals). t.lh) one_added);
-      ff = omega (arith, fit.ff, ap (λ (t : Totals). t.ff) one_added);
-      fh = omega (arith, fit.fh, ap (λ (t : Totals). t.fh) one_added);
-      bf = omega (arith, fit.bf, ap (λ (t : Totals). t.bf) one_added);
-      bh = omega (arith, fit.bh, ap (λ (t : Totals). t.bh) one_added);
-    }
+    one_fits fit = part_fits totals (file_totals pair.1) (totals_in left) (totals_in all) one_added fit
 
   pub all_added : (totals : Totals) → IsAddedUp [] totals → totals ≡ totals_in all
   all_added totals is = sym (no_totals_behind totals) ∙ is

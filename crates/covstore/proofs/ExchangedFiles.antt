@@ -10,11 +10,11 @@ use Rattle.covline.specs.Row.{ItemData, Row}
 use Rattle.covstore.specs.declared.totals.Totals.{Totals}
 use Rattle.covstore.specs.Content.{content_of}
 use Rattle.covstore.specs.Counted.{Kind, branches, found, functions, in_file, is_same, lines, points_of}
-use Rattle.covstore.specs.KindIndexCounts.{found_of, hit_of}
 use Rattle.covstore.specs.TotalsExchanged.{FitTogether, IsAmong, exchanged}
 use Rattle.covmap.specs.Puts.{ArePairs, put, value_of}
-use Rattle.covstore.specs.State.{FileData, IsStateOf, file_totals, totals_in}
+use Rattle.covstore.specs.State.{FileData, IsStateOf, file_totals, found_at, hit_at, totals_in}
 use Rattle.covstore.specs.Totals.{totals_of}
+use Rattle.covstore.specs.Kinds.{Branch, Function, Line}
 use Rattle.covstore.proofs.AddsPlace.{state_agrees}
 use Rattle.covstore.proofs.Few.{few_parts, one_branch, one_function, one_line}
 use Rattle.covstore.proofs.Members.{In}
@@ -38,12 +38,12 @@ module _ (name : List ℕ) (file : FileData) (files : List (List ℕ × FileData
 
   pub file_among : IsAmong (file_totals file) (totals_in files)
   file_among = record {
-    lf = its_part (λ pair. found_of pair.1.lines);
-    lh = its_part (λ pair. hit_of pair.1.lines);
-    ff = its_part (λ pair. found_of pair.1.functions);
-    fh = its_part (λ pair. hit_of pair.1.functions);
-    bf = its_part (λ pair. found_of pair.1.branches);
-    bh = its_part (λ pair. hit_of pair.1.branches);
+    lf = its_part (found_at Line);
+    lh = its_part (hit_at Line);
+    ff = its_part (found_at Function);
+    fh = its_part (hit_at Function);
+    bf = its_part (found_at Branch);
+    bh = its_part (hit_at Branch);
   }
 
 -- ---- the file exchanged
@@ -57,9 +57,9 @@ module _ (name : List ℕ) (before after : FileData) (files : List (List ℕ × 
   pub files_exchanged : exchanged (totals_in files) (file_totals before) (file_totals after) ≡ totals_in (put (slice_cmp nat_cmp) name after files)
   files_exchanged =
       same_totals (exchanged (totals_in files) (file_totals before) (file_totals after)) (totals_in (put (slice_cmp nat_cmp) name after files))
-      (exchanged_part (λ pair. found_of pair.1.lines)) (exchanged_part (λ pair. hit_of pair.1.lines))
-      (exchanged_part (λ pair. found_of pair.1.functions)) (exchanged_part (λ pair. hit_of pair.1.functions))
-      (exchanged_part (λ pair. found_of pair.1.branches)) (exchanged_part (λ pair. hit_of pair.1.branches))
+      (exchanged_part (found_at Line)) (exchanged_part (hit_at Line))
+      (exchanged_part (found_at Function)) (exchanged_part (hit_at Function))
+      (exchanged_part (found_at Branch)) (exchanged_part (hit_at Branch))
 
 -- ---- no more than there are rows
 

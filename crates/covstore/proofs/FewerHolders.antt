@@ -76,9 +76,9 @@ module _ (line : ℕ) (value : LineSum) (left : List (ℕ × LineSum)) (sorted :
       (λ other apart. apart_assigned lines_order line other (less_of (value_of nat_cmp line holders)) holders apart ∙ apart_with other apart)
 
 -- a test counts here by its lines alone
-pub by_lines : (test : TestData) (others : List TestData) (line : ℕ) → holders_at line (test ∷ others) ≡ holders_at line (with_lines test.lines ∷ others)
-by_lines test others line =
-    ap some_above (count_by-between (is_holding line) [] test others) ∙ sym (holders_with test.lines others line (value_of nat_cmp line test.lines) refl)
+pub holders_of_lines : (test : TestData) (others : List TestData) (holders : List (ℕ × ℕ)) → AreHolders (test ∷ others) holders → AreHolders (with_lines test.lines ∷ others) holders
+holders_of_lines test others holders are line =
+    are line ∙ ap some_above (count_by-between (is_holding line) [] test others) ∙ sym (holders_with test.lines others line (value_of nat_cmp line test.lines) refl)
 
 -- the lines of which a checksum is held where a test less holds one of this line are among those before
 pub some_before : (line : ℕ) (value : Option ℕ) (holders fewer : List (ℕ × ℕ)) → fewer ≡ assigned nat_cmp line value holders → is_some (value_of nat_cmp line holders) ≡ true → (other : ℕ)

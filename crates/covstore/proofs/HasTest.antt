@@ -9,7 +9,7 @@ use Rattle.std.specs.Str.{bytes_eq}
 use Rattle.std.proofs.lemmas.List.Folds.{list_any-append}
 use Rattle.std.proofs.lemmas.Map.Text.{is_eq-slice_cmp}
 use Rattle.std.proofs.lemmas.Map.Views.{tells_apart}
-use Rattle.covline.specs.declared.point.BranchPoint as code
+use Rattle.covline.specs.Points.{BranchPoint}
 use Rattle.covstore.specs.declared.sums.FunctionSum.{FunctionSum}
 use Rattle.covstore.specs.declared.sums.LineSum.{LineSum}
 use Rattle.covstore.specs.declared.sums.BranchSum.{BranchSum}
@@ -17,7 +17,6 @@ use Rattle.covstore.specs.Content.{SectionData}
 use Rattle.covmap.specs.Puts.{ArePairs, value_of}
 use Rattle.covstore.specs.State.{FileData, IsWholeFile, has_no_points, has_none, has_points_of, points_or_none, section_seen, section_with_points, sections_of, sections_of_file}
 use Rattle.covstore.specs.Sums.{TestData}
-use Rattle.covstore.specs.TestView.{branches_data}
 use Rattle.covstore.proofs.MapNames.{names_with}
 use Rattle.covstore.proofs.Orders.{names_order}
 use Rattle.covstore.proofs.Puts.{value_of_before}
@@ -73,7 +72,7 @@ module _ (test : List ℕ) where
       (λ e. subst (λ (name : List ℕ). value_of (slice_cmp nat_cmp) name tests ≡ None) (tells_apart names_order.exact pair.0 test e) (value_of_before names_order pair.0 tests sorted.0))
 
   any_in_file : (pair : List ℕ × FileData) → IsWholeFile pair.1 → list_any (of_test test) (sections_of_file pair) ≡ has_points_of test pair.1
-  any_in_file pair whole = any_seen pair.0 pair.1.texts pair.1.tests ∙ any_found pair.1.tests whole.ascending
+  any_in_file pair whole = any_seen pair.0 pair.1.index.texts pair.1.tests ∙ any_found pair.1.tests whole.ascending
 
   -- ---- the files
 
@@ -100,13 +99,9 @@ none_as (x ∷ xs) true is = absurd (cons-nil x xs (is.0 refl))
     cons-nil x xs e = let lengths = ap length e in omega (arith, lengths)
 none_as (x ∷ xs) false is = refl
 
-pub no_points : (lines : List (ℕ × LineSum)) (functions : List (List ℕ × FunctionSum)) (branches : List (code.BranchPoint × BranchSum)) (b : Bool) → lines ≡ [] → functions ≡ [] → IsTrue b ↔ (branches ≡ [])
-    → b ≡ has_none lines && has_none functions && has_none (branches_data branches)
+pub no_points : (lines : List (ℕ × LineSum)) (functions : List (List ℕ × FunctionSum)) (branches : List (BranchPoint × BranchSum)) (b : Bool) → lines ≡ [] → functions ≡ [] → IsTrue b ↔ (branches ≡ [])
+    → b ≡ has_none lines && has_none functions && has_none branches
 no_points lines functions branches b no_lines no_functions is =
-    none_as branches b is ∙ mapped branches
-    ∙ ap (λ (xs : List (List ℕ × FunctionSum)). has_none xs && has_none (branches_data branches)) (sym no_functions)
-    ∙ ap (λ (xs : List (ℕ × LineSum)). has_none xs && has_none functions && has_none (branches_data branches)) (sym no_lines)
-  where
-    mapped : (xs : List (code.BranchPoint × BranchSum)) → has_none xs ≡ has_none (branches_data xs)
-    mapped [] = refl
-    mapped (x ∷ xs) = refl
+    none_as branches b is
+    ∙ ap (λ (xs : List (List ℕ × FunctionSum)). has_none xs && has_none branches) (sym no_functions)
+    ∙ ap (λ (xs : List (ℕ × LineSum)). has_none xs && has_none functions && has_none branches) (sym no_lines)

@@ -1,27 +1,24 @@
 -- Changes of what is kept that leave the state as it is: a file or a test that is made ready, and texts that nobody holds.
-use Rattle.std.proofs.Common.{◌≡◌, ℕ, ◌+◌, true, false, Option, Some, None, List, refl, sym, ap, ◌∙◌, subst, arith}
+use Rattle.std.proofs.Common.{◌≡◌, ℕ, ◌+◌, true, false, Option, Some, None, List, refl, sym, ap, subst, arith}
 use Rattle.std.specs.Cmp.Lexicographic.{slice_cmp}
 use Rattle.std.specs.List.{sum_by}
 use Rattle.std.specs.Option.{is_some}
 use Rattle.std.specs.Ordering.{nat_cmp}
 use Rattle.std.proofs.lemmas.Bool.{cases_Bool, cond-true, cond-false, false≢true}
 use Rattle.std.proofs.Common.{⊎_elim}
-use Rattle.covstore.specs.declared.totals.Totals.{Totals}
-use Rattle.covstore.specs.KindIndexCounts.{found_of, hit_of}
 use Rattle.covstore.specs.FileView.{no_file, with_file}
 use Rattle.covstore.specs.Store.{KeepsState}
 use Rattle.covmap.specs.Puts.{ArePairs, put, value_of}
-use Rattle.covstore.specs.State.{FileData}
+use Rattle.covstore.specs.State.{FileData, found_at, hit_at}
+use Rattle.covstore.specs.Kinds.{Kind}
 use Rattle.covstore.proofs.Orders.{names_order}
 use Rattle.covstore.proofs.Puts.{at_before, sum_by-put}
 use Rattle.covstore.proofs.StateMore.{file_more}
+use Rattle.covstore.proofs.Axis.{each_kind, totals_same}
 
 is_none : {X : Type 0} (found : Option X) → is_some found ≡ false → found ≡ None
 is_none None e = refl
 is_none (Some x) e = absurd (false≢true (sym e))
-
-totals_with : ℕ → ℕ → ℕ → ℕ → ℕ → ℕ → Totals
-totals_with lf lh ff fh bf bh = record { lf = lf; lh = lh; ff = ff; fh = fh; bf = bf; bh = bh }
 
 module _ (file : List ℕ) (files : List (List ℕ × FileData)) (ascending : ArePairs (slice_cmp nat_cmp) files) where
   -- a file of which nothing is counted adds nothing
@@ -32,23 +29,16 @@ module _ (file : List ℕ) (files : List (List ℕ × FileData)) (ascending : Ar
       omega (arith, moved, before, nothing)
 
   file_keeps : value_of (slice_cmp nat_cmp) file files ≡ None → KeepsState files (put (slice_cmp nat_cmp) file no_file files)
-  unfolding totals_with
   file_keeps none = record {
     states = λ rows state. file_more rows files state file none;
-    totals =
-        ap (λ (n : ℕ). totals_with n (sum_by (λ (p : List ℕ × FileData). hit_of p.1.lines) after) (sum_by (λ (p : List ℕ × FileData). found_of p.1.functions) after) (sum_by (λ (p : List ℕ × FileData). hit_of p.1.functions) after) (sum_by (λ (p : List ℕ × FileData). found_of p.1.branches) after) (sum_by (λ (p : List ℕ × FileData). hit_of p.1.branches) after)) (same (λ p. found_of p.1.lines) refl)
-        ∙ ap (λ (n : ℕ). totals_with (sum_by (λ (p : List ℕ × FileData). found_of p.1.lines) files) n (sum_by (λ (p : List ℕ × FileData). found_of p.1.functions) after) (sum_by (λ (p : List ℕ × FileData). hit_of p.1.functions) after) (sum_by (λ (p : List ℕ × FileData). found_of p.1.branches) after) (sum_by (λ (p : List ℕ × FileData). hit_of p.1.branches) after)) (same (λ p. hit_of p.1.lines) refl)
-        ∙ ap (λ (n : ℕ). totals_with (sum_by (λ (p : List ℕ × FileData). found_of p.1.lines) files) (sum_by (λ (p : List ℕ × FileData). hit_of p.1.lines) files) n (sum_by (λ (p : List ℕ × FileData). hit_of p.1.functions) after) (sum_by (λ (p : List ℕ × FileData). found_of p.1.branches) after) (sum_by (λ (p : List ℕ × FileData). hit_of p.1.branches) after)) (same (λ p. found_of p.1.functions) refl)
-        ∙ ap (λ (n : ℕ). totals_with (sum_by (λ (p : List ℕ × FileData). found_of p.1.lines) files) (sum_by (λ (p : List ℕ × FileData). hit_of p.1.lines) files) (sum_by (λ (p : List ℕ × FileData). found_of p.1.functions) files) n (sum_by (λ (p : List ℕ × FileData). found_of p.1.branches) after) (sum_by (λ (p : List ℕ × FileData). hit_of p.1.branches) after)) (same (λ p. hit_of p.1.functions) refl)
-        ∙ ap (λ (n : ℕ). totals_with (sum_by (λ (p : List ℕ × FileData). found_of p.1.lines) files) (sum_by (λ (p : List ℕ × FileData). hit_of p.1.lines) files) (sum_by (λ (p : List ℕ × FileData). found_of p.1.functions) files) (sum_by (λ (p : List ℕ × FileData). hit_of p.1.functions) files) n (sum_by (λ (p : List ℕ × FileData). hit_of p.1.branches) after)) (same (λ p. found_of p.1.branches) refl)
-        ∙ ap (λ (n : ℕ). totals_with (sum_by (λ (p : List ℕ × FileData). found_of p.1.lines) files) (sum_by (λ (p : List ℕ × FileData). hit_of p.1.lines) files) (sum_by (λ (p : List ℕ × FileData). found_of p.1.functions) files) (sum_by (λ (p : List ℕ × FileData). hit_of p.1.functions) files) (sum_by (λ (p : List ℕ × FileData). found_of p.1.branches) files) n) (same (λ p. hit_of p.1.branches) refl);
+    totals = totals_same (put (slice_cmp nat_cmp) file no_file files) files (λ kind. (nothing_more (found_at kind) (nothing_found kind) none, nothing_more (hit_at kind) (nothing_hit kind) none));
   }
     where
-      after : List (List ℕ × FileData)
-      after = put (slice_cmp nat_cmp) file no_file files
+      nothing_found : (kind : Kind) → found_at kind (file, no_file) ≡ 0
+      nothing_found = each_kind (λ kind. found_at kind (file, no_file) ≡ 0) refl refl refl
 
-      same : (f : List ℕ × FileData → ℕ) → f (file, no_file) ≡ 0 → sum_by f after ≡ sum_by f files
-      same f nothing = nothing_more f nothing none
+      nothing_hit : (kind : Kind) → hit_at kind (file, no_file) ≡ 0
+      nothing_hit = each_kind (λ kind. hit_at kind (file, no_file) ≡ 0) refl refl refl
 
   pub with_file_keeps : KeepsState files (with_file file files)
   with_file_keeps =

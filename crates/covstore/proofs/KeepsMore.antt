@@ -6,16 +6,15 @@ use Rattle.std.specs.Option.{is_some}
 use Rattle.std.specs.Ordering.{nat_cmp}
 use Rattle.std.proofs.lemmas.Bool.{cases_Bool, cond-true, cond-false, false≢true}
 use Rattle.covline.specs.Row.{Row}
+use Rattle.covstore.specs.Kinds.{CountsOf, Each, Kind, above_of, at, cmp_of}
 use Rattle.covstore.specs.Section.{IsIn}
 use Rattle.covstore.specs.Clash.{checksums_in}
 use Rattle.covstore.specs.KindIndexCounts.{AreCounts, found_of, hit_of}
 use Rattle.covstore.specs.FileView.{KeepsFile, with_test}
 use Rattle.covstore.specs.Store.{KeepsState}
-use Rattle.covstore.specs.FileIndex.{FileIndexData}
 use Rattle.covmap.specs.Puts.{ArePairs, put, value_of}
-use Rattle.covstore.specs.State.{AreKept, FileData, IsStateOf, IsWholeFile, branch_above, function_above, line_above, points_in, tests_in, totals_in}
+use Rattle.covstore.specs.State.{FileData, IsIndexOf, IsStateOf, IsWholeFile, file_with, found_at, hit_at, points_in, tests_in, totals_in}
 use Rattle.covstore.specs.Sums.{TestData, test_of}
-use Rattle.covstore.specs.Value.{branch_cmp}
 use Rattle.covstore.proofs.AddsLists.{put_there}
 use Rattle.covstore.proofs.AddsPlace.{checksum_held, state_agrees, text_kept}
 use Rattle.covstore.proofs.Members.{In-from}
@@ -24,7 +23,7 @@ use Rattle.covstore.proofs.Puts.{at_before, sum_by-put}
 use Rattle.covstore.proofs.StateMore.{test_more}
 use Rattle.covstore.proofs.StateRows.{file_whole, state_changed}
 use Rattle.covstore.proofs.StateSections.{points_same}
-use Rattle.covstore.proofs.TotalsKinds.{same_totals}
+use Rattle.covstore.proofs.Axis.{totals_same}
 
 module _ (name : List ℕ) (before after : FileData) (files : List (List ℕ × FileData)) (ascending : ArePairs (slice_cmp nat_cmp) files) (there : value_of (slice_cmp nat_cmp) name files ≡ Some before) where
   as_much : (f : List ℕ × FileData → ℕ) → f (name, after) ≡ f (name, before) → sum_by f (put (slice_cmp nat_cmp) name after files) ≡ sum_by f files
@@ -33,40 +32,28 @@ module _ (name : List ℕ) (before after : FileData) (files : List (List ℕ × 
       omega (arith, sum_by-put names_order f name after files ascending, own, same)
 
   -- a file with the same kept numbers changes no totals
-  pub totals_stay : after.lines ≡ before.lines → after.functions ≡ before.functions → after.branches ≡ before.branches → totals_in (put (slice_cmp nat_cmp) name after files) ≡ totals_in files
-  totals_stay lines functions branches =
-      same_totals (totals_in (put (slice_cmp nat_cmp) name after files)) (totals_in files)
-      (as_much (λ pair. found_of pair.1.lines) (ap found_of lines))
-      (as_much (λ pair. hit_of pair.1.lines) (ap hit_of lines))
-      (as_much (λ pair. found_of pair.1.functions) (ap found_of functions))
-      (as_much (λ pair. hit_of pair.1.functions) (ap hit_of functions))
-      (as_much (λ pair. found_of pair.1.branches) (ap found_of branches))
-      (as_much (λ pair. hit_of pair.1.branches) (ap hit_of branches))
+  pub totals_stay : after.index.counts ≡ before.index.counts → totals_in (put (slice_cmp nat_cmp) name after files) ≡ totals_in files
+  totals_stay counts =
+      totals_same (put (slice_cmp nat_cmp) name after files) files
+      (λ kind. (as_much (found_at kind) (ap (λ (all : Each CountsOf). found_of (at kind all)) counts), as_much (hit_at kind) (ap (λ (all : Each CountsOf). hit_of (at kind all)) counts)))
 
 -- ---- texts of lines that nobody holds
-
-index_of : FileData → FileIndexData
-index_of file = record { lines = file.lines; functions = file.functions; branches = file.branches; holders = file.holders; texts = file.texts }
 
 module _ (name test : List ℕ) (before after : FileData) (points : TestData) (there : value_of (slice_cmp nat_cmp) test before.tests ≡ Some points) (keeps : KeepsFile before after) where
   still_whole : IsWholeFile before → IsWholeFile after
   still_whole whole = record {
     ascending = subst (ArePairs (slice_cmp nat_cmp)) (sym keeps.tests) whole.ascending;
-    kept = subst (λ (tests : List (List ℕ × TestData)). AreKept (map (λ (pair : List ℕ × TestData). pair.1) tests) after) (sym keeps.tests) (record {
-      lines = subst (λ counts. AreCounts nat_cmp line_above (map (λ (t : TestData). t.lines) (tests_in before)) counts) (sym keeps.lines) whole.kept.lines;
-      functions = subst (λ counts. AreCounts (slice_cmp nat_cmp) function_above (map (λ (t : TestData). t.functions) (tests_in before)) counts) (sym keeps.functions) whole.kept.functions;
-      branches = subst (λ counts. AreCounts branch_cmp branch_above (map (λ (t : TestData). t.branches) (tests_in before)) counts) (sym keeps.branches) whole.kept.branches;
-      holders = λ line. ap (value_of nat_cmp line) keeps.holders ∙ whole.kept.holders line;
+    kept = subst (λ (tests : List (List ℕ × TestData)). IsIndexOf (map (λ (pair : List ℕ × TestData). pair.1) tests) after.index) (sym keeps.tests) (record {
+      counts = subst (λ (counts : Each CountsOf). (kind : Kind) → AreCounts (cmp_of kind) (above_of kind) (map (at kind) (tests_in before)) (at kind counts)) (sym keeps.index.counts) whole.kept.counts;
+      holders = λ line. ap (value_of nat_cmp line) keeps.index.holders ∙ whole.kept.holders line;
     });
   }
 
   module _ (rows : List Row) (files : List (List ℕ × FileData)) (state : IsStateOf rows files) (is : value_of (slice_cmp nat_cmp) name files ≡ Some before) where
-    its_place : IsIn rows files name test before.tests points (index_of before)
-    unfolding index_of
+    its_place : IsIn rows files name test before.tests points before.index
     its_place = record { state = state; agree = state_agrees rows files state; its_file = is; its_test = there }
 
     file_state : IsStateOf rows (put (slice_cmp nat_cmp) name after files)
-    unfolding index_of
     file_state = state_changed rows rows files state name after (record {
       whole = still_whole (file_whole rows files state name before is);
       points = λ t.
@@ -74,14 +61,14 @@ module _ (name test : List ℕ) (before after : FileData) (points : TestData) (t
           ∙ ap (λ (found : Option FileData). points_in found t) (sym is) ∙ state.points (record { file = name; test = t });
       others = λ key other. refl;
       texts = λ c i same.
-          keeps.texts c.line (checksum_held its_place c (In-from (checksums_in rows) c i) same) ∙ text_kept its_place c (In-from (checksums_in rows) c i) same;
+          keeps.index.texts c.line (checksum_held its_place c (In-from (checksums_in rows) c i) same) ∙ text_kept its_place c (In-from (checksums_in rows) c i) same;
       held_before = λ c i other. i;
     })
 
   pub file_keeps : (files : List (List ℕ × FileData)) → ArePairs (slice_cmp nat_cmp) files → value_of (slice_cmp nat_cmp) name files ≡ Some before → KeepsState files (put (slice_cmp nat_cmp) name after files)
   file_keeps files ascending is = record {
     states = λ rows state. file_state rows files state is;
-    totals = totals_stay name before after files ascending is keeps.lines keeps.functions keeps.branches;
+    totals = totals_stay name before after files ascending is keeps.index.counts;
   }
 
 -- ---- a test that is made ready
@@ -90,23 +77,19 @@ is_none : {X : Type 0} (found : Option X) → is_some found ≡ false → found 
 is_none None e = refl
 is_none (Some x) e = absurd (false≢true (sym e))
 
-file_of : FileData → List (List ℕ × TestData) → FileData
-file_of file tests = record { tests = tests; lines = file.lines; functions = file.functions; branches = file.branches; holders = file.holders; texts = file.texts }
-
 module _ (name test : List ℕ) (file : FileData) (files : List (List ℕ × FileData)) (ascending : ArePairs (slice_cmp nat_cmp) files) (is : value_of (slice_cmp nat_cmp) name files ≡ Some file) where
   pub with_test_keeps : KeepsState files (put (slice_cmp nat_cmp) name (with_test test file) files)
-  unfolding file_of
   with_test_keeps =
       ⊎_elim {C = KeepsState files (put (slice_cmp nat_cmp) name (with_test test file) files)}
       (λ (there : is_some (value_of (slice_cmp nat_cmp) test file.tests) ≡ true).
       let same = cond-true (is_some (value_of (slice_cmp nat_cmp) test file.tests)) file.tests (put (slice_cmp nat_cmp) test (test_of []) file.tests) there in
-      subst (λ (tests : List (List ℕ × TestData)). KeepsState files (put (slice_cmp nat_cmp) name (file_of file tests) files)) (sym same)
+      subst (λ (tests : List (List ℕ × TestData)). KeepsState files (put (slice_cmp nat_cmp) name (file_with tests file.index) files)) (sym same)
       (subst (KeepsState files) (sym (put_there names_order name file files ascending is)) (record { states = λ rows state. state; totals = refl })))
       (λ (none : is_some (value_of (slice_cmp nat_cmp) test file.tests) ≡ false).
       let more = cond-false (is_some (value_of (slice_cmp nat_cmp) test file.tests)) file.tests (put (slice_cmp nat_cmp) test (test_of []) file.tests) none in
-      subst (λ (tests : List (List ℕ × TestData)). KeepsState files (put (slice_cmp nat_cmp) name (file_of file tests) files)) (sym more)
+      subst (λ (tests : List (List ℕ × TestData)). KeepsState files (put (slice_cmp nat_cmp) name (file_with tests file.index) files)) (sym more)
       (record {
         states = λ rows state. test_more rows files state name test file is (is_none (value_of (slice_cmp nat_cmp) test file.tests) none);
-        totals = totals_stay name file (file_of file (put (slice_cmp nat_cmp) test (test_of []) file.tests)) files ascending is refl refl refl;
+        totals = totals_stay name file (file_with (put (slice_cmp nat_cmp) test (test_of []) file.tests) file.index) files ascending is refl;
       }))
       (cases_Bool (is_some (value_of (slice_cmp nat_cmp) test file.tests)))

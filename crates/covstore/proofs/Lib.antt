@@ -69,12 +69,11 @@ pub mod StepsKept
 pub mod StepsMore
 pub mod StepsItems
 pub mod Assigned
+pub mod Axis
 pub mod Fewer
 pub mod FewerTally
 pub mod FewerLoops
-pub mod FewerKeys
 pub mod FewerHolders
-pub mod FewerIndexed
 pub mod SeenTests
 pub mod SeenStore
 pub mod Settled

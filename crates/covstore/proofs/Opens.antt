@@ -8,14 +8,10 @@ use Rattle.std.specs.Ordering.{nat_cmp}
 use Rattle.std.proofs.lemmas.Bool.{cond-true, cond-false}
 use Rattle.covstore.specs.FileView.{no_file, with_file, with_test}
 use Rattle.covmap.specs.Puts.{put, value_of}
-use Rattle.covstore.specs.State.{FileData}
+use Rattle.covstore.specs.State.{FileData, file_with}
 use Rattle.covstore.specs.Sums.{TestData, test_of}
 use Rattle.covstore.proofs.MapKeys.{seen, seen_insert, seen_there}
 use Rattle.covstore.proofs.Orders.{names_order}
-
--- a file that has these tests
-abbrev pub file_of : FileData → List (List ℕ × TestData) → FileData
-file_of file tests = record { tests = tests; lines = file.lines; functions = file.functions; branches = file.branches; holders = file.holders; texts = file.texts }
 
 module _ {K V : Type 0} (name : K → List ℕ) (f : V → TestData) (file : FileData) (pairs : List (K × V)) (is : seen names_order name f pairs ≡ file.tests) (test : List ℕ) where
   found : (b : Bool) → b ≡ is_some (lookup (is_at (λ other. slice_cmp nat_cmp test (name other))) pairs) → is_some (value_of (slice_cmp nat_cmp) test file.tests) ≡ b
@@ -23,12 +19,12 @@ module _ {K V : Type 0} (name : K → List ℕ) (f : V → TestData) (file : Fil
 
   pub test_there : (b : Bool) → b ≡ is_some (lookup (is_at (λ other. slice_cmp nat_cmp test (name other))) pairs) → b ≡ true → file ≡ with_test test file
   test_there b e there =
-      ap (file_of file) (sym (cond-true (is_some (value_of (slice_cmp nat_cmp) test file.tests)) file.tests (put (slice_cmp nat_cmp) test (test_of []) file.tests) (found b e ∙ there)))
+      ap (λ (tests : List (List ℕ × TestData)). file_with tests file.index) (sym (cond-true (is_some (value_of (slice_cmp nat_cmp) test file.tests)) file.tests (put (slice_cmp nat_cmp) test (test_of []) file.tests) (found b e ∙ there)))
 
   pub test_opened : (b : Bool) → b ≡ is_some (lookup (is_at (λ other. slice_cmp nat_cmp test (name other))) pairs) → b ≡ false → (key : K) → name key ≡ test → (v : V) → f v ≡ test_of []
-      → (after : List (K × V)) → after ≡ insert_entry (λ a b. slice_cmp nat_cmp (name a) (name b)) pairs key v → file_of file (seen names_order name f after) ≡ with_test test file
+      → (after : List (K × V)) → after ≡ insert_entry (λ a b. slice_cmp nat_cmp (name a) (name b)) pairs key v → file_with (seen names_order name f after) file.index ≡ with_test test file
   test_opened b e none key named v empty after inserted =
-      ap (file_of file)
+      ap (λ (tests : List (List ℕ × TestData)). file_with tests file.index)
       (ap (seen names_order name f) inserted
       ∙ seen_insert names_order name f key v pairs
       ∙ ap (λ (t : List ℕ). put (slice_cmp nat_cmp) t (f v) (seen names_order name f pairs)) named

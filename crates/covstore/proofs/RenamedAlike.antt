@@ -1,5 +1,5 @@
 -- Items that are alike add up to the same.
-use Rattle.std.proofs.Common.{◌≡◌, ℕ, Bool, Option, unwrap_or, List, [], ◌∷◌, map, refl, ap, ap₂, ◌∙◌, inl}
+use Rattle.std.proofs.Common.{◌≡◌, ℕ, Option, unwrap_or, List, [], ◌∷◌, map, refl, ap, ◌∙◌, inl}
 use Rattle.std.specs.Cmp.Lexicographic.{slice_cmp}
 use Rattle.std.specs.List.{flat_map}
 use Rattle.std.specs.Option.{is_some}
@@ -8,49 +8,28 @@ use Rattle.std.specs.declared.cmp.Ordering.{Ordering}
 use Rattle.covline.specs.Points.{BranchPoint, line_point, func_point, branch_point, line_points, func_points, branch_points}
 use Rattle.covline.specs.Row.{ItemData}
 use Rattle.covstore.specs.Ascending.{ascending}
-use Rattle.covstore.specs.declared.sums.LineSum.{LineSum}
-use Rattle.covstore.specs.declared.sums.FunctionSum.{FunctionSum}
-use Rattle.covstore.specs.declared.sums.BranchSum.{BranchSum}
-use Rattle.covstore.specs.Sums.{TestData, line_sum, function_sum, branch_sum, test_of}
+use Rattle.covstore.specs.Sums.{branch_sum, function_sum, line_sum, test_of}
 use Rattle.covstore.specs.Value.{lines_in, names_in, branches_in, bounded, branch_cmp, line_added, line_value, checksum_said, line_checksum, first_of, start_said, function_start, function_added, function_count, taken_said, branch_value}
 use Rattle.covstore.proofs.Alike.{AreAlike, alike_said, sum_alike, least_alike}
 use Rattle.covstore.proofs.Ascend.{IsExactOrder}
 use Rattle.covstore.proofs.ContentsKinds.{same_ascending, map_same}
 use Rattle.covstore.proofs.Orders.{lines_order, names_order, branches_order}
-
-test_from : List (ℕ × LineSum) → List (List ℕ × FunctionSum) → List (BranchPoint × BranchSum) → TestData
-test_from lines functions branches = record { lines = lines; functions = functions; branches = branches }
+use Rattle.covstore.proofs.Axis.{same_test}
 
 -- the sums of items are those of others where the lists of each kind are the same
 pub same_sums : (xs ys : List ItemData) → map (line_sum xs) (lines_in xs) ≡ map (line_sum ys) (lines_in ys) → map (function_sum xs) (names_in xs) ≡ map (function_sum ys) (names_in ys)
     → map (branch_sum xs) (branches_in xs) ≡ map (branch_sum ys) (branches_in ys) → test_of xs ≡ test_of ys
-unfolding test_from
-same_sums xs ys lines functions branches =
-    ap (λ (ls : List (ℕ × LineSum)). test_from ls (map (function_sum xs) (names_in xs)) (map (branch_sum xs) (branches_in xs))) lines
-    ∙ ap (λ (fs : List (List ℕ × FunctionSum)). test_from (map (line_sum ys) (lines_in ys)) fs (map (branch_sum xs) (branches_in xs))) functions
-    ∙ ap (test_from (map (line_sum ys) (lines_in ys)) (map (function_sum ys) (names_in ys))) branches
+same_sums xs ys lines functions branches = same_test (test_of xs) (test_of ys) lines functions branches
 
 -- one point's sum
-line_from : ℕ → ℕ → Bool → ℕ × LineSum
-line_from line count has_checksum = (line, record { count = count; has_checksum = has_checksum })
-
 pub same_line_sum : (line : ℕ) (xs ys : List ItemData) → line_value line xs ≡ line_value line ys → is_some (line_checksum line xs) ≡ is_some (line_checksum line ys) → line_sum xs line ≡ line_sum ys line
-unfolding line_from
-same_line_sum line xs ys count checksum = ap₂ (λ (n : ℕ) (b : Bool). line_from line n b) count checksum
-
-function_from : List ℕ → ℕ → ℕ → List ℕ × FunctionSum
-function_from name line count = (name, record { line = line; count = count })
+same_line_sum line xs ys count checksum = λ i. (line, record { count = count i; has_checksum = checksum i })
 
 pub same_function_sum : (name : List ℕ) (xs ys : List ItemData) → function_start name xs ≡ function_start name ys → function_count name xs ≡ function_count name ys → function_sum xs name ≡ function_sum ys name
-unfolding function_from
-same_function_sum name xs ys line count = ap₂ (λ (m n : ℕ). function_from name m n) line count
-
-branch_from : BranchPoint → Option ℕ → BranchPoint × BranchSum
-branch_from point times = (point, record { times = times })
+same_function_sum name xs ys line count = λ i. (name, record { line = line i; count = count i })
 
 pub same_branch_sum : (point : BranchPoint) (xs ys : List ItemData) → branch_value point xs ≡ branch_value point ys → branch_sum xs point ≡ branch_sum ys point
-unfolding branch_from
-same_branch_sum point xs ys times = ap (λ (t : Option ℕ). branch_from point t) times
+same_branch_sum point xs ys times = λ i. (point, record { times = times i })
 
 -- alike points in their order, each with the same value
 same_mapped : {P V : Type 0} (cmp : P → P → Ordering) → IsExactOrder cmp → (some others : List P) (f g : P → V) → AreAlike some others → ((p : P) → f p ≡ g p)

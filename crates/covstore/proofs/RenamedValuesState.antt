@@ -50,10 +50,10 @@ source_is rows files state name old file source its_file its_test =
 
 -- the items of a test that is there are the values of the items of its rows
 pub values_are : (rows : List Row) (files : List (List ℕ × FileData)) → IsStateOf rows files → (name old : List ℕ) (file : FileData) (source : TestData)
-    → value_of (slice_cmp nat_cmp) name files ≡ Some file → value_of (slice_cmp nat_cmp) old file.tests ≡ Some source → items_of_test file.texts source ≡ values_of (items_at (key_of name old) rows)
+    → value_of (slice_cmp nat_cmp) name files ≡ Some file → value_of (slice_cmp nat_cmp) old file.tests ≡ Some source → items_of_test file.index.texts source ≡ values_of (items_at (key_of name old) rows)
 values_are rows files state name old file source its_file its_test =
-    ap (items_of_test file.texts) (source_is rows files state name old file source its_file its_test)
-    ∙ items_as_values file.texts (items_at (key_of name old) rows) (file_has_checksums rows files state (key_of name old) file its_file)
+    ap (items_of_test file.index.texts) (source_is rows files state name old file source its_file its_test)
+    ∙ items_as_values file.index.texts (items_at (key_of name old) rows) (file_has_checksums rows files state (key_of name old) file its_file)
 
 -- ---- the rows of items
 
@@ -130,7 +130,7 @@ above_sum (Some sum) e = (sum, refl, e)
 -- each line of a test that has a checksum is among those of which one is held
 pub holders_are : (rows : List Row) (files : List (List ℕ × FileData)) → IsStateOf rows files → (name old : List ℕ) (file : FileData) (source : TestData)
     → value_of (slice_cmp nat_cmp) name files ≡ Some file → value_of (slice_cmp nat_cmp) old file.tests ≡ Some source
-    → (line : ℕ) → is_above_at has_checksum (value_of nat_cmp line source.lines) ≡ true → is_some (value_of nat_cmp line file.holders) ≡ true
+    → (line : ℕ) → is_above_at has_checksum (value_of nat_cmp line source.lines) ≡ true → is_some (value_of nat_cmp line file.index.holders) ≡ true
 holders_are rows files state name old file source its_file its_test line has =
     let whole : IsWholeFile file = All-in (λ (pair : List ℕ × FileData). IsWholeFile pair.1) files (name, file) state.whole (pair_in names_order name file files its_file) in
     let sum : HasSum source line = above_sum (value_of nat_cmp line source.lines) has in

@@ -18,10 +18,10 @@ use Rattle.covstore.specs.TestView.{test_committed}
 -- ---- the sections of a file
 
 pub tests_of_pairs : {K A : Type 0} (name : K → List ℕ) (file : List ℕ) (kept : FileData) (pairs : List (K × Test A)) → kept.tests ≡ map (λ pair. (name pair.0, test_committed pair.1)) pairs
-    → sections_of_file (file, kept) ≡ tests_seen name file kept.texts pairs
+    → sections_of_file (file, kept) ≡ tests_seen name file kept.index.texts pairs
 tests_of_pairs name file kept pairs is =
-    ap (flat_map (λ (test : List ℕ × TestData). section_seen file kept.texts test.0 test.1)) is
-    ∙ flat_map-map (λ (test : List ℕ × TestData). section_seen file kept.texts test.0 test.1) (λ pair. (name pair.0, test_committed pair.1)) pairs
+    ap (flat_map (λ (test : List ℕ × TestData). section_seen file kept.index.texts test.0 test.1)) is
+    ∙ flat_map-map (λ (test : List ℕ × TestData). section_seen file kept.index.texts test.0 test.1) (λ pair. (name pair.0, test_committed pair.1)) pairs
 
 -- ---- what holds of all sections that are left
 

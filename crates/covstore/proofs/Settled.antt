@@ -13,8 +13,8 @@ use Rattle.std.proofs.lemmas.Slice.Eq.{bytes_eq-Decides}
 use Rattle.covstore.specs.declared.file.File.{File}
 use Rattle.covstore.specs.declared.store.Touched.{Touched}
 use Rattle.covstore.specs.declared.test.Test.{Test}
-use Rattle.covstore.specs.FileIndex.{FileIndexData, file_with}
-use Rattle.covstore.specs.State.{FileData}
+use Rattle.covstore.specs.FileIndex.{FileIndexData}
+use Rattle.covstore.specs.State.{FileData, file_with}
 use Rattle.covstore.specs.Sums.{TestData}
 use Rattle.covstore.specs.FileView.{file_staged, file_committed}
 use Rattle.covstore.specs.StoreView.{AreSettledBut, IsSettledBut, files_staged, files_committed, tests_of, touched_data}

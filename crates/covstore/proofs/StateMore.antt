@@ -1,5 +1,5 @@
 -- A file more without tests, and a test more without points in a file: a state of the same rows.
-use Rattle.std.proofs.Common.{◌≡◌, ℕ, Bool, cond, if◌then◌else◌, nat_lt, Option, Some, None, List, [], ◌∷◌, ◌++◌, map, refl, sym, ap, ◌∙◌, subst, inl, inr, arith}
+use Rattle.std.proofs.Common.{◌≡◌, ℕ, cond, if◌then◌else◌, nat_lt, Option, Some, None, List, [], ◌∷◌, ◌++◌, map, refl, sym, ap, ◌∙◌, subst, inl, inr, arith}
 use Rattle.std.specs.Prelude.{◌⊎◌}
 use Rattle.std.specs.Cmp.Lexicographic.{slice_cmp}
 use Rattle.std.specs.declared.cmp.Ordering.{Ordering}
@@ -8,17 +8,21 @@ use Rattle.std.specs.Ordering.{is_eq, match_ordering, nat_cmp}
 use Rattle.std.proofs.lemmas.List.{map-append}
 use Rattle.std.proofs.lemmas.Option.{none-some}
 use Rattle.covline.specs.Row.{Row}
-use Rattle.covstore.specs.declared.sums.Tests.{Tests}
+use Rattle.covstore.specs.Kinds.{Kind, PointsOf, above_of, at, branch_above, cmp_of, function_above, line_above}
 use Rattle.covstore.specs.KindIndexCounts.{AreCounts, is_above_at}
 use Rattle.covmap.specs.Puts.{put, value_of}
-use Rattle.covstore.specs.State.{AreKept, FileData, IsStateOf, IsWholeFile, branch_above, function_above, has_checksum, holders_at, holding, line_above, points_in, tests_in, text_in}
+use Rattle.covstore.specs.State.{FileData, IsIndexOf, IsStateOf, IsWholeFile, file_with, has_checksum, holders_at, holding, points_in, tests_in, text_in}
 use Rattle.covstore.specs.Sums.{TestData, test_of}
 use Rattle.covstore.specs.Value.{branch_cmp}
+use Rattle.covstore.specs.FileIndex.{FileIndexData}
+use Rattle.covstore.specs.FileIndexView.{empty_index}
+use Rattle.covstore.specs.FileView.{no_file}
 use Rattle.covstore.proofs.Counts.{count_by-between, counts_empty, counts_none}
 use Rattle.covstore.proofs.Orders.{names_order}
 use Rattle.covstore.proofs.Puts.{ArePairs-put, value_of-put, value_of-put_other}
 use Rattle.covstore.proofs.StateRows.{file_whole, name_or_not, same_rows}
 use Rattle.covstore.proofs.StateSections.{points_none, points_same, points_there}
+use Rattle.covstore.proofs.Axis.{each_kind, map_between}
 
 -- ---- a key that is put where it wasn't
 
@@ -44,43 +48,39 @@ put_one_more cmp key value (pair ∷ pairs) none =
 
 -- ---- a file without tests
 
-abbrev pub empty_file : FileData
-empty_file = record { tests = []; lines = []; functions = []; branches = []; holders = []; texts = [] }
-
-pub empty_whole : IsWholeFile empty_file
+pub empty_whole : IsWholeFile no_file
 empty_whole = record {
   ascending = tt;
-  kept = record { lines = counts_none nat_cmp line_above; functions = counts_none (slice_cmp nat_cmp) function_above; branches = counts_none branch_cmp branch_above; holders = λ line. refl };
+  kept = record {
+    counts = each_kind (λ (kind : Kind). AreCounts (cmp_of kind) (above_of kind) [] (at kind empty_index.counts))
+        (counts_none nat_cmp line_above) (counts_none (slice_cmp nat_cmp) function_above) (counts_none branch_cmp branch_above);
+    holders = λ line. refl;
+  };
 }
 
 pub file_more : (rows : List Row) (files : List (List ℕ × FileData)) → IsStateOf rows files → (name : List ℕ) → value_of (slice_cmp nat_cmp) name files ≡ None
-    → IsStateOf rows (put (slice_cmp nat_cmp) name empty_file files)
+    → IsStateOf rows (put (slice_cmp nat_cmp) name no_file files)
 file_more rows files state name none =
-    same_rows rows files state name empty_file empty_whole
+    same_rows rows files state name no_file empty_whole
     (λ test. sym (ap (λ (found : Option FileData). points_in found test) none))
     (λ line text there. absurd (none-some text (sym (ap (λ (found : Option FileData). text_in found line) none) ∙ there)))
 
 -- ---- a test without points
 
 abbrev pub with_test : List ℕ → FileData → FileData
-with_test test file = record {
-  tests = put (slice_cmp nat_cmp) test (test_of []) file.tests;
-  lines = file.lines;
-  functions = file.functions;
-  branches = file.branches;
-  holders = file.holders;
-  texts = file.texts;
-}
+with_test test file = file_with (put (slice_cmp nat_cmp) test (test_of []) file.tests) file.index
 
 -- a test without points is counted nowhere
-module _ (front back : List TestData) (file : FileData) (kept : AreKept (front ++ back) file) where
-  counts_with_test : {K V : Type 0} (cmp : K → K → Ordering) (is_above : V → Bool) (points : TestData → List (K × V)) → points (test_of []) ≡ [] → (counts : List (K × Tests))
-      → AreCounts cmp is_above (map points (front ++ back)) counts → AreCounts cmp is_above (map points (front ++ test_of [] ∷ back)) counts
-  counts_with_test {K} {V} cmp is_above points none counts are =
-      let before : AreCounts cmp is_above (map points front ++ map points back) counts = subst (λ (tests : List (List (K × V))). AreCounts cmp is_above tests counts) (map-append points front back) are in
-      subst (λ (tests : List (List (K × V))). AreCounts cmp is_above tests counts)
-      (ap (λ (own : List (K × V)). map points front ++ own ∷ map points back) (sym none) ∙ sym (map-append points front (test_of [] ∷ back)))
-      (counts_empty cmp is_above (map points front) (map points back) counts before)
+module _ (front back : List TestData) (index : FileIndexData) (kept : IsIndexOf (front ++ back) index) where
+  counts_with_test : (kind : Kind) → AreCounts (cmp_of kind) (above_of kind) (map (at kind) (front ++ test_of [] ∷ back)) (at kind index.counts)
+  counts_with_test kind =
+      let before = subst (λ (tests : List (PointsOf kind)). AreCounts (cmp_of kind) (above_of kind) tests (at kind index.counts)) (map-append (at kind) front back) (kept.counts kind) in
+      subst (λ (tests : List (PointsOf kind)). AreCounts (cmp_of kind) (above_of kind) tests (at kind index.counts))
+      (ap (λ (own : PointsOf kind). map (at kind) front ++ own ∷ map (at kind) back) (sym (no_points kind)) ∙ sym (map_between (at kind) front (test_of []) back))
+      (counts_empty (cmp_of kind) (above_of kind) (map (at kind) front) (map (at kind) back) (at kind index.counts) before)
+    where
+      no_points : (kind : Kind) → at kind (test_of []) ≡ []
+      no_points = each_kind (λ kind. at kind (test_of []) ≡ []) refl refl refl
 
   holders_with_test : (line : ℕ) → holders_at line (front ++ test_of [] ∷ back) ≡ holders_at line (front ++ back)
   holders_with_test line =
@@ -88,13 +88,8 @@ module _ (front back : List TestData) (file : FileData) (kept : AreKept (front +
       omega (arith, count_by-between (λ (test : TestData). is_above_at has_checksum (value_of nat_cmp line test.lines)) front (test_of []) back) in
       ap (λ (n : ℕ). if nat_lt 0 n then Some n else None) same
 
-  kept_with_test : (test : List ℕ) → AreKept (front ++ test_of [] ∷ back) (with_test test file)
-  kept_with_test test = record {
-    lines = counts_with_test nat_cmp line_above (λ (points : TestData). points.lines) refl file.lines kept.lines;
-    functions = counts_with_test (slice_cmp nat_cmp) function_above (λ (points : TestData). points.functions) refl file.functions kept.functions;
-    branches = counts_with_test branch_cmp branch_above (λ (points : TestData). points.branches) refl file.branches kept.branches;
-    holders = λ line. kept.holders line ∙ sym (holders_with_test line);
-  }
+  kept_with_test : IsIndexOf (front ++ test_of [] ∷ back) index
+  kept_with_test = record { counts = counts_with_test; holders = λ line. kept.holders line ∙ sym (holders_with_test line) }
 
 pub whole_with_test : (test : List ℕ) (file : FileData) → IsWholeFile file → value_of (slice_cmp nat_cmp) test file.tests ≡ None → IsWholeFile (with_test test file)
 whole_with_test test file whole none =
@@ -104,8 +99,8 @@ whole_with_test test file whole none =
     let after : tests_in (with_test test file) ≡ map alone more.front ++ test_of [] ∷ map alone more.back = ap (map alone) more.after_is ∙ map-append alone more.front ((test, test_of []) ∷ more.back) in
     record {
       ascending = ArePairs-put names_order test (test_of []) file.tests whole.ascending;
-      kept = subst (λ (tests : List TestData). AreKept tests (with_test test file)) (sym after)
-          (kept_with_test (map alone more.front) (map alone more.back) file (subst (λ (tests : List TestData). AreKept tests file) before whole.kept) test);
+      kept = subst (λ (tests : List TestData). IsIndexOf tests file.index) (sym after)
+          (kept_with_test (map alone more.front) (map alone more.back) file.index (subst (λ (tests : List TestData). IsIndexOf tests file.index) before whole.kept));
     }
 
 -- each test shows the points that it showed

@@ -72,18 +72,18 @@ file_first file next one other less = ap (λ (o : Ordering). ordering_then o (sl
 
 -- a section of a file is of one of its tests
 pub section_of_test : (pair : List ℕ × FileData) (section : SectionData) → In section (sections_of_file pair)
-    → (test : List ℕ × TestData) × In test pair.1.tests × In section (section_seen pair.0 pair.1.texts test.0 test.1)
-section_of_test pair section i = In-unflat (λ (test : List ℕ × TestData). section_seen pair.0 pair.1.texts test.0 test.1) pair.1.tests section i
+    → (test : List ℕ × TestData) × In test pair.1.tests × In section (section_seen pair.0 pair.1.index.texts test.0 test.1)
+section_of_test pair section i = In-unflat (λ (test : List ℕ × TestData). section_seen pair.0 pair.1.index.texts test.0 test.1) pair.1.tests section i
 
 pub key_of_section : (pair : List ℕ × FileData) (section : SectionData) → In section (sections_of_file pair) → (test : List ℕ) × ◌≡◌ {A = Key} (record { file = pair.0; test = test }) section.key
-key_of_section pair section i = let found = section_of_test pair section i in (found.0.0, seen_key pair.0 pair.1.texts found.0.0 found.0.1 section found.2)
+key_of_section pair section i = let found = section_of_test pair section i in (found.0.0, seen_key pair.0 pair.1.index.texts found.0.0 found.0.1 section found.2)
 
 file_sorted : (pair : List ℕ × FileData) → IsWholeFile pair.1 → IsStrictlySortedBy section_cmp (sections_of_file pair)
 file_sorted pair whole =
-    sorted_parts (slice_cmp nat_cmp) section_cmp (λ (test : List ℕ × TestData). section_seen pair.0 pair.1.texts test.0 test.1) pair.1.tests whole.ascending
-    (λ test i. seen_sorted pair.0 pair.1.texts test.0 test.1)
+    sorted_parts (slice_cmp nat_cmp) section_cmp (λ (test : List ℕ × TestData). section_seen pair.0 pair.1.index.texts test.0 test.1) pair.1.tests whole.ascending
+    (λ test i. seen_sorted pair.0 pair.1.index.texts test.0 test.1)
     (λ test next a b less i j.
-    by_key a b (record { file = pair.0; test = test.0 }) (record { file = pair.0; test = next.0 }) (seen_key pair.0 pair.1.texts test.0 test.1 a i) (seen_key pair.0 pair.1.texts next.0 next.1 b j)
+    by_key a b (record { file = pair.0; test = test.0 }) (record { file = pair.0; test = next.0 }) (seen_key pair.0 pair.1.index.texts test.0 test.1 a i) (seen_key pair.0 pair.1.index.texts next.0 next.1 b j)
     (test_first pair.0 test.0 next.0 less))
 
 pub state_sorted : (files : List (List ℕ × FileData)) → ArePairs (slice_cmp nat_cmp) files → AllByRecursion (λ pair. IsWholeFile pair.1) files → IsStrictlySortedBy section_cmp (sections_of files)

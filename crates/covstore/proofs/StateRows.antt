@@ -44,7 +44,7 @@ pub record IsChange (rows more : List Row) (name : List ℕ) (after : FileData) 
   pub whole : IsWholeFile after
   pub points : (test : List ℕ) → points_in (Some after) test ≡ test_of (items_at (record { file = name; test = test }) more)
   pub others : (key : Key) → (name ≡ key.file → ⊥) → items_at key more ≡ items_at key rows
-  pub texts : (committed : Checksum) → Contains (checksums_in more) committed → name ≡ committed.file → value_of nat_cmp committed.line after.texts ≡ Some committed.checksum
+  pub texts : (committed : Checksum) → Contains (checksums_in more) committed → name ≡ committed.file → value_of nat_cmp committed.line after.index.texts ≡ Some committed.checksum
   pub held_before : (committed : Checksum) → Contains (checksums_in more) committed → (name ≡ committed.file → ⊥) → Contains (checksums_in rows) committed
 
 module _ (rows more : List Row) (files : List (List ℕ × FileData)) (state : IsStateOf rows files) (name : List ℕ) (after : FileData) (change : IsChange rows more name after) where
@@ -80,7 +80,7 @@ module _ (rows more : List Row) (files : List (List ℕ × FileData)) (state : I
 
 pub same_rows : (rows : List Row) (files : List (List ℕ × FileData)) → IsStateOf rows files → (name : List ℕ) (after : FileData) → IsWholeFile after
     → ((test : List ℕ) → points_in (Some after) test ≡ points_in (value_of (slice_cmp nat_cmp) name files) test)
-    → ((line : ℕ) (text : List ℕ) → text_in (value_of (slice_cmp nat_cmp) name files) line ≡ Some text → value_of nat_cmp line after.texts ≡ Some text)
+    → ((line : ℕ) (text : List ℕ) → text_in (value_of (slice_cmp nat_cmp) name files) line ≡ Some text → value_of nat_cmp line after.index.texts ≡ Some text)
     → IsStateOf rows (put (slice_cmp nat_cmp) name after files)
 same_rows rows files state name after whole points texts = state_changed rows rows files state name after (record {
   whole = whole;
@@ -145,7 +145,7 @@ module _ (sums_more : (items : List ItemData) (item : ItemData) → test_of (ite
   -- the state with the file as it is with the row
   pub row_more : IsStateOf rows files → value_of (slice_cmp nat_cmp) row.file files ≡ Some file → value_of (slice_cmp nat_cmp) row.test file.tests ≡ Some points
       → after.tests ≡ put (slice_cmp nat_cmp) row.test (with_item row.item points) file.tests → IsWholeFile after
-      → ((committed : Checksum) → Contains (checksums_in (rows ++ row ∷ [])) committed → committed.file ≡ row.file → value_of nat_cmp committed.line after.texts ≡ Some committed.checksum)
+      → ((committed : Checksum) → Contains (checksums_in (rows ++ row ∷ [])) committed → committed.file ≡ row.file → value_of nat_cmp committed.line after.index.texts ≡ Some committed.checksum)
       → IsStateOf (rows ++ row ∷ []) (put (slice_cmp nat_cmp) row.file after files)
   row_more state in_files in_tests more whole texts = state_changed rows (rows ++ row ∷ []) files state row.file after (record {
     whole = whole;

@@ -35,7 +35,7 @@ points_same file other test e = ap points_or_none e
 
 -- the file's texts have the checksums of the items of its tests
 module _ (rows : List Row) (files : List (List ℕ × FileData)) (state : IsStateOf rows files) where
-  pub file_has_checksums : (key : Key) (file : FileData) → value_of (slice_cmp nat_cmp) key.file files ≡ Some file → HasChecksums file.texts (items_at key rows)
+  pub file_has_checksums : (key : Key) (file : FileData) → value_of (slice_cmp nat_cmp) key.file files ≡ Some file → HasChecksums file.index.texts (items_at key rows)
   file_has_checksums key file there line said e =
       let committed : Checksum = record { file = key.file; line = line; checksum = said } in
       ap (λ (found : Option FileData). text_in found line) (sym there)
@@ -65,8 +65,8 @@ module _ (rows : List Row) (files : List (List ℕ × FileData)) (state : IsStat
       let test = section_of_test pair.0 section pair.2 in
       let key : Key = record { file = pair.0.0; test = test.0.0 } in
       let items = items_at key rows in
-      let seen = seen_is key pair.0.1.texts items section (file_has_checksums key pair.0.1 (file_of_pair pair.0 pair.1))
-      (subst (λ (points : TestData). In section (section_seen pair.0.0 pair.0.1.texts test.0.0 points)) (points_of_pair pair.0 test.0 pair.1 test.1) test.2) in
+      let seen = seen_is key pair.0.1.index.texts items section (file_has_checksums key pair.0.1 (file_of_pair pair.0 pair.1))
+      (subst (λ (points : TestData). In section (section_seen pair.0.0 pair.0.1.index.texts test.0.0 points)) (points_of_pair pair.0 test.0 pair.1 test.1) test.2) in
       subst (λ (s : SectionData). In s (content_of rows)) seen.0 (In-map (section_of rows) (keys_of rows) key (key_there key seen.1 seen.2))
 
   -- ---- and the other way
@@ -102,11 +102,11 @@ module _ (rows : List Row) (files : List (List ℕ × FileData)) (state : IsStat
       let item = item_there key.0 key.1 in
       let kept = kept_there key.0 item.0 (value_of (slice_cmp nat_cmp) key.0.file files) item.1 refl in
       let items = items_at key.0 rows in
-      let own : section_seen key.0.file kept.0.texts key.0.test kept.2 ≡ section_of rows key.0 ∷ [] =
-      ap (section_seen key.0.file kept.0.texts key.0.test) kept.4 ∙ seen_as key.0 kept.0.texts items item.0 (file_has_checksums key.0 kept.0 kept.1) item.1 in
-      let here : In (section_of rows key.0) (section_seen key.0.file kept.0.texts key.0.test kept.2) = subst (In (section_of rows key.0)) (sym own) (inl refl) in
+      let own : section_seen key.0.file kept.0.index.texts key.0.test kept.2 ≡ section_of rows key.0 ∷ [] =
+      ap (section_seen key.0.file kept.0.index.texts key.0.test) kept.4 ∙ seen_as key.0 kept.0.index.texts items item.0 (file_has_checksums key.0 kept.0 kept.1) item.1 in
+      let here : In (section_of rows key.0) (section_seen key.0.file kept.0.index.texts key.0.test kept.2) = subst (In (section_of rows key.0)) (sym own) (inl refl) in
       let of_file : In (section_of rows key.0) (sections_of_file (key.0.file, kept.0)) =
-      In-flat (λ (test : List ℕ × TestData). section_seen key.0.file kept.0.texts test.0 test.1) kept.0.tests (key.0.test, kept.2) (section_of rows key.0) kept.3 here in
+      In-flat (λ (test : List ℕ × TestData). section_seen key.0.file kept.0.index.texts test.0 test.1) kept.0.tests (key.0.test, kept.2) (section_of rows key.0) kept.3 here in
       subst (λ (s : SectionData). In s (sections_of files)) key.2
       (In-flat sections_of_file files (key.0.file, kept.0) (section_of rows key.0) (pair_in names_order key.0.file kept.0 files kept.1) of_file)
 

@@ -8,7 +8,7 @@ use Rattle.covline.specs.Row.{ItemData, LineItem, FuncItem, BranchItem}
 use Rattle.covstore.specs.declared.sums.FunctionSum.{FunctionSum}
 use Rattle.covstore.specs.declared.sums.LineSum.{LineSum}
 use Rattle.covstore.specs.declared.sums.BranchSum.{BranchSum}
-use Rattle.covstore.specs.Content.{FunctionValueData, BranchValueData, LineValueData, SectionData, function_at, branch_at, line_at, section_with}
+use Rattle.covstore.specs.Content.{LineValueData, SectionData, branch_at, function_at, line_at, section_with}
 use Rattle.covmap.specs.Puts.{value_of}
 use Rattle.covstore.specs.State.{text_at, line_seen, function_seen, branch_seen, section_with_points, section_seen}
 use Rattle.covstore.specs.Sums.{TestData, test_of, line_sum, function_sum, branch_sum}
@@ -105,19 +105,13 @@ line_as texts items line committed = ap (line_from line (line_sum items line).1.
 abbrev pub HasChecksums : List (ℕ × List ℕ) → List ItemData → Type 0
 HasChecksums texts items = (line : ℕ) (text : List ℕ) → line_checksum line items ≡ Some text → value_of nat_cmp line texts ≡ Some text
 
-section_from : Key → List FunctionValueData → List BranchValueData → List LineValueData → SectionData
-section_from key functions branches lines = record { key = key; functions = functions; branches = branches; lines = lines }
-
 whole_as : (key : Key) (texts : List (ℕ × List ℕ)) (items : List ItemData) → HasChecksums texts items → section_with_points key.file texts key.test (test_of items) ≡ section_with key items
-unfolding section_from
 whole_as key texts items committed =
     let functions : map function_seen (test_of items).functions ≡ map (function_at items) (names_in items) = map_of_map (function_sum items) function_seen (function_at items) (names_in items) (λ name. refl) in
     let branches : map branch_seen (test_of items).branches ≡ map (branch_at items) (branches_in items) = map_of_map (branch_sum items) branch_seen (branch_at items) (branches_in items) (λ point. refl) in
     let lines : map (line_seen texts) (test_of items).lines ≡ map (line_at items) (lines_in items) =
     map_of_map (line_sum items) (line_seen texts) (line_at items) (lines_in items) (λ line. line_as texts items line (committed line)) in
-    ap (λ (fs : List FunctionValueData). section_from key fs (map branch_seen (test_of items).branches) (map (line_seen texts) (test_of items).lines)) functions
-    ∙ ap (λ (bs : List BranchValueData). section_from key (map (function_at items) (names_in items)) bs (map (line_seen texts) (test_of items).lines)) branches
-    ∙ ap (section_from key (map (function_at items) (names_in items)) (map (branch_at items) (branches_in items))) lines
+    λ i. record { key = key; functions = functions i; branches = branches i; lines = lines i }
 
 -- ---- the section that is seen
 

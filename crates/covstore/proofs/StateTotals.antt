@@ -1,25 +1,23 @@
 -- The totals of what is seen of a state are the numbers that are kept.
-use Rattle.std.proofs.Common.{◌≡◌, ℕ, Bool, nat_lt, List, [], ◌∷◌, ◌++◌, length, map, refl, sym, ap, subst, ⊎_elim, append_assoc}
-use Rattle.std.specs.Cmp.Lexicographic.{slice_cmp}
+use Rattle.std.proofs.Common.{◌≡◌, ℕ, Bool, List, [], ◌∷◌, ◌++◌, length, map, refl, sym, ap, subst, ⊎_elim, append_assoc}
 use Rattle.std.specs.declared.cmp.Ordering.{Ordering}
-use Rattle.std.specs.List.{AllByRecursion, count_by, flat_map}
-use Rattle.std.specs.Ordering.{nat_cmp}
+use Rattle.std.specs.List.{AllByRecursion, count_by, flat_map, sum_by}
 use Rattle.covline.specs.Points.{BranchPoint}
 use Rattle.covline.specs.Row.{Row}
 use Rattle.covstore.specs.declared.sums.FunctionSum.{FunctionSum}
 use Rattle.covstore.specs.declared.sums.LineSum.{LineSum}
 use Rattle.covstore.specs.declared.sums.BranchSum.{BranchSum}
 use Rattle.covstore.specs.declared.sums.Tests.{Tests}
+use Rattle.covstore.specs.Kinds.{Branch, Function, KeyOf, Kind, Line, SumOf, above_of, at, cmp_of}
 use Rattle.covstore.specs.Clash.{Agree, checksums_in}
 use Rattle.covstore.specs.Content.{BranchValueData, FunctionValueData, LineValueData, SectionData, content_of}
 use Rattle.covstore.specs.KindIndexCounts.{AreCounts, found_of, hit_of}
 use Rattle.covmap.specs.Puts.{ArePairs}
-use Rattle.covstore.specs.State.{FileData, IsStateOf, IsWholeFile, branch_above, branch_seen, function_above, function_seen, line_above, line_seen, section_seen, section_with_points, sections_of, sections_of_file, totals_in}
+use Rattle.covstore.specs.State.{FileData, IsStateOf, IsWholeFile, branch_seen, found_at, function_seen, hit_at, line_seen, section_seen, section_with_points, sections_of, sections_of_file, totals_in}
 use Rattle.covstore.specs.Sums.{TestData}
-use Rattle.covstore.specs.Totals.{branches_found, functions_found, is_branch_hit, is_function_hit, is_line_hit, lines_found, sections_of as own_sections, totals_of}
-use Rattle.covstore.specs.Value.{branch_cmp, is_taken}
+use Rattle.covstore.specs.Totals.{over_files, sections_of as own_sections, totals_of}
 use Rattle.covstore.proofs.Counts.{counts_unempty}
-use Rattle.covstore.proofs.CountsKinds.{branches_ascend, branches_counted, branches_of, functions_ascend, functions_counted, functions_of, lines_ascend, lines_counted, lines_of}
+use Rattle.covstore.proofs.CountsKinds.{ValueOf, above_in, ascend, counted, found_in, is_hit_in, valued}
 use Rattle.covstore.proofs.CountsMapped.{counts_mapped_at}
 use Rattle.covstore.proofs.Members.{All-in, In}
 use Rattle.covstore.proofs.StateFiles.{over_all, own_seen}
@@ -70,27 +68,33 @@ module _ {K V W : Type 0} (cmp : K → K → Ordering) (is_above : V → Bool) (
   seen_counts tests counts are =
       seen_counts_from [] tests counts (counts_mapped_at cmp is_above is_other seen same (map points (map (λ (test : List ℕ × TestData). test.1) tests)) counts are)
 
-module _ (pair : List ℕ × FileData) (file_is : IsWholeFile pair.1) where
-  lines_seen : AreCounts nat_cmp (λ l. nat_lt 0 l.count) (map lines_of (sections_of_file pair)) pair.1.lines
-  lines_seen =
-      seen_counts nat_cmp line_above (λ (l : LineValueData). nat_lt 0 l.count) (λ line sum. line_seen pair.1.texts (line, sum)) (λ line sum. refl) (λ (test : TestData). test.lines) lines_of
-      pair.0 pair.1.texts (λ test empty. empty.lines)
-      (λ name test. map_of_map (line_seen pair.1.texts) (λ (l : LineValueData). (l.line, l)) (λ (point : ℕ × LineSum). (point.0, line_seen pair.1.texts (point.0, point.1))) test.lines (λ point. refl))
-      pair.1.tests pair.1.lines file_is.kept.lines
+-- ---- each kind
 
-  functions_seen : AreCounts (slice_cmp nat_cmp) (λ f. nat_lt 0 f.count) (map functions_of (sections_of_file pair)) pair.1.functions
-  functions_seen =
-      seen_counts (slice_cmp nat_cmp) function_above (λ (f : FunctionValueData). nat_lt 0 f.count) (λ name sum. function_seen (name, sum)) (λ name sum. refl) (λ (test : TestData). test.functions)
-      functions_of pair.0 pair.1.texts (λ test empty. empty.functions)
-      (λ name test. map_of_map function_seen (λ (f : FunctionValueData). (f.name, f)) (λ (point : List ℕ × FunctionSum). (point.0, function_seen (point.0, point.1))) test.functions (λ point. refl))
-      pair.1.tests pair.1.functions file_is.kept.functions
+abbrev seen_of : (kind : Kind) → List (ℕ × List ℕ) → KeyOf kind → SumOf kind → ValueOf kind
+seen_of Line texts line sum = line_seen texts (line, sum)
+seen_of Function texts name sum = function_seen (name, sum)
+seen_of Branch texts point sum = branch_seen (point, sum)
 
-  branches_seen : AreCounts branch_cmp (λ b. is_taken b.taken) (map branches_of (sections_of_file pair)) pair.1.branches
-  branches_seen =
-      seen_counts branch_cmp branch_above (λ (b : BranchValueData). is_taken b.taken) (λ point sum. branch_seen (point, sum)) (λ point sum. refl) (λ (test : TestData). test.branches) branches_of
-      pair.0 pair.1.texts (λ test empty. empty.branches)
-      (λ name test. map_of_map branch_seen (λ (b : BranchValueData). (b.point, b)) (λ (point : BranchPoint × BranchSum). (point.0, branch_seen (point.0, point.1))) test.branches (λ point. refl))
-      pair.1.tests pair.1.branches file_is.kept.branches
+seen_above : (kind : Kind) (texts : List (ℕ × List ℕ)) (key : KeyOf kind) (sum : SumOf kind) → above_in kind (seen_of kind texts key sum) ≡ above_of kind sum
+seen_above Line texts key sum = refl
+seen_above Function texts key sum = refl
+seen_above Branch texts key sum = refl
+
+none_at : (kind : Kind) (test : TestData) → HasNone test → at kind test ≡ []
+none_at Line test none = none.lines
+none_at Function test none = none.functions
+none_at Branch test none = none.branches
+
+whole_at : (kind : Kind) (file : List ℕ) (texts : List (ℕ × List ℕ)) (name : List ℕ) (test : TestData) → valued kind (section_with_points file texts name test) ≡ map (λ pair. (pair.0, seen_of kind texts pair.0 pair.1)) (at kind test)
+whole_at Line file texts name test = map_of_map (line_seen texts) (λ (l : LineValueData). (l.line, l)) (λ (pair : ℕ × LineSum). (pair.0, line_seen texts (pair.0, pair.1))) test.lines (λ pair. refl)
+whole_at Function file texts name test = map_of_map function_seen (λ (f : FunctionValueData). (f.name, f)) (λ (pair : List ℕ × FunctionSum). (pair.0, function_seen (pair.0, pair.1))) test.functions (λ pair. refl)
+whole_at Branch file texts name test = map_of_map branch_seen (λ (b : BranchValueData). (b.point, b)) (λ (pair : BranchPoint × BranchSum). (pair.0, branch_seen (pair.0, pair.1))) test.branches (λ pair. refl)
+
+kind_seen : (kind : Kind) (pair : List ℕ × FileData) → IsWholeFile pair.1 → AreCounts (cmp_of kind) (above_in kind) (map (valued kind) (sections_of_file pair)) (at kind pair.1.index.counts)
+kind_seen kind pair whole =
+    let texts = pair.1.index.texts in
+    seen_counts (cmp_of kind) (above_of kind) (above_in kind) (seen_of kind texts) (seen_above kind texts) (at kind) (valued kind) pair.0 texts (none_at kind) (whole_at kind pair.0 texts)
+    pair.1.tests (at kind pair.1.index.counts) (whole.kept.counts kind)
 
 -- ---- all kinds
 
@@ -104,32 +108,19 @@ module _ (rows : List Row) (files : List (List ℕ × FileData)) (state : IsStat
   pair_whole : (pair : List ℕ × FileData) → In pair files → IsWholeFile pair.1
   pair_whole pair i = All-in (λ (p : List ℕ × FileData). IsWholeFile p.1) files pair state.whole i
 
-  lines_kept : (pair : List ℕ × FileData) → In pair files
-      → (length (lines_found (sections_of_file pair)) ≡ found_of pair.1.lines) × (count_by (is_line_hit (sections_of_file pair)) (lines_found (sections_of_file pair)) ≡ hit_of pair.1.lines)
-  lines_kept pair i =
-      lines_counted (sections_of_file pair) pair.1.lines (of_seen (λ s. ArePairs nat_cmp (lines_of s)) pair i (lines_ascend pair.0 rows)) (lines_seen pair (pair_whole pair i))
+  kept : (kind : Kind) (pair : List ℕ × FileData) → In pair files
+      → (length (found_in kind (sections_of_file pair)) ≡ found_at kind pair) × (count_by (is_hit_in kind (sections_of_file pair)) (found_in kind (sections_of_file pair)) ≡ hit_at kind pair)
+  kept kind pair i =
+      counted kind (sections_of_file pair) (at kind pair.1.index.counts) (of_seen (λ s. ArePairs (cmp_of kind) (valued kind s)) pair i (ascend kind pair.0 rows)) (kind_seen kind pair (pair_whole pair i))
 
-  functions_kept : (pair : List ℕ × FileData) → In pair files
-      → (length (functions_found (sections_of_file pair)) ≡ found_of pair.1.functions)
-      × (count_by (is_function_hit (sections_of_file pair)) (functions_found (sections_of_file pair)) ≡ hit_of pair.1.functions)
-  functions_kept pair i =
-      functions_counted (sections_of_file pair) pair.1.functions (of_seen (λ s. ArePairs (slice_cmp nat_cmp) (functions_of s)) pair i (functions_ascend pair.0 rows)) (functions_seen pair (pair_whole pair i))
+  all_found : (kind : Kind) → over_files (λ own. length (found_in kind own)) (sections_of files) ≡ sum_by (found_at kind) files
+  all_found kind = over_all (λ own. length (found_in kind own)) refl files state.ascending (λ file. found_of (at kind file.index.counts)) (λ pair i. (kept kind pair i).0)
 
-  branches_kept : (pair : List ℕ × FileData) → In pair files
-      → (length (branches_found (sections_of_file pair)) ≡ found_of pair.1.branches)
-      × (count_by (is_branch_hit (sections_of_file pair)) (branches_found (sections_of_file pair)) ≡ hit_of pair.1.branches)
-  branches_kept pair i =
-      branches_counted (sections_of_file pair) pair.1.branches (of_seen (λ s. ArePairs branch_cmp (branches_of s)) pair i (branches_ascend pair.0 rows)) (branches_seen pair (pair_whole pair i))
+  all_hit : (kind : Kind) → over_files (λ own. count_by (is_hit_in kind own) (found_in kind own)) (sections_of files) ≡ sum_by (hit_at kind) files
+  all_hit kind = over_all (λ own. count_by (is_hit_in kind own) (found_in kind own)) refl files state.ascending (λ file. hit_of (at kind file.index.counts)) (λ pair i. (kept kind pair i).1)
 
   pub totals_as : totals_of (sections_of files) ≡ totals_in files
-  totals_as =
-      same_totals (totals_of (sections_of files)) (totals_in files)
-      (over_all (λ own. length (lines_found own)) refl files state.ascending (λ file. found_of file.lines) (λ pair i. (lines_kept pair i).0))
-      (over_all (λ own. count_by (is_line_hit own) (lines_found own)) refl files state.ascending (λ file. hit_of file.lines) (λ pair i. (lines_kept pair i).1))
-      (over_all (λ own. length (functions_found own)) refl files state.ascending (λ file. found_of file.functions) (λ pair i. (functions_kept pair i).0))
-      (over_all (λ own. count_by (is_function_hit own) (functions_found own)) refl files state.ascending (λ file. hit_of file.functions) (λ pair i. (functions_kept pair i).1))
-      (over_all (λ own. length (branches_found own)) refl files state.ascending (λ file. found_of file.branches) (λ pair i. (branches_kept pair i).0))
-      (over_all (λ own. count_by (is_branch_hit own) (branches_found own)) refl files state.ascending (λ file. hit_of file.branches) (λ pair i. (branches_kept pair i).1))
+  totals_as = same_totals (totals_of (sections_of files)) (totals_in files) (all_found Line) (all_hit Line) (all_found Function) (all_hit Function) (all_found Branch) (all_hit Branch)
 
 pub totals_are : (rows : List Row) (files : List (List ℕ × FileData)) → IsStateOf rows files → Agree (checksums_in rows) → totals_of (sections_of files) ≡ totals_in files
 totals_are rows files state agree = totals_as rows files state

@@ -4,7 +4,6 @@ use Rattle.std.specs.Option.{IfSome, is_some}
 use Rattle.std.specs.Ordering.{nat_cmp}
 use Rattle.std.proofs.lemmas.Bool.{cond-true, lt-ltb}
 use Rattle.std.proofs.lemmas.List.Sums.{count_by-le-length}
-use Rattle.covstore.specs.declared.sums.LineSum.{LineSum}
 use Rattle.covstore.specs.KindIndexCounts.{one_if}
 use Rattle.covstore.specs.FileIndex.{FileIndexData}
 use Rattle.covmap.specs.Puts.{value_of}
@@ -36,9 +35,5 @@ module _ (test : TestData) (index : FileIndexData) (room : HasRoom test index) (
   -- no more tests hold it than there are
   pub holders_few : IfSome (value_of nat_cmp line index.holders) (λ committed. committed < 2 ^ 63)
   holders_few =
-      let few : holding line tests < 2 ^ 63 = omega (arith, room.few, count_by-le-length (is_holding line) tests) in
+      let few : holding line tests < 2 ^ 63 = omega (arith, room.few_tests, count_by-le-length (is_holding line) tests) in
       subst (λ committed. IfSome committed (λ n. n < 2 ^ 63)) (sym (room.kept.holders line)) (few_where (nat_lt 0 (holding line tests)) (holding line tests) few)
-
--- the test with other lines
-abbrev pub with_lines : TestData → List (ℕ × LineSum) → TestData
-with_lines test lines = record { lines = lines; functions = test.functions; branches = test.branches }

@@ -8,9 +8,7 @@ use Rattle.covmap.specs.Puts.{value_of}
 
 pub held_both : {A : Type 0} (index more most : FileIndex A) → KeepsCommitted index more → KeepsCommitted more most → KeepsCommitted index most
 held_both index more most first second = record {
-  lines = second.lines ∙ first.lines;
-  functions = second.functions ∙ first.functions;
-  branches = second.branches ∙ first.branches;
+  counts = second.counts ∙ first.counts;
   holders = second.holders ∙ first.holders;
   texts = λ line e. second.texts line (ap (λ (points : List (ℕ × ℕ)). is_some (value_of nat_cmp line points)) first.holders ∙ e) ∙ first.texts line e;
 }

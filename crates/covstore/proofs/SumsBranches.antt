@@ -9,7 +9,7 @@ use Rattle.covline.specs.Row.{ItemData, BranchItem}
 use Rattle.covstore.specs.declared.sums.BranchSum.{BranchSum}
 use Rattle.covmap.specs.Puts.{put, value_of}
 use Rattle.covstore.specs.Sums.{branch_sum, branch_with, sum_taken}
-use Rattle.covstore.specs.Value.{bounded, branch_cmp, is_branch, sum_if_any, taken_said}
+use Rattle.covstore.specs.Value.{bounded, branch_cmp, branch_value, is_branch, sum_if_any, taken_said}
 use Rattle.covstore.proofs.Bounds.{bounded_sum}
 use Rattle.covstore.proofs.ContentsPoints.{nothing_said, taken_unsaid}
 use Rattle.covstore.proofs.Members.{In}
@@ -21,13 +21,11 @@ use Rattle.covstore.proofs.SumsLast.{last_said, none_said}
 abbrev pub branch_held : List ItemData → BranchPoint → BranchSum
 branch_held items point = (branch_sum items point).1
 
-taken_of : Option ℕ → BranchSum
-taken_of times = record { times = times }
-
 -- an item that doesn't speak of the branch leaves it
 branch_others : (items : List ItemData) (item : ItemData) (point : BranchPoint) → (In point (branch_point item) → ⊥) → branch_held (items ++ item ∷ []) point ≡ branch_held items point
-unfolding taken_of
-branch_others items item point none = ap (λ (said : List ℕ). taken_of (sum_if_any said)) (none_said (taken_said point) items item (taken_unsaid point item none))
+branch_others items item point none =
+    let said = none_said (taken_said point) items item (taken_unsaid point item none) in
+    λ i. record { times = sum_if_any (said i) }
 
 -- ---- an item of the branch
 
@@ -62,19 +60,19 @@ sum_told (n ∷ numbers) (Some taken) =
     ∙ ap (λ (k : ℕ). Some k) (bounded_sum (sum_by (λ m. m) (n ∷ numbers)) taken)
 
 module _ (items : List ItemData) (line block branch : ℕ) (taken : Option ℕ) where
-  branch_more : branch_held (items ++ BranchItem line block branch taken ∷ []) (point_of line block branch) ≡ branch_with taken (Some (branch_held items (point_of line block branch)))
-  unfolding taken_of
-  branch_more =
+  taken_more : branch_value (point_of line block branch) (items ++ BranchItem line block branch taken ∷ []) ≡ sum_taken (branch_value (point_of line block branch) items) taken
+  taken_more =
       let point = point_of line block branch in
-      ap (λ (said : List ℕ). taken_of (sum_if_any said))
-      (last_said (taken_said point) items (BranchItem line block branch taken) ∙ ap (λ (said : List ℕ). flat_map (taken_said point) items ++ said) (own_taken line block branch taken))
-      ∙ ap taken_of (sum_told (flat_map (taken_said point) items) taken)
+      ap sum_if_any (last_said (taken_said point) items (BranchItem line block branch taken) ∙ ap (λ (said : List ℕ). flat_map (taken_said point) items ++ said) (own_taken line block branch taken))
+      ∙ sum_told (flat_map (taken_said point) items) taken
+
+  branch_more : branch_held (items ++ BranchItem line block branch taken ∷ []) (point_of line block branch) ≡ branch_with taken (Some (branch_held items (point_of line block branch)))
+  branch_more = λ i. record { times = taken_more i }
 
   branch_first : (In (point_of line block branch) (branch_points items) → ⊥) → branch_held (items ++ BranchItem line block branch taken ∷ []) (point_of line block branch) ≡ branch_with taken None
-  unfolding taken_of
   branch_first none =
-      let point = point_of line block branch in
-      branch_more ∙ ap (λ (said : List ℕ). taken_of (sum_taken (sum_if_any said) taken)) (nothing_said branch_point (taken_said point) point (taken_unsaid point) items none)
+      let said = nothing_said branch_point (taken_said (point_of line block branch)) (point_of line block branch) (taken_unsaid (point_of line block branch)) items none in
+      branch_more ∙ ap (λ (said : List ℕ). branch_with taken (Some (record { times = sum_if_any said }))) said
 
   pub branches_put : sums branch_cmp branch_point branch_held (items ++ BranchItem line block branch taken ∷ [])
       ≡ put branch_cmp (point_of line block branch) (branch_with taken (value_of branch_cmp (point_of line block branch) (sums branch_cmp branch_point branch_held items)))

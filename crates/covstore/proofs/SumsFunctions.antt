@@ -13,7 +13,7 @@ use Rattle.covline.specs.Row.{ItemData, FuncItem}
 use Rattle.covstore.specs.declared.sums.FunctionSum.{FunctionSum}
 use Rattle.covmap.specs.Puts.{put, value_of}
 use Rattle.covstore.specs.Sums.{function_sum, function_with}
-use Rattle.covstore.specs.Value.{bounded, function_added, function_count, function_start, start_said}
+use Rattle.covstore.specs.Value.{bounded, function_added, function_start, start_said}
 use Rattle.covstore.proofs.ContentsPoints.{count_unadded, has_start, nothing_added, nothing_said, start_unsaid}
 use Rattle.covstore.proofs.Members.{In}
 use Rattle.covstore.proofs.Orders.{names_order}
@@ -24,18 +24,14 @@ use Rattle.covstore.proofs.SumsLast.{last_said, none_added, none_said, sum_first
 abbrev pub function_held : List ItemData → List ℕ → FunctionSum
 function_held items name = (function_sum items name).1
 
-function_of : ℕ → ℕ → FunctionSum
-function_of line count = record { line = line; count = count }
-
 -- two sums of the same parts are the same
-same_sum : (line other_line count other : ℕ) → line ≡ other_line → count ≡ other → function_of line count ≡ function_of other_line other
-same_sum line other_line count other left right = ap (λ (n : ℕ). function_of n count) left ∙ ap (λ (n : ℕ). function_of other_line n) right
+same_sum : (sum other : FunctionSum) → sum.line ≡ other.line → sum.count ≡ other.count → sum ≡ other
+same_sum sum other line count = λ i. record { line = line i; count = count i }
 
 -- an item that doesn't speak of the function leaves it
 function_others : (items : List ItemData) (item : ItemData) (name : List ℕ) → (In name (func_point item) → ⊥) → function_held (items ++ item ∷ []) name ≡ function_held items name
-unfolding function_of
 function_others items item name none =
-    same_sum (function_start name (items ++ item ∷ [])) (function_start name items) (function_count name (items ++ item ∷ [])) (function_count name items)
+    same_sum (function_held (items ++ item ∷ []) name) (function_held items name)
     (ap (λ (said : List ℕ). unwrap_or (least said) 0) (none_said (start_said name) items item (start_unsaid name item none)))
     (ap bounded (none_added (function_added name) items item (count_unadded name item none)))
 
@@ -58,17 +54,14 @@ module _ (name : List ℕ) (items : List ItemData) (line count : ℕ) where
       (last_said (start_said name) items (FuncItem name line count) ∙ ap (λ (said : List ℕ). flat_map (start_said name) items ++ said) (own_start name line count))
 
   function_more : In name (func_points items) → function_held (items ++ FuncItem name line count ∷ []) name ≡ function_with line count (Some (function_held items name))
-  unfolding function_of
   function_more i =
-      same_sum (function_start name (items ++ FuncItem name line count ∷ [])) (min (function_start name items) line)
-      (function_count name (items ++ FuncItem name line count ∷ [])) (bounded (function_count name items + count))
+      same_sum (function_held (items ++ FuncItem name line count ∷ []) name) (function_with line count (Some (function_held items name)))
       (starts_more ∙ least_last (flat_map (start_said name) items) line (has_start name items i))
       (sum_last (function_added name) items (FuncItem name line count) count (own_count name line count))
 
   function_first : (In name (func_points items) → ⊥) → function_held (items ++ FuncItem name line count ∷ []) name ≡ function_with line count None
-  unfolding function_of
   function_first none =
-      same_sum (function_start name (items ++ FuncItem name line count ∷ [])) line (function_count name (items ++ FuncItem name line count ∷ [])) (bounded count)
+      same_sum (function_held (items ++ FuncItem name line count ∷ []) name) (function_with line count None)
       (starts_more ∙ ap (λ (said : List ℕ). unwrap_or (least (said ++ line ∷ [])) 0) (nothing_said func_point (start_said name) name (start_unsaid name) items none))
       (sum_first (function_added name) items (FuncItem name line count) count (own_count name line count) (nothing_added func_point (function_added name) name (count_unadded name) items none))
 

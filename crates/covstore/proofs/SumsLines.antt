@@ -9,7 +9,7 @@ use Rattle.covline.specs.Row.{ItemData, LineItem}
 use Rattle.covstore.specs.declared.sums.LineSum.{LineSum}
 use Rattle.covmap.specs.Puts.{put, value_of}
 use Rattle.covstore.specs.Sums.{line_sum, line_with}
-use Rattle.covstore.specs.Value.{bounded, checksum_said, first_of, line_added, line_checksum, line_value}
+use Rattle.covstore.specs.Value.{bounded, checksum_said, first_of, line_added, line_checksum}
 use Rattle.covstore.proofs.ContentsPoints.{checksum_unsaid, line_unadded, nothing_added, nothing_said}
 use Rattle.covstore.proofs.Members.{In}
 use Rattle.covstore.proofs.Orders.{lines_order}
@@ -20,18 +20,14 @@ use Rattle.covstore.proofs.SumsLast.{last_said, none_added, none_said, sum_first
 abbrev pub line_held : List ItemData → ℕ → LineSum
 line_held items line = (line_sum items line).1
 
-line_of : ℕ → Bool → LineSum
-line_of count has_checksum = record { count = count; has_checksum = has_checksum }
-
 -- two sums of the same parts are the same
-same_sum : (count other : ℕ) (has_checksum has_other : Bool) → count ≡ other → has_checksum ≡ has_other → line_of count has_checksum ≡ line_of other has_other
-same_sum count other has_checksum has_other left right = ap (λ (n : ℕ). line_of n has_checksum) left ∙ ap (λ (b : Bool). line_of other b) right
+same_sum : (sum other : LineSum) → sum.count ≡ other.count → sum.has_checksum ≡ other.has_checksum → sum ≡ other
+same_sum sum other count has_checksum = λ i. record { count = count i; has_checksum = has_checksum i }
 
 -- an item that doesn't speak of the line leaves it
 line_others : (items : List ItemData) (item : ItemData) (line : ℕ) → (In line (line_point item) → ⊥) → line_held (items ++ item ∷ []) line ≡ line_held items line
-unfolding line_of
 line_others items item line none =
-    same_sum (line_value line (items ++ item ∷ [])) (line_value line items) (is_some (line_checksum line (items ++ item ∷ []))) (is_some (line_checksum line items))
+    same_sum (line_held (items ++ item ∷ []) line) (line_held items line)
     (ap bounded (none_added (line_added line) items item (line_unadded line item none)))
     (ap (λ (said : List (List ℕ)). is_some (first_of said)) (none_said (checksum_said line) items item (checksum_unsaid line item none)))
 
@@ -57,17 +53,14 @@ checksum_more items line count checksum =
 
 module _ (items : List ItemData) (line count : ℕ) (checksum : Option (List ℕ)) where
   line_more : line_held (items ++ LineItem line count checksum ∷ []) line ≡ line_with count (is_some checksum) (Some (line_held items line))
-  unfolding line_of
   line_more =
-      same_sum (line_value line (items ++ LineItem line count checksum ∷ [])) (bounded (line_value line items + count))
-      (is_some (line_checksum line (items ++ LineItem line count checksum ∷ []))) (is_some (line_checksum line items) || is_some checksum)
+      same_sum (line_held (items ++ LineItem line count checksum ∷ []) line) (line_with count (is_some checksum) (Some (line_held items line)))
       (sum_last (line_added line) items (LineItem line count checksum) count (own_count line count checksum))
       (checksum_more items line count checksum)
 
   line_first : (In line (line_points items) → ⊥) → line_held (items ++ LineItem line count checksum ∷ []) line ≡ line_with count (is_some checksum) None
-  unfolding line_of
   line_first none =
-      same_sum (line_value line (items ++ LineItem line count checksum ∷ [])) (bounded count) (is_some (line_checksum line (items ++ LineItem line count checksum ∷ []))) (is_some checksum)
+      same_sum (line_held (items ++ LineItem line count checksum ∷ []) line) (line_with count (is_some checksum) None)
       (sum_first (line_added line) items (LineItem line count checksum) count (own_count line count checksum) (nothing_added line_point (line_added line) line (line_unadded line) items none))
       (checksum_more items line count checksum ∙ ap (λ (said : List (List ℕ)). is_some (first_of said) || is_some checksum) (nothing_said line_point (checksum_said line) line (checksum_unsaid line) items none))
 

@@ -125,17 +125,11 @@ branch_above point items =
     taken_above (flat_map (taken_said point) items) ∙ any_flat (nat_lt 0) (taken_said point) items
     ∙ any_agree (λ item. list_any (nat_lt 0) (taken_said point item)) (hits_branch point) (branch_hit_is point) items
 
-branch_point_of : ℕ → ℕ → ℕ → BranchPoint
-branch_point_of line block branch = record { line = line; block = block; branch = branch }
-
 pub same_branch : (point : BranchPoint) (line block branch : ℕ) → is_branch point line block branch ≡ true → record { line = line; block = block; branch = branch } ≡ point
-unfolding branch_point_of
 same_branch point line block branch h =
     let p = and_parts (line == point.line && block == point.block) (branch == point.branch) h in
     let q = and_parts (line == point.line) (block == point.block) p.0 in
-    ap (λ (n : ℕ). branch_point_of n block branch) (eqb-true line point.line q.0)
-    ∙ ap (λ (n : ℕ). branch_point_of point.line n branch) (eqb-true block point.block q.1)
-    ∙ ap (λ (n : ℕ). branch_point_of point.line point.block n) (eqb-true branch point.branch p.1)
+    λ i. record { line = eqb-true line point.line q.0 i; block = eqb-true block point.block q.1 i; branch = eqb-true branch point.branch p.1 i }
 
 pub itself : (point : BranchPoint) → is_branch point point.line point.block point.branch ≡ true
 itself point =

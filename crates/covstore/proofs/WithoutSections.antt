@@ -75,5 +75,5 @@ module _ (test : List ℕ) where
   count_in_files (pair ∷ files) whole =
       sum_by-cons (λ p. one_for (has_points_of test p.1)) pair files
       ∙ ap (λ (n : ℕ). one_for (has_points_of test pair.1) + n) (count_in_files files whole.1)
-      ∙ ap (λ (n : ℕ). n + count_of (sections_of files)) (sym (count_seen pair.0 pair.1.texts pair.1.tests ∙ count_found pair.1.tests whole.0.ascending))
+      ∙ ap (λ (n : ℕ). n + count_of (sections_of files)) (sym (count_seen pair.0 pair.1.index.texts pair.1.tests ∙ count_found pair.1.tests whole.0.ascending))
       ∙ sym (sum_by-append (λ s. one_for (of_test test s)) (sections_of_file pair) (sections_of files))

@@ -11,7 +11,7 @@ tests_without test tests = filter (λ pair. not (bytes_eq pair.0 test)) tests
 -- holds any more
 pub record IsWithoutTest (test : List ℕ) (before after : FileData) : Type 0 where
   pub tests : after.tests ≡ tests_without test before.tests
-  pub texts : after.texts ≡ before.texts
+  pub texts : after.index.texts ≡ before.index.texts
   pub whole : IsWholeFile after
 
 -- the same files, each without the test

@@ -1,30 +1,34 @@
 -- What is kept of a file beside its tests.
-use Rattle.std.specs.Prelude.{ℕ, List}
-use Rattle.covline.specs.Points.{BranchPoint}
-use Rattle.covstore.specs.declared.sums.Tests.{Tests}
+use Rattle.std.specs.Prelude.{◌≡◌, ℕ, true, List}
+use Rattle.std.specs.Option.{is_some}
+use Rattle.std.specs.Ordering.{nat_cmp}
 use Rattle.covstore.specs.declared.totals.Totals.{Totals}
+use Rattle.covmap.specs.Puts.{value_of}
 use Rattle.covstore.specs.KindIndexCounts.{found_of, hit_of}
-use Rattle.covstore.specs.State.{FileData}
-use Rattle.covstore.specs.Sums.{TestData}
+use Rattle.covstore.specs.Kinds.{CountsOf, Each}
 
--- for each point of a kind in how many tests it is; how many tests hold a checksum of a line, and the checksums' texts
+-- for each point of a kind in how many tests it is; for each line with a checksum how many tests hold it; and the checksums' texts,
+-- among them some that no test holds any more
 pub record FileIndexData : Type 0 where
-  pub lines : List (ℕ × Tests)
-  pub functions : List (List ℕ × Tests)
-  pub branches : List (BranchPoint × Tests)
+  pub counts : Each CountsOf
   pub holders : List (ℕ × ℕ)
   pub texts : List (ℕ × List ℕ)
 
-abbrev pub index_totals : FileIndexData → Totals
-index_totals index = record {
-  lf = found_of index.lines;
-  lh = hit_of index.lines;
-  ff = found_of index.functions;
-  fh = hit_of index.functions;
-  bf = found_of index.branches;
-  bh = hit_of index.branches;
+-- the same numbers, and the text of each line of which a checksum is held: texts may come in of which none is held
+pub record KeepsIndex (before after : FileIndexData) : Type 0 where
+  pub counts : after.counts ≡ before.counts
+  pub holders : after.holders ≡ before.holders
+  pub texts : (line : ℕ) → is_some (value_of nat_cmp line before.holders) ≡ true → value_of nat_cmp line after.texts ≡ value_of nat_cmp line before.texts
+
+abbrev pub counts_totals : Each CountsOf → Totals
+counts_totals counts = record {
+  lf = found_of counts.lines;
+  lh = hit_of counts.lines;
+  ff = found_of counts.functions;
+  fh = hit_of counts.functions;
+  bf = found_of counts.branches;
+  bh = hit_of counts.branches;
 }
 
--- a file of these tests, of which that is kept
-abbrev pub file_with : List (List ℕ × TestData) → FileIndexData → FileData
-file_with tests index = record { tests = tests; lines = index.lines; functions = index.functions; branches = index.branches; holders = index.holders; texts = index.texts }
+abbrev pub index_totals : FileIndexData → Totals
+index_totals index = counts_totals index.counts

@@ -1,15 +1,15 @@
 -- A file of the code, seen as plain data: committed, and staged.
-use Rattle.std.specs.Prelude.{◌≡◌, ℕ, true, if◌then◌else◌, List, [], map}
+use Rattle.std.specs.Prelude.{◌≡◌, ℕ, if◌then◌else◌, List, [], map}
 use Rattle.std.specs.Cmp.Lexicographic.{slice_cmp}
 use Rattle.std.specs.Option.{is_some}
 use Rattle.std.specs.Ordering.{nat_cmp}
 use Rattle.covstore.specs.declared.file.File.{File}
-use Rattle.covstore.specs.FileIndex.{file_with}
 use Rattle.covstore.specs.FileIndexView.{index_staged, index_committed, empty_index}
 use Rattle.covmap.specs.Puts.{put, value_of}
-use Rattle.covstore.specs.State.{FileData}
+use Rattle.covstore.specs.State.{FileData, file_with}
 use Rattle.covstore.specs.Sums.{TestData, test_of}
 use Rattle.covstore.specs.TestView.{test_staged, test_committed}
+use Rattle.covstore.specs.FileIndex.{KeepsIndex}
 
 abbrev pub file_committed : {A : Type 0} → File A → FileData
 file_committed file = file_with (map (λ pair. (pair.0.items, test_committed pair.1)) file.tests.entries) (index_committed file.index)
@@ -26,14 +26,7 @@ abbrev pub tests_with : List ℕ → List (List ℕ × TestData) → List (List 
 tests_with test tests = if is_some (value_of (slice_cmp nat_cmp) test tests) then tests else put (slice_cmp nat_cmp) test (test_of []) tests
 
 abbrev pub with_test : List ℕ → FileData → FileData
-with_test test file = record {
-  tests = tests_with test file.tests;
-  lines = file.lines;
-  functions = file.functions;
-  branches = file.branches;
-  holders = file.holders;
-  texts = file.texts;
-}
+with_test test file = file_with (tests_with test file.tests) file.index
 
 -- the files with this one, without tests where it wasn't there
 abbrev pub with_file : List ℕ → List (List ℕ × FileData) → List (List ℕ × FileData)
@@ -42,8 +35,4 @@ with_file file files = if is_some (value_of (slice_cmp nat_cmp) file files) then
 -- the same tests and numbers, and the text of each line of which a checksum is held
 pub record KeepsFile (before after : FileData) : Type 0 where
   pub tests : after.tests ≡ before.tests
-  pub lines : after.lines ≡ before.lines
-  pub functions : after.functions ≡ before.functions
-  pub branches : after.branches ≡ before.branches
-  pub holders : after.holders ≡ before.holders
-  pub texts : (line : ℕ) → is_some (value_of nat_cmp line before.holders) ≡ true → value_of nat_cmp line after.texts ≡ value_of nat_cmp line before.texts
+  pub index : KeepsIndex before.index after.index

@@ -1,38 +1,26 @@
--- The branches of the code go by line, block and number, and only equal ones are alike in that.
-use Rattle.std.specs.Prelude.{◌≡◌, ℕ, refl}
-use Rattle.std.proofs.Common.{ap, ◌∙◌}
+-- Branches go by line, block and number, and only equal ones are alike in that.
+use Rattle.std.specs.Prelude.{◌≡◌, refl}
 use Rattle.std.specs.Cmp.{IsTotalOrder}
 use Rattle.std.specs.declared.cmp.Ordering.{Ordering}
 use Rattle.std.specs.declared.cmp.Ordering.TheVariants.{Less, Equal, Greater}
 use Rattle.std.specs.Ordering.{nat_cmp, ordering_then}
 use Rattle.std.proofs.lemmas.Cmp.{nat_cmp_total, on_total, then_total}
 use Rattle.std.proofs.lemmas.Map.Lookups.{exact_unsigned}
-use Rattle.covline.specs.declared.point.BranchPoint.{BranchPoint}
-use Rattle.covline.specs.PointView.{branch_point_data}
+use Rattle.covline.specs.Points.{BranchPoint}
 use Rattle.covstore.specs.Value.{branch_cmp}
 
-abbrev pub code_branch_cmp : BranchPoint → BranchPoint → Ordering
-code_branch_cmp a b = branch_cmp (branch_point_data a) (branch_point_data b)
-
-pub code_branch_total : IsTotalOrder code_branch_cmp
-code_branch_total =
+pub branch_key_total : IsTotalOrder branch_cmp
+branch_key_total =
     then_total (on_total (λ (b : BranchPoint). b.line) nat_cmp_total)
     (then_total (on_total (λ (b : BranchPoint). b.block) nat_cmp_total) (on_total (λ (b : BranchPoint). b.branch) nat_cmp_total))
 
-both_equal : (o p : Ordering) → ordering_then o p ≡ Equal → (o ≡ Equal) × (p ≡ Equal)
+pub both_equal : (o p : Ordering) → ordering_then o p ≡ Equal → (o ≡ Equal) × (p ≡ Equal)
 both_equal Less p e = absurd cc
 both_equal Equal p e = (refl, e)
 both_equal Greater p e = absurd cc
 
-point_at : ℕ → ℕ → ℕ → BranchPoint
-point_at line block branch = record { line = line; block = block; branch = branch }
-
-pub code_branch_exact : (a b : BranchPoint) → code_branch_cmp a b ≡ Equal → a ≡ b
-unfolding point_at
-code_branch_exact a b e =
+pub branch_key_exact : (a b : BranchPoint) → branch_cmp a b ≡ Equal → a ≡ b
+branch_key_exact a b e =
     let p = both_equal (nat_cmp a.line b.line) (ordering_then (nat_cmp a.block b.block) (nat_cmp a.branch b.branch)) e in
     let q = both_equal (nat_cmp a.block b.block) (nat_cmp a.branch b.branch) p.1 in
-    let line : a.line ≡ b.line = exact_unsigned a.line b.line p.0 in
-    let block : a.block ≡ b.block = exact_unsigned a.block b.block q.0 in
-    let branch : a.branch ≡ b.branch = exact_unsigned a.branch b.branch q.1 in
-    ap (λ (line : ℕ). point_at line a.block a.branch) line ∙ ap (λ (block : ℕ). point_at b.line block a.branch) block ∙ ap (λ (branch : ℕ). point_at b.line b.block branch) branch
+    λ i. record { line = exact_unsigned a.line b.line p.0 i; block = exact_unsigned a.block b.block q.0 i; branch = exact_unsigned a.branch b.branch q.1 i }

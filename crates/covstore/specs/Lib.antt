@@ -12,13 +12,15 @@ pub mod Store
 pub mod RefuseView
 pub mod ValuesView
 pub mod Keys
+pub mod Kinds
 pub mod Sums
 pub mod KindIndexCounts
+pub mod Stays
+pub mod FileIndex
 pub mod State
 pub mod TestView
 pub mod KindIndex
 pub mod Checksums
-pub mod FileIndex
 pub mod FileIndexView
 pub mod Items
 pub mod Section
@@ -31,7 +33,6 @@ pub mod TotalsExchanged
 pub mod ContentView
 pub mod Without
 pub mod KindIndexDrops
-pub mod FileIndexDrops
 pub mod FileDrops
 pub mod Renamed
 pub mod Renaming

@@ -6,9 +6,9 @@ use Rattle.covline.specs.Row.{ItemData, Row, SectData, rows_of_sect}
 use Rattle.covstore.specs.declared.stop.Stop.{Stop}
 use Rattle.covstore.specs.declared.stop.Stop.TheVariants.{Clash, Memory}
 use Rattle.covstore.specs.Clash.{ClashData, Agree, checksums_in, clash_of}
-use Rattle.covstore.specs.FileIndex.{FileIndexData, file_with}
+use Rattle.covstore.specs.FileIndex.{FileIndexData}
 use Rattle.covmap.specs.Puts.{put, value_of}
-use Rattle.covstore.specs.State.{FileData, IsStateOf}
+use Rattle.covstore.specs.State.{FileData, IsStateOf, file_with}
 use Rattle.covstore.specs.Sums.{TestData}
 
 -- the files are the state of rows whose checksums agree; the file of this name has these tests and this index, and the test of this

@@ -9,35 +9,25 @@ use Rattle.covline.specs.Row.{Row}
 use Rattle.covstore.specs.declared.sums.LineSum.{LineSum}
 use Rattle.covstore.specs.declared.sums.FunctionSum.{FunctionSum}
 use Rattle.covstore.specs.declared.sums.BranchSum.{BranchSum}
-use Rattle.covstore.specs.declared.sums.Tests.{Tests}
 use Rattle.covstore.specs.declared.totals.Totals.{Totals}
 use Rattle.covstore.specs.Clash.{Checksum, checksums_in}
 use Rattle.covstore.specs.Content.{FunctionValueData, BranchValueData, LineValueData, SectionData}
+use Rattle.covstore.specs.FileIndex.{FileIndexData, index_totals}
 use Rattle.covstore.specs.KindIndexCounts.{AreCounts, found_of, hit_of, is_above_at}
+use Rattle.covstore.specs.Kinds.{Branch, Function, Kind, Line, above_of, at, cmp_of}
 use Rattle.covmap.specs.Puts.{ArePairs, value_of}
 use Rattle.covstore.specs.Sums.{TestData, test_of}
-use Rattle.covstore.specs.Value.{Key, branch_cmp, items_at, is_taken}
+use Rattle.covstore.specs.Value.{Key, items_at}
 
 -- ---- one file
 
--- what is kept for a file: its tests; for each point of a kind in how many tests it is; for each line with a checksum how many
--- tests hold it; and the checksums' texts, among them some that no test holds any more
+-- what is kept for a file: its tests, and what is kept beside them
 pub record FileData : Type 0 where
   pub tests : List (List ℕ × TestData)
-  pub lines : List (ℕ × Tests)
-  pub functions : List (List ℕ × Tests)
-  pub branches : List (BranchPoint × Tests)
-  pub holders : List (ℕ × ℕ)
-  pub texts : List (ℕ × List ℕ)
+  pub index : FileIndexData
 
-abbrev pub line_above : LineSum → Bool
-line_above sum = nat_lt 0 sum.count
-
-abbrev pub function_above : FunctionSum → Bool
-function_above sum = nat_lt 0 sum.count
-
-abbrev pub branch_above : BranchSum → Bool
-branch_above sum = is_taken sum.times
+abbrev pub file_with : List (List ℕ × TestData) → FileIndexData → FileData
+file_with tests index = record { tests = tests; index = index }
 
 abbrev pub has_checksum : LineSum → Bool
 has_checksum sum = sum.has_checksum
@@ -53,22 +43,16 @@ holding line tests = count_by (λ test. is_above_at has_checksum (value_of nat_c
 abbrev pub holders_at : ℕ → List TestData → Option ℕ
 holders_at line tests = if nat_lt 0 (holding line tests) then Some (holding line tests) else None
 
--- each kept number of a file counts its tests
-pub record AreKept (tests : List TestData) (file : FileData) : Type 0 where
-  pub lines : AreCounts nat_cmp line_above (map (λ test. test.lines) tests) file.lines
-  pub functions : AreCounts (slice_cmp nat_cmp) function_above (map (λ test. test.functions) tests) file.functions
-  pub branches : AreCounts branch_cmp branch_above (map (λ test. test.branches) tests) file.branches
-  pub holders : (line : ℕ) → value_of nat_cmp line file.holders ≡ holders_at line tests
+-- each number that is kept counts these tests: of each kind of points, and of lines those that hold a checksum
+pub record IsIndexOf (tests : List TestData) (index : FileIndexData) : Type 0 where
+  pub counts : (kind : Kind) → AreCounts (cmp_of kind) (above_of kind) (map (at kind) tests) (at kind index.counts)
+  pub holders : (line : ℕ) → value_of nat_cmp line index.holders ≡ holders_at line tests
+
+abbrev pub AreKept : List TestData → FileData → Type 0
+AreKept tests file = IsIndexOf tests file.index
 
 abbrev pub file_totals : FileData → Totals
-file_totals file = record {
-  lf = found_of file.lines;
-  lh = hit_of file.lines;
-  ff = found_of file.functions;
-  fh = hit_of file.functions;
-  bf = found_of file.branches;
-  bh = hit_of file.branches;
-}
+file_totals file = index_totals file.index
 
 -- ---- what is seen of it
 
@@ -106,21 +90,28 @@ abbrev pub section_seen : List ℕ → List (ℕ × List ℕ) → List ℕ → T
 section_seen file texts test points = if has_no_points points then [] else section_with_points file texts test points ∷ []
 
 abbrev pub sections_of_file : List ℕ × FileData → List SectionData
-sections_of_file pair = flat_map (λ test. section_seen pair.0 pair.1.texts test.0 test.1) pair.1.tests
+sections_of_file pair = flat_map (λ test. section_seen pair.0 pair.1.index.texts test.0 test.1) pair.1.tests
 
 -- ---- all files
 
 abbrev pub sections_of : List (List ℕ × FileData) → List SectionData
 sections_of files = flat_map sections_of_file files
 
+-- how many points of a kind a file has, and how many of them are hit
+abbrev pub found_at : Kind → List ℕ × FileData → ℕ
+found_at kind pair = found_of (at kind pair.1.index.counts)
+
+abbrev pub hit_at : Kind → List ℕ × FileData → ℕ
+hit_at kind pair = hit_of (at kind pair.1.index.counts)
+
 abbrev pub totals_in : List (List ℕ × FileData) → Totals
 totals_in files = record {
-  lf = sum_by (λ pair. found_of pair.1.lines) files;
-  lh = sum_by (λ pair. hit_of pair.1.lines) files;
-  ff = sum_by (λ pair. found_of pair.1.functions) files;
-  fh = sum_by (λ pair. hit_of pair.1.functions) files;
-  bf = sum_by (λ pair. found_of pair.1.branches) files;
-  bh = sum_by (λ pair. hit_of pair.1.branches) files;
+  lf = sum_by (found_at Line) files;
+  lh = sum_by (hit_at Line) files;
+  ff = sum_by (found_at Function) files;
+  fh = sum_by (hit_at Function) files;
+  bf = sum_by (found_at Branch) files;
+  bh = sum_by (hit_at Branch) files;
 }
 
 -- the points of a file and a test, and none where one of the two isn't there
@@ -142,7 +133,7 @@ has_points_of test file = not (has_no_points (points_in (Some file) test))
 -- the checksum's text that is kept for a line of a file
 abbrev pub text_in : Option FileData → ℕ → Option (List ℕ)
 text_in None line = None
-text_in (Some file) line = value_of nat_cmp line file.texts
+text_in (Some file) line = value_of nat_cmp line file.index.texts
 
 -- one file is whole: its tests stand in order, and its numbers count them
 pub record IsWholeFile (file : FileData) : Type 0 where

@@ -1,21 +1,20 @@
 -- What the items of a file and a test add up to, by kinds: each point with its value, ascending; and what one item more does.
 use Rattle.std.specs.Prelude.{ℕ, ◌+◌, min, Bool, ◌||◌, Option, Some, None, List, map}
-use Rattle.std.specs.Cmp.Lexicographic.{slice_cmp}
 use Rattle.std.specs.Option.{is_some}
+use Rattle.std.specs.Cmp.Lexicographic.{slice_cmp}
 use Rattle.std.specs.Ordering.{nat_cmp}
 use Rattle.covline.specs.Points.{BranchPoint}
 use Rattle.covline.specs.Row.{ItemData, LineItem, FuncItem, BranchItem}
 use Rattle.covstore.specs.declared.sums.LineSum.{LineSum}
 use Rattle.covstore.specs.declared.sums.FunctionSum.{FunctionSum}
 use Rattle.covstore.specs.declared.sums.BranchSum.{BranchSum}
+use Rattle.covstore.specs.Kinds.{Branch, Each, Function, KeyOf, Kind, Line, PointsOf, SumOf, with_at}
 use Rattle.covmap.specs.Puts.{put, value_of}
-use Rattle.covstore.specs.Value.{bounded, lines_in, line_value, line_checksum, names_in, function_start, function_count, branch_cmp, branches_in, branch_value}
+use Rattle.covstore.specs.Value.{bounded, branch_cmp, branch_value, branches_in, function_count, function_start, line_checksum, line_value, lines_in, names_in}
 
 -- the lines, functions and branches of a test, each with what its items add up to
-pub record TestData : Type 0 where
-  pub lines : List (ℕ × LineSum)
-  pub functions : List (List ℕ × FunctionSum)
-  pub branches : List (BranchPoint × BranchSum)
+abbrev pub TestData : Type 0
+TestData = Each PointsOf
 
 abbrev pub line_sum : List ItemData → ℕ → ℕ × LineSum
 line_sum items line = (line, record { count = line_value line items; has_checksum = is_some (line_checksum line items) })
@@ -25,6 +24,11 @@ function_sum items name = (name, record { line = function_start name items; coun
 
 abbrev pub branch_sum : List ItemData → BranchPoint → BranchPoint × BranchSum
 branch_sum items point = (point, record { times = branch_value point items })
+
+abbrev pub sum_at : (kind : Kind) → List ItemData → KeyOf kind → SumOf kind
+sum_at Line items line = (line_sum items line).1
+sum_at Function items name = (function_sum items name).1
+sum_at Branch items point = (branch_sum items point).1
 
 -- what items add up to
 abbrev pub test_of : List ItemData → TestData
@@ -56,18 +60,8 @@ branch_with taken None = record { times = sum_taken None taken }
 branch_with taken (Some committed) = record { times = sum_taken committed.times taken }
 
 abbrev pub with_item : ItemData → TestData → TestData
-with_item (LineItem line count checksum) test = record {
-  lines = put nat_cmp line (line_with count (is_some checksum) (value_of nat_cmp line test.lines)) test.lines;
-  functions = test.functions;
-  branches = test.branches;
-}
-with_item (FuncItem name line count) test = record {
-  lines = test.lines;
-  functions = put (slice_cmp nat_cmp) name (function_with line count (value_of (slice_cmp nat_cmp) name test.functions)) test.functions;
-  branches = test.branches;
-}
-with_item (BranchItem line block branch taken) test = let point : BranchPoint = record { line = line; block = block; branch = branch } in record {
-  lines = test.lines;
-  functions = test.functions;
-  branches = put branch_cmp point (branch_with taken (value_of branch_cmp point test.branches)) test.branches;
-}
+with_item (LineItem line count checksum) test = with_at Line (put nat_cmp line (line_with count (is_some checksum) (value_of nat_cmp line test.lines)) test.lines) test
+with_item (FuncItem name line count) test = with_at Function (put (slice_cmp nat_cmp) name (function_with line count (value_of (slice_cmp nat_cmp) name test.functions)) test.functions) test
+with_item (BranchItem line block branch taken) test =
+    let point : BranchPoint = record { line = line; block = block; branch = branch } in
+    with_at Branch (put branch_cmp point (branch_with taken (value_of branch_cmp point test.branches)) test.branches) test

@@ -7,7 +7,7 @@ ghost use Rattle.covstore.specs.Renaming.{HasHolders, branch_item, function_item
 ghost use Rattle.covstore.specs.State.{text_at};
 ghost use Rattle.covstore.specs.Items.{HasRoom, IsTextOf, KeepsCounts, KeepsTextsOf};
 ghost use Rattle.covstore.specs.Sums.{with_item};
-ghost use Rattle.covstore.specs.TestView.{branches_data, test_staged, test_committed};
+ghost use Rattle.covstore.specs.TestView.{test_staged, test_committed};
 
 use crate::index::FileIndex;
 use crate::items::{add_branch, add_function, add_line};
@@ -132,10 +132,10 @@ fn add_branches<A: Allocator + Copy>(
     alloc: A,
     branches: &StagedMap<Branch, BranchSum, A>,
 ) -> Result<(), Memory>
-    requires { HasRoomFor (map branch_item (branches_data branches.now.committed)) (test_staged test.old) (index_staged index.old) }
+    requires { HasRoomFor (map branch_item branches.now.committed) (test_staged test.old) (index_staged index.old) }
     ensures test_committed { test_committed test.new ≡ test_committed test.old }
     ensures index_committed { KeepsCommitted index.old index.new }
-    ensures ok { OnOk result (Adds (map branch_item (branches_data branches.now.committed)) (test_staged test.old) (index_staged index.old) (test_staged test.new) (index_staged index.new)) }
+    ensures ok { OnOk result (Adds (map branch_item branches.now.committed) (test_staged test.old) (index_staged index.old) (test_staged test.new) (index_staged index.new)) }
 {
     for (point, sum) in branches.entries() {
         if add_branch(test, index, alloc, point.get(), sum.times.get()).is_err() {

@@ -25,7 +25,7 @@ pub(crate) struct FileIndex<A: Allocator> {
 impl<A: Allocator + Copy> FileIndex<A> {
     ghost use Rattle.covstore.specs.FileIndexView.{index_staged, index_committed, empty_index};
     ghost use Rattle.std.specs.Prelude.{List, ◌∷◌};
-    ghost use Rattle.covstore.specs.FileIndexDrops.{IsIndexOf};
+    ghost use Rattle.covstore.specs.State.{IsIndexOf};
     ghost use Rattle.covstore.specs.FileIndex.{FileIndexData, index_totals};
     ghost use Rattle.covstore.specs.Sums.{TestData};
     ghost use Rattle.covstore.specs.TestView.{test_committed};

@@ -1,23 +1,24 @@
 //! One item more: of its test, and of what is kept of the file.
 
-ghost use Rattle.std.specs.Prelude.{◌≡◌, ◌<◌, ◌^◌, length, option_map, IfErr, IfOk, IfSome, OnOk};
+ghost use Rattle.std.specs.Prelude.{◌≡◌, option_map, IfErr, IfOk, OnOk};
 ghost use Rattle.covmap.specs.Puts.{put, value_of};
 ghost use Rattle.covline.specs.Row.{LineItem, FuncItem, BranchItem, item_data};
-ghost use Rattle.covstore.specs.KindIndexCounts.{counts_with};
 ghost use Rattle.covstore.specs.FileIndexView.{index_staged, index_committed};
 ghost use Rattle.covstore.specs.TestView.{test_staged, test_committed};
 ghost use Rattle.covstore.specs.Sums.{with_item};
-ghost use Rattle.covstore.specs.Items.{HasRoom, IsClashOf, IsTextOf, KeepsCounts, KeepsTextsOf};
+ghost use Rattle.covstore.specs.Items.{HasRoom, HasRoomOfKind, IsClashOf, IsTextOf, KeepsCounts, KeepsCountsOfKind, KeepsTextsOf};
 ghost use Rattle.covstore.specs.FileIndexView.{KeepsCommitted};
 ghost use Rattle.covstore.specs.declared.stop.Stop.TheVariants as stops;
 
 use crate::index::FileIndex;
 use crate::kind_index::{KindIndex, PointChange};
 use crate::stop::Stop;
-use crate::sums::{BranchAddend, FunctionAddend, LineAddend, LineSum, PointSum, is_hit};
+use crate::sums::{
+    BranchAddend, FunctionAddend, LineAddend, LineSum, PointAddend, PointSum, is_hit,
+};
 use crate::test::Test;
 use covline::{BranchPoint, Item};
-use covmap::{Addend, Key, Query, StagedMap};
+use covmap::{Key, Query, StagedMap};
 use std::alloc::{AllocError, Allocator};
 
 /// Stages an item.
@@ -153,23 +154,20 @@ pub(crate) fn add_branch<A: Allocator + Copy>(
     Ok(())
 }
 
-/// Stages the sum of a test's point and an addend, and what that changes in the file's numbers of the point. Tells the sum
-/// before.
-fn add_to_point<K: Key + Drop, S: PointSum, A: Allocator + Copy, Q: Query<K, A>, M: Addend<S>>(
+/// Stages what an item adds at a point of a kind, in its test and in the file's numbers of the point. Tells the sum before.
+fn add_to_point<K: Key + Drop, S: PointSum, A: Allocator + Copy, Q: Query<K, A>, M: PointAddend<S>>(
     points: &mut StagedMap<K, S, A>,
     kept: &mut KindIndex<K, A>,
     alloc: A,
     query: Q,
     addend: M,
 ) -> Result<Option<S>, AllocError>
-    requires fits { M.fits addend (value_of K.cmp (Q.named query) points.old.staged) }
-    requires few { length kept.old.staged < 2 ^ 63 }
-    requires room { IfSome (value_of K.cmp (Q.named query) kept.old.staged) (λ committed. (committed.tests < 2 ^ 63) × (committed.hit < 2 ^ 63)) }
+    requires { HasRoomOfKind K.cmp S.above points.old.staged kept.old.staged }
     ensures test_committed { points.new.committed ≡ points.old.committed }
     ensures index_committed { kept.new.committed ≡ kept.old.committed }
     ensures before { IfOk result (λ before. before ≡ value_of K.cmp (Q.named query) points.old.staged) }
     ensures test { OnOk result (points.new.staged ≡ put K.cmp (Q.named query) (M.sum addend (value_of K.cmp (Q.named query) points.old.staged)) points.old.staged) }
-    ensures index { OnOk result (kept.new.staged ≡ counts_with K.cmp S.above (Q.named query) (value_of K.cmp (Q.named query) points.old.staged) (M.sum addend (value_of K.cmp (Q.named query) points.old.staged)) kept.old.staged) }
+    ensures counts { OnOk result (KeepsCountsOfKind K.cmp S.above points.old.staged points.new.staged kept.old.staged kept.new.staged) }
 {
     let added = points.stage_sum(alloc, query, addend, points.cursor())?;
     let was_above = is_hit(&added.before);

@@ -5,7 +5,9 @@ ghost use Rattle.std.specs.Cmp.Lexicographic.{slice_cmp};
 ghost use Rattle.std.specs.Ordering.{nat_cmp};
 ghost use Rattle.std.proofs.lemmas.Cmp.{nat_list_cmp_total};
 ghost use Rattle.std.proofs.lemmas.Map.Lookups.{exact_bytes};
-ghost use Rattle.covstore.specs.Keys.{code_branch_cmp, code_branch_exact, code_branch_total};
+ghost use Rattle.covstore.specs.Keys.{branch_key_exact, branch_key_total};
+ghost use Rattle.covstore.specs.Value.{branch_cmp};
+ghost use Rattle.covline.specs.PointView.{branch_point_data};
 
 use covline::{BranchPoint, Bytes};
 use covmap::{Key, Query};
@@ -99,28 +101,29 @@ pub(crate) struct Branch {
 }
 
 impl Model for Branch {
-    ghost use Rattle.covline.specs.declared.point.BranchPoint.{BranchPoint};
+    ghost use Rattle.covline.specs.PointView.{branch_point_data};
+    ghost use Rattle.covline.specs.Points.{BranchPoint};
 
     ghost Value = { BranchPoint };
 
-    ghost view = { λ b. b.point };
+    ghost view = { λ b. branch_point_data b.point };
 }
 
 impl Branch {
     /// Its line, block and number.
     pub(crate) fn get(&self) -> BranchPoint
-        ensures { result ≡ self.now }
+        ensures { branch_point_data result ≡ self.now }
     {
         self.point
     }
 }
 
 impl Key for Branch {
-    ghost cmp = { code_branch_cmp };
+    ghost cmp = { branch_cmp };
 
-    ghost total = { code_branch_total };
+    ghost total = { branch_key_total };
 
-    ghost exact = { code_branch_exact };
+    ghost exact = { branch_key_exact };
 }
 
 impl<'a, A: Allocator> PointKey<'a, A> for Branch {
@@ -132,7 +135,7 @@ impl<'a, A: Allocator> PointKey<'a, A> for Branch {
 }
 
 impl<A: Allocator> Query<Branch, A> for BranchPoint {
-    ghost named = { λ query. query };
+    ghost named = { λ query. branch_point_data query };
 
     fn compare(&self, key: &Branch) -> Ordering {
         key.get().cmp(self)

@@ -1,9 +1,11 @@
 //! What the items of a file and a test add up to at a point, and in how many tests a file has a point. A sum stops at
 //! 2^128 - 1.
 
-ghost use Rattle.std.specs.Prelude.{◌≡◌, ◌^◌, ◌<◌, Bool, IfSome};
+ghost use Rattle.std.specs.Prelude.{◌≡◌, ◌^◌, ◌<◌, Bool, true, IfSome, Option};
 ghost use Rattle.covstore.specs.KindIndexCounts.{is_above_at, tests_more};
-ghost use Rattle.covstore.specs.State.{branch_above, function_above, has_checksum, line_above};
+ghost use Rattle.covstore.specs.Kinds.{branch_above, function_above, line_above};
+ghost use Rattle.covstore.specs.State.{has_checksum};
+ghost use Rattle.covstore.specs.Stays.{branch_stays, function_stays, line_stays};
 ghost use Rattle.covstore.specs.Sums.{branch_with, function_with, line_with};
 
 use crate::split::Split;
@@ -18,6 +20,13 @@ pub(crate) trait PointSum: Value {
     /// Whether it is above 0.
     fn is_above(&self) -> bool
         ensures { result ≡ above self.now };
+}
+
+/// What an item adds at a point. No sum falls back to 0 by it.
+pub(crate) trait PointAddend<S: PointSum>: Addend<S> {
+    ghost always_fits: { (more : Self) (before : Option S) → Self.fits more before };
+
+    ghost stays: { (more : Self) (before : Option S) → is_above_at S.above before ≡ true → S.above (Self.sum more before) ≡ true };
 }
 
 /// Whether the point is there, above 0.
@@ -87,6 +96,12 @@ impl Addend<LineSum> for LineAddend {
     }
 }
 
+impl PointAddend<LineSum> for LineAddend {
+    ghost always_fits = { λ more before. tt };
+
+    ghost stays = { line_stays };
+}
+
 /// A function's item: its start line and its count.
 #[derive(Clone, Copy)]
 pub(crate) struct FunctionAddend {
@@ -113,6 +128,12 @@ impl Addend<FunctionSum> for FunctionAddend {
     }
 }
 
+impl PointAddend<FunctionSum> for FunctionAddend {
+    ghost always_fits = { λ more before. tt };
+
+    ghost stays = { function_stays };
+}
+
 /// A branch's item: how often it was taken, none where its block was never executed.
 #[derive(Clone, Copy)]
 pub(crate) struct BranchAddend {
@@ -133,6 +154,12 @@ impl Addend<BranchSum> for BranchAddend {
         };
         BranchSum { times }
     }
+}
+
+impl PointAddend<BranchSum> for BranchAddend {
+    ghost always_fits = { λ more before. tt };
+
+    ghost stays = { branch_stays };
 }
 
 /// What a test adds to the numbers of a point: whether it has the point now, and whether it has it above 0 for the first

@@ -66,21 +66,19 @@ impl<'a, A: Allocator> Model for Branches<'a, A> {
     ghost use Rattle.std.specs.Prelude.{List, map};
     ghost use Rattle.covstore.specs.Content.{BranchValueData};
     ghost use Rattle.covstore.specs.State.{branch_seen};
-    ghost use Rattle.covstore.specs.TestView.{branches_data};
 
     ghost Value = { List BranchValueData };
 
-    ghost view = { λ b. map branch_seen (branches_data b.rest) };
+    ghost view = { λ b. map branch_seen b.rest };
 }
 
 impl<'a, A: Allocator> Branches<'a, A> {
     ghost use Rattle.std.specs.Prelude.{◌≡◌, map};
     ghost use Rattle.covstore.specs.State.{branch_seen};
-    ghost use Rattle.covstore.specs.TestView.{branches_data};
 
     /// These branches.
     pub(super) fn of(rest: Entries<'a, Branch, BranchSum, A>) -> Branches<'a, A>
-        ensures { result ≡ map branch_seen (branches_data rest.entry) }
+        ensures { result ≡ map branch_seen rest.entry }
     {
         Branches { rest }
     }

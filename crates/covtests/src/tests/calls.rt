@@ -25,14 +25,8 @@ pub(super) fn put_line(record: &TraceLine<'_>, text: &mut Bytes) -> Result<(), M
     covline::put_line(record, text)
 }
 
-/// The numbers of a first line that only counts, and how many bytes are behind it.
-pub(super) fn counted_first(text: &[u8]) -> Option<(u64, u64, usize)> {
-    let first = covline::first_count(text)?;
-    Some((first.line, first.count, first.rest.len()))
-}
-
 /// The numbers of a first line that counts, its checksum, empty where there is none, and how many bytes are behind it.
-pub(super) fn checked_first(text: &[u8]) -> Option<(u64, u64, &[u8], usize)> {
+pub(super) fn counted_first(text: &[u8]) -> Option<(u64, u64, &[u8], usize)> {
     let first = covline::first_counted(text)?;
     let checksum = first.checksum.unwrap_or(b"");
     Some((first.line, first.count, checksum, first.rest.len()))

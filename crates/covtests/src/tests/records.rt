@@ -1,8 +1,8 @@
 //! Calls of covline and covread that no session shows: single records, lists, submissions, and the items of a text.
 
 use super::calls::{
-    append, branch_first, bytes_of, checked_first, copied_items, copied_sects, copied_submission,
-    copy_of, counted_first, cut_first, put_line, read, submission_of, text_of,
+    append, branch_first, bytes_of, copied_items, copied_sects, copied_submission, copy_of,
+    counted_first, cut_first, put_line, read, submission_of, text_of,
 };
 use super::{check_bytes, push_line};
 use covline::{
@@ -60,14 +60,9 @@ fn printed_records(rt: HostRuntime) -> Result<(), Fail> {
     Ok(())
 }
 
-/// What the first line of a text counts, if it only counts.
-fn check_first(rt: &impl Abort, text: &[u8], wanted: Option<(u64, u64, usize)>) {
-    assert_eq!(rt; counted_first(text), wanted);
-}
-
 /// What the first line of a text counts, with its checksum.
-fn check_checked(rt: &impl Abort, text: &[u8], wanted: Option<(u64, u64, &[u8], usize)>) {
-    assert_eq!(rt; checked_first(text), wanted);
+fn check_first(rt: &impl Abort, text: &[u8], wanted: Option<(u64, u64, &[u8], usize)>) {
+    assert_eq!(rt; counted_first(text), wanted);
 }
 
 /// What the first line of a text says of a branch, if it only tells how often it was taken.
@@ -83,29 +78,27 @@ fn check_cut(rt: &impl Abort, text: &[u8], wanted: (usize, usize)) {
 /// A first line that counts is read before it is cut, with its checksum; another one is cut.
 #[test]
 fn checksums_before_a_cut(rt: HostRuntime) {
-    check_checked(
+    check_first(
         &rt,
         b"DA:7,12,sum+/==\nDA:8,1\n",
         Some((7, 12, b"sum+/==", 7)),
     );
-    check_checked(&rt, b"DA:7,12\nDA:8,1,x\n", Some((7, 12, b"", 9)));
-    check_checked(&rt, b"DA:7,12,\n", None);
-    check_checked(&rt, b"DA:7,12,a,b\n", None);
-    check_checked(&rt, b"DA:7,12,sum", None);
-    check_checked(&rt, b"DA:7,18446744073709551616,a\n", None);
+    check_first(&rt, b"DA:7,12\nDA:8,1,x\n", Some((7, 12, b"", 9)));
+    check_first(&rt, b"DA:7,12,\n", None);
+    check_first(&rt, b"DA:7,12,a,b\n", None);
+    check_first(&rt, b"DA:7,12,sum", None);
+    check_first(&rt, b"DA:7,18446744073709551616,a\n", None);
 }
 
-/// A first line that only counts is read before it is cut; another one is cut.
+/// A first line that counts without a checksum is read before it is cut; another one is cut.
 #[test]
 fn counts_before_a_cut(rt: HostRuntime) {
-    check_first(&rt, b"DA:7,12\nDA:8,1\n", Some((7, 12, 7)));
-    check_first(&rt, b"DA:7,12,sum\n", None);
     check_first(&rt, b"DA:7,12", None);
     check_first(&rt, b"DA:7,18446744073709551616\n", None);
     check_first(
         &rt,
         b"DA:0,18446744073709551615\n",
-        Some((0, 18446744073709551615, 0)),
+        Some((0, 18446744073709551615, b"", 0)),
     );
     check_cut(&rt, b"TN:a\r\nrest", (4, 4));
     check_cut(&rt, b"rest", (4, 0));
@@ -276,13 +269,12 @@ fn items_of(alloc: Global, function: &[u8], checksum: &[u8]) -> Result<Items, Me
     Ok(items)
 }
 
-/// Appends the line, the branch and the function that an item speaks of, and whether it is hit.
+/// Appends the line and the branch that an item speaks of, and whether it is hit.
 fn put_points(alloc: Global, item: &Item, text: &mut Vec<u8>) -> Result<(), Fail> {
     let line = item.line_point();
     let branch = item.branch_point();
-    let function = item.function_name();
     let hit = item.is_hit();
-    let words: String = format!(in alloc; "{line:?} {branch:?} {function:?} {hit}")?;
+    let words: String = format!(in alloc; "{line:?} {branch:?} {hit}")?;
     push_line(text, words.as_bytes())
 }
 
@@ -297,9 +289,9 @@ fn points_of_items(rt: HostRuntime) -> Result<(), Fail> {
         &rt,
         text.as_slice(),
         b"\
-Some(1) None None true
-None None Some([102]) true
-None Some(BranchPoint { line: 5, block: 6, branch: 7 }) None false
+Some(1) None true
+None None true
+None Some(BranchPoint { line: 5, block: 6, branch: 7 }) false
 ",
     );
     Ok(())

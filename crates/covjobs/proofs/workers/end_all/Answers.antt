@@ -19,6 +19,6 @@ pub returns-clause-untold : goal.returns-clause-untold
 returns-clause-untold g c = elim c.if-not-all_started.branch [
   | then-not-all_started+in_ok-push w ↦ λ short.
       let more : ◌≡◌ {A = List End} w.push.new.self.items (c.in_ok-ended.ended.items ++ Err faults.Memory ∷ []) = search rules in
-      rw (w.ended-is ∙ more) (Contains-push {X = End} c.in_ok-ended.ended.items (Err faults.Memory))
+      rw w.ended-is (rw more (Contains-push {X = End} c.in_ok-ended.ended.items (Err faults.Memory)))
   | else-not-all_started w ↦ λ short. search rules
 ]

@@ -1,11 +1,10 @@
-use Rattle.std.proofs.Common.{◌≡◌, ◌++◌, ℕ, List, length}
-use Rattle.std.specs.Prelude.{All}
-use Rattle.covline.specs.Lawful.{IsChecksumByte}
+use Rattle.std.proofs.Common.{◌≡◌, length}
+use Rattle.covline.specs.Fronts.{behind_checksum}
 use Rattle.covline.proofs.reader.behind_checksum.Given as goal
 
--- what was passed are bytes of a checksum
+-- what follows the bytes of a checksum is still to come
 abbrev pub invariant-loop-byte : goal.invariant-loop-byte
-invariant-loop-byte l = (front : List ℕ) × (l.text ≡ front ++ l.rest) × All IsChecksumByte front
+invariant-loop-byte l = behind_checksum l.text ≡ behind_checksum l.rest
 
 abbrev pub decreases-loop-byte : goal.decreases-loop-byte
 decreases-loop-byte l = length l.rest

@@ -1,22 +1,20 @@
-use Rattle.std.proofs.Common.{List, sym, ap, ◌∙◌, subst}
-use Rattle.covline.specs.Row.{ItemData, BranchItem}
-use Rattle.covline.specs.declared.point.BranchPoint.{BranchPoint}
-use Rattle.covstore.specs.Section.{Adds, HasRoomFor}
-use Rattle.covstore.specs.FileIndexView.{index_staged}
-use Rattle.covstore.specs.TestView.{test_staged}
-use Rattle.covstore.proofs.CopiesLoop.{all_branches, code_branch_item, copying_all, copying_first, copying_more, copying_room}
+use Rattle.std.proofs.Common.{ap, ◌∙◌}
+use Rattle.covline.specs.Row.{BranchItem}
+use Rattle.covline.specs.Points.{BranchPoint}
+use Rattle.covstore.specs.Renaming.{branch_item}
+use Rattle.covstore.proofs.CopiesLoop.{copying_all, copying_first, copying_more, copying_room}
 use Rattle.covstore.proofs.StepsMore.{held_both}
 use Rattle.covstore.proofs.StepsTexts.{ok_unless}
 use Rattle.covstore.proofs.copies.add_branches.Goals as goal
 
 pub loop-point-init : goal.loop-point-init
 loop-point-init g c =
-    copying_first code_branch_item c.args.branches.now.committed c.args.test.now c.args.index.now c.into_iter-point-iterator.result (c.into_iter-point-iterator.ensures.into_iter_gives ∙ c.entries-point-items.ensures)
-    (subst (λ (items : List ItemData). HasRoomFor items (test_staged c.args.test.now) (index_staged c.args.index.now)) (sym (all_branches c.args.branches.now.committed)) c.requires)
+    copying_first branch_item c.args.branches.now.committed c.args.test.now c.args.index.now c.into_iter-point-iterator.result (c.into_iter-point-iterator.ensures.into_iter_gives ∙ c.entries-point-items.ensures)
+    c.requires
 
 pub add_branch-requires : goal.add_branch-requires
 add_branch-requires g c = record {
-  room = copying_room code_branch_item c.args.branches.now.committed c.args.test.now c.args.index.now (c.in-Some.point.now, c.in-Some.sum.now) c.loop-point.point-iterator c.next.new.self c.in-Some.ensures.steps
+  room = copying_room branch_item c.args.branches.now.committed c.args.test.now c.args.index.now (c.in-Some.point.now, c.in-Some.sum.now) c.loop-point.point-iterator c.next.new.self c.in-Some.ensures.steps
       c.loop-point.test c.loop-point.index c.loop-point.invariant;
 }
 
@@ -27,25 +25,15 @@ loop-point-preserved g c =
     let ok = c.if-is_err.false in
     let point = c.in-Some.point.now in
     let got = c.get.result in
-    copying_more code_branch_item c.args.branches.now.committed c.args.test.now c.args.index.now (c.in-Some.point.now, c.in-Some.sum.now) c.loop-point.point-iterator c.next.new.self c.in-Some.ensures.steps
+    copying_more branch_item c.args.branches.now.committed c.args.test.now c.args.index.now (c.in-Some.point.now, c.in-Some.sum.now) c.loop-point.point-iterator c.next.new.self c.in-Some.ensures.steps
     c.loop-point.test c.loop-point.index c.loop-point.invariant (BranchItem got.line got.block got.branch c.get-in-loop-point.result)
     (ap (λ (p : BranchPoint). BranchItem p.line p.block p.branch c.get-in-loop-point.result) c.get.ensures ∙ ap (BranchItem point.line point.block point.branch) c.get-in-loop-point.ensures)
     c.add_branch.new.test c.add_branch.new.index e.test_committed e.index_committed (ok_unless c.add_branch.result is ok e.test) (ok_unless c.add_branch.result is ok e.counts) tt
     (ok_unless c.add_branch.result is ok e.others)
 
-pub returns-then-is_err-clause-test_committed : goal.returns-then-is_err-clause-test_committed
-returns-then-is_err-clause-test_committed g c = c.add_branch.ensures.test_committed ∙ c.loop-point.invariant.takes.same_test
-
 pub returns-then-is_err-clause-index_committed : goal.returns-then-is_err-clause-index_committed
 returns-then-is_err-clause-index_committed g c = held_both c.args.index.now c.loop-point.index c.add_branch.new.index c.loop-point.invariant.takes.same_index c.add_branch.ensures.index_committed
 
-pub returns-clause-test_committed : goal.returns-clause-test_committed
-returns-clause-test_committed g c = c.loop-point.invariant.takes.same_test
-
-pub returns-clause-index_committed : goal.returns-clause-index_committed
-returns-clause-index_committed g c = c.loop-point.invariant.takes.same_index
-
 pub returns-clause-ok : goal.returns-clause-ok
 returns-clause-ok g c =
-    subst (λ (items : List ItemData). Adds items (test_staged c.args.test.now) (index_staged c.args.index.now) (test_staged c.loop-point.test) (index_staged c.loop-point.index)) (all_branches c.args.branches.now.committed)
-    (copying_all code_branch_item c.args.branches.now.committed c.args.test.now c.args.index.now c.loop-point.point-iterator c.loop-point.test c.loop-point.index c.in-None.ensures.steps.0 c.loop-point.invariant)
+    copying_all branch_item c.args.branches.now.committed c.args.test.now c.args.index.now c.loop-point.point-iterator c.loop-point.test c.loop-point.index c.in-None.ensures.steps.0 c.loop-point.invariant

@@ -29,17 +29,8 @@ loop-name-preserved g c =
     c.add_function.new.test c.add_function.new.index e.test_committed e.index_committed (ok_unless c.add_function.result is ok e.test) (ok_unless c.add_function.result is ok e.counts) tt
     (ok_unless c.add_function.result is ok e.others)
 
-pub returns-then-is_err-clause-test_committed : goal.returns-then-is_err-clause-test_committed
-returns-then-is_err-clause-test_committed g c = c.add_function.ensures.test_committed ∙ c.loop-name.invariant.takes.same_test
-
 pub returns-then-is_err-clause-index_committed : goal.returns-then-is_err-clause-index_committed
 returns-then-is_err-clause-index_committed g c = held_both c.args.index.now c.loop-name.index c.add_function.new.index c.loop-name.invariant.takes.same_index c.add_function.ensures.index_committed
-
-pub returns-clause-test_committed : goal.returns-clause-test_committed
-returns-clause-test_committed g c = c.loop-name.invariant.takes.same_test
-
-pub returns-clause-index_committed : goal.returns-clause-index_committed
-returns-clause-index_committed g c = c.loop-name.invariant.takes.same_index
 
 pub returns-clause-ok : goal.returns-clause-ok
 returns-clause-ok g c =

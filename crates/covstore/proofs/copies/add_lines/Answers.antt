@@ -23,18 +23,9 @@ loop-line-preserved g c =
     lines_more c.args.lines.now.committed c.args.test.now c.args.index.now c.in-Some.line.now c.in-Some.sum.now c.loop-line.line-iterator c.next.new.self
     c.in-Some.ensures.steps c.loop-line.test c.loop-line.index c.loop-line.invariant c.add_line_value.new.test c.add_line_value.new.index e.test_committed e.index_committed ok.test ok.counts ok.text ok.others
 
-pub returns-in_err-add_line_value-clause-test_committed : goal.returns-in_err-add_line_value-clause-test_committed
-returns-in_err-add_line_value-clause-test_committed g c = c.add_line_value.ensures.test_committed ∙ c.loop-line.invariant.copying.takes.same_test
-
 pub returns-in_err-add_line_value-clause-index_committed : goal.returns-in_err-add_line_value-clause-index_committed
 returns-in_err-add_line_value-clause-index_committed g c =
     held_both c.args.index.now c.loop-line.index c.add_line_value.new.index c.loop-line.invariant.copying.takes.same_index c.add_line_value.ensures.index_committed
-
-pub returns-clause-test_committed : goal.returns-clause-test_committed
-returns-clause-test_committed g c = c.loop-line.invariant.copying.takes.same_test
-
-pub returns-clause-index_committed : goal.returns-clause-index_committed
-returns-clause-index_committed g c = c.loop-line.invariant.copying.takes.same_index
 
 pub returns-clause-ok : goal.returns-clause-ok
 returns-clause-ok g c =

@@ -1,23 +1,14 @@
-use Rattle.std.specs.Cmp.Lexicographic.{slice_cmp}
-use Rattle.std.specs.Ordering.{nat_cmp}
 use Rattle.std.proofs.Common.{refl}
-use Rattle.covmap.specs.Puts.{value_of}
-use Rattle.covstore.specs.Sums.{TestData, function_with}
-use Rattle.covstore.proofs.StepsKept.{keeps_function, room_for}
-use Rattle.covstore.proofs.StepsCounts.{function_stays}
+use Rattle.covstore.specs.FileIndexView.{index_staged}
+use Rattle.covstore.specs.Kinds.{Function}
+use Rattle.covstore.specs.TestView.{test_staged}
+use Rattle.covstore.proofs.Axis.{room_in}
+use Rattle.covstore.proofs.StepsKept.{keeps_point}
 use Rattle.covstore.proofs.items.add_function.Goals as goal
 
-pub add_to_point-requires-clause-few : goal.add_to_point-requires-clause-few
-add_to_point-requires-clause-few g c = c.requires.room.functions
-
-pub add_to_point-requires-clause-room : goal.add_to_point-requires-clause-room
-add_to_point-requires-clause-room g c =
-    let room = c.requires.room in
-    room_for (λ (test : TestData). test.functions) _ c.args.index.now.functions.staged room.few room.kept.functions c.args.name.now
+pub add_to_point-requires : goal.add_to_point-requires
+add_to_point-requires g c = room_in Function _ _ c.requires.room
 
 pub returns-clause-counts : goal.returns-clause-counts
 returns-clause-counts g c =
-    let name = c.args.name.now in
-    let before = value_of (slice_cmp nat_cmp) name c.args.test.now.functions.staged in
-    let told = c.in_ok-add_to_point.ensures in
-    keeps_function _ _ _ _ name (function_with c.args.line c.args.count before) (function_stays c.args.line c.args.count before) refl told.test refl refl told.index refl refl
+    keeps_point Function c.add_to_point.new.points.staged c.add_to_point.new.kept.staged (test_staged c.args.test.now) (index_staged c.args.index.now) _ c.in_ok-add_to_point.ensures.counts refl (λ line. refl) refl

@@ -1,4 +1,4 @@
-use Rattle.std.proofs.Common.{List, get_or, ◌∙◌, sym, subst}
+use Rattle.std.proofs.Common.{List, get_or, subst, sym}
 use Rattle.std.proofs.lemmas.Result.{err_from_is_err_and}
 use Rattle.covline.specs.Row.{item_data}
 use Rattle.covstore.specs.FileIndexView.{index_staged}
@@ -25,9 +25,6 @@ add_item-requires g c =
           (item_got items (get_or spots l.spot-index first).index c.in-Some.item c.in-Some.ensures.lookup);
     }
 
-pub returns-in_err-add_item-clause-test_committed : goal.returns-in_err-add_item-clause-test_committed
-returns-in_err-add_item-clause-test_committed g c = c.add_item.ensures.test_committed ∙ c.loop-spot.invariant.same_test
-
 pub returns-in_err-add_item-clause-index_committed : goal.returns-in_err-add_item-clause-index_committed
 returns-in_err-add_item-clause-index_committed g c = held_both c.args.index.now c.loop-spot.index c.add_item.new.index c.loop-spot.invariant.same_index c.add_item.ensures.index_committed
 
@@ -50,12 +47,6 @@ loop-spot-preserved g c =
           (none_at_spot item_data items spots l.spot-index first within c.args.test.now c.args.index.now l.test l.index l.invariant
           (none_got items (get_or spots l.spot-index first).index w.in_default.ensures.lookup)))
     ]
-
-pub returns-clause-test_committed : goal.returns-clause-test_committed
-returns-clause-test_committed g c = c.loop-spot.invariant.same_test
-
-pub returns-clause-index_committed : goal.returns-clause-index_committed
-returns-clause-index_committed g c = c.loop-spot.invariant.same_index
 
 pub returns-clause-ok : goal.returns-clause-ok
 returns-clause-ok g c =

@@ -2,12 +2,12 @@ use Rattle.std.proofs.Common.{ℕ, ◌<◌, ◌^◌, Vec, List, Some, length, ma
 use Rattle.std.proofs.lemmas.List.{length-map}
 use Rattle.std.proofs.lemmas.Result.{IfErr-weaker, on_ok_weaker}
 use Rattle.covline.specs.Row.{item_data}
+use Rattle.covstore.specs.State.{file_with}
 use Rattle.covstore.specs.Section.{Clashes}
 use Rattle.covstore.specs.FileSection.{AddsItems, ClashesIn}
-use Rattle.covstore.specs.FileIndex.{file_with}
 use Rattle.covstore.specs.FileIndexView.{index_staged}
 use Rattle.covstore.specs.Sums.{TestData}
-use Rattle.covstore.specs.TestView.{branches_data, test_staged, test_committed}
+use Rattle.covstore.specs.TestView.{test_staged, test_committed}
 use Rattle.covstore.proofs.AddsFile.{adds_in, clashes_in, no_test, room_for, test_kept, test_value, test_written}
 use Rattle.covstore.proofs.AddsSettled.{test_settled}
 use Rattle.covstore.proofs.MapKeys.{seen}
@@ -29,14 +29,9 @@ returns-in-Some-clause-committed g c =
     let name = λ (key : Vec ℕ g.row.A.Denot). key.items in
     let pairs = c.args.self.now.tests.entries in
     let after = c.add_items.new.test in
-    let index = c.add_items.ensures.index_committed in
     record {
       tests = test_kept name test_committed c.args.test.now pairs c.get_mut-in-Some.result.now after (c.get_mut.follows.lender after).entries c.get_mut.ensures.ordered (sym c.in-Some.ensures.value ∙ ap Some (sym c.get_mut-in-Some.ensures.value)) (c.get_mut.follows.holds after).0 c.add_items.ensures.test_committed;
-      lines = index.lines;
-      functions = index.functions;
-      branches = ap branches_data index.branches;
-      holders = index.holders;
-      texts = index.texts;
+      index = c.add_items.ensures.index_committed;
     }
 
 pub returns-in-Some-clause-ok : goal.returns-in-Some-clause-ok

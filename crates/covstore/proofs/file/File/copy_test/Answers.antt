@@ -10,7 +10,7 @@ use Rattle.covmap.specs.Puts.{put}
 use Rattle.covstore.specs.Renaming.{CopiesIn}
 use Rattle.covstore.specs.State.{FileData}
 use Rattle.covstore.specs.Sums.{TestData}
-use Rattle.covstore.specs.TestView.{branches_data, test_staged, test_committed}
+use Rattle.covstore.specs.TestView.{test_staged, test_committed}
 use Rattle.covstore.proofs.AddsFile.{no_test, test_value}
 use Rattle.covstore.proofs.AddsSettled.{test_settled}
 use Rattle.covstore.proofs.CopiesFile.{copies_holders, copies_in, copies_room}
@@ -85,11 +85,7 @@ returns-in-Some-get_mut-clause-committed g c =
             tests = same_back name test_committed new pairs c.match-get.self.tests.entries lent empty c.get_mut.ensures.ordered found_lent mid c.in-Some-get_mut.place.now points
                 (c.get_mut-2.follows.lender points).entries c.get_mut-2.ensures.ordered (sym c.in-Some-get_mut.ensures.value) (c.get_mut-2.follows.holds points).0
                 (ap test_committed w.points-is ∙ w.add_values-added.ensures.test_committed);
-            lines = index.lines;
-            functions = index.functions;
-            branches = ap branches_data index.branches;
-            holders = index.holders;
-            texts = index.texts;
+            index = index;
           }
       | in-None w ↦
           absurd

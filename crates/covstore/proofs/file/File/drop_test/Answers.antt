@@ -1,7 +1,7 @@
 use Rattle.std.proofs.Common.{◌≡◌, ℕ, option_map, List, sym, ap, ◌∙◌, subst}
+use Rattle.covstore.specs.State.{file_with}
 use Rattle.covstore.specs.FileDrops.{IsWithoutTest, tests_without}
 use Rattle.covstore.specs.FileView.{file_committed}
-use Rattle.covstore.specs.FileIndex.{file_with}
 use Rattle.covstore.specs.FileIndexView.{index_committed}
 use Rattle.covstore.specs.Sums.{TestData}
 use Rattle.covstore.specs.TestView.{test_committed}

@@ -5,7 +5,7 @@ use Rattle.covstore.specs.FileIndexView.{index_committed}
 use Rattle.covstore.specs.State.{has_no_points, points_or_none}
 use Rattle.covstore.specs.Sums.{TestData}
 use Rattle.covstore.specs.TestView.{test_committed}
-use Rattle.covstore.proofs.DropsKept.{index_after, index_first, index_in, points_of_all, totals_unfound}
+use Rattle.covstore.proofs.DropsKept.{index_after, index_first, points_of_all, totals_unfound}
 use Rattle.covstore.proofs.MapNames.{names_with, value_of_named}
 use Rattle.covstore.proofs.Settled.{file_name}
 use Rattle.covstore.proofs.file.File.without_test.Goals as goal
@@ -31,7 +31,7 @@ returns-in-Some-clause-totals g c = λ after is.
     let test = c.args.test.now in
     let found = value_of_named file_name test_committed test entries ∙ ap (option_map test_committed) (sym c.in-Some.ensures.value) in
     let same : c.get-points.result.now ≡ c.in-Some.points.now = c.get-points.ensures in
-    c.totals_without.ensures (points_of_all (tests_without test tests)) (index_in after) (rw same (index_first test (test_committed c.in-Some.points.now) tests (index_committed c.args.self.now.index) c.requires found))
+    c.totals_without.ensures (points_of_all (tests_without test tests)) after.index (rw same (index_first test (test_committed c.in-Some.points.now) tests (index_committed c.args.self.now.index) c.requires found))
     (index_after test (file_committed c.args.self.now) after is)
 
 pub returns-clause-has_points : goal.returns-clause-has_points

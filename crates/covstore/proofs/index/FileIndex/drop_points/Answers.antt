@@ -1,36 +1,30 @@
-use Rattle.std.proofs.Common.{map, ap, refl}
-use Rattle.covstore.specs.State.{branch_above}
-use Rattle.covstore.specs.Sums.{TestData}
-use Rattle.covstore.specs.TestView.{branches_data, test_committed}
-use Rattle.covstore.proofs.FewerKeys.{branches_lose, branches_with}
-use Rattle.covstore.proofs.FewerIndexed.{holders_of_lines, same_index}
+use Rattle.std.proofs.Common.{map, refl}
+use Rattle.covstore.specs.KindIndexCounts.{AreCounts}
+use Rattle.covstore.specs.Kinds.{Branch, CountsOf, Each, Function, Kind, Line, above_of, at, cmp_of}
+use Rattle.covstore.specs.TestView.{test_committed}
+use Rattle.covstore.proofs.Axis.{each_kind}
+use Rattle.covstore.proofs.FewerHolders.{holders_of_lines}
 use Rattle.covstore.proofs.index.FileIndex.drop_points.Goals as goal
 
 pub drop_kind-requires : goal.drop_kind-requires
-drop_kind-requires g c = λ lifetimes. ((refl, tt), (map (λ (test : TestData). test.lines) c.requires.0, c.requires.1.lines))
+drop_kind-requires g c = λ lifetimes. ((refl, tt), (map (at Line) c.requires.0, c.requires.1.counts Line))
 
 pub drop_kind-requires-2 : goal.drop_kind-requires-2
-drop_kind-requires-2 g c = λ lifetimes. ((refl, tt), (map (λ (test : TestData). test.functions) c.requires.0, c.requires.1.functions))
+drop_kind-requires-2 g c = λ lifetimes. ((refl, tt), (map (at Function) c.requires.0, c.requires.1.counts Function))
 
 pub drop_kind-requires-3 : goal.drop_kind-requires-3
-drop_kind-requires-3 g c = λ lifetimes. (
-  (refl, tt),
-  branches_with branch_above c.args.points.now.branches.committed c.args.self.now.branches.committed (map (λ (test : TestData). test.branches) c.requires.0, c.requires.1.branches),
-)
+drop_kind-requires-3 g c = λ lifetimes. ((refl, tt), (map (at Branch) c.requires.0, c.requires.1.counts Branch))
 
 pub drop_checksums-requires : goal.drop_checksums-requires
 drop_checksums-requires g c = (c.requires.0, holders_of_lines (test_committed c.args.points.now) c.requires.0 c.args.self.now.checksums.committed c.requires.1.holders)
 
 pub returns-clause-committed : goal.returns-clause-committed
-returns-clause-committed g c others are = record {
-  lines = c.drop_kind.ensures.committed (map (λ (test : TestData). test.lines) others) are.lines;
-  functions = c.drop_kind-2.ensures.committed (map (λ (test : TestData). test.functions) others) are.functions;
-  branches =
-      branches_lose branch_above c.args.points.now.branches.committed c.args.self.now.branches.committed c.drop_kind-3.new.kept.committed c.drop_kind-3.ensures.committed
-      (map (λ (test : TestData). test.branches) others) are.branches;
-  holders = c.drop_checksums.ensures.committed others (holders_of_lines (test_committed c.args.points.now) others c.args.self.now.checksums.committed are.holders);
-}
-
-pub returns-clause-staged : goal.returns-clause-staged
-returns-clause-staged g c =
-    same_index _ _ c.drop_kind.ensures.staged c.drop_kind-2.ensures.staged (ap branches_data c.drop_kind-3.ensures.staged) c.drop_checksums.ensures.staged refl
+returns-clause-committed g c others are =
+    let counts : Each CountsOf = record { lines = c.drop_kind.new.kept.committed; functions = c.drop_kind-2.new.kept.committed; branches = c.drop_kind-3.new.kept.committed } in
+    record {
+      counts = each_kind (λ (kind : Kind). AreCounts (cmp_of kind) (above_of kind) (map (at kind) others) (at kind counts))
+          (c.drop_kind.ensures.committed (map (at Line) others) (are.counts Line))
+          (c.drop_kind-2.ensures.committed (map (at Function) others) (are.counts Function))
+          (c.drop_kind-3.ensures.committed (map (at Branch) others) (are.counts Branch));
+      holders = c.drop_checksums.ensures.committed others (holders_of_lines (test_committed c.args.points.now) others c.args.self.now.checksums.committed are.holders);
+    }

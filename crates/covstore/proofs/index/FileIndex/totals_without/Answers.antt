@@ -1,27 +1,21 @@
 use Rattle.std.proofs.Common.{map, refl, ◌∙◌}
-use Rattle.covstore.specs.State.{branch_above}
-use Rattle.covstore.specs.Sums.{TestData}
-use Rattle.covstore.proofs.FewerKeys.{branches_tally, branches_with}
-use Rattle.covstore.proofs.FewerIndexed.{totals_are}
+use Rattle.covstore.specs.Kinds.{Branch, Function, Line, at}
+use Rattle.covstore.proofs.Axis.{totals_are}
 use Rattle.covstore.proofs.index.FileIndex.totals_without.Goals as goal
 
 pub tally_without-requires : goal.tally_without-requires
-tally_without-requires g c = λ lifetimes. ((refl, tt), (map (λ (test : TestData). test.lines) c.requires.0, c.requires.1.lines))
+tally_without-requires g c = λ lifetimes. ((refl, tt), (map (at Line) c.requires.0, c.requires.1.counts Line))
 
 pub tally_without-requires-2 : goal.tally_without-requires-2
-tally_without-requires-2 g c = λ lifetimes. ((refl, tt), (map (λ (test : TestData). test.functions) c.requires.0, c.requires.1.functions))
+tally_without-requires-2 g c = λ lifetimes. ((refl, tt), (map (at Function) c.requires.0, c.requires.1.counts Function))
 
 pub tally_without-requires-3 : goal.tally_without-requires-3
-tally_without-requires-3 g c = λ lifetimes. (
-  (refl, tt),
-  branches_with branch_above c.args.points.now.branches.committed c.args.self.now.branches.committed (map (λ (test : TestData). test.branches) c.requires.0, c.requires.1.branches),
-)
+tally_without-requires-3 g c = λ lifetimes. ((refl, tt), (map (at Branch) c.requires.0, c.requires.1.counts Branch))
 
 pub returns : goal.returns
 returns g c others rest are own =
     c.totals_of.ensures
-    ∙ totals_are rest c.tally_without.result c.tally_without-2.result c.tally_without-3.result
-    (c.tally_without.ensures (map (λ (test : TestData). test.lines) others) rest.lines are.lines own.lines)
-    (c.tally_without-2.ensures (map (λ (test : TestData). test.functions) others) rest.functions are.functions own.functions)
-    (branches_tally branch_above c.args.points.now.branches.committed c.args.self.now.branches.committed c.tally_without-3.result c.tally_without-3.ensures
-    (map (λ (test : TestData). test.branches) others) rest.branches are.branches own.branches)
+    ∙ totals_are rest.counts c.tally_without.result c.tally_without-2.result c.tally_without-3.result
+    (c.tally_without.ensures (map (at Line) others) rest.counts.lines (are.counts Line) (own.counts Line))
+    (c.tally_without-2.ensures (map (at Function) others) rest.counts.functions (are.counts Function) (own.counts Function))
+    (c.tally_without-3.ensures (map (at Branch) others) rest.counts.branches (are.counts Branch) (own.counts Branch))

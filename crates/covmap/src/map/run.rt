@@ -1,0 +1,56 @@
+//! A run of keys with addends, staged at once.
+
+ghost use Rattle.std.specs.Prelude.{◌≡◌, ◌<◌, ◌≤◌, ◌++◌, IfOk, OnOk, length, take};
+ghost use Rattle.covmap.specs.Run.{FitRun, summed, told_run};
+
+use crate::key::{Key, Query, Telling, Value};
+use crate::map::StagedMap;
+use crate::slots::run::make_slots;
+use std::alloc::{AllocError, Allocator};
+
+impl<K: Key + Drop, V: Value, A: Allocator + Copy> StagedMap<K, V, A> {
+    /// Stages the sums of the staged values of a run of keys and their addends, in order, and puts behind what these tell.
+    /// Keys that ascend are looked up once for each page that they stand on.
+    ///
+    /// # Errors
+    ///
+    /// `AllocError` where memory was refused. Anything may be staged then, and is best rolled back.
+    pub fn stage_run<Q: Query<K, A>, N: Drop, M: Telling<V, N>>(
+        &mut self,
+        alloc: A,
+        run: &[(Q, M)],
+        told: &mut Vec<(Q, N), A>,
+    ) -> Result<(), AllocError>
+        requires { FitRun K.cmp Q.named M.fits M.sum run.now self.old.staged }
+        ensures committed { self.new.committed ≡ self.old.committed }
+        ensures ok { OnOk result (self.new.staged ≡ summed K.cmp Q.named M.sum run.now self.old.staged) }
+        ensures told { OnOk result (told.new.items ≡ told.old.items ++ told_run K.cmp Q.named M.sum M.told run.now self.old.staged) }
+    {
+        let mut rest = run;
+        while !rest.is_empty() {
+            let count = self.stage_some(alloc, rest, told)?;
+            rest = rest.split_at(count).1;
+        }
+        Ok(())
+    }
+
+    /// Stages some items at the front of a run, and tells how many.
+    fn stage_some<Q: Query<K, A>, N: Drop, M: Telling<V, N>>(
+        &mut self,
+        alloc: A,
+        run: &[(Q, M)],
+        told: &mut Vec<(Q, N), A>,
+    ) -> Result<usize, AllocError>
+        requires some { 0 < length run.now }
+        requires fits { FitRun K.cmp Q.named M.fits M.sum run.now self.old.staged }
+        ensures committed { self.new.committed ≡ self.old.committed }
+        ensures count { IfOk result (λ count. (0 < count) × (count ≤ length run.now)) }
+        ensures ok { IfOk result (λ count. self.new.staged ≡ summed K.cmp Q.named M.sum (take count run.now) self.old.staged) }
+        ensures told { IfOk result (λ count. told.new.items ≡ told.old.items ++ told_run K.cmp Q.named M.sum M.told (take count run.now) self.old.staged) }
+    {
+        let place = make_slots(&mut self.slots, &mut self.staged, alloc, run, self.cursor)?;
+        let along = self.staged.add_run(alloc, &self.slots, place, run, told)?;
+        self.cursor = place.at(along.next);
+        Ok(along.count)
+    }
+}

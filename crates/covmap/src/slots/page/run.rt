@@ -1,0 +1,150 @@
+//! A run of keys with addends, and the slots of one page.
+
+ghost use Rattle.std.specs.Prelude.{◌≡◌, ◌<◌, ◌≤◌, ◌++◌, IfOk, OnOk, length, slice_get};
+ghost use Rattle.std.specs.declared.cmp.Ordering.TheVariants.{Equal};
+ghost use Rattle.covmap.specs.Run.{FirstHere, FitHere, IsAlong, IsNewPage, told_one, value_summed};
+ghost use Rattle.covmap.specs.Slots.{IsAscending, order_at, value_in};
+
+use crate::key::{Addend, Key, Query, Telling, Value};
+use crate::slots::PAGE;
+use crate::slots::page::Page;
+use std::alloc::{AllocError, Allocator};
+use std::cmp::Ordering;
+
+/// How many slots a walk along a run passes before it searches on the page.
+const NEAR: usize = 4;
+
+/// How much of a run was added on a page.
+#[derive(Clone, Copy)]
+pub(crate) struct Along {
+    /// How many items.
+    pub(crate) count: usize,
+    /// The slot behind that of the last one.
+    pub(crate) next: usize,
+}
+
+impl<K: Key, V: Value, A: Allocator> Page<K, V, A> {
+    /// Adds a run to the values of a column, from a slot on, as long as the keys of the run have slots here, in their
+    /// order. Slots between them are passed.
+    pub(crate) fn add_along<Q: Query<K, A>, N: Drop, M: Telling<V, N>>(
+        &self,
+        column: &mut [Option<V>],
+        start: usize,
+        run: &[(Q, M)],
+        told: &mut Vec<(Q, N), A>,
+    ) -> Result<Along, AllocError>
+        requires ascending { IsAscending K.cmp self.now }
+        requires long { length column.old ≡ length self.now }
+        requires first { FirstHere K.cmp Q.named self.now start run.now }
+        requires fits { FitHere K.cmp Q.named M.fits M.sum self.now run.now column.old }
+        ensures long { length column.new ≡ length column.old }
+        ensures some { IfOk result (λ along. 0 < length run.now → 0 < along.count) }
+        ensures count { IfOk result (λ along. along.count ≤ length run.now) }
+        ensures added { IfOk result (λ along. IsAlong K.cmp Q.named M.sum M.told self.now run.now along.count column.old column.new told.old.items told.new.items) }
+    {
+        let mut next = start;
+        let mut count = 0;
+        while count < run.len() {
+            let (query, addend) = run[count];
+            let index = self.near(next, query);
+            if !self.order(index, query).is_eq() {
+                return Ok(Along { count, next });
+            }
+            add_at(column, index, query, addend, told)?;
+            next = index.saturating_add(1);
+            count += 1;
+        }
+        Ok(Along { count, next })
+    }
+
+    /// Where to look for the slot of a key: at this slot, at one of the next, or where a search leads.
+    fn near<Q: Query<K, A>>(&self, start: usize, query: Q) -> usize
+        requires { IsAscending K.cmp self.now }
+        ensures { order_at (λ key. K.cmp key (Q.named query)) (slice_get self.now start) ≡ Equal → result ≡ start }
+    {
+        if !self.order(start, query).is_lt() {
+            return start;
+        }
+        for index in start..start.saturating_add(NEAR) {
+            if !self.order(index, query).is_lt() {
+                return index;
+            }
+        }
+        self.index_of(query)
+    }
+
+    /// How the key of a slot stands to what is asked for. Where there is no slot, all keys come before it.
+    fn order<Q: Query<K, A>>(&self, index: usize, query: Q) -> Ordering
+        ensures { result ≡ order_at (λ key. K.cmp key (Q.named query)) (slice_get self.now index) }
+    {
+        match self.key(index) {
+            Some(key) => query.compare(key),
+            None => Ordering::Greater,
+        }
+    }
+}
+
+impl<K: Drop, V: Value, A: Allocator + Copy> Page<K, V, A> {
+    /// A page of empty slots: the keys at the front of a run, as long as they ascend and fit on one.
+    pub(crate) fn of_run<Q: Query<K, A>, M: Addend<V>>(
+        alloc: A,
+        run: &[(Q, M)],
+    ) -> Result<Page<K, V, A>, AllocError>
+    where
+        K: Key,
+        requires { 0 < length run.now }
+        ensures { IfOk result (λ page. IsNewPage K.cmp Q.named run.now page) }
+    {
+        let most = run.len().min(PAGE);
+        let mut page = Page {
+            keys: Vec::with_capacity(alloc, most)?,
+            values: Vec::new(alloc),
+        };
+        let mut count = 0;
+        while count < most {
+            let (query, _) = run[count];
+            if !page.ends_before(query) {
+                return Ok(page);
+            }
+            page.insert(count, query.key(alloc)?)?;
+            count += 1;
+        }
+        Ok(page)
+    }
+}
+
+/// Adds an item in its slot of a column, and puts behind what it tells.
+fn add_at<V: Drop, A: Allocator, Q: Copy, N: Drop, M: Telling<V, N>>(
+    column: &mut [Option<V>],
+    slot: usize,
+    query: Q,
+    addend: M,
+    told: &mut Vec<(Q, N), A>,
+) -> Result<(), AllocError>
+    requires there { slot < length column.old }
+    requires fits { M.fits addend (value_in (slice_get column.old slot)) }
+    ensures column { column.new ≡ value_summed M.sum slot (query, addend) column.old }
+    ensures told { OnOk result (told.new.items ≡ told.old.items ++ told_one query (M.told addend (value_in (slice_get column.old slot)) (M.sum addend (value_in (slice_get column.old slot))))) }
+{
+    let after = addend.plus(&column[slot]);
+    let note = addend.tell(&column[slot], &after);
+    column[slot] = Some(after);
+    push_told(told, query, note)
+}
+
+/// Puts what is told behind, if it is anything.
+fn push_told<Q: Copy, N: Drop, A: Allocator>(
+    told: &mut Vec<(Q, N), A>,
+    query: Q,
+    note: Option<N>,
+) -> Result<(), AllocError>
+    ensures { OnOk result (told.new.items ≡ told.old.items ++ told_one query note) }
+{
+    match note {
+        Some(note) => {
+            told.push((query, note))?;
+            Ok(())
+        }
+        None => Ok(()),
+    }
+}

@@ -1,0 +1,119 @@
+//! Slots for the keys of a run.
+
+ghost use Rattle.std.specs.Prelude.{◌≡◌, ◌<◌, IfOk, OnErr, OnOk, length};
+ghost use Rattle.covmap.specs.Run.{AreBefore, FirstHere, IsGrown};
+ghost use Rattle.covmap.specs.Slots.{IsAscending, filled, page_at, slots_of};
+ghost use Rattle.covmap.specs.Staged.{AreColumnsOf, staged_of};
+
+use crate::key::{Addend, Key, Query, Value};
+use crate::slots::growth::put_slot;
+use crate::slots::page::Page;
+use crate::slots::staged::StagedColumns;
+use crate::slots::{PAGE, Place, Slots, push};
+use std::alloc::{AllocError, Allocator};
+
+impl Place {
+    /// Another slot of its page.
+    pub(crate) fn at(self, index: usize) -> Place {
+        Place {
+            page: self.page,
+            index,
+        }
+    }
+}
+
+impl<K: Key, V, A: Allocator> Slots<K, V, A> {
+    /// Whether the last page has room for a slot more.
+    fn has_room(&self) -> bool {
+        match self.pages.last() {
+            Some(page) => page.len() < PAGE,
+            None => false,
+        }
+    }
+
+    /// The page of this number, which is there.
+    pub(crate) fn page_there(&self, number: usize) -> &Page<K, V, A>
+        requires { number < length self.now }
+        ensures page { result.now ≡ page_at self.now number }
+        ensures ascending { IsAscending K.cmp (page_at self.now number) }
+    {
+        &self.pages[number]
+    }
+}
+
+impl<K: Key + Drop, V: Value, A: Allocator + Copy> Slots<K, V, A> {
+    /// Puts empty slots of the keys at the front of a run on a new page, behind all others.
+    fn push_run<Q: Query<K, A>, M: Addend<V>>(
+        &mut self,
+        alloc: A,
+        run: &[(Q, M)],
+    ) -> Result<(), AllocError>
+        requires some { 0 < length run.now }
+        requires last { AreBefore K.cmp Q.named (slots_of self.old) run.now }
+        ensures ok { OnOk result (IsGrown K.cmp Q.named run.now self.old self.new) }
+        ensures err { OnErr result (self.new ≡ self.old) }
+    {
+        let page = Page::of_run(alloc, run)?;
+        push(&mut self.pages, page)?;
+        Ok(())
+    }
+}
+
+/// Sees to it that the first key of a run has a slot, and tells its place. Where it goes behind all others, the keys behind
+/// it get theirs at once.
+pub(crate) fn make_slots<
+    K: Key + Drop,
+    V: Value,
+    A: Allocator + Copy,
+    Q: Query<K, A>,
+    M: Addend<V>,
+>(
+    slots: &mut Slots<K, V, A>,
+    staged: &mut StagedColumns<V, A>,
+    alloc: A,
+    run: &[(Q, M)],
+    guess: Place,
+) -> Result<Place, AllocError>
+    requires some { 0 < length run.now }
+    requires columns { AreColumnsOf slots.old staged.old }
+    ensures columns { AreColumnsOf slots.new staged.new }
+    ensures committed { filled (slots_of slots.new) ≡ filled (slots_of slots.old) }
+    ensures staged { OnOk result (filled (slots_of (staged_of slots.new staged.new)) ≡ filled (slots_of (staged_of slots.old staged.old))) }
+    ensures place { IfOk result (λ place. FirstHere K.cmp Q.named (page_at slots.new place.page) place.index run.now) }
+{
+    let (query, _) = run[0];
+    match slots.find(query, guess) {
+        Ok(place) => Ok(place),
+        Err(place) => {
+            // New pages come behind full ones alone, so that short runs don't leave short pages.
+            if place.page < slots.count() || slots.has_room() {
+                let key = query.key(alloc)?;
+                return put_slot(slots, staged, alloc, place, key);
+            }
+            put_run(slots, staged, alloc, run)
+        }
+    }
+}
+
+/// Puts empty slots of the keys at the front of a run behind all others.
+fn put_run<K: Key + Drop, V: Value, A: Allocator + Copy, Q: Query<K, A>, M: Addend<V>>(
+    slots: &mut Slots<K, V, A>,
+    staged: &mut StagedColumns<V, A>,
+    alloc: A,
+    run: &[(Q, M)],
+) -> Result<Place, AllocError>
+    requires some { 0 < length run.now }
+    requires columns { AreColumnsOf slots.old staged.old }
+    requires last { AreBefore K.cmp Q.named (slots_of slots.old) run.now }
+    ensures columns { AreColumnsOf slots.new staged.new }
+    ensures committed { filled (slots_of slots.new) ≡ filled (slots_of slots.old) }
+    ensures staged { OnOk result (filled (slots_of (staged_of slots.new staged.new)) ≡ filled (slots_of (staged_of slots.old staged.old))) }
+    ensures place { IfOk result (λ place. FirstHere K.cmp Q.named (page_at slots.new place.page) place.index run.now) }
+{
+    let count = slots.count();
+    slots.push_run(alloc, run)?;
+    Ok(Place {
+        page: count,
+        index: 0,
+    })
+}

@@ -1,0 +1,40 @@
+//! A run of keys with addends, and the staged values of one page.
+
+ghost use Rattle.std.specs.Prelude.{◌≡◌, ◌<◌, ◌≤◌, ◌++◌, IfOk, length, take};
+ghost use Rattle.covmap.specs.Run.{FirstHere, FitRun, summed, told_run};
+ghost use Rattle.covmap.specs.Slots.{filled, page_at, slots_of};
+ghost use Rattle.covmap.specs.Staged.{AreColumnsOf, staged_of};
+
+use crate::key::{Key, Query, Telling, Value};
+use crate::slots::page::run::Along;
+use crate::slots::staged::StagedColumns;
+use crate::slots::{Place, Slots};
+use std::alloc::{AllocError, Allocator};
+
+impl<V: Value, A: Allocator> StagedColumns<V, A> {
+    /// Adds a run to the staged values from a place on, which is that of the first key, as long as the keys of the run
+    /// have slots on its page, in their order.
+    pub(crate) fn add_run<K: Key, Q: Query<K, A>, N: Drop, M: Telling<V, N>>(
+        &mut self,
+        alloc: A,
+        slots: &Slots<K, V, A>,
+        place: Place,
+        run: &[(Q, M)],
+        told: &mut Vec<(Q, N), A>,
+    ) -> Result<Along, AllocError>
+        requires some { 0 < length run.now }
+        requires first { FirstHere K.cmp Q.named (page_at slots.now place.page) place.index run.now }
+        requires columns { AreColumnsOf slots.now self.old }
+        requires fits { FitRun K.cmp Q.named M.fits M.sum run.now (filled (slots_of (staged_of slots.now self.old))) }
+        ensures columns { AreColumnsOf slots.now self.new }
+        ensures count { IfOk result (λ along. (0 < along.count) × (along.count ≤ length run.now)) }
+        ensures ok { IfOk result (λ along. filled (slots_of (staged_of slots.now self.new)) ≡ summed K.cmp Q.named M.sum (take along.count run.now) (filled (slots_of (staged_of slots.now self.old)))) }
+        ensures told { IfOk result (λ along. told.new.items ≡ told.old.items ++ told_run K.cmp Q.named M.sum M.told (take along.count run.now) (filled (slots_of (staged_of slots.now self.old)))) }
+    {
+        slots.are_whole();
+        let index = self.touch(alloc, slots, place.page)?;
+        let page = slots.page_there(place.page);
+        let along = page.add_along(&mut self.columns[index].1, place.index, run, told)?;
+        Ok(along)
+    }
+}

@@ -1,0 +1,80 @@
+-- The axis: the kinds of points, and what each has: its keys and its sums; how keys are ordered, and which sums are above 0.
+use Rattle.std.specs.Prelude.{ℕ, Bool, nat_lt, List}
+use Rattle.std.specs.Cmp.Lexicographic.{slice_cmp}
+use Rattle.std.specs.declared.cmp.Ordering.{Ordering}
+use Rattle.std.specs.Ordering.{nat_cmp}
+use Rattle.covline.specs.Points.{BranchPoint, branch_point, func_point, line_point}
+use Rattle.covline.specs.Row.{ItemData}
+use Rattle.covstore.specs.declared.sums.LineSum.{LineSum}
+use Rattle.covstore.specs.declared.sums.FunctionSum.{FunctionSum}
+use Rattle.covstore.specs.declared.sums.BranchSum.{BranchSum}
+use Rattle.covstore.specs.declared.sums.Tests.{Tests}
+use Rattle.covstore.specs.Value.{branch_cmp, is_taken}
+
+pub data Kind : Type 0 where
+  Line : Kind
+  Function : Kind
+  Branch : Kind
+
+abbrev pub KeyOf : Kind → Type 0
+KeyOf Line = ℕ
+KeyOf Function = List ℕ
+KeyOf Branch = BranchPoint
+
+abbrev pub SumOf : Kind → Type 0
+SumOf Line = LineSum
+SumOf Function = FunctionSum
+SumOf Branch = BranchSum
+
+abbrev pub cmp_of : (kind : Kind) → KeyOf kind → KeyOf kind → Ordering
+cmp_of Line = nat_cmp
+cmp_of Function = slice_cmp nat_cmp
+cmp_of Branch = branch_cmp
+
+abbrev pub line_above : LineSum → Bool
+line_above sum = nat_lt 0 sum.count
+
+abbrev pub function_above : FunctionSum → Bool
+function_above sum = nat_lt 0 sum.count
+
+abbrev pub branch_above : BranchSum → Bool
+branch_above sum = is_taken sum.times
+
+abbrev pub above_of : (kind : Kind) → SumOf kind → Bool
+above_of Line = line_above
+above_of Function = function_above
+above_of Branch = branch_above
+
+-- the points of a kind that an item speaks of
+abbrev pub point_of : (kind : Kind) → ItemData → List (KeyOf kind)
+point_of Line = line_point
+point_of Function = func_point
+point_of Branch = branch_point
+
+-- ---- something of each kind
+
+pub record Each (T : Kind → Type 0) : Type 0 where
+  pub lines : T Line
+  pub functions : T Function
+  pub branches : T Branch
+
+abbrev pub at : {T : Kind → Type 0} → (kind : Kind) → Each T → T kind
+at Line each = each.lines
+at Function each = each.functions
+at Branch each = each.branches
+
+abbrev pub of_each : {T : Kind → Type 0} → ((kind : Kind) → T kind) → Each T
+of_each f = record { lines = f Line; functions = f Function; branches = f Branch }
+
+-- the same with another thing of one kind
+abbrev pub with_at : {T : Kind → Type 0} → (kind : Kind) → T kind → Each T → Each T
+with_at Line value each = record { lines = value; functions = each.functions; branches = each.branches }
+with_at Function value each = record { lines = each.lines; functions = value; branches = each.branches }
+with_at Branch value each = record { lines = each.lines; functions = each.functions; branches = value }
+
+-- the points of a kind with their sums, and in how many tests they are
+abbrev pub PointsOf : Kind → Type 0
+PointsOf kind = List (KeyOf kind × SumOf kind)
+
+abbrev pub CountsOf : Kind → Type 0
+CountsOf kind = List (KeyOf kind × Tests)
