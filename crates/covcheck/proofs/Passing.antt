@@ -49,7 +49,7 @@ first_at_end : (those : List Line) (first : Option SkippedLine) → IsFirstSoFar
 first_at_end those None is = subst (λ (t : List Line). IsFirstOf t None) (sym is) tt
 first_at_end those (Some f) is = is
 
--- behind the last line
+-- after the last line
 pub passing_ends : (holds : Line → Type 0) (all : List Line) (count : ℕ) (first : Option SkippedLine)
     → Passing holds all [] count first → (those : List Line) × AreThose holds all those × (count ≡ length those) × IsFirstOf those first
 passing_ends holds all count first passing =

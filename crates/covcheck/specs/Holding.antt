@@ -8,7 +8,7 @@ use Rattle.covcheck.specs.declared.holding.Holding.{Holding}
 use Rattle.covcheck.specs.declared.holding.SkippedLine.{SkippedLine}
 use Rattle.covcheck.specs.Skipped.{AreThose, start_of}
 
--- the lines of a text that are so, each with its number; lines are counted from 1, blank ones too
+-- the lines of a text that are so, each with its number; lines are counted from 1, empty ones too
 abbrev pub AreLinesThat : (List ℕ → Type 0) → List ℕ → List (ℕ × List ℕ) → Type 0
 AreLinesThat is_so text lines = AreThose (λ (l : ℕ × List ℕ). is_so l.1) (enumerate_from 1 (lines_of text)) lines
 

@@ -3,12 +3,12 @@ use Rattle.std.specs.Prelude.{◌≡◌, ◌≢◌, ◌⊎◌, ℕ, Bool, ◌||�
 use Rattle.covline.specs.Spells.{Spells, Skip}
 use Rattle.covread.specs.Gcov.{IsShapeOf, Other}
 
--- a line of a tracefile that isn't read: it isn't blank, and begins neither with one of the twelve keys nor with
+-- a line of a tracefile that isn't read: it isn't empty, and begins neither with one of the twelve keys nor with
 -- `end_of_record`
 abbrev pub IsSkippedRecord : List ℕ → Type 0
 IsSkippedRecord line = (line ≢ []) × Spells line Skip
 
--- a line of gcov's text that isn't read: it isn't blank, and has none of the known shapes
+-- a line of gcov's text that isn't read: it isn't empty, and has none of the known shapes
 abbrev pub IsSkippedGcov : List ℕ → Type 0
 IsSkippedGcov line = (line ≢ []) × IsShapeOf line Other
 
@@ -24,16 +24,16 @@ AreThose holds (x ∷ xs) those =
 abbrev pub is_cut : ℕ → Bool
 is_cut b = b == 58 || b == 32 || b == 9
 
--- the bytes at the front, up to the first colon or blank
+-- the bytes at the front, up to the first colon, space or tab
 abbrev pub word_at : List ℕ → List ℕ
 word_at [] = []
 word_at (b ∷ bs) = if is_cut b then [] else b ∷ word_at bs
 
--- the same, with the colons and blanks that stand before them
+-- the same, with the colons, spaces and tabs that stand before them
 abbrev pub beginning_of : List ℕ → List ℕ
 beginning_of [] = []
 beginning_of (b ∷ bs) = if is_cut b then b ∷ beginning_of bs else b ∷ word_at bs
 
--- the beginning of a line within its first 16 bytes. It is empty for a blank line alone
+-- the beginning of a line within its first 16 bytes. It is empty for an empty line alone
 abbrev pub start_of : List ℕ → List ℕ
 start_of line = beginning_of (take 16 line)

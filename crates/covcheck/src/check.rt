@@ -23,7 +23,7 @@ pub fn check_trace<'a, A: Allocator + Copy>(
     alloc: A,
     text: &'a [u8],
 ) -> Result<Holding<'a>, ReadFault>
-    // It tells of what the reader answers: of what the text is read as, or that memory ran out behind a path.
+    // It tells of what the reader answers: of what the text is read as, or that memory ran out after a path.
     ensures answers { (read : Result SubmissionData Fault) × Answers text.now read × GrowsLate text.now read × Tells IsSkippedRecord text.now read result }
     // What the text is read as is what is told of, unless memory ran out.
     ensures only { (outcome : Result SubmissionData Fault) → IsOutcome text.now outcome → (result ≡ Err NoMemory) ⊎ Tells IsSkippedRecord text.now outcome result }
@@ -38,7 +38,7 @@ pub fn check_gcov<'a, A: Allocator + Copy>(
     alloc: A,
     text: &'a [u8],
 ) -> Result<Holding<'a>, ReadFault>
-    // It tells of what the reader answers: of what the text is read as, or that memory ran out behind a path or a function.
+    // It tells of what the reader answers: of what the text is read as, or that memory ran out after a path or a function.
     ensures answers { (read : Result SubmissionData Fault) × gcov.Answers [] text.now read × gcov.GrowsLate text.now read × Tells IsSkippedGcov text.now read result }
     // What the text is read as is what is told of, unless memory ran out.
     ensures only { (outcome : Result SubmissionData Fault) → gcov.IsOutcome [] text.now outcome → (result ≡ Err NoMemory) ⊎ Tells IsSkippedGcov text.now outcome result }

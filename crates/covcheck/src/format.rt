@@ -18,7 +18,7 @@ pub(crate) enum Format {
 }
 
 impl Format {
-    /// Whether the line isn't blank, and isn't read.
+    /// Whether the line isn't empty, and isn't read.
     #[inline]
     pub(crate) fn skips(self, line: &[u8]) -> bool
         ensures { IsTrue result ↔ IsSkippedIn self line.now }
@@ -30,7 +30,7 @@ impl Format {
     }
 }
 
-/// Whether the line of a tracefile isn't blank, and says nothing. Most lines begin with one of two keys, and needn't be read
+/// Whether the line of a tracefile isn't empty, and says nothing. Most lines begin with one of two keys, and needn't be read
 /// to know that they say something.
 #[inline]
 fn is_skipped_record(line: &[u8]) -> bool
@@ -47,12 +47,12 @@ fn is_skipped_record(line: &[u8]) -> bool
 fn has_common_key(line: &[u8]) -> bool
     ensures { IsTrue result → HasKey line.now }
 {
-    behind_line_key(line).is_some() || behind_branch_key(line).is_some()
+    after_line_key(line).is_some() || after_branch_key(line).is_some()
 }
 
 /// What follows the key of a counted line.
 #[inline]
-fn behind_line_key(line: &[u8]) -> Option<&[u8]>
+fn after_line_key(line: &[u8]) -> Option<&[u8]>
     ensures { IfSome result (λ rest. line.now ≡ codes "DA:" ++ rest.now) }
 {
     match line {
@@ -63,7 +63,7 @@ fn behind_line_key(line: &[u8]) -> Option<&[u8]>
 
 /// What follows the key of a branch.
 #[inline]
-fn behind_branch_key(line: &[u8]) -> Option<&[u8]>
+fn after_branch_key(line: &[u8]) -> Option<&[u8]>
     ensures { IfSome result (λ rest. line.now ≡ codes "BRDA:" ++ rest.now) }
 {
     match line {

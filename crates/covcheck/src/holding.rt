@@ -10,7 +10,7 @@ pub struct Holding<'a> {
     /// How many lines don't fit the others: counts of functions without a start line, and totals that differ from the
     /// section's own.
     pub odd: u64,
-    /// How many lines aren't read. Blank lines don't count.
+    /// How many lines aren't read. Empty lines don't count.
     pub skipped: u64,
     /// The first of these; none where there is none.
     pub first: Option<SkippedLine<'a>>,
@@ -22,7 +22,7 @@ pub struct SkippedLine<'a> {
     /// How it begins within its first 16 bytes: colons, spaces and tabs at the front, and what follows them up to the next
     /// one. It has at least one byte.
     pub start: &'a [u8],
-    /// Its number in the text. Lines are counted from 1, blank ones too.
+    /// Its number in the text. Lines are counted from 1, empty ones too.
     pub at: u64,
 }
 

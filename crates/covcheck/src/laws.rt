@@ -11,7 +11,7 @@ pub fn skipped_lines_are_unique()
     ensures gcov { (text : List ℕ) (x y : List (ℕ × List ℕ)) → AreLinesThat IsSkippedGcov text x → AreLinesThat IsSkippedGcov text y → x ≡ y }
 {}
 
-/// How a line begins is one word where it is told: of a line that isn't blank it has 1 to 16 bytes, and each byte is shown
+/// How a line begins is one word where it is told: of a line that isn't empty it has 1 to 16 bytes, and each byte is shown
 /// as printable ASCII that isn't a space.
 pub fn a_beginning_is_one_word()
     ensures some { (line : List ℕ) → line ≢ [] → 0 < length (start_of line) }

@@ -2,17 +2,17 @@
 
 ghost use Rattle.std.specs.Prelude.{◌≡◌};
 ghost use Rattle.covcheck.specs.Skipped.{is_cut, start_of};
-ghost use Rattle.covcheck.specs.CheckSteps.{behind_cuts, behind_word};
+ghost use Rattle.covcheck.specs.CheckSteps.{after_cuts, after_word};
 
 /// Within how many bytes the beginning of a line ends.
 const MOST_SHOWN: usize = 16;
 
-/// How a line begins within its first 16 bytes: up to the first colon or blank, with those at its front.
+/// How a line begins within its first 16 bytes: up to the first colon, space or tab, with those at its front.
 pub(crate) fn start_of(line: &[u8]) -> &[u8]
     ensures { result.now ≡ start_of line.now }
 {
     let front = &line[..MOST_SHOWN.min(line.len())];
-    let rest = behind_word(behind_cuts(front));
+    let rest = after_word(after_cuts(front));
     &front[..front.len() - rest.len()]
 }
 
@@ -23,9 +23,9 @@ fn is_cut(byte: u8) -> bool
     byte == b':' || byte == b' ' || byte == b'\t'
 }
 
-/// What follows the colons and blanks at the front.
-fn behind_cuts(text: &[u8]) -> &[u8]
-    ensures { result.now ≡ behind_cuts text.now }
+/// What follows the colons, spaces and tabs at the front.
+fn after_cuts(text: &[u8]) -> &[u8]
+    ensures { result.now ≡ after_cuts text.now }
 {
     let mut rest = text;
     while let [byte, after @ ..] = rest {
@@ -37,9 +37,9 @@ fn behind_cuts(text: &[u8]) -> &[u8]
     rest
 }
 
-/// What follows the bytes at the front that are neither colons nor blanks.
-fn behind_word(text: &[u8]) -> &[u8]
-    ensures { result.now ≡ behind_word text.now }
+/// What follows the bytes before the first colon, space or tab.
+fn after_word(text: &[u8]) -> &[u8]
+    ensures { result.now ≡ after_word text.now }
 {
     let mut rest = text;
     while let [byte, after @ ..] = rest {

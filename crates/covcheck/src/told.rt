@@ -57,7 +57,7 @@ fn put_shown<A: Allocator>(line: &mut Vec<u8, A>, text: &[u8]) -> Result<(), Mem
     Ok(())
 }
 
-/// The byte as it is shown: a question mark stands for what isn't printable ASCII, and for a blank.
+/// The byte as it is shown: a question mark stands for a space, and for what isn't printable ASCII.
 fn shown(byte: u8) -> u8
     ensures { result ≡ shown byte }
 {

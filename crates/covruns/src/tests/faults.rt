@@ -201,6 +201,69 @@ fn a_check_with_a_closed_output(rt: HostRuntime) -> Result<(), Fail> {
     Ok(())
 }
 
+/// An output that takes so many writes, each whole, and fails after them. It has the bytes that it took.
+#[derive(Drop)]
+struct Closing {
+    left: u64,
+    taken: Vec<u8>,
+    failed: u64,
+}
+
+impl Sink for Closing {
+    ghost written = { λ s. None };
+
+    ghost held = { λ s. 0 };
+
+    ghost failed_writes = { λ s. s.failed };
+
+    fn write(&mut self, bytes: &[u8]) -> Result<usize, Failed> {
+        if self.left > 0 && self.taken.extend_from_slice(bytes).is_ok() {
+            self.left -= 1;
+            return Ok(bytes.len());
+        }
+        self.failed += 1;
+        Err(Failed)
+    }
+
+    fn flush(&mut self) -> Result<(), Failed> {
+        Ok(())
+    }
+}
+
+/// An output that takes one line and then fails: a check of two files leaves the first one's line, whole, and no byte of the second's.
+#[test]
+fn a_check_whose_output_takes_one_line(rt: HostRuntime) -> Result<(), Fail> {
+    let words = words_of(
+        rt.alloc(),
+        "covcollect check /dev/null /dev/null /tmp/covruns-none",
+        "",
+    )?;
+    let mut sink = Closing {
+        left: 1,
+        taken: Vec::new(rt.alloc()),
+        failed: 0,
+    };
+    let mut faults: Vec<u8> = Vec::new(rt.alloc());
+    let status = {
+        let input: &[u8] = b"";
+        let mut source = FromRead::new(input);
+        let mut complaints = FromWrite::new(&mut faults);
+        called(
+            &rt,
+            words.as_slice(),
+            &mut source,
+            &mut sink,
+            &mut complaints,
+        )
+    };
+    assert!(rt; status == 1, "the status is {status}");
+    assert!(rt; sink.failed == 1, "{} writes failed", sink.failed);
+    let line = "/dev/null: sections 0 items 0 odd 0 skipped 0\n";
+    check_text(&rt, "output", sink.taken.as_slice(), line)?;
+    let told = "/dev/null: no items\n/dev/null: no items\nwrite fault\n";
+    check_text(&rt, "faults", faults.as_slice(), told)
+}
+
 /// An input whose every read fails.
 #[derive(Drop)]
 struct Broken {

@@ -61,7 +61,9 @@ fn check_all(rt: &(impl Abort + AllocGlobal), kind: Kind, lines: &[u8]) -> Resul
     Ok(())
 }
 
-/// The second text has a blank line, a line of blanks begins the fifth, and the seventh begins with a byte order mark.
+/// The second text has an empty line, the fifth begins with a line of spaces and a tab, and the seventh with a byte order mark. Where
+/// a beginning ends: at a colon, a space and a tab, and neither at a comma nor at `<`. What is shown: bytes from 33 to 126. A record
+/// without the colon of its key isn't read.
 #[test]
 fn checked_tracefiles(rt: HostRuntime) -> Result<(), Fail> {
     check_all(
@@ -98,6 +100,15 @@ end_of_record
 > sections 0 items 0 odd 0 skipped 1 first ???TN at 1
 abcdefghijklmnopq:1
 > sections 0 items 0 odd 0 skipped 1 first abcdefghijklmnop at 1
+FOO,1:2
+> sections 0 items 0 odd 0 skipped 1 first FOO,1 at 1
+a<b
+> sections 0 items 0 odd 0 skipped 1 first a<b at 1
+!~\x7F\x80\x1F:1
+> sections 0 items 0 odd 0 skipped 1 first !~??? at 1
+TN:t
+BRDA 1
+> sections 0 items 0 odd 0 skipped 1 first BRDA at 2
 DA
 BRDA
 FN 3,main
