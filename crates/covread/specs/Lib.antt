@@ -1,6 +1,5 @@
 pub mod Reads
 pub mod Outcome
-pub mod Said
 pub mod TraceSteps
 pub mod Fault
 pub mod TracePoints

@@ -4,13 +4,25 @@ use Rattle.std.specs.List.{flat_map}
 use Rattle.std.specs.Ordering.{nat_cmp}
 use Rattle.covline.specs.Points.{line_point}
 use Rattle.covline.specs.Row.{ItemData, LineItem, FuncItem, BranchItem}
-use Rattle.covline.specs.Spells.{LineData, FuncStart, FuncCount, Branch, Line}
+use Rattle.covline.specs.Spells.{LineData, Test, Path, FuncStart, FuncCount, Branch, Line, Total, End, Skip}
 use Rattle.covread.specs.declared.trace.section.Gathered.{Gathered}
 use Rattle.covread.specs.declared.trace.section.Waiting.{Waiting}
 use Rattle.covread.specs.Reads.{start_in}
 use Rattle.covread.specs.TraceFunctions.{AreFunctions}
 use Rattle.covread.specs.TracePoints.{Counts, branch_key, hits_said}
 use Rattle.covread.specs.TraceTally.{branch_cmp, is_total, stated_record}
+
+-- an open section keeps what this says
+abbrev pub IsKept : LineData → Type 0
+IsKept (FuncStart line name) = Unit {0}
+IsKept (FuncCount count name) = Unit {0}
+IsKept (Branch line block branch taken) = Unit {0}
+IsKept (Line line count checksum) = Unit {0}
+IsKept (Total kind value) = Unit {0}
+IsKept (Test name) = ⊥
+IsKept (Path path) = ⊥
+IsKept End = ⊥
+IsKept Skip = ⊥
 
 -- the item of a record as it is before the section ends: that of a function's count has the start line 0
 abbrev pub item_said : LineData → List ItemData

@@ -6,7 +6,6 @@ mod misplaced;
 mod points;
 mod read;
 mod reader;
-mod said;
 mod section;
 mod settle;
 mod tally;

@@ -1,6 +1,7 @@
 -- The commands of an input: there is one list of them, and it is found piece by piece.
 use Rattle.std.proofs.Common.{◌≡◌, ◌≢◌, ℕ, ◌<◌, length, List, [], ◌∷◌, ◌++◌, Result, Ok, Err, refl, sym, ◌∙◌, ap, ap₂, subst, arith, append_assoc, append-nil, codes, inl, inr}
 use Rattle.std.specs.List.{concat}
+use Rattle.std.proofs.lemmas.Bool.{false≢true}
 use Rattle.covline.specs.Row.{SubmissionData}
 use Rattle.covline.specs.Lines.{line_of}
 use Rattle.covbook.specs.Op.{OpData, SubmitOp, DropTestOp, RenameOp, ReportOp, ExtractOp, RemoveOp, SummaryOp}
@@ -9,6 +10,7 @@ use Rattle.covbook.specs.Step.{answer_of, table_after, table_from}
 use Rattle.covread.specs.declared.fault.ReadFault.{ReadFault}
 use Rattle.covsession.specs.declared.session.text.LineEnd.{LineEnd}
 use Rattle.covsession.specs.declared.session.text.LineEnd.TheVariants.{Feed, Input}
+use Rattle.covread.specs.Fault.{is_memory}
 use Rattle.covread.specs.Outcome.{IsOrMemory}
 use Rattle.covread.specs.declared.fault.ReadFault.TheVariants as faults
 use Rattle.covsession.specs.Command.{Command, Format, Announces, IsReadAs, Blank, Ask, RefusePattern, Submit, Refuse, Unknown, Unfinished, AsksFor, IsAskingLine, IsTooLong, IsUnknown, IsBody, IsCommand, EndsInput, AreCommands, ops_of}
@@ -423,7 +425,7 @@ same_fault : (x y : ReadFault) → told_as x ≡ told_as y → x ≡ y
 same_fault x y e = cc
 
 not_memory : (fault : ReadFault) → IsTold fault → fault ≡ faults.Memory → ⊥
-not_memory fault told e = subst IsTold e told
+not_memory fault told e = false≢true (sym told ∙ ap is_memory e)
 
 not_told : (fault : ReadFault) → IsTold fault → told_as fault ≡ told_as faults.Memory → ⊥
 not_told fault told e = not_memory fault told (same_fault fault faults.Memory e)

@@ -3,6 +3,7 @@ use Rattle.std.specs.List.{concat}
 use Rattle.std.specs.Prelude.{◌≡◌, ◌⊎◌, ◌<◌, ◌≤◌, ℕ, Bool, false, length, List, [], ◌∷◌, ◌++◌, codes, Ok, Err, ◌-◌, ◌^◌, ◌==◌, min, if◌then◌else◌, take, Result}
 use Rattle.covline.specs.Lines.{line_of, carriage_return}
 use Rattle.covline.specs.Row.{SubmissionData}
+use Rattle.covread.specs.Fault.{is_memory}
 use Rattle.covread.specs.Outcome.{most_bytes}
 use Rattle.covread.specs.declared.fault.ReadFault.{ReadFault}
 use Rattle.covread.specs.declared.fault.ReadFault.TheVariants as faults
@@ -77,8 +78,7 @@ asked_for (Err fault) = Refuse fault ∷ []
 
 -- a fault that is told of a text: memory that ran out isn't one
 abbrev pub IsTold : ReadFault → Type 0
-IsTold faults.Memory = ⊥
-IsTold fault = Unit {0}
+IsTold fault = is_memory fault ≡ false
 
 -- the answer of a reader is what the text is read as, or memory ran out
 abbrev pub AnswersAs : Format → List ℕ → Result SubmissionData ReadFault → Type 0

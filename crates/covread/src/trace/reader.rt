@@ -2,12 +2,11 @@
 
 ghost use Rattle.std.specs.Prelude.{◌≡◌, List, [], option_map};
 ghost use Rattle.covline.specs.Spells.{LineData, line_data, Test, Path, Branch, Line, End};
-ghost use Rattle.covread.specs.Said.{said_data};
+ghost use Rattle.covread.specs.TraceSection.{IsKept};
 ghost use Rattle.covread.specs.TraceSteps.{held_data, empty, IsOpen, HasRoom, Steps, ends, EndsLawfully};
 
 use crate::fault::ReadFault;
 use crate::trace::misplaced::Misplaced;
-use crate::trace::said::Said;
 use crate::trace::section::Gathered;
 use crate::trace::settle::{Settled, settle};
 use crate::wide::wide;
@@ -58,37 +57,11 @@ impl<'a, A: Allocator + Copy> Reader<'a, A> {
         match line {
             TraceLine::Test(name) => self.name_test(name),
             TraceLine::Path(path) => self.begin(alloc, path),
-            TraceLine::FuncStart { line, name } => self.keep(alloc, Said::FuncStart { line, name }),
-            TraceLine::FuncCount { count, name } => {
-                self.keep(alloc, Said::FuncCount { count, name })
-            }
-            TraceLine::Branch {
-                line,
-                block,
-                branch,
-                taken,
-            } => self.keep(
-                alloc,
-                Said::Branch {
-                    line,
-                    block,
-                    branch,
-                    taken,
-                },
-            ),
-            TraceLine::Line {
-                line,
-                count,
-                checksum,
-            } => self.keep(
-                alloc,
-                Said::Line {
-                    line,
-                    count,
-                    checksum,
-                },
-            ),
-            TraceLine::Total { kind, value } => self.keep(alloc, Said::Total { kind, value }),
+            TraceLine::FuncStart { .. }
+            | TraceLine::FuncCount { .. }
+            | TraceLine::Branch { .. }
+            | TraceLine::Line { .. }
+            | TraceLine::Total { .. } => self.keep(alloc, line),
             TraceLine::End => self.end(alloc),
             TraceLine::Skip => Ok(()),
         }
@@ -120,12 +93,13 @@ impl<'a, A: Allocator + Copy> Reader<'a, A> {
     }
 
     /// A line of the open section.
-    fn keep(&mut self, alloc: A, said: Said<'a>) -> Result<(), Misplaced>
-        requires { (inside : List LineData) × HasRoom self.old inside }
-        ensures { (inside : List LineData) → IsOpen self.old.section inside → Steps result (held_data self.old inside) self.new (said_data said.entry) }
+    fn keep(&mut self, alloc: A, line: TraceLine<'a>) -> Result<(), Misplaced>
+        requires room { (inside : List LineData) × HasRoom self.old inside }
+        requires kept { IsKept (line_data line) }
+        ensures { (inside : List LineData) → IsOpen self.old.section inside → Steps result (held_data self.old inside) self.new (line_data line.entry) }
     {
         if let Some(section) = &mut self.section {
-            section.gathered.take(alloc, said)?;
+            section.gathered.take(alloc, line)?;
             return Ok(());
         }
         Err(Misplaced::Outside)

@@ -6,9 +6,8 @@ ghost use Rattle.covline.specs.Spells.{LineData};
 
 use crate::trace::functions::{Functions, take_start};
 use crate::trace::points::{Ascent, Points};
-use crate::trace::said::Said;
 use crate::trace::tally::Stated;
-use covline::{BranchPoint, Bytes, Item, Items, Memory};
+use covline::{BranchPoint, Bytes, Item, Items, Memory, TraceLine};
 use std::alloc::Allocator;
 use std::collections::BTreeMap;
 
@@ -44,9 +43,8 @@ pub struct Gathered<'a, A: Allocator> {
 impl<'a, A: Allocator + Copy> Gathered<'a, A> {
     ghost use Rattle.std.specs.Prelude.{◌≡◌, ◌+◌, ◌<◌, ◌^◌, ◌++◌, ◌∷◌, [], List, None, Some, OnOk, length, option_map};
     ghost use Rattle.covline.specs.Row.{BranchItem, item_data};
-    ghost use Rattle.covline.specs.Spells.{LineData, FuncStart, FuncCount, Branch, Line};
-    ghost use Rattle.covread.specs.Said.{said_data};
-    ghost use Rattle.covread.specs.TraceSection.{IsGathered};
+    ghost use Rattle.covline.specs.Spells.{LineData, FuncStart, FuncCount, Branch, Line, line_data};
+    ghost use Rattle.covread.specs.TraceSection.{IsGathered, IsKept};
     ghost use Rattle.covread.specs.TraceTally.{stated_record};
 
     /// Before the section's first line. Takes no memory.
@@ -63,15 +61,16 @@ impl<'a, A: Allocator + Copy> Gathered<'a, A> {
         }
     }
 
-    /// Takes what a line says.
-    pub fn take(&mut self, alloc: A, said: Said<'a>) -> Result<(), Memory>
-        requires { (inside : List LineData) × IsGathered self.old inside × length inside + 1 < 2 ^ 64 }
-        ensures { OnOk result ((inside : List LineData) → IsGathered self.old inside → IsGathered self.new (inside ++ said_data said.entry ∷ [])) }
+    /// Takes what a line says that an open section keeps.
+    pub fn take(&mut self, alloc: A, line: TraceLine<'a>) -> Result<(), Memory>
+        requires room { (inside : List LineData) × IsGathered self.old inside × length inside + 1 < 2 ^ 64 }
+        requires kept { IsKept (line_data line) }
+        ensures { OnOk result ((inside : List LineData) → IsGathered self.old inside → IsGathered self.new (inside ++ line_data line.entry ∷ [])) }
     {
-        match said {
-            Said::FuncStart { line, name } => self.take_start(alloc, line, name),
-            Said::FuncCount { count, name } => self.take_count(alloc, count, name),
-            Said::Branch {
+        match line {
+            TraceLine::FuncStart { line, name } => self.take_start(alloc, line, name),
+            TraceLine::FuncCount { count, name } => self.take_count(alloc, count, name),
+            TraceLine::Branch {
                 line,
                 block,
                 branch,
@@ -84,12 +83,15 @@ impl<'a, A: Allocator + Copy> Gathered<'a, A> {
                 },
                 taken,
             ),
-            Said::Line {
+            TraceLine::Line {
                 line,
                 count,
                 checksum,
             } => self.take_line(alloc, line, count, checksum),
-            Said::Total { kind, value } => self.take_total(Stated { kind, value }),
+            TraceLine::Total { kind, value } => self.take_total(Stated { kind, value }),
+            TraceLine::Test(_) | TraceLine::Path(_) | TraceLine::End | TraceLine::Skip => {
+                unreachable!()
+            }
         }
     }
 
