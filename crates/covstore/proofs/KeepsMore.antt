@@ -1,4 +1,5 @@
 -- Changes of one file that leave the state as it is: a test that is made ready, and texts of lines that nobody holds.
+use Rattle.std.specs.Prelude.{if◌then◌else◌}
 use Rattle.std.proofs.Common.{◌≡◌, ℕ, true, false, Option, Some, None, List, [], map, refl, sym, ap, ◌∙◌, subst, arith, ⊎_elim}
 use Rattle.std.specs.Cmp.Lexicographic.{slice_cmp}
 use Rattle.std.specs.List.{sum_by}
@@ -9,18 +10,19 @@ use Rattle.covline.specs.Row.{Row}
 use Rattle.covstore.specs.Section.{IsIn}
 use Rattle.covstore.specs.Clash.{checksums_in}
 use Rattle.covstore.specs.KindIndexCounts.{AreCounts, found_of, hit_of}
-use Rattle.covstore.specs.FileView.{KeepsFile, with_test}
+use Rattle.covstore.specs.FileSection.{KeepsIn}
+use Rattle.covstore.specs.FileView.{KeepsFile, tests_with, with_test}
 use Rattle.covstore.specs.Store.{KeepsState}
 use Rattle.covstore.specs.FileIndex.{FileIndexData}
 use Rattle.covmap.specs.Puts.{ArePairs, put, value_of}
 use Rattle.covstore.specs.State.{AreKept, FileData, IsStateOf, IsWholeFile, branch_above, function_above, line_above, points_in, tests_in, totals_in}
 use Rattle.covstore.specs.Sums.{TestData, test_of}
 use Rattle.covstore.specs.Value.{branch_cmp}
-use Rattle.covstore.proofs.AddsLists.{put_there}
+use Rattle.covstore.proofs.AddsLists.{put_there, put_twice}
 use Rattle.covstore.proofs.AddsPlace.{checksum_held, state_agrees, text_kept}
 use Rattle.covstore.proofs.Members.{In-from}
 use Rattle.covstore.proofs.Orders.{names_order}
-use Rattle.covstore.proofs.Puts.{at_before, sum_by-put}
+use Rattle.covstore.proofs.Puts.{ArePairs-put, at_before, sum_by-put, value_of-put}
 use Rattle.covstore.proofs.StateMore.{test_more}
 use Rattle.covstore.proofs.StateRows.{file_whole, state_changed}
 use Rattle.covstore.proofs.StateSections.{points_same}
@@ -43,47 +45,6 @@ module _ (name : List ℕ) (before after : FileData) (files : List (List ℕ × 
       (as_much (λ pair. found_of pair.1.branches) (ap found_of branches))
       (as_much (λ pair. hit_of pair.1.branches) (ap hit_of branches))
 
--- ---- texts of lines that nobody holds
-
-index_of : FileData → FileIndexData
-index_of file = record { lines = file.lines; functions = file.functions; branches = file.branches; holders = file.holders; texts = file.texts }
-
-module _ (name test : List ℕ) (before after : FileData) (points : TestData) (there : value_of (slice_cmp nat_cmp) test before.tests ≡ Some points) (keeps : KeepsFile before after) where
-  still_whole : IsWholeFile before → IsWholeFile after
-  still_whole whole = record {
-    ascending = subst (ArePairs (slice_cmp nat_cmp)) (sym keeps.tests) whole.ascending;
-    kept = subst (λ (tests : List (List ℕ × TestData)). AreKept (map (λ (pair : List ℕ × TestData). pair.1) tests) after) (sym keeps.tests) (record {
-      lines = subst (λ counts. AreCounts nat_cmp line_above (map (λ (t : TestData). t.lines) (tests_in before)) counts) (sym keeps.lines) whole.kept.lines;
-      functions = subst (λ counts. AreCounts (slice_cmp nat_cmp) function_above (map (λ (t : TestData). t.functions) (tests_in before)) counts) (sym keeps.functions) whole.kept.functions;
-      branches = subst (λ counts. AreCounts branch_cmp branch_above (map (λ (t : TestData). t.branches) (tests_in before)) counts) (sym keeps.branches) whole.kept.branches;
-      holders = λ line. ap (value_of nat_cmp line) keeps.holders ∙ whole.kept.holders line;
-    });
-  }
-
-  module _ (rows : List Row) (files : List (List ℕ × FileData)) (state : IsStateOf rows files) (is : value_of (slice_cmp nat_cmp) name files ≡ Some before) where
-    its_place : IsIn rows files name test before.tests points (index_of before)
-    unfolding index_of
-    its_place = record { state = state; agree = state_agrees rows files state; its_file = is; its_test = there }
-
-    file_state : IsStateOf rows (put (slice_cmp nat_cmp) name after files)
-    unfolding index_of
-    file_state = state_changed rows rows files state name after (record {
-      whole = still_whole (file_whole rows files state name before is);
-      points = λ t.
-          points_same after before t (ap (value_of (slice_cmp nat_cmp) t) keeps.tests)
-          ∙ ap (λ (found : Option FileData). points_in found t) (sym is) ∙ state.points (record { file = name; test = t });
-      others = λ key other. refl;
-      texts = λ c i same.
-          keeps.texts c.line (checksum_held its_place c (In-from (checksums_in rows) c i) same) ∙ text_kept its_place c (In-from (checksums_in rows) c i) same;
-      held_before = λ c i other. i;
-    })
-
-  pub file_keeps : (files : List (List ℕ × FileData)) → ArePairs (slice_cmp nat_cmp) files → value_of (slice_cmp nat_cmp) name files ≡ Some before → KeepsState files (put (slice_cmp nat_cmp) name after files)
-  file_keeps files ascending is = record {
-    states = λ rows state. file_state rows files state is;
-    totals = totals_stay name before after files ascending is keeps.lines keeps.functions keeps.branches;
-  }
-
 -- ---- a test that is made ready
 
 is_none : {X : Type 0} (found : Option X) → is_some found ≡ false → found ≡ None
@@ -94,7 +55,7 @@ file_of : FileData → List (List ℕ × TestData) → FileData
 file_of file tests = record { tests = tests; lines = file.lines; functions = file.functions; branches = file.branches; holders = file.holders; texts = file.texts }
 
 module _ (name test : List ℕ) (file : FileData) (files : List (List ℕ × FileData)) (ascending : ArePairs (slice_cmp nat_cmp) files) (is : value_of (slice_cmp nat_cmp) name files ≡ Some file) where
-  pub with_test_keeps : KeepsState files (put (slice_cmp nat_cmp) name (with_test test file) files)
+  with_test_keeps : KeepsState files (put (slice_cmp nat_cmp) name (with_test test file) files)
   unfolding file_of
   with_test_keeps =
       ⊎_elim {C = KeepsState files (put (slice_cmp nat_cmp) name (with_test test file) files)}
@@ -110,3 +71,85 @@ module _ (name test : List ℕ) (file : FileData) (files : List (List ℕ × Fil
         totals = totals_stay name file (file_of file (put (slice_cmp nat_cmp) test (test_of []) file.tests)) files ascending is refl refl refl;
       }))
       (cases_Bool (is_some (value_of (slice_cmp nat_cmp) test file.tests)))
+
+pub test_keeps : (test : List ℕ) (file : FileData) → KeepsIn file (with_test test file)
+test_keeps test file files name ascending is = with_test_keeps name test file files ascending is
+
+-- what is there then
+pub made_ready : {X : Type 0} (key : List ℕ) (new : X) (pairs : List (List ℕ × X))
+    → (x : X) × (value_of (slice_cmp nat_cmp) key (if is_some (value_of (slice_cmp nat_cmp) key pairs) then pairs else put (slice_cmp nat_cmp) key new pairs) ≡ Some x)
+made_ready {X} key new pairs = at (value_of (slice_cmp nat_cmp) key pairs) refl
+  where
+    at : (found : Option X) → value_of (slice_cmp nat_cmp) key pairs ≡ found → (x : X) × (value_of (slice_cmp nat_cmp) key (if is_some found then pairs else put (slice_cmp nat_cmp) key new pairs) ≡ Some x)
+    at None e = (new, value_of-put names_order key new pairs)
+    at (Some x) e = (x, e)
+
+-- ---- texts of lines that nobody holds
+
+index_of : FileData → FileIndexData
+index_of file = record { lines = file.lines; functions = file.functions; branches = file.branches; holders = file.holders; texts = file.texts }
+
+module _ (before after : FileData) (keeps : KeepsFile before after) where
+  still_whole : IsWholeFile before → IsWholeFile after
+  still_whole whole = record {
+    ascending = subst (ArePairs (slice_cmp nat_cmp)) (sym keeps.tests) whole.ascending;
+    kept = subst (λ (tests : List (List ℕ × TestData)). AreKept (map (λ (pair : List ℕ × TestData). pair.1) tests) after) (sym keeps.tests) (record {
+      lines = subst (λ counts. AreCounts nat_cmp line_above (map (λ (t : TestData). t.lines) (tests_in before)) counts) (sym keeps.lines) whole.kept.lines;
+      functions = subst (λ counts. AreCounts (slice_cmp nat_cmp) function_above (map (λ (t : TestData). t.functions) (tests_in before)) counts) (sym keeps.functions) whole.kept.functions;
+      branches = subst (λ counts. AreCounts branch_cmp branch_above (map (λ (t : TestData). t.branches) (tests_in before)) counts) (sym keeps.branches) whole.kept.branches;
+      holders = λ line. ap (value_of nat_cmp line) keeps.holders ∙ whole.kept.holders line;
+    });
+  }
+
+  module _ (name : List ℕ) (rows : List Row) (files : List (List ℕ × FileData)) (state : IsStateOf rows files) (is : value_of (slice_cmp nat_cmp) name files ≡ Some before) where
+    -- the file with a test made ready, of which the same is kept
+    its_place : IsIn rows (put (slice_cmp nat_cmp) name (with_test [] before) files) name [] (tests_with [] before.tests) (made_ready [] (test_of []) before.tests).0 (index_of before)
+    unfolding index_of
+    its_place = record {
+      state = (test_keeps [] before files name state.ascending is).states rows state;
+      agree = state_agrees rows files state;
+      its_file = value_of-put names_order name (with_test [] before) files;
+      its_test = (made_ready [] (test_of []) before.tests).1;
+    }
+
+    file_state : IsStateOf rows (put (slice_cmp nat_cmp) name after files)
+    unfolding index_of
+    file_state = state_changed rows rows files state name after (record {
+      whole = still_whole (file_whole rows files state name before is);
+      points = λ t.
+          points_same after before t (ap (value_of (slice_cmp nat_cmp) t) keeps.tests)
+          ∙ ap (λ (found : Option FileData). points_in found t) (sym is) ∙ state.points (record { file = name; test = t });
+      others = λ key other. refl;
+      texts = λ c i same.
+          keeps.texts c.line (checksum_held its_place c (In-from (checksums_in rows) c i) same) ∙ text_kept its_place c (In-from (checksums_in rows) c i) same;
+      held_before = λ c i other. i;
+    })
+
+  pub file_keeps : KeepsIn before after
+  file_keeps files name ascending is = record {
+    states = λ rows state. file_state name rows files state is;
+    totals = totals_stay name before after files ascending is keeps.lines keeps.functions keeps.branches;
+  }
+
+-- ---- one after the other
+
+pub state_stays : (files : List (List ℕ × FileData)) → KeepsState files files
+state_stays files = record { states = λ rows state. state; totals = refl }
+
+pub both_keep : (a b c : List (List ℕ × FileData)) → KeepsState a b → KeepsState b c → KeepsState a c
+both_keep a b c first second = record { states = λ rows state. second.states rows (first.states rows state); totals = second.totals ∙ first.totals }
+
+pub keeps_then : (name : List ℕ) (before after : FileData) (files ready : List (List ℕ × FileData)) → KeepsState files ready → ArePairs (slice_cmp nat_cmp) ready → value_of (slice_cmp nat_cmp) name ready ≡ Some before → KeepsIn before after
+    → KeepsState files (put (slice_cmp nat_cmp) name after ready)
+keeps_then name before after files ready first ascending there keeps =
+    both_keep files ready (put (slice_cmp nat_cmp) name after ready) first (keeps ready name ascending there)
+
+pub keeps_both : (a b c : FileData) → KeepsIn a b → KeepsIn b c → KeepsIn a c
+keeps_both a b c first second files name ascending is =
+    subst (KeepsState files) (put_twice names_order name b c files)
+    (keeps_then name b c files (put (slice_cmp nat_cmp) name b files) (first files name ascending is) (ArePairs-put names_order name b files ascending) (value_of-put names_order name b files) second)
+
+pub keeps_same : (file other : FileData) → other ≡ file → KeepsIn file other
+keeps_same file other same files name ascending is =
+    subst (KeepsState files) (sym (ap (λ (f : FileData). put (slice_cmp nat_cmp) name f files) same ∙ put_there names_order name file files ascending is))
+    (record { states = λ rows state. state; totals = refl })

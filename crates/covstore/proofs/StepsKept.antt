@@ -1,5 +1,5 @@
 -- The numbers that are kept of a file count its tests, also with one item more in one of them.
-use Rattle.std.proofs.Common.{◌≡◌, ℕ, ◌+◌, ◌<◌, ◌≤◌, ◌^◌, Bool, true, false, cond, if◌then◌else◌, nat_lt, Option, Some, None, List, [], ◌∷◌, ◌++◌, length, map, refl, sym, ap, ◌∙◌, subst, ⊎_elim, arith}
+use Rattle.std.proofs.Common.{◌≡◌, ℕ, ◌+◌, ◌≤◌, ◌^◌, Bool, true, false, cond, if◌then◌else◌, nat_lt, Option, Some, None, List, [], ◌∷◌, ◌++◌, length, map, refl, sym, ap, ◌∙◌, subst, ⊎_elim, arith}
 use Rattle.std.specs.Cmp.Lexicographic.{slice_cmp}
 use Rattle.std.specs.declared.cmp.Ordering.{Ordering}
 use Rattle.std.specs.Option.{IfSome}
@@ -171,11 +171,11 @@ module _ (before after : TestData) (index more : FileIndexData) where
 
 -- ---- how large the numbers of a point are
 
-within_few : (value : Option Tests) (tests : ℕ) → tests < 2 ^ 63 → ((committed : Tests) → value ≡ Some committed → IsWithin committed tests) → IfSome value (λ committed. (committed.tests < 2 ^ 63) × (committed.hit < 2 ^ 63))
+within_few : (value : Option Tests) (tests : ℕ) → tests ≤ 2 ^ 63 → ((committed : Tests) → value ≡ Some committed → IsWithin committed tests) → IfSome value (λ committed. (committed.tests ≤ 2 ^ 63) × (committed.hit ≤ 2 ^ 63))
 within_few None tests few within = tt
 within_few (Some committed) tests few within = let is = within committed refl in (omega (arith, is.all), omega (arith, is.all, is.hit))
 
-pub room_for : {K V : Type 0} {cmp : K → K → Ordering} {is_above : V → Bool} {X : Type 0} (points : X → List (K × V)) (tests : List X) (counts : List (K × Tests)) → length tests < 2 ^ 63
-    → AreCounts cmp is_above (map points tests) counts → (key : K) → IfSome (value_of cmp key counts) (λ committed. (committed.tests < 2 ^ 63) × (committed.hit < 2 ^ 63))
+pub room_for : {K V : Type 0} {cmp : K → K → Ordering} {is_above : V → Bool} {X : Type 0} (points : X → List (K × V)) (tests : List X) (counts : List (K × Tests)) → length tests ≤ 2 ^ 63
+    → AreCounts cmp is_above (map points tests) counts → (key : K) → IfSome (value_of cmp key counts) (λ committed. (committed.tests ≤ 2 ^ 63) × (committed.hit ≤ 2 ^ 63))
 room_for {cmp = cmp} points tests counts few are key =
     within_few (value_of cmp key counts) (length (map points tests)) (omega (arith, length-map tests points)) (counts_within are key)

@@ -1,5 +1,5 @@
 -- What an item more needs, and what it does to what is kept of its file.
-use Rattle.std.specs.Prelude.{◌≡◌, ℕ, ◌<◌, ◌^◌, true, Some, None, List, [], ◌∷◌, ◌++◌, length}
+use Rattle.std.specs.Prelude.{◌≡◌, ℕ, ◌<◌, ◌≤◌, ◌^◌, true, Some, None, List, [], ◌∷◌, ◌++◌, length}
 use Rattle.std.specs.Option.{is_some}
 use Rattle.std.specs.Ordering.{nat_cmp}
 use Rattle.covline.specs.Row.{ItemData, LineItem, FuncItem, BranchItem}
@@ -16,7 +16,7 @@ pub record HasRoom (test : TestData) (index : FileIndexData) : Type 0 where
   pub front : List TestData
   pub back : List TestData
   pub kept : AreKept (front ++ test ∷ back) (file_with [] index)
-  pub few : length (front ++ test ∷ back) < 2 ^ 63
+  pub few : length (front ++ test ∷ back) ≤ 2 ^ 63
   pub lines : length index.lines < 2 ^ 63
   pub functions : length index.functions < 2 ^ 63
   pub branches : length index.branches < 2 ^ 63

@@ -1,6 +1,6 @@
 //! One item more: of its test, and of what is kept of the file.
 
-ghost use Rattle.std.specs.Prelude.{◌≡◌, ◌<◌, ◌^◌, length, option_map, IfErr, IfOk, IfSome, OnOk};
+ghost use Rattle.std.specs.Prelude.{◌≡◌, ◌<◌, ◌≤◌, ◌^◌, length, option_map, IfErr, IfOk, IfSome, OnOk};
 ghost use Rattle.covmap.specs.Puts.{put, value_of};
 ghost use Rattle.covline.specs.Row.{LineItem, FuncItem, BranchItem, item_data};
 ghost use Rattle.covstore.specs.KindIndexCounts.{counts_with};
@@ -164,7 +164,7 @@ fn add_to_point<K: Key + Drop, S: PointSum, A: Allocator + Copy, Q: Query<K, A>,
 ) -> Result<Option<S>, AllocError>
     requires fits { M.fits addend (value_of K.cmp (Q.named query) points.old.staged) }
     requires few { length kept.old.staged < 2 ^ 63 }
-    requires room { IfSome (value_of K.cmp (Q.named query) kept.old.staged) (λ committed. (committed.tests < 2 ^ 63) × (committed.hit < 2 ^ 63)) }
+    requires room { IfSome (value_of K.cmp (Q.named query) kept.old.staged) (λ committed. (committed.tests ≤ 2 ^ 63) × (committed.hit ≤ 2 ^ 63)) }
     ensures test_committed { points.new.committed ≡ points.old.committed }
     ensures index_committed { kept.new.committed ≡ kept.old.committed }
     ensures before { IfOk result (λ before. before ≡ value_of K.cmp (Q.named query) points.old.staged) }
