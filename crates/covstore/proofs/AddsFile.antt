@@ -1,12 +1,12 @@
 -- Items of a test, seen in the file that has the test.
-use Rattle.std.proofs.Common.{◌≡◌, ℕ, ◌<◌, ◌^◌, Some, None, List, length, option_map, sym, ap, ◌∙◌}
+use Rattle.std.proofs.Common.{◌≡◌, ℕ, ◌≤◌, ◌^◌, true, false, Some, None, List, length, option_map, sym, ap, ◌∙◌}
 use Rattle.std.specs.BTreeMap.{is_at}
 use Rattle.std.specs.Cmp.Lexicographic.{slice_cmp}
 use Rattle.std.specs.List.Sorted.{IsStrictlySortedBy}
 use Rattle.std.specs.Map.{keys_of, lookup, set_value}
 use Rattle.std.specs.Option.{is_some}
 use Rattle.std.specs.Ordering.{nat_cmp}
-use Rattle.std.proofs.lemmas.Option.{none-some}
+use Rattle.std.proofs.lemmas.Bool.{false≢true}
 use Rattle.covline.specs.Row.{ItemData, Row}
 use Rattle.covstore.specs.declared.stop.Stop.{Stop}
 use Rattle.covstore.specs.declared.stop.Stop.TheVariants.{Clash, Memory}
@@ -26,7 +26,7 @@ module _ (items : List ItemData) (test : List ℕ) (tests : List (List ℕ × Te
   its_place : (rows : List Row) (files : List (List ℕ × FileData)) (name : List ℕ) → HasFile rows files name (file_with tests index) → IsIn rows files name test tests points index
   its_place rows files name has = record { state = has.state; agree = has.agree; its_file = has.there; its_test = found }
 
-  pub room_for : HasRoomIn items test (file_with tests index) → length tests < 2 ^ 63 → HasRoomFor items points index
+  pub room_for : HasRoomIn items (file_with tests index) → length tests ≤ 2 ^ 63 → HasRoomFor items points index
   room_for room few = record {
     rows = room.rows;
     files = room.files;
@@ -54,8 +54,14 @@ module _ {K V : Type 0} (name : K → List ℕ) (f : V → TestData) (test : Lis
   pub test_value : (v : V) → lookup (is_at (λ other. slice_cmp nat_cmp test (name other))) pairs ≡ Some v → value_of (slice_cmp nat_cmp) test (seen names_order name f pairs) ≡ Some (f v)
   test_value v found = seen_value names_order name f test pairs ∙ ap (option_map f) found
 
+  pub is_new : lookup (is_at (λ other. slice_cmp nat_cmp test (name other))) pairs ≡ None → is_some (value_of (slice_cmp nat_cmp) test (seen names_order name f pairs)) ≡ false
+  is_new none = ap is_some (seen_value names_order name f test pairs ∙ ap (option_map f) none)
+
+  pub not_there : lookup (is_at (λ other. slice_cmp nat_cmp test (name other))) pairs ≡ None → is_some (value_of (slice_cmp nat_cmp) test (seen names_order name f pairs)) ≡ true → ⊥
+  not_there none there = false≢true (sym (is_new none) ∙ there)
+
   pub no_test : (points : TestData) → lookup (is_at (λ other. slice_cmp nat_cmp test (name other))) pairs ≡ None → value_of (slice_cmp nat_cmp) test (seen names_order name f pairs) ≡ Some points → ⊥
-  no_test points none found = none-some points (sym (seen_value names_order name f test pairs ∙ ap (option_map f) none) ∙ found)
+  no_test points none found = not_there none (ap is_some found)
 
   module _ (v w : V) (after : List (K × V)) (sorted : IsStrictlySortedBy (λ (a b : K). slice_cmp nat_cmp (name a) (name b)) (keys_of pairs))
       (found : lookup (is_at (λ other. slice_cmp nat_cmp test (name other))) pairs ≡ Some v)

@@ -1,25 +1,22 @@
--- The items of a section in a store that was made ready for them: what is committed stays, and what is staged is more.
+-- The items of a section in files that were made ready for them: what is committed stays, and what is staged is more.
 use Rattle.std.proofs.Common.{◌≡◌, ℕ, Bool, true, Some, List, [], ◌∷◌, length, refl, sym, ap, ◌∙◌, subst, arith}
 use Rattle.std.specs.Cmp.Lexicographic.{slice_cmp}
 use Rattle.std.specs.Ordering.{nat_cmp}
 use Rattle.std.specs.Prelude.{◌==◌}
 use Rattle.std.proofs.lemmas.Bool.{eqb-true}
-use Rattle.std.proofs.lemmas.Option.{same_Some}
 use Rattle.covline.specs.Row.{ItemData, Row}
 use Rattle.covstore.specs.declared.totals.Totals.{Totals}
-use Rattle.covstore.specs.TotalsExchanged.{FitTogether, IsAmong, exchanged}
+use Rattle.covstore.specs.TotalsExchanged.{FitTogether, IsAmong, IsExchange, exchanged}
 use Rattle.covstore.specs.FileSection.{AddsItems, HasRoomIn}
-use Rattle.covstore.specs.FileView.{with_file}
-use Rattle.covstore.specs.Store.{AddsRows, AddsTo, ClashesWith, HasRoomForRows, KeepsState, SameCommitted, StoreData, RefuseData, ClashRefuse, MemoryRefuse}
+use Rattle.covstore.specs.Store.{AddsRows, AddsTo, ClashesAmong, HasRoomForRows, KeepsState, SameCommitted, StoreData, RefuseData, ClashRefuse, MemoryRefuse}
 use Rattle.covstore.specs.StoreView.{IsStore}
 use Rattle.covmap.specs.Puts.{put, value_of}
-use Rattle.covstore.specs.StoreSection.{HasPlace, RefusedIn, rows_of_items}
+use Rattle.covstore.specs.StoreSection.{HasRoomAmong, RefusedIn, rows_of_items}
 use Rattle.covstore.specs.State.{FileData, file_totals, totals_in}
 use Rattle.covstore.specs.Table.{all_rows}
 use Rattle.covstore.proofs.AddsSection.{room_in, section_adds, section_fits, section_totals}
 use Rattle.covstore.proofs.AddsStore.{no_rows_added}
 use Rattle.covstore.proofs.ExchangedFiles.{file_among}
-use Rattle.covstore.proofs.Keeps.{with_file_keeps}
 use Rattle.covstore.proofs.StateSections.{sections_are}
 use Rattle.covstore.proofs.Stores.{store_of}
 
@@ -34,34 +31,6 @@ held_kept members totals files files_after staged staged_after after later befor
       committed = keeps;
     })
 
--- ---- what is staged, where the store was made ready first
-
-pub both_keep : (a b c : List (List ℕ × FileData)) → KeepsState a b → KeepsState b c → KeepsState a c
-both_keep a b c first second = record { states = λ rows state. second.states rows (first.states rows state); totals = second.totals ∙ first.totals }
-
-pub file_opened_keeps : (file : List ℕ) (added : List Row) (before : StoreData) (staged : List (List ℕ × FileData)) → HasRoomForRows added before → staged ≡ with_file file before.staged → KeepsState before.staged staged
-file_opened_keeps file added before staged room is = subst (KeepsState before.staged) (sym is) (with_file_keeps file before.staged room.state.ascending)
-
-module _ (added : List Row) (before now : StoreData) (keeps : KeepsState before.staged now.staged) (same : now.after ≡ before.after) where
-  pub room_kept : HasRoomForRows added before → HasRoomForRows added now
-  room_kept room = record {
-    rows = room.rows;
-    state = keeps.states room.rows room.state;
-    agree = room.agree;
-    few = room.few;
-    totals = same ∙ room.totals ∙ sym keeps.totals;
-  }
-
-  pub adds_kept : (later : StoreData) → AddsRows added now later → AddsRows added before later
-  adds_kept later adds = record {
-    adds = λ rows state agree. adds.adds rows (keeps.states rows state) agree;
-    totals = λ is. adds.totals (same ∙ is ∙ sym keeps.totals);
-  }
-
-  pub clash_kept : (refusal : RefuseData) → ClashesWith added now refusal → ClashesWith added before refusal
-  clash_kept MemoryRefuse clash = tt
-  clash_kept (ClashRefuse other) clash = λ rows state agree. clash rows (keeps.states rows state) agree
-
 -- ---- the rows of a section
 
 pub same_rows : (file test name other : List ℕ) (items more : List ItemData) → file ≡ name → test ≡ other → items ≡ more → rows_of_items file test items ≡ rows_of_items name other more
@@ -75,35 +44,41 @@ no_items (x ∷ xs) b is empty = let none : length (x ∷ xs) ≡ 0 = eqb-true (
 pub nothing_added : (file test : List ℕ) (items : List ItemData) (store : StoreData) → items ≡ [] → AddsRows (rows_of_items file test items) store store
 nothing_added file test items store none = subst (λ (all : List ItemData). AddsRows (rows_of_items file test all) store store) (sym none) (no_rows_added store)
 
--- ---- the file and its test are there
+-- ---- the files were made ready, and the file is one of them
 
-module _ (name test : List ℕ) (items : List ItemData) (store : StoreData) (room : HasRoomForRows (rows_of_items name test items) store) (place : HasPlace name test store.staged)
-    (file : FileData) (there : value_of (slice_cmp nat_cmp) name store.staged ≡ Some file) where
-  pub its_test : value_of (slice_cmp nat_cmp) test file.tests ≡ Some place.points
-  its_test = subst (λ (f : FileData). value_of (slice_cmp nat_cmp) test f.tests ≡ Some place.points) (same_Some place.file file (sym place.its_file ∙ there)) place.its_test
+module _ (name test : List ℕ) (items : List ItemData) (files ready : List (List ℕ × FileData)) (keeps : KeepsState files ready) (room : HasRoomAmong (rows_of_items name test items) files)
+    (file : FileData) (there : value_of (slice_cmp nat_cmp) name ready ≡ Some file) where
+  pub file_room : HasRoomIn items file
+  file_room = room_in items name test file ready there room.rows (keeps.states room.rows room.state) room.agree room.few
 
-  pub file_room : HasRoomIn items test file
-  file_room = room_in items name test file store.staged there room.rows place.points its_test room.state room.agree room.few
-
-  pub refused : (refusal : RefuseData) → RefusedIn items name test file refusal → ClashesWith (rows_of_items name test items) store refusal
+  pub refused : (refusal : RefuseData) → RefusedIn items name test file refusal → ClashesAmong (rows_of_items name test items) files refusal
   refused MemoryRefuse is = tt
-  refused (ClashRefuse clash) is = λ rows state agree. is rows store.staged (record { state = state; agree = agree; there = there })
+  refused (ClashRefuse clash) is = λ rows state agree. is rows ready (record { state = keeps.states rows state; agree = agree; there = there })
 
-  pub part : (before : Totals) → before ≡ file_totals file → IsAmong before store.after
-  part before is =
-      subst (λ (t : Totals). IsAmong t store.after) (sym is) (subst (IsAmong (file_totals file)) (sym room.totals) (file_among name file store.staged there))
+  module _ (after : FileData) (adds : AddsItems items test file after) (later : List (List ℕ × FileData)) (is : later ≡ put (slice_cmp nat_cmp) name after ready) where
+    pub rows_added : AddsTo (rows_of_items name test items) files later
+    rows_added rows state agree =
+        subst (AddsTo (rows_of_items name test items) ready) (sym is) (section_adds items name test file ready there after adds) rows (keeps.states rows state) agree
 
-  module _ (after : FileData) (adds : AddsItems items test file after) where
-    pub fits : (totals : Totals) → totals ≡ file_totals after → FitTogether totals store.after
-    fits totals is =
-        subst (λ (t : Totals). FitTogether t store.after) (sym is)
-        (subst (FitTogether (file_totals after)) (sym room.totals) (section_fits items name test file store.staged there after adds room.rows room.state room.agree room.few))
-
-    pub rows_added : (before totals result : Totals) → before ≡ file_totals file → totals ≡ file_totals after → result ≡ exchanged store.after before totals
-        → (later : StoreData) → later.staged ≡ put (slice_cmp nat_cmp) name after store.staged → later.after ≡ result → AddsRows (rows_of_items name test items) store later
-    rows_added before totals result was now is later staged last = record {
-      adds = subst (AddsTo (rows_of_items name test items) store.staged) (sym staged) (section_adds items name test file store.staged there after adds);
-      totals = λ same.
-          last ∙ is ∙ ap (λ (t : Totals). exchanged store.after t totals) was ∙ ap (exchanged store.after (file_totals file)) now
-          ∙ section_totals items name test file store.staged there after adds room.rows room.state store.after same ∙ ap totals_in (sym staged);
+    pub totals_exchanged : (was now : Totals) → was ≡ file_totals file → now ≡ file_totals after → IsExchange was now (totals_in files) (totals_in later)
+    totals_exchanged was now was_is now_is = record {
+      part = subst (λ (t : Totals). IsAmong t (totals_in files)) (sym was_is) (subst (IsAmong (file_totals file)) keeps.totals (file_among name file ready there));
+      fits =
+          subst (λ (t : Totals). FitTogether t (totals_in files)) (sym now_is)
+          (subst (FitTogether (file_totals after)) keeps.totals
+          (section_fits items name test file ready there after adds room.rows (keeps.states room.rows room.state) room.agree room.few));
+      gives =
+          ap (λ (t : Totals). exchanged t was now) (sym keeps.totals) ∙ ap (λ (t : Totals). exchanged (totals_in ready) t now) was_is ∙ ap (exchanged (totals_in ready) (file_totals file)) now_is
+          ∙ section_totals items name test file ready there after adds room.rows (keeps.states room.rows room.state) (totals_in ready) refl ∙ ap totals_in (sym is);
     }
+
+-- ---- the store around the files
+
+pub room_among : (added : List Row) (store : StoreData) → HasRoomForRows added store → HasRoomAmong added store.staged
+room_among added store room = record { rows = room.rows; state = room.state; agree = room.agree; few = room.few }
+
+pub exchange_in : (added : List Row) (members : ℕ) (committed staged : List (List ℕ × FileData)) (whole : Totals) (store : StoreData) → store_of members committed staged whole ≡ store → HasRoomForRows added store
+    → (later was now : Totals) → IsExchange was now (totals_in staged) later → IsExchange was now whole later
+exchange_in added members committed staged whole store view room later was now is =
+    let same : whole ≡ totals_in staged = subst (λ (s : StoreData). s.after ≡ totals_in s.staged) (sym view) room.totals in
+    subst (λ (t : Totals). IsExchange was now t later) (sym same) is

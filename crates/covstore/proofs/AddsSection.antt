@@ -1,40 +1,32 @@
 -- The items of a section, seen in the store that has their file and their test.
-use Rattle.std.proofs.Common.{◌≡◌, ℕ, ◌≤◌, ◌^◌, ◌+◌, Some, List, ◌++◌, length, ap, ◌∙◌, subst, arith}
+use Rattle.std.proofs.Common.{◌≡◌, ℕ, ◌≤◌, ◌^◌, ◌+◌, Some, List, ◌++◌, length, ap, ◌∙◌, arith}
 use Rattle.std.specs.Cmp.Lexicographic.{slice_cmp}
 use Rattle.std.specs.Ordering.{nat_cmp}
 use Rattle.std.proofs.lemmas.List.{length-append, length-map}
 use Rattle.covline.specs.Row.{ItemData, Row, rows_of_sect}
-use Rattle.covstore.specs.declared.stop.Stop.TheVariants.{Clash}
 use Rattle.covstore.specs.declared.totals.Totals.{Totals}
-use Rattle.covstore.specs.Section.{clash_told, section_of_items}
+use Rattle.covstore.specs.Section.{section_of_items}
 use Rattle.covstore.specs.Clash.{Agree, checksums_in}
 use Rattle.covstore.specs.TotalsExchanged.{FitTogether, exchanged}
-use Rattle.covstore.specs.FileSection.{AddsItems, ClashesIn, HasFile, HasRoomIn}
-use Rattle.covstore.specs.Store.{AddsTo, ClashesWith, StoreData, ClashRefuse}
+use Rattle.covstore.specs.FileSection.{AddsItems, HasFile, HasRoomIn}
+use Rattle.covstore.specs.Store.{AddsTo}
 use Rattle.covmap.specs.Puts.{put, value_of}
 use Rattle.covstore.specs.State.{FileData, IsStateOf, file_totals, totals_in}
-use Rattle.covstore.specs.Sums.{TestData}
 use Rattle.covstore.proofs.ExchangedFiles.{exchanged_fits, files_exchanged}
 
 module _ (items : List ItemData) (name test : List ℕ) (file : FileData) (files : List (List ℕ × FileData)) (there : value_of (slice_cmp nat_cmp) name files ≡ Some file) where
   its_file : (rows : List Row) → IsStateOf rows files → Agree (checksums_in rows) → HasFile rows files name file
   its_file rows state agree = record { state = state; agree = agree; there = there }
 
-  pub room_in : (rows : List Row) (points : TestData) → value_of (slice_cmp nat_cmp) test file.tests ≡ Some points → IsStateOf rows files → Agree (checksums_in rows)
-      → length rows + length (rows_of_sect (section_of_items name test items)) ≤ 2 ^ 47 → HasRoomIn items test file
-  room_in rows points found state agree few = record {
-    points = points;
-    its_test = found;
+  pub room_in : (rows : List Row) → IsStateOf rows files → Agree (checksums_in rows)
+      → length rows + length (rows_of_sect (section_of_items name test items)) ≤ 2 ^ 47 → HasRoomIn items file
+  room_in rows state agree few = record {
     rows = rows;
     files = files;
     name = name;
     stands = its_file rows state agree;
     few = omega (arith, few, length-map {B = Row} items (λ item. record { test = test; file = name; item = item }));
   }
-
-  pub section_clashes : (A : Type 0) (line : ℕ) (committed given : List ℕ) → ClashesIn {A = A} items test file (Clash line committed given) → (store : StoreData) → store.staged ≡ files
-      → ClashesWith (rows_of_sect (section_of_items name test items)) store (ClashRefuse (clash_told name line committed given))
-  section_clashes A line committed given clash store same = λ rows state agree. clash rows files name (its_file rows (subst (IsStateOf rows) same state) agree)
 
   module _ (after : FileData) (adds : AddsItems items test file after) where
     pub section_adds : AddsTo (rows_of_sect (section_of_items name test items)) files (put (slice_cmp nat_cmp) name after files)

@@ -46,8 +46,28 @@ pub test_inserted : {A : Type 0} (tests : List (List ℕ)) (cmp : Vec ℕ A → 
     → after.tests.entries ≡ insert_entry cmp before.tests.entries key w → IsSettledBut tests before → IsSettledBut tests after
 test_inserted tests cmp before after key w same index written settled = record {
   index = λ e. ap index_staged index ∙ settled.index e ∙ sym (ap index_committed index);
-  points = subst (AllByRecursion (IsSettledTest tests)) (sym written) (All-inserted cmp (IsSettledTest tests) key w before.tests.entries (λ other e. same) settled.points);
+  points = subst (AllByRecursion (IsSettledTest tests)) (sym written) (All-inserted cmp (IsSettledTest tests) key w before.tests.entries (λ e. same) (λ other is e. same) settled.points);
 }
+
+-- the tests stay, while items of one of these come in
+pub tests_stay : {A : Type 0} (tests : List (List ℕ)) (test : List ℕ) → list_any (λ name. bytes_eq name test) tests ≡ true → (before after : File A) → after.tests.entries ≡ before.tests.entries → IsSettledBut tests before → IsSettledBut tests after
+tests_stay tests test among before after same settled = record {
+  index = λ e. absurd (false≢true (sym (ap (list_any (λ (name : List ℕ). bytes_eq name test)) e) ∙ among));
+  points = subst (AllByRecursion (IsSettledTest tests)) (sym same) settled.points;
+}
+
+-- one of these is put in
+pub test_put_in : {A : Type 0} (tests : List (List ℕ)) (test : List ℕ) → list_any (λ name. bytes_eq name test) tests ≡ true → (before after : File A) (key : Vec ℕ A) (w : Test A) → key.items ≡ test
+    → after.tests.entries ≡ insert_entry (λ a b. slice_cmp nat_cmp a.items b.items) before.tests.entries key w → IsSettledBut tests before → IsSettledBut tests after
+test_put_in {A} tests test among before after key w named inserted settled =
+    let own : (other : Vec ℕ A) → test ≡ other.items → IsSettledTest tests (other, w) =
+    λ other same e. absurd (false≢true (sym e ∙ sym (ap (λ (own : List ℕ). list_any (λ (name : List ℕ). bytes_eq name own) tests) same) ∙ among)) in
+    record {
+      index = λ e. absurd (false≢true (sym (ap (list_any (λ (name : List ℕ). bytes_eq name test)) e) ∙ among));
+      points = subst (AllByRecursion (IsSettledTest tests)) (sym inserted)
+          (All-inserted (λ (a b : Vec ℕ A). slice_cmp nat_cmp a.items b.items) (IsSettledTest tests) key w before.tests.entries (own key (sym named))
+          (λ other same. own other (sym named ∙ names_order.exact key.items other.items same)) settled.points);
+    }
 
 -- ---- the files
 

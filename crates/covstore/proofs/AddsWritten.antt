@@ -1,87 +1,112 @@
--- The items of a section in the store's maps: the file that has their test is found, and is written.
-use Rattle.std.proofs.Common.{◌≡◌, ℕ, true, Some, None, List, [], ◌∷◌, ◌++◌, Vec, refl, sym, ap, subst}
-use Rattle.std.specs.BTreeMap.{is_at}
+-- The items of a section in the store's map of files: their file is found and written, or made and put in.
+use Rattle.std.proofs.Common.{◌≡◌, ℕ, Some, None, List, Vec, option_map, refl, sym, ap, ◌∙◌, subst}
+use Rattle.std.specs.Prelude.{Result, Ok, Err, IfOk, OnOk}
+use Rattle.std.specs.BTreeMap.{insert_entry, is_at}
 use Rattle.std.specs.Cmp.Lexicographic.{slice_cmp}
-use Rattle.std.specs.List.{list_any}
 use Rattle.std.specs.List.Sorted.{IsStrictlySortedBy}
 use Rattle.std.specs.Map.{keys_of, lookup, set_value}
-use Rattle.std.specs.Option.{is_some}
 use Rattle.std.specs.Ordering.{nat_cmp}
-use Rattle.std.specs.Str.{bytes_eq}
 use Rattle.covline.specs.Row.{ItemData}
 use Rattle.covstore.specs.declared.file.File.{File}
 use Rattle.covstore.specs.declared.totals.Totals.{Totals}
-use Rattle.covstore.specs.TotalsExchanged.{FitTogether, IsAmong, exchanged}
-use Rattle.covstore.specs.FileSection.{AddsItems, HasRoomIn}
-use Rattle.covstore.specs.FileView.{KeepsFile, file_staged, file_committed}
-use Rattle.covstore.specs.Store.{AddsRows, ClashesWith, HasRoomForRows, KeepsState, SameCommitted, StoreData, RefuseData}
-use Rattle.covstore.specs.StoreView.{AreSettledBut, IsSettledBut, IsStore, files_staged, files_committed}
-use Rattle.covmap.specs.Puts.{value_of}
-use Rattle.covstore.specs.StoreSection.{HasPlace, RefusedIn, rows_of_items}
-use Rattle.covstore.specs.State.{file_totals}
-use Rattle.covstore.specs.TestView.{test_staged, test_committed}
-use Rattle.covstore.proofs.AddsMaps.{file_value, file_written, kept_written, no_place, test_too, written_settled}
-use Rattle.covstore.proofs.AddsReady.{file_room, fits, held_kept, its_test, part, refused, rows_added}
+use Rattle.covstore.specs.TotalsExchanged.{IsExchange}
+use Rattle.covstore.specs.FileSection.{AddsItems, HasRoomIn, KeepsIn}
+use Rattle.covstore.specs.FileView.{file_staged, file_committed, no_file}
+use Rattle.covstore.specs.Store.{AddsTo, ClashesAmong, KeepsState, RefuseData}
+use Rattle.covstore.specs.StoreView.{files_staged, files_committed}
+use Rattle.covmap.specs.Puts.{ArePairs, put, value_of}
+use Rattle.covstore.specs.StoreSection.{HasRoomAmong, RefusedIn, rows_of_items}
+use Rattle.covstore.specs.State.{FileData, file_totals, totals_in}
+use Rattle.covstore.proofs.AddsLists.{put_twice}
+use Rattle.covstore.proofs.AddsMaps.{file_value, file_written}
+use Rattle.covstore.proofs.AddsReady.{file_room, refused, rows_added, totals_exchanged}
+use Rattle.covstore.proofs.Keeps.{no_file_keeps}
+use Rattle.covstore.proofs.KeepsMore.{keeps_then}
+use Rattle.covstore.proofs.MapKeys.{seen, seen_ascend, seen_insert, seen_value}
+use Rattle.covstore.proofs.Orders.{names_order}
+use Rattle.covstore.proofs.Puts.{ArePairs-put, value_of-put}
 use Rattle.covstore.proofs.Settled.{file_name}
-use Rattle.covstore.proofs.StoreKept.{store_kept}
-use Rattle.covstore.proofs.Stores.{store_of}
 
-module _ {A : Type 0} (files : List (Vec ℕ A × File A)) (members : ℕ) (totals : Totals) (name test : List ℕ) (items : List ItemData) (store : StoreData)
-    (view : store_of members (files_committed file_name files) (files_staged file_name files) totals ≡ store)
-    (given : HasRoomForRows (rows_of_items name test items) store) (place : HasPlace name test store.staged) where
-  -- the store inside
-  abbrev inside : StoreData
-  inside = store_of members (files_committed file_name files) (files_staged file_name files) totals
+-- both halves of what a call that succeeded ensures
+pub totals_of_both : {T E P : Type 0} (r : Result T E) (Q R : T → Type 0) → (P → (t : T) → Q t → R t) → OnOk r P → IfOk r Q → IfOk r R
+totals_of_both (Ok t) Q R more p q = more p t q
+totals_of_both (Err e) Q R more p q = tt
 
-  room : HasRoomForRows (rows_of_items name test items) inside
-  room = subst (HasRoomForRows (rows_of_items name test items)) (sym view) given
+module _ {A : Type 0} (name test : List ℕ) (items : List ItemData) (pairs : List (Vec ℕ A × File A)) (room : HasRoomAmong (rows_of_items name test items) (files_staged file_name pairs)) where
+  -- ---- the file is there
 
-  its_place : HasPlace name test inside.staged
-  its_place = subst (λ (s : StoreData). HasPlace name test s.staged) (sym view) place
+  module _ (before : File A) (found : lookup (is_at (λ (other : Vec ℕ A). slice_cmp nat_cmp name other.items)) pairs ≡ Some before) where
+    there : value_of (slice_cmp nat_cmp) name (files_staged file_name pairs) ≡ Some (file_staged before)
+    there = file_value file_name name pairs before found file_staged
 
-  pub not_there : lookup (is_at (λ (other : Vec ℕ A). slice_cmp nat_cmp name other.items)) files ≡ None → ⊥
-  not_there none = no_place file_name file_staged name files none store.staged (ap (λ (s : StoreData). s.staged) view) (ap is_some place.its_file)
+    same : KeepsState (files_staged file_name pairs) (files_staged file_name pairs)
+    same = record { states = λ rows state. state; totals = refl }
 
-  module _ (before : File A) (found : lookup (is_at (λ (other : Vec ℕ A). slice_cmp nat_cmp name other.items)) files ≡ Some before) where
-    there : value_of (slice_cmp nat_cmp) name inside.staged ≡ Some (file_staged before)
-    there = file_value file_name name files before found file_staged
+    pub found_room : HasRoomIn items (file_staged before)
+    found_room = file_room name test items (files_staged file_name pairs) (files_staged file_name pairs) same room (file_staged before) there
 
-    pub found_room : HasRoomIn items test (file_staged before)
-    found_room = file_room name test items inside room its_place (file_staged before) there
+    pub found_refused : (refusal : RefuseData) → RefusedIn items name test (file_staged before) refusal → ClashesAmong (rows_of_items name test items) (files_staged file_name pairs) refusal
+    found_refused = refused name test items (files_staged file_name pairs) (files_staged file_name pairs) same room (file_staged before) there
 
-    pub found_refused : (refusal : RefuseData) → RefusedIn items name test (file_staged before) refusal → ClashesWith (rows_of_items name test items) store refusal
-    found_refused refusal is =
-        subst (λ (s : StoreData). ClashesWith (rows_of_items name test items) s refusal) view (refused name test items inside room its_place (file_staged before) there refusal is)
+    module _ (after : File A) (later : List (Vec ℕ A × File A)) (sorted : IsStrictlySortedBy (λ (a b : Vec ℕ A). slice_cmp nat_cmp a.items b.items) (keys_of pairs))
+        (written : later ≡ set_value (is_at (λ (other : Vec ℕ A). slice_cmp nat_cmp name other.items)) pairs after) (adds : AddsItems items test (file_staged before) (file_staged after)) where
+      put_in : files_staged file_name later ≡ put (slice_cmp nat_cmp) name (file_staged after) (files_staged file_name pairs)
+      put_in = file_written file_name name pairs before found after later sorted written file_staged
 
-    pub found_part : (was : Totals) → was ≡ file_totals (file_staged before) → IsAmong was totals
-    found_part = part name test items inside room its_place (file_staged before) there
+      pub found_adds : AddsTo (rows_of_items name test items) (files_staged file_name pairs) (files_staged file_name later)
+      found_adds = rows_added name test items (files_staged file_name pairs) (files_staged file_name pairs) same room (file_staged before) there (file_staged after) adds (files_staged file_name later) put_in
 
-    pub found_fits : (after : File A) → AddsItems items test (file_staged before) (file_staged after) → (now : Totals) → now ≡ file_totals (file_staged after) → FitTogether now totals
-    found_fits after adds = fits name test items inside room its_place (file_staged before) there (file_staged after) adds
+      pub found_totals : (was now : Totals) → was ≡ file_totals (file_staged before) → now ≡ file_totals (file_staged after) → IsExchange was now (totals_in (files_staged file_name pairs)) (totals_in (files_staged file_name later))
+      found_totals = totals_exchanged name test items (files_staged file_name pairs) (files_staged file_name pairs) same room (file_staged before) there (file_staged after) adds (files_staged file_name later) put_in
 
-    module _ (after : File A) (later : List (Vec ℕ A × File A)) (sorted : IsStrictlySortedBy (λ (a b : Vec ℕ A). slice_cmp nat_cmp a.items b.items) (keys_of files))
-        (written : later ≡ set_value (is_at (λ (other : Vec ℕ A). slice_cmp nat_cmp name other.items)) files after) where
-      held_keeps : KeepsFile (file_committed before) (file_committed after) → KeepsState (files_committed file_name files) (files_committed file_name later)
-      held_keeps keeps =
-          let points = test_too file_name test_staged test_committed test before.tests.entries its_place.points (its_test name test items inside room its_place (file_staged before) there) in
-          kept_written file_name name files before found after later sorted written file_committed test points.0 points.1 keeps
+  -- ---- the file is new
 
-      pub found_held : (committed : Totals) → IsStore members committed (files_committed file_name files) → KeepsFile (file_committed before) (file_committed after) → (now : Totals)
-          → SameCommitted store (store_of members (files_committed file_name later) (files_staged file_name later) now)
-      found_held committed is keeps now = held_kept members committed (files_committed file_name files) (files_committed file_name later) (files_staged file_name files) (files_staged file_name later) totals now store is (held_keeps keeps) view
+  module _ (none : lookup (is_at (λ (other : Vec ℕ A). slice_cmp nat_cmp name other.items)) pairs ≡ None) where
+    -- the files with one without tests
+    abbrev ready : (File A → FileData) → List (List ℕ × FileData)
+    ready f = put (slice_cmp nat_cmp) name no_file (seen names_order file_name f pairs)
 
-      pub found_store : (committed : Totals) (touched more : List (List ℕ × List ℕ)) → IsStore members committed (files_committed file_name files) × AreSettledBut file_name touched files → KeepsFile (file_committed before) (file_committed after)
-          → more ≡ touched ++ (name, test) ∷ []
-          → ((tests : List (List ℕ)) → list_any (λ own. bytes_eq own test) tests ≡ true → IsSettledBut tests before → IsSettledBut tests after)
-          → IsStore members committed (files_committed file_name later) × AreSettledBut file_name more later
-      found_store committed touched more is keeps pushed settled = (
-        store_kept members committed (files_committed file_name files) (files_committed file_name later) (held_keeps keeps) is.0,
-        written_settled touched more name test before after files later pushed found written settled is.1,
-      )
+    keeps : (f : File A → FileData) → ArePairs (slice_cmp nat_cmp) (seen names_order file_name f pairs) → KeepsState (seen names_order file_name f pairs) (ready f)
+    keeps f ascending = no_file_keeps name (seen names_order file_name f pairs) ascending (seen_value names_order file_name f name pairs ∙ ap (option_map f) none)
 
-      pub found_rows : AddsItems items test (file_staged before) (file_staged after) → (was now result : Totals) → was ≡ file_totals (file_staged before) → now ≡ file_totals (file_staged after)
-          → result ≡ exchanged totals was now → AddsRows (rows_of_items name test items) store (store_of members (files_committed file_name later) (files_staged file_name later) result)
-      found_rows adds was now result was_is now_is is =
-          subst (λ (s : StoreData). AddsRows (rows_of_items name test items) s (store_of members (files_committed file_name later) (files_staged file_name later) result)) view
-          (rows_added name test items inside room its_place (file_staged before) there (file_staged after) adds was now result was_is now_is is
-          (store_of members (files_committed file_name later) (files_staged file_name later) result) (file_written file_name name files before found after later sorted written file_staged) refl)
+    its_place : (f : File A → FileData) → value_of (slice_cmp nat_cmp) name (ready f) ≡ Some no_file
+    its_place f = value_of-put names_order name no_file (seen names_order file_name f pairs)
+
+    module _ (made : File A) (staged : file_staged made ≡ no_file) where
+      pub new_room : HasRoomIn items (file_staged made)
+      new_room =
+          subst (HasRoomIn items) (sym staged) (file_room name test items (files_staged file_name pairs) (ready file_staged) (keeps file_staged room.state.ascending) room no_file (its_place file_staged))
+
+      pub new_refused : (refusal : RefuseData) → RefusedIn items name test (file_staged made) refusal → ClashesAmong (rows_of_items name test items) (files_staged file_name pairs) refusal
+      new_refused refusal is =
+          refused name test items (files_staged file_name pairs) (ready file_staged) (keeps file_staged room.state.ascending) room no_file (its_place file_staged) refusal
+          (subst (λ (file : FileData). RefusedIn items name test file refusal) staged is)
+
+      module _ (key : Vec ℕ A) (named : key.items ≡ name) (after : File A) (later : List (Vec ℕ A × File A)) (inserted : later ≡ insert_entry (λ a b. slice_cmp nat_cmp a.items b.items) pairs key after) where
+        put_new : (f : File A → FileData) → seen names_order file_name f later ≡ put (slice_cmp nat_cmp) name (f after) (ready f)
+        put_new f =
+            ap (seen names_order file_name f) inserted
+            ∙ seen_insert names_order file_name f key after pairs
+            ∙ ap (λ (n : List ℕ). put (slice_cmp nat_cmp) n (f after) (seen names_order file_name f pairs)) named
+            ∙ sym (put_twice names_order name no_file (f after) (seen names_order file_name f pairs))
+
+        pub new_keeps : IsStrictlySortedBy (λ (a b : Vec ℕ A). slice_cmp nat_cmp a.items b.items) (keys_of pairs) → file_committed made ≡ no_file → KeepsIn (file_committed made) (file_committed after) → KeepsState (files_committed file_name pairs) (files_committed file_name later)
+        new_keeps sorted empty stays =
+            let ascending = seen_ascend names_order file_name file_committed pairs sorted in
+            subst (KeepsState (files_committed file_name pairs)) (sym (put_new file_committed))
+            (keeps_then name no_file (file_committed after) (files_committed file_name pairs) (ready file_committed) (keeps file_committed ascending)
+            (ArePairs-put names_order name no_file (files_committed file_name pairs) ascending) (its_place file_committed)
+            (subst (λ (file : FileData). KeepsIn file (file_committed after)) empty stays))
+
+        module _ (adds : AddsItems items test (file_staged made) (file_staged after)) where
+          adds_first : AddsItems items test no_file (file_staged after)
+          adds_first = subst (λ (file : FileData). AddsItems items test file (file_staged after)) staged adds
+
+          pub new_adds : AddsTo (rows_of_items name test items) (files_staged file_name pairs) (files_staged file_name later)
+          new_adds =
+              rows_added name test items (files_staged file_name pairs) (ready file_staged) (keeps file_staged room.state.ascending) room no_file (its_place file_staged) (file_staged after) adds_first (files_staged file_name later) (put_new file_staged)
+
+          pub new_totals : (was now : Totals) → was ≡ file_totals (file_staged made) → now ≡ file_totals (file_staged after) → IsExchange was now (totals_in (files_staged file_name pairs)) (totals_in (files_staged file_name later))
+          new_totals was now was_is now_is =
+              totals_exchanged name test items (files_staged file_name pairs) (ready file_staged) (keeps file_staged room.state.ascending) room no_file (its_place file_staged) (file_staged after) adds_first (files_staged file_name later) (put_new file_staged)
+              was now (was_is ∙ ap file_totals staged) now_is

@@ -1,5 +1,5 @@
 -- The values of a test of a file, as items more of another of its tests, seen in the file.
-use Rattle.std.proofs.Common.{◌≡◌, ℕ, ◌<◌, ◌^◌, Some, List, ◌++◌, length, ap, subst, ⊎_elim, arith}
+use Rattle.std.proofs.Common.{◌≡◌, ℕ, ◌≤◌, ◌^◌, Some, List, ◌++◌, length, ap, subst, ⊎_elim, arith}
 use Rattle.std.specs.Prelude.{Contains}
 use Rattle.std.specs.Cmp.Lexicographic.{slice_cmp}
 use Rattle.std.specs.Ordering.{nat_cmp}
@@ -34,17 +34,15 @@ agree_copied rows name old new agree a b of_a of_b = agree a b (there a of_a) (t
 module _ (old new : List ℕ) (tests : List (List ℕ × TestData)) (index : FileIndexData) (source target : TestData)
     (its_source : value_of (slice_cmp nat_cmp) old tests ≡ Some source) (its_target : value_of (slice_cmp nat_cmp) new tests ≡ Some target) where
   -- there is room for the values, and each line with a checksum is among those of which one is held
-  module _ (room : HasRoomToCopyIn old new (file_with tests index)) where
+  module _ (room : HasRoomToCopyIn old (file_with tests index)) where
     its_values : items_of_test index.texts source ≡ values_of (items_at (key_of room.name old) room.rows)
     its_values = values_are room.rows room.files room.stands.state room.name old (file_with tests index) source room.stands.there its_source
 
-    pub copies_room : length tests < 2 ^ 63 → HasRoomFor (items_of_test index.texts source) target index
+    pub copies_room : length tests ≤ 2 ^ 63 → HasRoomFor (items_of_test index.texts source) target index
     copies_room few =
         let items = items_at (key_of room.name old) room.rows in
         room_for (items_of_test index.texts source) new tests target index its_target
         (record {
-          points = target;
-          its_test = its_target;
           rows = room.rows;
           files = room.files;
           name = room.name;

@@ -1,4 +1,5 @@
 -- Changes of one file that leave the state as it is: a test that is made ready, and texts of lines that nobody holds.
+use Rattle.std.specs.Prelude.{if◌then◌else◌}
 use Rattle.std.proofs.Common.{◌≡◌, ℕ, true, false, Option, Some, None, List, [], map, refl, sym, ap, ◌∙◌, subst, arith, ⊎_elim}
 use Rattle.std.specs.Cmp.Lexicographic.{slice_cmp}
 use Rattle.std.specs.List.{sum_by}
@@ -10,16 +11,17 @@ use Rattle.covstore.specs.Kinds.{CountsOf, Each, Kind, above_of, at, cmp_of}
 use Rattle.covstore.specs.Section.{IsIn}
 use Rattle.covstore.specs.Clash.{checksums_in}
 use Rattle.covstore.specs.KindIndexCounts.{AreCounts, found_of, hit_of}
-use Rattle.covstore.specs.FileView.{KeepsFile, with_test}
+use Rattle.covstore.specs.FileSection.{KeepsIn}
+use Rattle.covstore.specs.FileView.{KeepsFile, tests_with, with_test}
 use Rattle.covstore.specs.Store.{KeepsState}
 use Rattle.covmap.specs.Puts.{ArePairs, put, value_of}
 use Rattle.covstore.specs.State.{FileData, IsIndexOf, IsStateOf, IsWholeFile, file_with, found_at, hit_at, points_in, tests_in, totals_in}
 use Rattle.covstore.specs.Sums.{TestData, test_of}
-use Rattle.covstore.proofs.AddsLists.{put_there}
+use Rattle.covstore.proofs.AddsLists.{put_there, put_twice}
 use Rattle.covstore.proofs.AddsPlace.{checksum_held, state_agrees, text_kept}
 use Rattle.covstore.proofs.Members.{In-from}
 use Rattle.covstore.proofs.Orders.{names_order}
-use Rattle.covstore.proofs.Puts.{at_before, sum_by-put}
+use Rattle.covstore.proofs.Puts.{ArePairs-put, at_before, sum_by-put, value_of-put}
 use Rattle.covstore.proofs.StateMore.{test_more}
 use Rattle.covstore.proofs.StateRows.{file_whole, state_changed}
 use Rattle.covstore.proofs.StateSections.{points_same}
@@ -37,40 +39,6 @@ module _ (name : List ℕ) (before after : FileData) (files : List (List ℕ × 
       totals_same (put (slice_cmp nat_cmp) name after files) files
       (λ kind. (as_much (found_at kind) (ap (λ (all : Each CountsOf). found_of (at kind all)) counts), as_much (hit_at kind) (ap (λ (all : Each CountsOf). hit_of (at kind all)) counts)))
 
--- ---- texts of lines that nobody holds
-
-module _ (name test : List ℕ) (before after : FileData) (points : TestData) (there : value_of (slice_cmp nat_cmp) test before.tests ≡ Some points) (keeps : KeepsFile before after) where
-  still_whole : IsWholeFile before → IsWholeFile after
-  still_whole whole = record {
-    ascending = subst (ArePairs (slice_cmp nat_cmp)) (sym keeps.tests) whole.ascending;
-    kept = subst (λ (tests : List (List ℕ × TestData)). IsIndexOf (map (λ (pair : List ℕ × TestData). pair.1) tests) after.index) (sym keeps.tests) (record {
-      counts = subst (λ (counts : Each CountsOf). (kind : Kind) → AreCounts (cmp_of kind) (above_of kind) (map (at kind) (tests_in before)) (at kind counts)) (sym keeps.index.counts) whole.kept.counts;
-      holders = λ line. ap (value_of nat_cmp line) keeps.index.holders ∙ whole.kept.holders line;
-    });
-  }
-
-  module _ (rows : List Row) (files : List (List ℕ × FileData)) (state : IsStateOf rows files) (is : value_of (slice_cmp nat_cmp) name files ≡ Some before) where
-    its_place : IsIn rows files name test before.tests points before.index
-    its_place = record { state = state; agree = state_agrees rows files state; its_file = is; its_test = there }
-
-    file_state : IsStateOf rows (put (slice_cmp nat_cmp) name after files)
-    file_state = state_changed rows rows files state name after (record {
-      whole = still_whole (file_whole rows files state name before is);
-      points = λ t.
-          points_same after before t (ap (value_of (slice_cmp nat_cmp) t) keeps.tests)
-          ∙ ap (λ (found : Option FileData). points_in found t) (sym is) ∙ state.points (record { file = name; test = t });
-      others = λ key other. refl;
-      texts = λ c i same.
-          keeps.index.texts c.line (checksum_held its_place c (In-from (checksums_in rows) c i) same) ∙ text_kept its_place c (In-from (checksums_in rows) c i) same;
-      held_before = λ c i other. i;
-    })
-
-  pub file_keeps : (files : List (List ℕ × FileData)) → ArePairs (slice_cmp nat_cmp) files → value_of (slice_cmp nat_cmp) name files ≡ Some before → KeepsState files (put (slice_cmp nat_cmp) name after files)
-  file_keeps files ascending is = record {
-    states = λ rows state. file_state rows files state is;
-    totals = totals_stay name before after files ascending is keeps.index.counts;
-  }
-
 -- ---- a test that is made ready
 
 is_none : {X : Type 0} (found : Option X) → is_some found ≡ false → found ≡ None
@@ -78,7 +46,7 @@ is_none None e = refl
 is_none (Some x) e = absurd (false≢true (sym e))
 
 module _ (name test : List ℕ) (file : FileData) (files : List (List ℕ × FileData)) (ascending : ArePairs (slice_cmp nat_cmp) files) (is : value_of (slice_cmp nat_cmp) name files ≡ Some file) where
-  pub with_test_keeps : KeepsState files (put (slice_cmp nat_cmp) name (with_test test file) files)
+  with_test_keeps : KeepsState files (put (slice_cmp nat_cmp) name (with_test test file) files)
   with_test_keeps =
       ⊎_elim {C = KeepsState files (put (slice_cmp nat_cmp) name (with_test test file) files)}
       (λ (there : is_some (value_of (slice_cmp nat_cmp) test file.tests) ≡ true).
@@ -93,3 +61,78 @@ module _ (name test : List ℕ) (file : FileData) (files : List (List ℕ × Fil
         totals = totals_stay name file (file_with (put (slice_cmp nat_cmp) test (test_of []) file.tests) file.index) files ascending is refl;
       }))
       (cases_Bool (is_some (value_of (slice_cmp nat_cmp) test file.tests)))
+
+pub test_keeps : (test : List ℕ) (file : FileData) → KeepsIn file (with_test test file)
+test_keeps test file files name ascending is = with_test_keeps name test file files ascending is
+
+-- what is there then
+pub made_ready : {X : Type 0} (key : List ℕ) (new : X) (pairs : List (List ℕ × X))
+    → (x : X) × (value_of (slice_cmp nat_cmp) key (if is_some (value_of (slice_cmp nat_cmp) key pairs) then pairs else put (slice_cmp nat_cmp) key new pairs) ≡ Some x)
+made_ready {X} key new pairs = at (value_of (slice_cmp nat_cmp) key pairs) refl
+  where
+    at : (found : Option X) → value_of (slice_cmp nat_cmp) key pairs ≡ found → (x : X) × (value_of (slice_cmp nat_cmp) key (if is_some found then pairs else put (slice_cmp nat_cmp) key new pairs) ≡ Some x)
+    at None e = (new, value_of-put names_order key new pairs)
+    at (Some x) e = (x, e)
+
+-- ---- texts of lines that nobody holds
+
+module _ (before after : FileData) (keeps : KeepsFile before after) where
+  still_whole : IsWholeFile before → IsWholeFile after
+  still_whole whole = record {
+    ascending = subst (ArePairs (slice_cmp nat_cmp)) (sym keeps.tests) whole.ascending;
+    kept = subst (λ (tests : List (List ℕ × TestData)). IsIndexOf (map (λ (pair : List ℕ × TestData). pair.1) tests) after.index) (sym keeps.tests) (record {
+      counts = subst (λ (counts : Each CountsOf). (kind : Kind) → AreCounts (cmp_of kind) (above_of kind) (map (at kind) (tests_in before)) (at kind counts)) (sym keeps.index.counts) whole.kept.counts;
+      holders = λ line. ap (value_of nat_cmp line) keeps.index.holders ∙ whole.kept.holders line;
+    });
+  }
+
+  module _ (name : List ℕ) (rows : List Row) (files : List (List ℕ × FileData)) (state : IsStateOf rows files) (is : value_of (slice_cmp nat_cmp) name files ≡ Some before) where
+    -- the file with a test made ready, of which the same is kept
+    its_place : IsIn rows (put (slice_cmp nat_cmp) name (with_test [] before) files) name [] (tests_with [] before.tests) (made_ready [] (test_of []) before.tests).0 before.index
+    its_place = record {
+      state = (test_keeps [] before files name state.ascending is).states rows state;
+      agree = state_agrees rows files state;
+      its_file = value_of-put names_order name (with_test [] before) files;
+      its_test = (made_ready [] (test_of []) before.tests).1;
+    }
+
+    file_state : IsStateOf rows (put (slice_cmp nat_cmp) name after files)
+    file_state = state_changed rows rows files state name after (record {
+      whole = still_whole (file_whole rows files state name before is);
+      points = λ t.
+          points_same after before t (ap (value_of (slice_cmp nat_cmp) t) keeps.tests)
+          ∙ ap (λ (found : Option FileData). points_in found t) (sym is) ∙ state.points (record { file = name; test = t });
+      others = λ key other. refl;
+      texts = λ c i same.
+          keeps.index.texts c.line (checksum_held its_place c (In-from (checksums_in rows) c i) same) ∙ text_kept its_place c (In-from (checksums_in rows) c i) same;
+      held_before = λ c i other. i;
+    })
+
+  pub file_keeps : KeepsIn before after
+  file_keeps files name ascending is = record {
+    states = λ rows state. file_state name rows files state is;
+    totals = totals_stay name before after files ascending is keeps.index.counts;
+  }
+
+-- ---- one after the other
+
+pub state_stays : (files : List (List ℕ × FileData)) → KeepsState files files
+state_stays files = record { states = λ rows state. state; totals = refl }
+
+pub both_keep : (a b c : List (List ℕ × FileData)) → KeepsState a b → KeepsState b c → KeepsState a c
+both_keep a b c first second = record { states = λ rows state. second.states rows (first.states rows state); totals = second.totals ∙ first.totals }
+
+pub keeps_then : (name : List ℕ) (before after : FileData) (files ready : List (List ℕ × FileData)) → KeepsState files ready → ArePairs (slice_cmp nat_cmp) ready → value_of (slice_cmp nat_cmp) name ready ≡ Some before → KeepsIn before after
+    → KeepsState files (put (slice_cmp nat_cmp) name after ready)
+keeps_then name before after files ready first ascending there keeps =
+    both_keep files ready (put (slice_cmp nat_cmp) name after ready) first (keeps ready name ascending there)
+
+pub keeps_both : (a b c : FileData) → KeepsIn a b → KeepsIn b c → KeepsIn a c
+keeps_both a b c first second files name ascending is =
+    subst (KeepsState files) (put_twice names_order name b c files)
+    (keeps_then name b c files (put (slice_cmp nat_cmp) name b files) (first files name ascending is) (ArePairs-put names_order name b files ascending) (value_of-put names_order name b files) second)
+
+pub keeps_same : (file other : FileData) → other ≡ file → KeepsIn file other
+keeps_same file other same files name ascending is =
+    subst (KeepsState files) (sym (ap (λ (f : FileData). put (slice_cmp nat_cmp) name f files) same ∙ put_there names_order name file files ascending is))
+    (record { states = λ rows state. state; totals = refl })

@@ -51,6 +51,7 @@ pub mod AddsLoop
 pub mod AddsPlace
 pub mod AddsItem
 pub mod AddsMore
+pub mod AddsNew
 pub mod AddsFew
 pub mod AddsFile
 pub mod AddsRoom
@@ -104,4 +105,5 @@ pub mod RenamedTablesLoop
 pub mod CopiesMap
 pub mod CopiesFile
 pub mod NamedFiles
+pub mod Ready
 pub mod RenamedStore

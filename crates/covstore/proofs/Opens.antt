@@ -1,4 +1,4 @@
--- A test, and a file, that are seen to be there.
+-- A test that is seen to be there.
 use Rattle.std.proofs.Common.{◌≡◌, ℕ, Bool, true, false, List, [], sym, ap, ◌∙◌}
 use Rattle.std.specs.BTreeMap.{insert_entry, is_at}
 use Rattle.std.specs.Cmp.Lexicographic.{slice_cmp}
@@ -6,7 +6,7 @@ use Rattle.std.specs.Map.{lookup}
 use Rattle.std.specs.Option.{is_some}
 use Rattle.std.specs.Ordering.{nat_cmp}
 use Rattle.std.proofs.lemmas.Bool.{cond-true, cond-false}
-use Rattle.covstore.specs.FileView.{no_file, with_file, with_test}
+use Rattle.covstore.specs.FileView.{with_test}
 use Rattle.covmap.specs.Puts.{put, value_of}
 use Rattle.covstore.specs.State.{FileData, file_with}
 use Rattle.covstore.specs.Sums.{TestData, test_of}
@@ -31,22 +31,3 @@ module _ {K V : Type 0} (name : K → List ℕ) (f : V → TestData) (file : Fil
       ∙ ap (λ (p : TestData). put (slice_cmp nat_cmp) test p (seen names_order name f pairs)) empty
       ∙ ap (put (slice_cmp nat_cmp) test (test_of [])) is
       ∙ sym (cond-false (is_some (value_of (slice_cmp nat_cmp) test file.tests)) file.tests (put (slice_cmp nat_cmp) test (test_of []) file.tests) (found b e ∙ none)))
-
--- ---- files
-
-module _ {K V : Type 0} (name : K → List ℕ) (f : V → FileData) (files : List (List ℕ × FileData)) (pairs : List (K × V)) (is : seen names_order name f pairs ≡ files) (file : List ℕ) where
-  file_found : (b : Bool) → b ≡ is_some (lookup (is_at (λ other. slice_cmp nat_cmp file (name other))) pairs) → is_some (value_of (slice_cmp nat_cmp) file files) ≡ b
-  file_found b e = ap (λ (all : List (List ℕ × FileData)). is_some (value_of (slice_cmp nat_cmp) file all)) (sym is) ∙ seen_there names_order name f file pairs ∙ sym e
-
-  pub file_there : (b : Bool) → b ≡ is_some (lookup (is_at (λ other. slice_cmp nat_cmp file (name other))) pairs) → b ≡ true → files ≡ with_file file files
-  file_there b e there = sym (cond-true (is_some (value_of (slice_cmp nat_cmp) file files)) files (put (slice_cmp nat_cmp) file no_file files) (file_found b e ∙ there))
-
-  pub file_opened : (b : Bool) → b ≡ is_some (lookup (is_at (λ other. slice_cmp nat_cmp file (name other))) pairs) → b ≡ false → (key : K) → name key ≡ file → (v : V) → f v ≡ no_file
-      → (after : List (K × V)) → after ≡ insert_entry (λ a b. slice_cmp nat_cmp (name a) (name b)) pairs key v → seen names_order name f after ≡ with_file file files
-  file_opened b e none key named v empty after inserted =
-      ap (seen names_order name f) inserted
-      ∙ seen_insert names_order name f key v pairs
-      ∙ ap (λ (n : List ℕ). put (slice_cmp nat_cmp) n (f v) (seen names_order name f pairs)) named
-      ∙ ap (λ (d : FileData). put (slice_cmp nat_cmp) file d (seen names_order name f pairs)) empty
-      ∙ ap (put (slice_cmp nat_cmp) file no_file) is
-      ∙ sym (cond-false (is_some (value_of (slice_cmp nat_cmp) file files)) files (put (slice_cmp nat_cmp) file no_file files) (file_found b e ∙ none))

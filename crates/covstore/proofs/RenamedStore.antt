@@ -1,4 +1,4 @@
--- A test's values in a store's maps under another name too: the file that has both tests is found, and is written.
+-- A test's values in a store's maps under another name too: the file that has the test is found, and is written.
 use Rattle.std.proofs.Common.{◌≡◌, ℕ, true, false, Option, Some, None, List, [], ◌∷◌, ◌++◌, Vec, refl, sym, ap, ◌∙◌, subst}
 use Rattle.std.specs.BTreeMap.{is_at}
 use Rattle.std.specs.Cmp.Lexicographic.{slice_cmp}
@@ -9,14 +9,13 @@ use Rattle.std.specs.Option.{is_some}
 use Rattle.std.specs.Ordering.{nat_cmp}
 use Rattle.std.specs.Str.{bytes_eq}
 use Rattle.std.proofs.lemmas.Bool.{false≢true}
-use Rattle.std.proofs.lemmas.Option.{same_Some}
 use Rattle.covstore.specs.declared.file.File.{File}
 use Rattle.covstore.specs.declared.totals.Totals.{Totals}
-use Rattle.covstore.specs.FileView.{KeepsFile, file_staged, file_committed}
+use Rattle.covstore.specs.FileSection.{KeepsIn}
+use Rattle.covstore.specs.FileView.{file_staged, file_committed}
 use Rattle.covstore.specs.StoreView.{AreSettledBut, IsSettledBut, IsStore, files_staged, files_committed}
 use Rattle.covmap.specs.Puts.{value_of}
-use Rattle.covstore.specs.Renaming.{Copies, CopiesIn, HasRoomToCopy, HasRoomToCopyIn, copied_rows, key_of}
-use Rattle.covstore.specs.StoreSection.{HasPlace}
+use Rattle.covstore.specs.Renaming.{Copies, CopiesIn, HasRoomToCopy, HasRoomToCopyIn, copied_rows}
 use Rattle.covstore.specs.State.{FileData, IsStateOf, has_no_points, points_in, points_or_none}
 use Rattle.covstore.specs.Store.{KeepsState, SameCommitted, StoreData}
 use Rattle.covstore.specs.Sums.{TestData}
@@ -43,30 +42,10 @@ file_with_points test (Some file) e = refl
 pub file_there : (file old : List ℕ) (store : StoreData) → HasRoomToCopy file old store → is_some (value_of (slice_cmp nat_cmp) file store.staged) ≡ true
 file_there file old store room = file_with_points old (value_of (slice_cmp nat_cmp) file store.staged) room.some
 
--- ---- where the new test was made ready
-
-pub copy_room_kept : (file old : List ℕ) (before now : StoreData) → KeepsState before.committed now.committed → KeepsState before.staged now.staged → HasRoomToCopy file old before → HasRoomToCopy file old now
-copy_room_kept file old before now committed staged room =
-    let key = key_of file old in
-    let stands = committed.states room.own room.stands in
-    let state = staged.states room.rows room.state in
-    record {
-      own = room.own;
-      stands = stands;
-      rows = room.rows;
-      state = state;
-      few = room.few;
-      some = ap has_no_points (state.points key ∙ sym (room.state.points key)) ∙ room.some;
-      same = state.points key ∙ sym (room.state.points key) ∙ room.same ∙ room.stands.points key ∙ sym (stands.points key);
-    }
-
-pub copies_kept : (file old new : List ℕ) (before now later : List (List ℕ × FileData)) → KeepsState before now → Copies file old new now later → Copies file old new before later
-copies_kept file old new before now later keeps copies = λ rows state. copies rows (keeps.states rows state)
-
 -- ---- the file is written
 
 module _ {A : Type 0} (files : List (Vec ℕ A × File A)) (members : ℕ) (totals : Totals) (name old new : List ℕ) (store : StoreData)
-    (view : store_of members (files_committed file_name files) (files_staged file_name files) totals ≡ store) (given : HasRoomToCopy name old store) (place : HasPlace name new store.staged) where
+    (view : store_of members (files_committed file_name files) (files_staged file_name files) totals ≡ store) (given : HasRoomToCopy name old store) where
   -- the store inside
   abbrev inside : StoreData
   inside = store_of members (files_committed file_name files) (files_staged file_name files) totals
@@ -74,11 +53,8 @@ module _ {A : Type 0} (files : List (Vec ℕ A × File A)) (members : ℕ) (tota
   room : HasRoomToCopy name old inside
   room = subst (HasRoomToCopy name old) (sym view) given
 
-  its_place : HasPlace name new inside.staged
-  its_place = subst (λ (s : StoreData). HasPlace name new s.staged) (sym view) place
-
   pub unfound : lookup (is_at (λ (other : Vec ℕ A). slice_cmp nat_cmp name other.items)) files ≡ None → ⊥
-  unfound none = no_place file_name file_staged name files none store.staged (ap (λ (s : StoreData). s.staged) view) (ap is_some place.its_file)
+  unfound none = no_place file_name file_staged name files none store.staged (ap (λ (s : StoreData). s.staged) view) (file_there name old store given)
 
   module _ (before : File A) (found : lookup (is_at (λ (other : Vec ℕ A). slice_cmp nat_cmp name other.items)) files ≡ Some before) where
     there : value_of (slice_cmp nat_cmp) name inside.staged ≡ Some (file_staged before)
@@ -86,10 +62,6 @@ module _ {A : Type 0} (files : List (Vec ℕ A × File A)) (members : ℕ) (tota
 
     held_there : value_of (slice_cmp nat_cmp) name inside.committed ≡ Some (file_committed before)
     held_there = file_value file_name name files before found file_committed
-
-    target : value_of (slice_cmp nat_cmp) new (file_staged before).tests ≡ Some its_place.points
-    target =
-        subst (λ (f : FileData). value_of (slice_cmp nat_cmp) new f.tests ≡ Some its_place.points) (same_Some its_place.file (file_staged before) (sym its_place.its_file ∙ there)) its_place.its_test
 
     source : (points : TestData) × (value_of (slice_cmp nat_cmp) old (file_staged before).tests ≡ Some points)
     source =
@@ -105,12 +77,10 @@ module _ {A : Type 0} (files : List (Vec ℕ A × File A)) (members : ℕ) (tota
         let same : source.0 ≡ other.0 = sym (ap points_or_none source.1) ∙ points ∙ ap points_or_none other.1 in
         source.1 ∙ ap (λ (t : TestData). Some t) same ∙ sym other.1
 
-    pub copied_room : HasRoomToCopyIn old new (file_staged before)
+    pub copied_room : HasRoomToCopyIn old (file_staged before)
     copied_room = record {
       source = source.0;
-      target = its_place.points;
       its_source = source.1;
-      its_target = target;
       rows = room.rows;
       files = inside.staged;
       name = name;
@@ -120,22 +90,20 @@ module _ {A : Type 0} (files : List (Vec ℕ A × File A)) (members : ℕ) (tota
 
     module _ (after : File A) (later : List (Vec ℕ A × File A)) (sorted : IsStrictlySortedBy (λ (a b : Vec ℕ A). slice_cmp nat_cmp a.items b.items) (keys_of files))
         (written : later ≡ set_value (is_at (λ (other : Vec ℕ A). slice_cmp nat_cmp name other.items)) files after) where
-      held_keeps : KeepsFile (file_committed before) (file_committed after) → KeepsState (files_committed file_name files) (files_committed file_name later)
-      held_keeps keeps =
-          let points = test_too file_name test_staged test_committed new before.tests.entries its_place.points target in
-          kept_written file_name name files before found after later sorted written file_committed new points.0 points.1 keeps
+      held_keeps : KeepsIn (file_committed before) (file_committed after) → KeepsState (files_committed file_name files) (files_committed file_name later)
+      held_keeps = kept_written file_name name files before found after later sorted written file_committed
 
-      pub copied_committed : (committed : Totals) → IsStore members committed (files_committed file_name files) → KeepsFile (file_committed before) (file_committed after) → (now : Totals)
+      pub copied_committed : (committed : Totals) → IsStore members committed (files_committed file_name files) → KeepsIn (file_committed before) (file_committed after) → (now : Totals)
           → SameCommitted store (store_of members (files_committed file_name later) (files_staged file_name later) now)
       copied_committed committed is keeps now = held_kept members committed (files_committed file_name files) (files_committed file_name later) (files_staged file_name files) (files_staged file_name later) totals now store is (held_keeps keeps) view
 
-      pub copied_store : (committed : Totals) (touched more : List (List ℕ × List ℕ)) → IsStore members committed (files_committed file_name files) × AreSettledBut file_name touched files → KeepsFile (file_committed before) (file_committed after)
+      pub copied_store : (committed : Totals) (touched more : List (List ℕ × List ℕ)) → IsStore members committed (files_committed file_name files) × AreSettledBut file_name touched files → KeepsIn (file_committed before) (file_committed after)
           → more ≡ touched ++ (name, new) ∷ []
           → ((tests : List (List ℕ)) → list_any (λ own. bytes_eq own new) tests ≡ true → IsSettledBut tests before → IsSettledBut tests after)
           → IsStore members committed (files_committed file_name later) × AreSettledBut file_name more later
       copied_store committed touched more is keeps pushed settled = (
         store_kept members committed (files_committed file_name files) (files_committed file_name later) (held_keeps keeps) is.0,
-        written_settled touched more name new before after files later pushed found written settled is.1,
+        subst (λ (names : List (List ℕ × List ℕ)). AreSettledBut file_name names later) (sym pushed) (written_settled touched name new before after files later found written settled is.1),
       )
 
       pub copied_to : CopiesIn old new (file_staged before) (file_staged after) → Copies name old new store.staged (files_staged file_name later)

@@ -1,5 +1,5 @@
 -- What an item's step asks for: the room for it.
-use Rattle.std.proofs.Common.{◌≡◌, ℕ, ◌+◌, ◌<◌, ◌^◌, Bool, true, false, cond, nat_lt, Some, None, List, ◌∷◌, ◌++◌, sym, ap, ◌∙◌, subst, arith}
+use Rattle.std.proofs.Common.{◌≡◌, ℕ, ◌+◌, ◌≤◌, ◌^◌, Bool, true, false, cond, nat_lt, Some, None, List, ◌∷◌, ◌++◌, sym, ap, ◌∙◌, subst, arith}
 use Rattle.std.specs.Option.{IfSome, is_some}
 use Rattle.std.specs.Ordering.{nat_cmp}
 use Rattle.std.proofs.lemmas.Bool.{cond-true, lt-ltb}
@@ -18,7 +18,7 @@ use Rattle.covstore.proofs.StepsKept.{is_holding}
 held_where : (n others : ℕ) → n ≡ others + 1 → is_some (cond (nat_lt 0 n) (Some n) None) ≡ true
 held_where n others e = ap is_some (cond-true (nat_lt 0 n) (Some n) None (lt-ltb 0 n (omega (arith, e))))
 
-few_where : (some : Bool) (n : ℕ) → n < 2 ^ 63 → IfSome (cond some (Some n) None) (λ tests. tests < 2 ^ 63)
+few_where : (some : Bool) (n : ℕ) → n ≤ 2 ^ 63 → IfSome (cond some (Some n) None) (λ tests. tests ≤ 2 ^ 63)
 few_where true n few = few
 few_where false n few = tt
 
@@ -33,7 +33,7 @@ module _ (test : TestData) (index : FileIndexData) (room : HasRoom test index) (
       ∙ held_where (holding line tests) (holding line (room.front ++ room.back)) (count_by-between (is_holding line) room.front test room.back ∙ ap (λ (b : Bool). holding line (room.front ++ room.back) + one_if b) holds)
 
   -- no more tests hold it than there are
-  pub holders_few : IfSome (value_of nat_cmp line index.holders) (λ committed. committed < 2 ^ 63)
+  pub holders_few : IfSome (value_of nat_cmp line index.holders) (λ committed. committed ≤ 2 ^ 63)
   holders_few =
-      let few : holding line tests < 2 ^ 63 = omega (arith, room.few_tests, count_by-le-length (is_holding line) tests) in
-      subst (λ committed. IfSome committed (λ n. n < 2 ^ 63)) (sym (room.kept.holders line)) (few_where (nat_lt 0 (holding line tests)) (holding line tests) few)
+      let few : holding line tests ≤ 2 ^ 63 = omega (arith, room.few_tests, count_by-le-length (is_holding line) tests) in
+      subst (λ committed. IfSome committed (λ n. n ≤ 2 ^ 63)) (sym (room.kept.holders line)) (few_where (nat_lt 0 (holding line tests)) (holding line tests) few)

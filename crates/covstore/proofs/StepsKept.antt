@@ -1,5 +1,5 @@
 -- The numbers that are kept of a file count its tests, also with one item more in one of them.
-use Rattle.std.proofs.Common.{◌≡◌, ℕ, ◌+◌, ◌<◌, ◌≤◌, ◌^◌, Bool, true, false, cond, if◌then◌else◌, nat_lt, Option, Some, None, List, ◌∷◌, ◌++◌, length, map, refl, sym, ap, ◌∙◌, subst, ⊎_elim, arith}
+use Rattle.std.proofs.Common.{◌≡◌, ℕ, ◌+◌, ◌≤◌, ◌^◌, Bool, true, false, cond, if◌then◌else◌, nat_lt, Option, Some, None, List, ◌∷◌, ◌++◌, length, map, refl, sym, ap, ◌∙◌, subst, ⊎_elim, arith}
 use Rattle.std.specs.declared.cmp.Ordering.{Ordering}
 use Rattle.std.specs.Option.{IfSome}
 use Rattle.std.specs.Ordering.{is_eq, nat_cmp}
@@ -34,12 +34,12 @@ module _ {K V : Type 0} {cmp : K → K → Ordering} (is_above : V → Bool) (po
       (subst (λ (own : List (K × V)). AreCounts cmp is_above (front ++ own ∷ back) (counts_with cmp is_above key (value_of cmp key points) value counts)) (sym puts)
       (counts_put o is_above key value counts front points back stays are))
 
-within_few : (value : Option Tests) (tests : ℕ) → tests < 2 ^ 63 → ((committed : Tests) → value ≡ Some committed → IsWithin committed tests) → IfSome value (λ committed. (committed.tests < 2 ^ 63) × (committed.hit < 2 ^ 63))
+within_few : (value : Option Tests) (tests : ℕ) → tests ≤ 2 ^ 63 → ((committed : Tests) → value ≡ Some committed → IsWithin committed tests) → IfSome value (λ committed. (committed.tests ≤ 2 ^ 63) × (committed.hit ≤ 2 ^ 63))
 within_few None tests few within = tt
 within_few (Some committed) tests few within = let is = within committed refl in (omega (arith, is.all), omega (arith, is.all, is.hit))
 
 pub room_at : {K V : Type 0} {cmp : K → K → Ordering} {is_above : V → Bool} (points : List (K × V)) (counts : List (K × Tests)) → HasRoomOfKind cmp is_above points counts
-    → (key : K) → IfSome (value_of cmp key counts) (λ committed. (committed.tests < 2 ^ 63) × (committed.hit < 2 ^ 63))
+    → (key : K) → IfSome (value_of cmp key counts) (λ committed. (committed.tests ≤ 2 ^ 63) × (committed.hit ≤ 2 ^ 63))
 room_at {cmp = cmp} points counts room key = within_few (value_of cmp key counts) (length (room.front ++ points ∷ room.back)) room.few_tests (counts_within room.kept key)
 
 -- ---- how many tests hold a checksum of a line

@@ -1,5 +1,5 @@
 -- The sums of functions with one item more.
-use Rattle.std.proofs.Common.{◌≡◌, ℕ, ◌+◌, true, min, Some, None, unwrap_or, List, [], ◌∷◌, ◌++◌, refl, ap, ◌∙◌}
+use Rattle.std.proofs.Common.{◌≡◌, ℕ, true, min, Some, None, unwrap_or, List, [], ◌∷◌, ◌++◌, refl, ap, ◌∙◌}
 use Rattle.std.specs.Cmp.Lexicographic.{slice_cmp}
 use Rattle.std.specs.List.{flat_map}
 use Rattle.std.specs.Option.{is_some}

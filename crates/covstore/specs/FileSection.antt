@@ -7,9 +7,14 @@ use Rattle.covstore.specs.declared.stop.Stop.{Stop}
 use Rattle.covstore.specs.declared.stop.Stop.TheVariants.{Clash, Memory}
 use Rattle.covstore.specs.Section.{clash_told, section_of_items}
 use Rattle.covstore.specs.Clash.{Agree, checksums_in, clash_of}
-use Rattle.covmap.specs.Puts.{put, value_of}
+use Rattle.covmap.specs.Puts.{ArePairs, put, value_of}
 use Rattle.covstore.specs.State.{FileData, IsStateOf}
-use Rattle.covstore.specs.Sums.{TestData}
+use Rattle.covstore.specs.Store.{KeepsState}
+
+-- wherever the file stands, the files with the other in its place are the state of the same rows
+abbrev pub KeepsIn : FileData → FileData → Type 0
+KeepsIn before after =
+    (files : List (List ℕ × FileData)) (name : List ℕ) → ArePairs (slice_cmp nat_cmp) files → value_of (slice_cmp nat_cmp) name files ≡ Some before → KeepsState files (put (slice_cmp nat_cmp) name after files)
 
 -- the files are the state of rows whose checksums agree, and one of them is this one
 pub record HasFile (rows : List Row) (files : List (List ℕ × FileData)) (name : List ℕ) (file : FileData) : Type 0 where
@@ -31,10 +36,8 @@ ClashesIn items test file (Clash line held given) =
     (rows : List Row) (files : List (List ℕ × FileData)) (name : List ℕ) → HasFile rows files name file
     → clash_of rows (rows_of_sect (section_of_items name test items)) ≡ Some (clash_told name line held given)
 
--- the test is there, and the file stands for rows, not too many with these items more
-pub record HasRoomIn (items : List ItemData) (test : List ℕ) (file : FileData) : Type 0 where
-  pub points : TestData
-  pub its_test : value_of (slice_cmp nat_cmp) test file.tests ≡ Some points
+-- the file stands for rows, not too many with these items more
+pub record HasRoomIn (items : List ItemData) (file : FileData) : Type 0 where
   pub rows : List Row
   pub files : List (List ℕ × FileData)
   pub name : List ℕ

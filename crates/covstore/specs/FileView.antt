@@ -28,10 +28,6 @@ tests_with test tests = if is_some (value_of (slice_cmp nat_cmp) test tests) the
 abbrev pub with_test : List ℕ → FileData → FileData
 with_test test file = file_with (tests_with test file.tests) file.index
 
--- the files with this one, without tests where it wasn't there
-abbrev pub with_file : List ℕ → List (List ℕ × FileData) → List (List ℕ × FileData)
-with_file file files = if is_some (value_of (slice_cmp nat_cmp) file files) then files else put (slice_cmp nat_cmp) file no_file files
-
 -- the same tests and numbers, and the text of each line of which a checksum is held
 pub record KeepsFile (before after : FileData) : Type 0 where
   pub tests : after.tests ≡ before.tests

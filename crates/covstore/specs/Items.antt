@@ -1,5 +1,5 @@
 -- What an item more needs, and what it does to what is kept of its file.
-use Rattle.std.specs.Prelude.{◌≡◌, ℕ, ◌<◌, ◌^◌, Bool, true, Some, None, List, ◌∷◌, ◌++◌, length}
+use Rattle.std.specs.Prelude.{◌≡◌, ℕ, ◌<◌, ◌≤◌, ◌^◌, Bool, true, Some, None, List, ◌∷◌, ◌++◌, length}
 use Rattle.std.specs.declared.cmp.Ordering.{Ordering}
 use Rattle.std.specs.Option.{is_some}
 use Rattle.std.specs.Ordering.{nat_cmp}
@@ -22,7 +22,7 @@ pub record HasRoomOfKind {K V : Type 0} (cmp : K → K → Ordering) (is_above :
   pub front : List (List (K × V))
   pub back : List (List (K × V))
   pub kept : AreCounts cmp is_above (front ++ points ∷ back) counts
-  pub few_tests : length (front ++ points ∷ back) < 2 ^ 63
+  pub few_tests : length (front ++ points ∷ back) ≤ 2 ^ 63
   pub few : length counts < 2 ^ 63
 
 -- whatever the other tests are: counts of the tests are those of the tests with the changed one
@@ -36,7 +36,7 @@ pub record HasRoom (test : TestData) (index : FileIndexData) : Type 0 where
   pub front : List TestData
   pub back : List TestData
   pub kept : IsIndexOf (front ++ test ∷ back) index
-  pub few_tests : length (front ++ test ∷ back) < 2 ^ 63
+  pub few_tests : length (front ++ test ∷ back) ≤ 2 ^ 63
   pub few : (kind : Kind) → length (at kind index.counts) < 2 ^ 63
 
 -- whatever the other tests are: numbers that counted the tests do so with the changed one

@@ -61,12 +61,10 @@ CopiesIn old new before after =
     (rows : List Row) (files : List (List ℕ × FileData)) (name : List ℕ) → HasFile rows files name before
     → HasFile (rows ++ copied_rows name old new rows) (put (slice_cmp nat_cmp) name after files) name after
 
--- the file has both tests and stands for rows, not too many with those that are copied
-pub record HasRoomToCopyIn (old new : List ℕ) (file : FileData) : Type 0 where
+-- the file has the old test and stands for rows, not too many with those that are copied
+pub record HasRoomToCopyIn (old : List ℕ) (file : FileData) : Type 0 where
   pub source : TestData
-  pub target : TestData
   pub its_source : value_of (slice_cmp nat_cmp) old file.tests ≡ Some source
-  pub its_target : value_of (slice_cmp nat_cmp) new file.tests ≡ Some target
   pub rows : List Row
   pub files : List (List ℕ × FileData)
   pub name : List ℕ

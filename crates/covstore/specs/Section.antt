@@ -1,5 +1,5 @@
 -- What the items of a section do: to the state of which their test and their file are, and when they clash.
-use Rattle.std.specs.Prelude.{◌≡◌, ℕ, ◌+◌, ◌<◌, ◌≤◌, ◌^◌, Some, None, List, ◌++◌, length}
+use Rattle.std.specs.Prelude.{◌≡◌, ℕ, ◌+◌, ◌≤◌, ◌^◌, Some, None, List, ◌++◌, length}
 use Rattle.std.specs.Cmp.Lexicographic.{slice_cmp}
 use Rattle.std.specs.Ordering.{nat_cmp}
 use Rattle.covline.specs.Row.{ItemData, Row, SectData, rows_of_sect}
@@ -56,4 +56,4 @@ pub record HasRoomFor (items : List ItemData) (test : TestData) (index : FileInd
   pub tests : List (List ℕ × TestData)
   pub stands : IsIn rows files file name tests test index
   pub few : length rows + length items ≤ 2 ^ 47
-  pub few_tests : length tests < 2 ^ 63
+  pub few_tests : length tests ≤ 2 ^ 63

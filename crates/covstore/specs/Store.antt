@@ -83,10 +83,13 @@ pub record AddsRows (added : List Row) (before after : StoreData) : Type 0 where
   pub adds : AddsTo added before.staged after.staged
   pub totals : before.after ≡ totals_in before.staged → after.after ≡ totals_in after.staged
 
--- a clash is told only where the rows clash with what is staged, and then the first
+-- a clash is told only where the rows clash with those of the files, and then the first
+abbrev pub ClashesAmong : List Row → List (List ℕ × FileData) → RefuseData → Type 0
+ClashesAmong added files MemoryRefuse = Unit {0}
+ClashesAmong added files (ClashRefuse clash) = (rows : List Row) → IsStateOf rows files → Agree (checksums_in rows) → clash_of rows added ≡ Some clash
+
 abbrev pub ClashesWith : List Row → StoreData → RefuseData → Type 0
-ClashesWith added store MemoryRefuse = Unit {0}
-ClashesWith added store (ClashRefuse clash) = (rows : List Row) → IsStateOf rows store.staged → Agree (checksums_in rows) → clash_of rows added ≡ Some clash
+ClashesWith added store refusal = ClashesAmong added store.staged refusal
 
 -- what is staged is the state of rows, not too many with those that are added
 pub record HasRoomForRows (added : List Row) (store : StoreData) : Type 0 where

@@ -1,5 +1,5 @@
 -- Totals of which a part is exchanged.
-use Rattle.std.specs.Prelude.{◌+◌, ◌-◌, ◌≤◌, ◌<◌, ◌^◌}
+use Rattle.std.specs.Prelude.{◌≡◌, ◌+◌, ◌-◌, ◌≤◌, ◌<◌, ◌^◌}
 use Rattle.covstore.specs.declared.totals.Totals.{Totals}
 
 -- the part is no larger than the whole
@@ -29,6 +29,12 @@ exchanged whole before after = record {
   bf = whole.bf - before.bf + after.bf;
   bh = whole.bh - before.bh + after.bh;
 }
+
+-- a part of the whole is exchanged for another one, which gives this whole
+pub record IsExchange (before after whole later : Totals) : Type 0 where
+  pub part : IsAmong before whole
+  pub fits : FitTogether after whole
+  pub gives : exchanged whole before after ≡ later
 
 abbrev pub no_totals : Totals
 no_totals = record { lf = 0; lh = 0; ff = 0; fh = 0; bf = 0; bh = 0 }

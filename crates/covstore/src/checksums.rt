@@ -1,6 +1,6 @@
 //! The checksums of a file's lines. A line has one, however many tests hold it.
 
-ghost use Rattle.std.specs.Prelude.{◌≡◌, ◌<◌, ◌^◌, [], true, Some, is_some, option_map, IfErr, IfSome, OnOk};
+ghost use Rattle.std.specs.Prelude.{◌≡◌, ◌≤◌, ◌^◌, [], true, Some, is_some, option_map, IfErr, IfSome, OnOk};
 ghost use Rattle.covstore.specs.Checksums.{IsToldOf, IsHeldToo, KeepsTexts, StayTexts, held_more};
 ghost use Rattle.covstore.specs.KindIndexDrops.{held_less, one_less};
 ghost use Rattle.covmap.specs.Puts.{put, value_of};
@@ -54,7 +54,7 @@ impl<A: Allocator + Copy> Checksums<A> {
         is_held: bool,
     ) -> Result<(), Stop<A>>
         requires holds { is_held ≡ true → is_some (value_of nat_cmp line self.old.staged) ≡ true }
-        requires room { IfSome (value_of nat_cmp line self.old.staged) (λ tests. tests < 2 ^ 63) }
+        requires room { IfSome (value_of nat_cmp line self.old.staged) (λ tests. tests ≤ 2 ^ 63) }
         ensures committed { self.new.committed ≡ self.old.committed }
         ensures ok { OnOk result (self.new.staged ≡ held_more line is_held self.old.staged) }
         ensures text { OnOk result (IsHeldToo line text.now self.old self.new) }

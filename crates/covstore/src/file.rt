@@ -23,14 +23,15 @@ pub(crate) struct File<A: Allocator> {
 }
 
 impl<A: Allocator + Copy> File<A> {
-    ghost use Rattle.std.specs.Prelude.{◌≢◌, true};
+    ghost use Rattle.std.specs.Prelude.{◌≢◌, true, false};
     ghost use Rattle.std.specs.Cmp.Lexicographic.{slice_cmp};
     ghost use Rattle.std.specs.List.{list_any};
+    ghost use Rattle.std.specs.Option.{is_some};
     ghost use Rattle.std.specs.Ordering.{nat_cmp};
     ghost use Rattle.std.specs.Str.{bytes_eq};
     ghost use Rattle.covline.specs.Row.{item_data};
     ghost use Rattle.covstore.specs.FileDrops.{IsWithoutTest};
-    ghost use Rattle.covstore.specs.FileSection.{AddsItems, ClashesIn, HasRoomIn};
+    ghost use Rattle.covstore.specs.FileSection.{AddsItems, ClashesIn, HasRoomIn, KeepsIn};
     ghost use Rattle.covstore.specs.FileView.{KeepsFile, file_staged, file_committed, no_file, with_test};
     ghost use Rattle.covstore.specs.StoreView.{IsSettledBut};
     ghost use Rattle.covmap.specs.Puts.{value_of};
@@ -51,40 +52,39 @@ impl<A: Allocator + Copy> File<A> {
         }
     }
 
-    /// Sees to it that the test is there.
-    pub(crate) fn open(&mut self, alloc: A, test: &[u8]) -> Result<(), Memory>
-        ensures committed { OnOk result (file_committed self.new ≡ with_test test.now (file_committed self.old)) }
-        ensures staged { OnOk result (file_staged self.new ≡ with_test test.now (file_staged self.old)) }
-        ensures err_committed { OnErr result (file_committed self.new ≡ file_committed self.old) }
-        ensures err_staged { OnErr result (file_staged self.new ≡ file_staged self.old) }
-        ensures settled { (tests : List (List ℕ)) → IsSettledBut tests self.old → IsSettledBut tests self.new }
-    {
-        if self.tests.contains_key(test) {
-            return Ok(());
-        }
-        let name = Vec::from_slice(alloc, test)?;
-        let points = Boxed::new(alloc, Test::new(alloc))?;
-        self.tests.insert(name, points)?;
-        Ok(())
-    }
-
-    /// Stages the items of a test, in order, up to the first that clashes.
-    pub(crate) fn add(&mut self, alloc: A, test: &[u8], items: &[Item<A>]) -> Result<(), Stop<A>>
-        requires room { HasRoomIn (map item_data items.now) test.now (file_staged self.old) }
-        ensures committed { KeepsFile (file_committed self.old) (file_committed self.new) }
+    /// Stages the items of a test, in order, up to the first that clashes. A test that isn't there is put in with them.
+    fn add(&mut self, alloc: A, test: &[u8], items: &[Item<A>]) -> Result<(), Stop<A>>
+        requires { HasRoomIn (map item_data items.now) (file_staged self.old) }
+        ensures committed { KeepsIn (file_committed self.old) (file_committed self.new) }
         ensures ok { OnOk result (AddsItems (map item_data items.now) test.now (file_staged self.old) (file_staged self.new)) }
         ensures clash { IfErr result (ClashesIn (map item_data items.now) test.now (file_staged self.old)) }
         ensures settled { (tests : List (List ℕ)) → list_any (λ name. bytes_eq name test.now) tests ≡ true → IsSettledBut tests self.old → IsSettledBut tests self.new }
     {
         // Tells that a map has fewer than 2^63 entries.
         self.tests.len();
-        match self.tests.get_mut(test) {
-            Some(points) => add_items(points.get_mut(), &mut self.index, alloc, items),
-            None => Ok(()),
+        if let Some(points) = self.tests.get_mut(test) {
+            return add_items(points.get_mut(), &mut self.index, alloc, items);
         }
+        self.add_new(alloc, test, items)
     }
 
-    /// Stages the items of a test of this file, and tells the file's staged totals before and after.
+    /// The same of a test that isn't there.
+    fn add_new(&mut self, alloc: A, test: &[u8], items: &[Item<A>]) -> Result<(), Stop<A>>
+        requires room { HasRoomIn (map item_data items.now) (file_staged self.old) }
+        requires new { is_some (value_of (slice_cmp nat_cmp) test.now (file_staged self.old).tests) ≡ false }
+        ensures committed { KeepsIn (file_committed self.old) (file_committed self.new) }
+        ensures ok { OnOk result (AddsItems (map item_data items.now) test.now (file_staged self.old) (file_staged self.new)) }
+        ensures clash { IfErr result (ClashesIn (map item_data items.now) test.now (file_staged self.old)) }
+        ensures settled { (tests : List (List ℕ)) → list_any (λ name. bytes_eq name test.now) tests ≡ true → IsSettledBut tests self.old → IsSettledBut tests self.new }
+    {
+        self.tests.len();
+        let mut points = Boxed::new(alloc, Test::new(alloc))?;
+        add_items(points.get_mut(), &mut self.index, alloc, items)?;
+        self.tests.insert(Vec::from_slice(alloc, test)?, points)?;
+        Ok(())
+    }
+
+    /// Stages the items of a test of this file, whose name comes with them, and tells its staged totals before and after.
     pub(crate) fn exchange(
         &mut self,
         alloc: A,
@@ -92,8 +92,8 @@ impl<A: Allocator + Copy> File<A> {
         test: &[u8],
         items: &[Item<A>],
     ) -> Result<(Totals, Totals), Refuse<A>>
-        requires { HasRoomIn (map item_data items.now) test.now (file_staged self.old) }
-        ensures committed { KeepsFile (file_committed self.old) (file_committed self.new) }
+        requires { HasRoomIn (map item_data items.now) (file_staged self.old) }
+        ensures committed { KeepsIn (file_committed self.old) (file_committed self.new) }
         ensures ok { OnOk result (AddsItems (map item_data items.now) test.now (file_staged self.old) (file_staged self.new)) }
         ensures totals { IfOk result (λ t. (t.0 ≡ file_totals (file_staged self.old)) × (t.1 ≡ file_totals (file_staged self.new))) }
         ensures clash { IfErr result (λ e. RefusedIn (map item_data items.now) file.now test.now (file_staged self.old) (refuse_data e)) }
@@ -112,10 +112,41 @@ impl<A: Allocator + Copy> File<A> {
         }
     }
 
-    /// Stages what a test has for another test of the file. Both are there.
+    /// Stages what a test has for another test of the file, which is made where it isn't there.
     pub(crate) fn copy_test(&mut self, alloc: A, old: &[u8], new: &[u8]) -> Result<(), Memory>
         requires apart { old.now ≢ new.now }
-        requires room { HasRoomToCopyIn old.now new.now (file_staged self.old) }
+        requires room { HasRoomToCopyIn old.now (file_staged self.old) }
+        requires same { value_of (slice_cmp nat_cmp) old.now (file_staged self.old).tests ≡ value_of (slice_cmp nat_cmp) old.now (file_committed self.old).tests }
+        ensures committed { KeepsIn (file_committed self.old) (file_committed self.new) }
+        ensures ok { OnOk result (CopiesIn old.now new.now (file_staged self.old) (file_staged self.new)) }
+        ensures settled { (tests : List (List ℕ)) → list_any (λ name. bytes_eq name new.now) tests ≡ true → IsSettledBut tests self.old → IsSettledBut tests self.new }
+    {
+        self.open(alloc, new)?;
+        self.copy_points(alloc, old, new)
+    }
+
+    /// Sees to it that the test is there.
+    fn open(&mut self, alloc: A, test: &[u8]) -> Result<(), Memory>
+        ensures committed { OnOk result (file_committed self.new ≡ with_test test.now (file_committed self.old)) }
+        ensures staged { OnOk result (file_staged self.new ≡ with_test test.now (file_staged self.old)) }
+        ensures err_committed { OnErr result (file_committed self.new ≡ file_committed self.old) }
+        ensures err_staged { OnErr result (file_staged self.new ≡ file_staged self.old) }
+        ensures settled { (tests : List (List ℕ)) → IsSettledBut tests self.old → IsSettledBut tests self.new }
+    {
+        if self.tests.contains_key(test) {
+            return Ok(());
+        }
+        let name = Vec::from_slice(alloc, test)?;
+        let points = Boxed::new(alloc, Test::new(alloc))?;
+        self.tests.insert(name, points)?;
+        Ok(())
+    }
+
+    /// Stages what a test has for another test of the file. Both are there.
+    fn copy_points(&mut self, alloc: A, old: &[u8], new: &[u8]) -> Result<(), Memory>
+        requires apart { old.now ≢ new.now }
+        requires room { HasRoomToCopyIn old.now (file_staged self.old) }
+        requires there { is_some (value_of (slice_cmp nat_cmp) new.now (file_staged self.old).tests) ≡ true }
         requires same { value_of (slice_cmp nat_cmp) old.now (file_staged self.old).tests ≡ value_of (slice_cmp nat_cmp) old.now (file_committed self.old).tests }
         ensures committed { KeepsFile (file_committed self.old) (file_committed self.new) }
         ensures ok { OnOk result (CopiesIn old.now new.now (file_staged self.old) (file_staged self.new)) }

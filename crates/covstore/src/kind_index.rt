@@ -1,6 +1,6 @@
 //! In how many tests of a file the points of a kind are, and how many points there are.
 
-ghost use Rattle.std.specs.Prelude.{◌≡◌, ◌<◌, ◌^◌, [], IfSome, OnOk, length};
+ghost use Rattle.std.specs.Prelude.{◌≡◌, ◌<◌, ◌≤◌, ◌^◌, [], IfSome, OnOk, length};
 ghost use Rattle.covstore.specs.KindIndex.{changed};
 ghost use Rattle.covstore.specs.KindIndexCounts.{found_of, hit_of};
 ghost use Rattle.covmap.specs.Puts.{value_of};
@@ -47,7 +47,7 @@ pub(crate) struct KindTotals {
 }
 
 impl KindTotals {
-    ghost use Rattle.std.specs.Prelude.{◌+◌, ◌≤◌, nat_lt};
+    ghost use Rattle.std.specs.Prelude.{◌+◌, nat_lt};
     ghost use Rattle.covstore.specs.KindIndexCounts.{is_above_at, is_new, one_if};
     ghost use Rattle.covstore.specs.KindIndexDrops.{CanBeLess, IsLess};
 
@@ -133,7 +133,7 @@ impl<K: Key + Drop, A: Allocator + Copy> KindIndex<K, A> {
         guess: Place,
     ) -> Result<(), AllocError>
         requires few { length self.old.staged < 2 ^ 63 }
-        requires room { IfSome (value_of K.cmp (Q.named query) self.old.staged) (λ committed. (committed.tests < 2 ^ 63) × (committed.hit < 2 ^ 63)) }
+        requires room { IfSome (value_of K.cmp (Q.named query) self.old.staged) (λ committed. (committed.tests ≤ 2 ^ 63) × (committed.hit ≤ 2 ^ 63)) }
         ensures committed { self.new.committed ≡ self.old.committed }
         ensures ok { OnOk result (self.new.staged ≡ changed K.cmp (Q.named query) change self.old.staged) }
     {

@@ -1,7 +1,7 @@
 //! Why a store takes no submission.
 
 use covline::{Bytes, Memory};
-use std::alloc::{Allocator, Global};
+use std::alloc::{AllocError, AllocFailed, Allocator, Global};
 
 /// Why a submission can't be held too.
 #[derive(Drop)]
@@ -40,6 +40,28 @@ impl<A: Allocator> From<Memory> for Refuse<A> {
     ghost from_gives = { λ _ e. e ≡ refusals.Memory };
 
     fn from(_refused: Memory) -> Refuse<A> {
+        Refuse::Memory
+    }
+}
+
+impl<A: Allocator> From<AllocError> for Refuse<A> {
+    ghost use Rattle.std.specs.Prelude.{◌≡◌};
+    ghost use Rattle.covstore.specs.declared.refuse.Refuse.TheVariants as refusals;
+
+    ghost from_gives = { λ _ e. e ≡ refusals.Memory };
+
+    fn from(_refused: AllocError) -> Refuse<A> {
+        Refuse::Memory
+    }
+}
+
+impl<T: Drop, A: Allocator> From<AllocFailed<T>> for Refuse<A> {
+    ghost use Rattle.std.specs.Prelude.{◌≡◌};
+    ghost use Rattle.covstore.specs.declared.refuse.Refuse.TheVariants as refusals;
+
+    ghost from_gives = { λ _ e. e ≡ refusals.Memory };
+
+    fn from(_refused: AllocFailed<T>) -> Refuse<A> {
         Refuse::Memory
     }
 }

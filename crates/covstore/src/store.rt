@@ -1,7 +1,17 @@
 //! The store.
 
-ghost use Rattle.std.specs.Prelude.{◌≡◌, ◌+◌, ◌≤◌, [], OnOk};
+ghost use Rattle.std.specs.Prelude.{◌≡◌, ◌+◌, ◌≤◌, ◌++◌, ℕ, List, None, [], ◌∷◌, map, IfErr, IfOk, OnOk};
+ghost use Rattle.std.specs.BTreeMap.{is_at};
+ghost use Rattle.std.specs.Cmp.Lexicographic.{slice_cmp};
+ghost use Rattle.std.specs.Map.{lookup};
+ghost use Rattle.std.specs.Ordering.{nat_cmp};
+ghost use Rattle.covline.specs.Row.{item_data};
+ghost use Rattle.covstore.specs.RefuseView.{refuse_data};
+ghost use Rattle.covstore.specs.State.{totals_in};
+ghost use Rattle.covstore.specs.Store.{AddsTo, ClashesAmong, KeepsState};
+ghost use Rattle.covstore.specs.StoreSection.{HasRoomAmong, rows_of_items};
 ghost use Rattle.covstore.specs.StoreView.{AreSettledBut, files_staged, files_committed, touched_data};
+ghost use Rattle.covstore.specs.TotalsExchanged.{IsExchange};
 
 use crate::boxed::Boxed;
 use crate::content::Sections;
@@ -64,6 +74,50 @@ fn commit_staged<A: Allocator + Copy>(
     }
 }
 
+/// Stages the items of a test of a file, and tells the file's staged totals before and after. Looks the file up once; one
+/// that isn't there is put in with its items.
+fn add_to_files<A: Allocator + Copy>(
+    files: &mut BTreeMap<Vec<u8, A>, Boxed<File<A>, A>, A>,
+    alloc: A,
+    file: &[u8],
+    test: &[u8],
+    items: &[Item<A>],
+) -> Result<(Totals, Totals), Refuse<A>>
+    requires { HasRoomAmong (rows_of_items file.now test.now (map item_data items.now)) (files_staged (λ name. name.items) files.old.entries) }
+    ensures committed { KeepsState (files_committed (λ name. name.items) files.old.entries) (files_committed (λ name. name.items) files.new.entries) }
+    ensures ok { OnOk result (AddsTo (rows_of_items file.now test.now (map item_data items.now)) (files_staged (λ name. name.items) files.old.entries) (files_staged (λ name. name.items) files.new.entries)) }
+    ensures totals { IfOk result (λ t. IsExchange t.0 t.1 (totals_in (files_staged (λ name. name.items) files.old.entries)) (totals_in (files_staged (λ name. name.items) files.new.entries))) }
+    ensures clash { IfErr result (λ e. ClashesAmong (rows_of_items file.now test.now (map item_data items.now)) (files_staged (λ name. name.items) files.old.entries) (refuse_data e)) }
+    ensures settled { (touched : List (List ℕ × List ℕ)) → AreSettledBut (λ name. name.items) touched files.old.entries → AreSettledBut (λ name. name.items) (touched ++ (file.now, test.now) ∷ []) files.new.entries }
+{
+    if let Some(found) = files.get_mut(file) {
+        return found.get_mut().exchange(alloc, file, test, items);
+    }
+    add_new_file(files, alloc, file, test, items)
+}
+
+/// The same of a file that isn't there.
+fn add_new_file<A: Allocator + Copy>(
+    files: &mut BTreeMap<Vec<u8, A>, Boxed<File<A>, A>, A>,
+    alloc: A,
+    file: &[u8],
+    test: &[u8],
+    items: &[Item<A>],
+) -> Result<(Totals, Totals), Refuse<A>>
+    requires room { HasRoomAmong (rows_of_items file.now test.now (map item_data items.now)) (files_staged (λ name. name.items) files.old.entries) }
+    requires new { lookup (is_at (λ other. slice_cmp nat_cmp file.now other.items)) files.old.entries ≡ None }
+    ensures committed { KeepsState (files_committed (λ name. name.items) files.old.entries) (files_committed (λ name. name.items) files.new.entries) }
+    ensures ok { OnOk result (AddsTo (rows_of_items file.now test.now (map item_data items.now)) (files_staged (λ name. name.items) files.old.entries) (files_staged (λ name. name.items) files.new.entries)) }
+    ensures totals { IfOk result (λ t. IsExchange t.0 t.1 (totals_in (files_staged (λ name. name.items) files.old.entries)) (totals_in (files_staged (λ name. name.items) files.new.entries))) }
+    ensures clash { IfErr result (λ e. ClashesAmong (rows_of_items file.now test.now (map item_data items.now)) (files_staged (λ name. name.items) files.old.entries) (refuse_data e)) }
+    ensures settled { (touched : List (List ℕ × List ℕ)) → AreSettledBut (λ name. name.items) touched files.old.entries → AreSettledBut (λ name. name.items) (touched ++ (file.now, test.now) ∷ []) files.new.entries }
+{
+    let mut made = Boxed::new(alloc, File::new(alloc))?;
+    let totals = made.get_mut().exchange(alloc, file, test, items)?;
+    files.insert(Vec::from_slice(alloc, file)?, made)?;
+    Ok(totals)
+}
+
 /// What the held submissions say: for each file and each test in it, the value of every line, function and branch. There are
 /// at most 1,048,576 submissions. Where a test is dropped or renamed, its rows are dropped or renamed in all of them.
 /// Contracts see the values as sections, the number of submissions, and what the store keeps of its files, once as it is
@@ -90,25 +144,19 @@ impl<A: Allocator> Model for Store<A> {
 }
 
 impl<A: Allocator + Copy> Store<A> {
-    ghost use Rattle.std.specs.Prelude.{◌≡◌, ◌≢◌, ◌<◌, ℕ, List, ◌++◌, [], ◌∷◌, map, true, IfOk, IfErr, None, OnOk, OnErr};
-    ghost use Rattle.std.specs.Cmp.Lexicographic.{slice_cmp};
-    ghost use Rattle.std.specs.Option.{is_some};
-    ghost use Rattle.std.specs.Ordering.{nat_cmp};
+    ghost use Rattle.std.specs.Prelude.{◌≡◌, ◌≢◌, ◌<◌, ℕ, List, ◌++◌, [], ◌∷◌, map, IfOk, IfErr, None, OnOk, OnErr};
     ghost use Rattle.std.specs.Str.{bytes_eq};
     ghost use Rattle.std.specs.List.{flat_map, list_any};
     ghost use Rattle.covline.specs.Row.{SubmissionData, item_data, rows_of, rows_of_sect};
     ghost use Rattle.covline.specs.SectView.{sect_data};
     ghost use Rattle.covstore.specs.Content.{content_at};
-    ghost use Rattle.covstore.specs.Store.{AddsRows, ClashesWith, HasRoomForRows, IsPlanOf, KeepsState, SameContent, SameCommitted, StandsFor, IsRefusedAt, most_members};
-    ghost use Rattle.covmap.specs.Puts.{value_of};
-    ghost use Rattle.covstore.specs.StoreSection.{HasPlace, rows_of_items};
+    ghost use Rattle.covstore.specs.Store.{AddsRows, ClashesWith, HasRoomForRows, IsPlanOf, SameContent, SameCommitted, StandsFor, IsRefusedAt, most_members};
+    ghost use Rattle.covstore.specs.StoreSection.{rows_of_items};
     ghost use Rattle.covstore.specs.StoreKept.{IsKept};
     ghost use Rattle.covstore.specs.RefuseView.{refuse_data};
     ghost use Rattle.covstore.specs.Renamed.{renamed};
     ghost use Rattle.covstore.specs.Renaming.{Copies, HasRoomToCopy, IsMoving, IsRenamingOf};
-    ghost use Rattle.covstore.specs.StoreView.{IsStore};
     ghost use Rattle.covstore.specs.State.{sections_of, totals_in};
-    ghost use Rattle.covstore.specs.FileView.{with_file};
     ghost use Rattle.covstore.specs.Table.{Table, all_rows, clash_at};
     ghost use Rattle.covstore.specs.Totals.{AreTotals, totals_of};
     ghost use Rattle.covstore.specs.Without.{sections_of_test, without_test};
@@ -200,7 +248,7 @@ impl<A: Allocator + Copy> Store<A> {
     {
         // A plan that was dropped may have left something staged.
         self.rollback();
-        let (sections, _) = self.after_drop(old);
+        let sections = count_sections(&self.files, old);
         if sections == 0 || old == new {
             return Ok(Renaming::none(sections));
         }
@@ -282,43 +330,10 @@ impl<A: Allocator + Copy> Store<A> {
         if items.is_empty() {
             return Ok(());
         }
-        let file = sect.file.get();
-        let test = sect.test.get();
-        self.open(alloc, file)?;
-        self.open_test(alloc, file, test)?;
-        self.add_items(alloc, file, test, items)
+        self.add_items(alloc, sect.file.get(), sect.test.get(), items)
     }
 
-    /// Makes the file, unless it is there.
-    fn open(&mut self, alloc: A, file: &[u8]) -> Result<(), Memory>
-        ensures committed { SameCommitted self.old self.new }
-        ensures staged { OnOk result (self.new.staged ≡ with_file file.now self.old.staged) }
-        ensures after { OnOk result (self.new.after ≡ self.old.after) }
-    {
-        if self.files.contains_key(file) {
-            return Ok(());
-        }
-        let name = Vec::from_slice(alloc, file)?;
-        let opened = Boxed::new(alloc, File::new(alloc))?;
-        self.files.insert(name, opened)?;
-        Ok(())
-    }
-
-    /// Makes the test of a file, unless it is there.
-    fn open_test(&mut self, alloc: A, file: &[u8], test: &[u8]) -> Result<(), Memory>
-        requires { is_some (value_of (slice_cmp nat_cmp) file.now self.old.staged) ≡ true }
-        ensures committed { SameCommitted self.old self.new }
-        ensures staged { OnOk result (KeepsState self.old.staged self.new.staged) }
-        ensures place { OnOk result (HasPlace file.now test.now self.new.staged) }
-        ensures after { OnOk result (self.new.after ≡ self.old.after) }
-    {
-        match self.files.get_mut(file) {
-            Some(opened) => opened.get_mut().open(alloc, test),
-            None => Ok(()),
-        }
-    }
-
-    /// Stages the items of a test that is there, and notes that something is staged of it.
+    /// Stages the items of a test, and notes that something is staged of it.
     fn add_items(
         &mut self,
         alloc: A,
@@ -326,17 +341,13 @@ impl<A: Allocator + Copy> Store<A> {
         test: &[u8],
         items: &[Item<A>],
     ) -> Result<(), Refuse<A>>
-        requires room { HasRoomForRows (rows_of_items file.now test.now (map item_data items.now)) self.old }
-        requires place { HasPlace file.now test.now self.old.staged }
+        requires { HasRoomForRows (rows_of_items file.now test.now (map item_data items.now)) self.old }
         ensures committed { SameCommitted self.old self.new }
         ensures ok { OnOk result (AddsRows (rows_of_items file.now test.now (map item_data items.now)) self.old self.new) }
         ensures clash { IfErr result (λ e. ClashesWith (rows_of_items file.now test.now (map item_data items.now)) self.old (refuse_data e)) }
     {
         Touched::push(&mut self.touched, alloc, file, test)?;
-        let Some(opened) = self.files.get_mut(file) else {
-            return Ok(());
-        };
-        let totals = opened.get_mut().exchange(alloc, file, test, items)?;
+        let totals = add_to_files(&mut self.files, alloc, file, test, items)?;
         self.staged = self.staged.exchanged(totals.0, totals.1);
         Ok(())
     }
@@ -357,22 +368,10 @@ impl<A: Allocator + Copy> Store<A> {
         Ok(())
     }
 
-    /// The same in one file, in which the old test has values.
+    /// The same in one file, in which the old test has values. Notes that something is staged of the new one.
     fn copy_file(&mut self, alloc: A, file: &[u8], old: &[u8], new: &[u8]) -> Result<(), Memory>
         requires apart { old.now ≢ new.now }
         requires room { HasRoomToCopy file.now old.now self.old }
-        ensures committed { SameCommitted self.old self.new }
-        ensures ok { OnOk result (Copies file.now old.now new.now self.old.staged self.new.staged) }
-    {
-        self.open_test(alloc, file, new)?;
-        self.copy_values(alloc, file, old, new)
-    }
-
-    /// The same in one file, in which both tests are there. Notes that something is staged of the new one.
-    fn copy_values(&mut self, alloc: A, file: &[u8], old: &[u8], new: &[u8]) -> Result<(), Memory>
-        requires apart { old.now ≢ new.now }
-        requires room { HasRoomToCopy file.now old.now self.old }
-        requires place { HasPlace file.now new.now self.old.staged }
         ensures committed { SameCommitted self.old self.new }
         ensures ok { OnOk result (Copies file.now old.now new.now self.old.staged self.new.staged) }
     {

@@ -1,7 +1,7 @@
 //! What the items of a file and a test add up to at a point, and in how many tests a file has a point. A sum stops at
 //! 2^128 - 1.
 
-ghost use Rattle.std.specs.Prelude.{◌≡◌, ◌^◌, ◌<◌, Bool, true, IfSome, Option};
+ghost use Rattle.std.specs.Prelude.{◌≡◌, ◌^◌, ◌≤◌, Bool, true, IfSome, Option};
 ghost use Rattle.covstore.specs.KindIndexCounts.{is_above_at, tests_more};
 ghost use Rattle.covstore.specs.Kinds.{branch_above, function_above, line_above};
 ghost use Rattle.covstore.specs.State.{has_checksum};
@@ -171,12 +171,12 @@ pub(crate) struct TestsAddend {
 }
 
 impl Addend<Tests> for TestsAddend {
-    ghost fits = { λ more value. IfSome value (λ tests. (tests.tests < 2 ^ 63) × (tests.hit < 2 ^ 63)) };
+    ghost fits = { λ more value. IfSome value (λ tests. (tests.tests ≤ 2 ^ 63) × (tests.hit ≤ 2 ^ 63)) };
 
     ghost sum = { λ more value. tests_more more.is_new more.is_hit value };
 
     fn plus(self, value: &Option<Tests>) -> Tests
-        requires { IfSome value.now (λ tests. (tests.tests < 2 ^ 63) × (tests.hit < 2 ^ 63)) }
+        requires { IfSome value.now (λ tests. (tests.tests ≤ 2 ^ 63) × (tests.hit ≤ 2 ^ 63)) }
         ensures { result ≡ tests_more self.is_new self.is_hit value.now }
     {
         let (tests, hit) = match value {

@@ -1,0 +1,87 @@
+-- A file that is made ready first: what is added to it then is added to the file as it was.
+use Rattle.std.proofs.Common.{◌≡◌, ℕ, Bool, true, false, List, [], ◌++◌, refl, ◌∙◌, subst}
+use Rattle.std.specs.Prelude.{if◌then◌else◌}
+use Rattle.std.specs.Cmp.Lexicographic.{slice_cmp}
+use Rattle.std.specs.Option.{is_some}
+use Rattle.std.specs.Ordering.{nat_cmp}
+use Rattle.std.proofs.lemmas.Bool.{cond-false}
+use Rattle.covline.specs.Row.{ItemData, Row, rows_of_sect}
+use Rattle.covstore.specs.declared.stop.Stop.{Stop}
+use Rattle.covstore.specs.declared.stop.Stop.TheVariants.{Clash, Memory}
+use Rattle.covstore.specs.FileIndex.{FileIndexData}
+use Rattle.covstore.specs.FileSection.{AddsItems, ClashesIn, HasFile, HasRoomIn, KeepsIn}
+use Rattle.covstore.specs.FileView.{tests_with}
+use Rattle.covmap.specs.Puts.{put, value_of}
+use Rattle.covstore.specs.Renaming.{CopiesIn, HasRoomToCopyIn, copied_rows}
+use Rattle.covstore.specs.Section.{section_of_items}
+use Rattle.covstore.specs.State.{FileData, file_with}
+use Rattle.covstore.specs.Sums.{TestData, test_of}
+use Rattle.covstore.proofs.AddsLists.{put_twice}
+use Rattle.covstore.proofs.KeepsMore.{test_keeps}
+use Rattle.covstore.proofs.Orders.{names_order}
+use Rattle.covstore.proofs.Puts.{value_of-put, value_of-put_other}
+
+module _ (file ready : FileData) (keeps : KeepsIn file ready) where
+  stands_ready : (rows : List Row) (files : List (List ℕ × FileData)) (name : List ℕ) → HasFile rows files name file → HasFile rows (put (slice_cmp nat_cmp) name ready files) name ready
+  stands_ready rows files name has = record {
+    state = (keeps files name has.state.ascending has.there).states rows has.state;
+    agree = has.agree;
+    there = value_of-put names_order name ready files;
+  }
+
+  pub room_ready : (items : List ItemData) → HasRoomIn items file → HasRoomIn items ready
+  room_ready items room = record {
+    rows = room.rows;
+    files = put (slice_cmp nat_cmp) room.name ready room.files;
+    name = room.name;
+    stands = stands_ready room.rows room.files room.name room.stands;
+    few = room.few;
+  }
+
+  pub adds_ready : (items : List ItemData) (test : List ℕ) (after : FileData) → AddsItems items test ready after → AddsItems items test file after
+  adds_ready items test after adds rows files name has =
+      let more = rows_of_sect (section_of_items name test items) in
+      let added = adds rows (put (slice_cmp nat_cmp) name ready files) name (stands_ready rows files name has) in (
+        added.0,
+        subst (λ (fs : List (List ℕ × FileData)). HasFile (rows ++ more) fs name after) (put_twice names_order name ready after files) added.1,
+      )
+
+  pub clashes_ready : {A : Type 0} (items : List ItemData) (test : List ℕ) (stop : Stop A) → ClashesIn items test ready stop → ClashesIn items test file stop
+  clashes_ready items test Memory clash = tt
+  clashes_ready items test (Clash line held given) clash = λ rows files name has. clash rows (put (slice_cmp nat_cmp) name ready files) name (stands_ready rows files name has)
+
+  pub copies_ready : (old new : List ℕ) (after : FileData) → CopiesIn old new ready after → CopiesIn old new file after
+  copies_ready old new after copies rows files name has =
+      subst (λ (fs : List (List ℕ × FileData)). HasFile (rows ++ copied_rows name old new rows) fs name after) (put_twice names_order name ready after files)
+      (copies rows (put (slice_cmp nat_cmp) name ready files) name (stands_ready rows files name has))
+
+  pub room_to_copy : (old : List ℕ) → value_of (slice_cmp nat_cmp) old ready.tests ≡ value_of (slice_cmp nat_cmp) old file.tests → HasRoomToCopyIn old file → HasRoomToCopyIn old ready
+  room_to_copy old same room = record {
+    source = room.source;
+    its_source = same ∙ room.its_source;
+    rows = room.rows;
+    files = put (slice_cmp nat_cmp) room.name ready room.files;
+    name = room.name;
+    stands = stands_ready room.rows room.files room.name room.stands;
+    few = room.few;
+  }
+
+-- ---- a test that is made ready
+
+-- another one stays
+pub other_test : (test other : List ℕ) (tests : List (List ℕ × TestData)) → (test ≡ other → ⊥) → value_of (slice_cmp nat_cmp) other (tests_with test tests) ≡ value_of (slice_cmp nat_cmp) other tests
+other_test test other tests apart = at (is_some (value_of (slice_cmp nat_cmp) test tests))
+  where
+    at : (b : Bool) → value_of (slice_cmp nat_cmp) other (if b then tests else put (slice_cmp nat_cmp) test (test_of []) tests) ≡ value_of (slice_cmp nat_cmp) other tests
+    at true = refl
+    at false = value_of-put_other names_order test other (test_of []) tests apart
+
+-- one that is new is put in
+module _ (test : List ℕ) (tests : List (List ℕ × TestData)) (new : is_some (value_of (slice_cmp nat_cmp) test tests) ≡ false) where
+  abbrev pub tests_more : List (List ℕ × TestData)
+  tests_more = put (slice_cmp nat_cmp) test (test_of []) tests
+
+  pub new_keeps : (index : FileIndexData) → KeepsIn (file_with tests index) (file_with tests_more index)
+  new_keeps index =
+      subst (λ (list : List (List ℕ × TestData)). KeepsIn (file_with tests index) (file_with list index)) (cond-false (is_some (value_of (slice_cmp nat_cmp) test tests)) tests tests_more new)
+      (test_keeps test (file_with tests index))
