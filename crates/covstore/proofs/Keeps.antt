@@ -16,7 +16,7 @@ use Rattle.covstore.proofs.Puts.{at_before, sum_by-put}
 use Rattle.covstore.proofs.StateMore.{file_more}
 use Rattle.covstore.proofs.Axis.{each_kind, totals_same}
 
-is_none : {X : Type 0} (found : Option X) → is_some found ≡ false → found ≡ None
+pub is_none : {X : Type 0} (found : Option X) → is_some found ≡ false → found ≡ None
 is_none None e = refl
 is_none (Some x) e = absurd (false≢true (sym e))
 

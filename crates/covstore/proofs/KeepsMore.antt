@@ -1,10 +1,10 @@
 -- Changes of one file that leave the state as it is: a test that is made ready, and texts of lines that nobody holds.
-use Rattle.std.proofs.Common.{◌≡◌, ℕ, true, false, Option, Some, None, List, [], map, refl, sym, ap, ◌∙◌, subst, arith, ⊎_elim}
+use Rattle.std.proofs.Common.{◌≡◌, ℕ, true, false, Option, Some, List, [], map, refl, sym, ap, ◌∙◌, subst, arith, ⊎_elim}
 use Rattle.std.specs.Cmp.Lexicographic.{slice_cmp}
 use Rattle.std.specs.List.{sum_by}
 use Rattle.std.specs.Option.{is_some}
 use Rattle.std.specs.Ordering.{nat_cmp}
-use Rattle.std.proofs.lemmas.Bool.{cases_Bool, cond-true, cond-false, false≢true}
+use Rattle.std.proofs.lemmas.Bool.{cases_Bool, cond-false, cond-true}
 use Rattle.covline.specs.Row.{Row}
 use Rattle.covstore.specs.Kinds.{CountsOf, Each, Kind, above_of, at, cmp_of}
 use Rattle.covstore.specs.Section.{IsIn}
@@ -24,6 +24,7 @@ use Rattle.covstore.proofs.StateMore.{test_more}
 use Rattle.covstore.proofs.StateRows.{file_whole, state_changed}
 use Rattle.covstore.proofs.StateSections.{points_same}
 use Rattle.covstore.proofs.Axis.{totals_same}
+use Rattle.covstore.proofs.Keeps.{is_none}
 
 module _ (name : List ℕ) (before after : FileData) (files : List (List ℕ × FileData)) (ascending : ArePairs (slice_cmp nat_cmp) files) (there : value_of (slice_cmp nat_cmp) name files ≡ Some before) where
   as_much : (f : List ℕ × FileData → ℕ) → f (name, after) ≡ f (name, before) → sum_by f (put (slice_cmp nat_cmp) name after files) ≡ sum_by f files
@@ -72,10 +73,6 @@ module _ (name test : List ℕ) (before after : FileData) (points : TestData) (t
   }
 
 -- ---- a test that is made ready
-
-is_none : {X : Type 0} (found : Option X) → is_some found ≡ false → found ≡ None
-is_none None e = refl
-is_none (Some x) e = absurd (false≢true (sym e))
 
 module _ (name test : List ℕ) (file : FileData) (files : List (List ℕ × FileData)) (ascending : ArePairs (slice_cmp nat_cmp) files) (is : value_of (slice_cmp nat_cmp) name files ≡ Some file) where
   pub with_test_keeps : KeepsState files (put (slice_cmp nat_cmp) name (with_test test file) files)
