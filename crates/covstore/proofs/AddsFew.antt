@@ -7,7 +7,6 @@ use Rattle.std.specs.declared.cmp.Ordering.TheVariants.{Less}
 use Rattle.std.specs.List.{flat_map}
 use Rattle.std.specs.List.Sorted.{IsStrictlySortedBy}
 use Rattle.std.specs.Ordering.{nat_cmp}
-use Rattle.std.proofs.lemmas.Cmp.{tied_itself}
 use Rattle.std.proofs.lemmas.List.{length-map}
 use Rattle.covline.specs.Row.{ItemData, Row}
 use Rattle.covstore.specs.declared.sums.Tests.{Tests}
@@ -18,7 +17,7 @@ use Rattle.covstore.specs.State.{FileData, IsStateOf, IsWholeFile, points_in, te
 use Rattle.covstore.specs.Sums.{TestData, sum_at, test_of}
 use Rattle.covstore.specs.Value.{Key, has_key, items_at}
 use Rattle.covstore.specs.Kinds.{KeyOf, Kind, PointsOf, SumOf, at, cmp_of, point_of}
-use Rattle.covstore.proofs.Ascend.{IsExactOrder, In-ascending, In-to_ascending, ascending_sorted, length-ascending}
+use Rattle.covstore.proofs.Ascend.{In-ascending, In-to_ascending, IsExactOrder, ascending_sorted, length-ascending, not_itself}
 use Rattle.covstore.proofs.ContentsLists.{In-flat, In-unfilter, In-unflat}
 use Rattle.covstore.proofs.CountsFound.{points_kept, points_of, sorted_keys}
 use Rattle.covstore.proofs.Few.{few_parts, one_branch, one_function, one_line}
@@ -29,9 +28,6 @@ use Rattle.covstore.proofs.StateSections.{points_there}
 use Rattle.covstore.proofs.Axis.{each_kind, of_all, order_of}
 
 -- ---- ascending lists, one within the other
-
-not_itself : {X : Type 0} {cmp : X → X → Ordering} → IsTotalOrder cmp → (x : X) → cmp x x ≡ Less → ⊥
-not_itself {X} {cmp} t x e = let i = tied_itself t x in cc
 
 -- a member behind the first isn't the first
 not_first : {X : Type 0} {cmp : X → X → Ordering} → IsTotalOrder cmp → (y z : X) (ys : List X) → cmp y z ≡ Less → In z (y ∷ ys) → In z ys

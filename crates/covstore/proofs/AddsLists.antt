@@ -12,7 +12,7 @@ use Rattle.covstore.specs.Clash.{Checksum, ClashData, clash_with, differs, first
 use Rattle.covstore.specs.KindIndexCounts.{is_new, one_if}
 use Rattle.covmap.specs.Puts.{ArePairs, put, value_of}
 use Rattle.covstore.proofs.Ascend.{IsExactOrder, All-weaker, flips}
-use Rattle.covstore.proofs.Puts.{length-put, value_of_before}
+use Rattle.covstore.proofs.Puts.{length-put, same_pair, value_of_before}
 
 -- ---- the place of a key
 
@@ -22,9 +22,6 @@ pub record IsPlaceOf {K V : Type 0} (key : K) (value : V) (pairs : List (K × V)
   pub back : List (K × V)
   pub place : pairs ≡ front ++ (key, value) ∷ back
   pub after : (other : V) → pairs_with other ≡ front ++ (key, other) ∷ back
-
-same_pair : {K V : Type 0} {key other : K} {value committed : V} → key ≡ other → value ≡ committed → ◌≡◌ {A = K × V} (key, value) (other, committed)
-same_pair keys values = λ i. (keys i, values i)
 
 module _ {K V : Type 0} {cmp : K → K → Ordering} (o : IsExactOrder cmp) where
   place_at : (key : K) (value : V) (pair : K × V) (pairs : List (K × V)) (order : Ordering) → cmp pair.0 key ≡ order → AllByRecursion (λ next. cmp pair.0 next.0 ≡ Less) pairs

@@ -25,14 +25,13 @@ use Rattle.covstore.specs.Sums.{TestData, line_sum, test_of}
 use Rattle.covstore.specs.Value.{Key, checksum_said, first_of, items_at, key_of_row, has_key, line_checksum}
 use Rattle.covstore.proofs.AddsLists.{IsPlaceOf, place_of}
 use Rattle.covstore.proofs.ContentsChecksums.{line_checksum_held, line_of_said, own_row}
-use Rattle.covstore.proofs.ContentsLists.{In-filter, In-flat, In-unflat}
-use Rattle.covstore.proofs.CountsFound.{any_counted}
+use Rattle.covstore.proofs.ContentsLists.{In-filter, In-flat, In-unflat, any_from_in, in_from_any}
+use Rattle.covstore.proofs.CountsFound.{any_counted, some_value}
 use Rattle.covstore.proofs.Members.{In, Contains-from, All-in, In-map, In-unmap}
 use Rattle.covstore.proofs.Orders.{names_order}
 use Rattle.covstore.proofs.Puts.{ArePairs-put, pair_in, value_of_pair}
 use Rattle.covstore.proofs.StateSections.{points_none, points_there}
 use Rattle.covstore.proofs.SumsMembers.{line_has_checksum, line_known}
-use Rattle.covstore.proofs.TotalsRows.{any_from_in, in_from_any}
 
 checksum_with : List ℕ → ℕ → List ℕ → Checksum
 checksum_with file line checksum = record { file = file; line = line; checksum = checksum }
@@ -79,10 +78,6 @@ some_first : {X : Type 0} (xs : List X) (x : X) → In x xs → is_some (first_o
 some_first [] x i = absurd i
 some_first (y ∷ ys) x i = refl
 
-some_value : {V : Type 0} (value : Option V) → is_some value ≡ true → (v : V) × (value ≡ Some v)
-some_value None e = absurd (false≢true e)
-some_value (Some v) e = (v, refl)
-
 -- a line of which an item says a checksum has a sum with one
 abbrev pub HasSum : TestData → ℕ → Type 0
 HasSum test line = (sum : LineSum) × (value_of nat_cmp line test.lines ≡ Some sum) × (sum.has_checksum ≡ true)
@@ -106,7 +101,7 @@ held_of line tests test i sum =
     let own : holds test ≡ true = ap (is_above_at has_checksum) sum.1 ∙ sum.2 in
     some_if (nat_lt 0 (holding line tests)) (holding line tests) ∙ any_counted holds tests ∙ any_from_in holds tests test i own
 
-above_sum : (value : Option LineSum) → is_above_at has_checksum value ≡ true → (sum : LineSum) × (value ≡ Some sum) × (sum.has_checksum ≡ true)
+pub above_sum : (value : Option LineSum) → is_above_at has_checksum value ≡ true → (sum : LineSum) × (value ≡ Some sum) × (sum.has_checksum ≡ true)
 above_sum None e = absurd (false≢true e)
 above_sum (Some sum) e = (sum, refl, e)
 

@@ -1,32 +1,23 @@
 -- Rows that are alike and whose checksums agree add up to the same.
-use Rattle.std.proofs.Common.{◌≡◌, ℕ, List, map, filter, ap, ◌∙◌}
+use Rattle.std.proofs.Common.{◌≡◌, ℕ, List, map, filter, ap}
 use Rattle.std.specs.Cmp.Lexicographic.{slice_cmp}
-use Rattle.std.specs.declared.cmp.Ordering.{Ordering}
 use Rattle.std.specs.List.{flat_map}
 use Rattle.std.specs.Prelude.{Contains}
 use Rattle.std.specs.List.Sorted.{IsPermutation}
 use Rattle.std.specs.Ordering.{nat_cmp}
 use Rattle.covline.specs.Points.{BranchPoint, line_point, func_point, branch_point, line_points, func_points, branch_points}
 use Rattle.covline.specs.Row.{ItemData, Row}
-use Rattle.covstore.specs.Ascending.{ascending}
 use Rattle.covstore.specs.Clash.{Checksum, Agree, checksum_of_row, checksums_in}
 use Rattle.covstore.specs.Content.{section_with, section_of, content_of, function_at, branch_at, line_at}
 use Rattle.covstore.specs.Table.{Table, all_rows}
 use Rattle.covstore.specs.Value.{bounded, Key, key_cmp, key_of_row, has_key, items_at, branch_cmp, checksum_said, line_added, start_said, function_added, taken_said}
 use Rattle.covstore.proofs.Alike.{AreAlike, alike_permuted, alike_mapped, alike_said, alike_picked, first_alike, sum_alike, least_alike}
-use Rattle.covstore.proofs.Ascend.{IsExactOrder}
 use Rattle.covstore.proofs.ContentsChecksums.{one_said}
-use Rattle.covstore.proofs.ContentsKinds.{same_ascending, map_same}
 use Rattle.covstore.proofs.ContentsPoints.{same_line, same_function, same_branch}
 use Rattle.covstore.proofs.ContentsSections.{same_section}
 use Rattle.covstore.proofs.Members.{In, In-from, Contains-from}
 use Rattle.covstore.proofs.Orders.{lines_order, names_order, branches_order, keys_order}
-
--- alike points in their order, each with the same value
-same_mapped : {P V : Type 0} (cmp : P → P → Ordering) → IsExactOrder cmp → (some others : List P) (f g : P → V) → AreAlike some others → ((p : P) → f p ≡ g p)
-    → map f (ascending cmp some) ≡ map g (ascending cmp others)
-same_mapped cmp order some others f g alike same =
-    map_same f g (ascending cmp some) same ∙ ap (map g) (same_ascending cmp order some others alike.there alike.back)
+use Rattle.covstore.proofs.RenamedAlike.{same_mapped}
 
 -- ---- the items of a file and a test
 

@@ -97,7 +97,7 @@ ascending_is {X} {cmp} o xs = record {
 
 -- ---- there is one such list
 
-not_itself : {X : Type 0} {cmp : X → X → Ordering} → IsTotalOrder cmp → (x : X) → cmp x x ≡ Less → ⊥
+pub not_itself : {X : Type 0} {cmp : X → X → Ordering} → IsTotalOrder cmp → (x : X) → cmp x x ≡ Less → ⊥
 not_itself {X} {cmp} t x e = let i = tied_itself t x in cc
 
 same_head : {X : Type 0} {cmp : X → X → Ordering} → IsTotalOrder cmp → (x y : X) (xs ys : List X) → AllByRecursion (λ z. cmp x z ≡ Less) xs → AllByRecursion (λ z. cmp y z ≡ Less) ys

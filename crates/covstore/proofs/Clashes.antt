@@ -103,7 +103,7 @@ two_true true true z e = (refl, refl)
 two_true true false z e = absurd (false≢true e)
 two_true false y z e = absurd (false≢true e)
 
-last_true : (x y z : Bool) → x ≡ true → y ≡ true → (x && y && not z) ≡ false → z ≡ true
+pub last_true : (x y z : Bool) → x ≡ true → y ≡ true → (x && y && not z) ≡ false → z ≡ true
 last_true true true true first second e = refl
 last_true true true false first second e = absurd (false≢true (sym e))
 last_true true false z first second e = absurd (false≢true second)

@@ -6,7 +6,7 @@ use Rattle.std.specs.List.{flat_map, list_any}
 use Rattle.std.proofs.lemmas.List.{length-map}
 use Rattle.std.proofs.lemmas.List.Sums.{length-filter, count_by-le-length}
 use Rattle.covline.specs.Points.{line_point, func_point, branch_point}
-use Rattle.covline.specs.Row.{ItemData, LineItem, FuncItem, BranchItem, Row}
+use Rattle.covline.specs.Row.{ItemData, Row}
 use Rattle.covstore.specs.Ascending.{ascending}
 use Rattle.covstore.specs.Clash.{Agree, checksums_in, clash_of}
 use Rattle.covstore.specs.Content.{SectionData, section_of, content_of, function_at, branch_at, line_at}
@@ -14,9 +14,10 @@ use Rattle.covstore.specs.Value.{Key, key_cmp, key_of_row, keys_of, has_key, ite
 use Rattle.covstore.proofs.Ascend.{In-ascending, In-to_ascending, length-ascending}
 use Rattle.covstore.proofs.ContentsChecksums.{same_checksums_clash}
 use Rattle.covstore.proofs.ContentsKinds.{same_with_more}
-use Rattle.covstore.proofs.ContentsLists.{any_members, any-map, few_parts}
+use Rattle.covstore.proofs.ContentsLists.{any-map, any_members}
 use Rattle.covstore.proofs.ContentsSections.{sections_kind}
 use Rattle.covstore.proofs.Orders.{keys_order}
+use Rattle.covstore.proofs.Few.{few_parts, one_branch, one_function, one_line}
 
 -- ---- tests
 
@@ -30,21 +31,6 @@ test_by_content rows test =
     ∙ any-map is_test key_of_row rows
 
 -- ---- sizes
-
-one_line : (item : ItemData) → length (line_point item) ≤ 1
-one_line (LineItem line count checksum) = omega arith
-one_line (FuncItem name line count) = omega arith
-one_line (BranchItem line block branch taken) = omega arith
-
-one_function : (item : ItemData) → length (func_point item) ≤ 1
-one_function (LineItem line count checksum) = omega arith
-one_function (FuncItem name line count) = omega arith
-one_function (BranchItem line block branch taken) = omega arith
-
-one_branch : (item : ItemData) → length (branch_point item) ≤ 1
-one_branch (LineItem line count checksum) = omega arith
-one_branch (FuncItem name line count) = omega arith
-one_branch (BranchItem line block branch taken) = omega arith
 
 length-items_at : (key : Key) (rows : List Row) → length (items_at key rows) ≤ length rows
 length-items_at key rows =

@@ -1,16 +1,16 @@
 -- The checksums of rows that agree are told by the rows' content.
-use Rattle.std.proofs.Common.{◌≡◌, ℕ, Bool, true, false, ◌&&◌, not, eqb, Option, Some, None, List, [], ◌∷◌, ◌++◌, filter, refl, sym, ap, ◌∙◌, subst, inl, inr, ⊎_elim}
+use Rattle.std.proofs.Common.{◌≡◌, ℕ, Bool, true, false, ◌&&◌, eqb, Option, Some, None, List, [], ◌∷◌, ◌++◌, filter, refl, sym, ap, ◌∙◌, subst, inl, inr, ⊎_elim}
 use Rattle.std.specs.Prelude.{Contains}
 use Rattle.std.specs.List.{flat_map}
 use Rattle.std.specs.Str.{bytes_eq}
-use Rattle.std.proofs.lemmas.Bool.{cases_Bool, cond-true, cond-false, eqb-true, eq-eqb, false≢true}
+use Rattle.std.proofs.lemmas.Bool.{cases_Bool, cond-false, cond-true, eq-eqb, eqb-true}
 use Rattle.std.proofs.lemmas.Option.{same_Some, none-some}
 use Rattle.std.proofs.lemmas.Slice.Eq.{bytes_eq-Decides}
 use Rattle.covline.specs.Row.{ItemData, LineItem, FuncItem, BranchItem, Row}
 use Rattle.covstore.specs.Clash.{Checksum, ClashData, Agree, IsFirstClash, differs, first_clash, checksum_of, checksum_of_row, checksums_in}
 use Rattle.covstore.specs.Content.{LineValueData, content_of}
 use Rattle.covstore.specs.Value.{Key, key_of_row, has_key, items_at, checksum_said, first_of, line_checksum}
-use Rattle.covstore.proofs.Clashes.{first_told, told_first, none_told, agree_none}
+use Rattle.covstore.proofs.Clashes.{agree_none, first_told, last_true, none_told, told_first}
 use Rattle.covstore.proofs.ContentsLists.{In-flat, In-unflat, In-filter, In-unfilter}
 use Rattle.covstore.proofs.ContentsSections.{own_key, lines_same}
 use Rattle.covstore.proofs.Members.{In, In-from, Contains-from, In-map, In-unmap, In-joined, In-parts}
@@ -92,16 +92,10 @@ pub line_checksum_held : (rows : List Row) (key : Key) (line : ℕ) (said : List
 unfolding checksum_with said_at
 line_checksum_held rows key line said e = said_among rows key line said (first_in (said_at key line rows) said e)
 
-last_same : (x y z : Bool) → x ≡ true → y ≡ true → (x && y && not z) ≡ false → z ≡ true
-last_same true true true first second e = refl
-last_same true true false first second e = absurd (false≢true (sym e))
-last_same true false z first second e = absurd (false≢true second)
-last_same false y z first second e = absurd (false≢true first)
-
 one_checksum : (file : List ℕ) (line : ℕ) (a b : List ℕ) → differs (checksum_with file line a) (checksum_with file line b) ≡ false → a ≡ b
 unfolding checksum_with
 one_checksum file line a b e =
-    (bytes_eq-Decides a b).0 (last_same (bytes_eq file file) (eqb line line) (bytes_eq a b) ((bytes_eq-Decides file file).1 refl) (eq-eqb line line refl) e)
+    (bytes_eq-Decides a b).0 (last_true (bytes_eq file file) (eqb line line) (bytes_eq a b) ((bytes_eq-Decides file file).1 refl) (eq-eqb line line refl) e)
 
 -- what the items of a file and a test say of a line is one checksum, where checksums agree
 pub one_said : (rows : List Row) → Agree (checksums_in rows) → (key : Key) (line : ℕ) (a b : List ℕ) → In a (flat_map (checksum_said line) (items_at key rows))

@@ -1,12 +1,11 @@
 -- Lists: members of parts that are joined or picked, tests on members, and how long a list of points is.
-use Rattle.std.proofs.Common.{◌≡◌, ◌≤◌, Bool, true, false, ◌||◌, cond, List, [], ◌∷◌, length, map, filter, refl, sym, ap, ◌∙◌, subst, inl, inr, ⊎_elim, arith}
+use Rattle.std.proofs.Common.{◌≡◌, Bool, true, false, ◌||◌, cond, List, [], ◌∷◌, map, filter, refl, sym, ap, ◌∙◌, subst, inl, inr, ⊎_elim}
 use Rattle.std.specs.Prelude.{◌⊎◌}
 use Rattle.std.specs.declared.cmp.Ordering.{Ordering}
 use Rattle.std.specs.declared.cmp.Ordering.TheVariants.{Less, Equal, Greater}
 use Rattle.std.specs.List.{flat_map, list_any}
-use Rattle.std.proofs.lemmas.Bool.{cond-true, cond-false, false≢true}
+use Rattle.std.proofs.lemmas.Bool.{cond-false, cond-true, false≢true, or_left, or_right}
 use Rattle.std.proofs.lemmas.Cmp.{tied_itself}
-use Rattle.std.proofs.lemmas.List.{length-append}
 use Rattle.covstore.proofs.Ascend.{IsExactOrder}
 use Rattle.covstore.proofs.Members.{In, In-joined, In-parts}
 
@@ -66,41 +65,31 @@ module _ {X : Type 0} (cmp : X → X → Ordering) (order : IsExactOrder cmp) wh
 
 -- ---- tests on members
 
-any_from_member : {X : Type 0} (p : X → Bool) (xs : List X) (x : X) → In x xs → p x ≡ true → list_any p xs ≡ true
-any_from_member p [] x i e = absurd i
-any_from_member {X} p (y ∷ ys) x (inl is) e = ap (λ (b : Bool). b || list_any p ys) (subst (λ (z : X). p z ≡ true) (sym is) e)
-any_from_member p (y ∷ ys) x (inr i) e = ap (λ (b : Bool). p y || b) (any_from_member p ys x i e) ∙ or_last (p y)
-  where
-    or_last : (b : Bool) → (b || true) ≡ true
-    or_last true = refl
-    or_last false = refl
+pub any_from_in : {X : Type 0} (p : X → Bool) (xs : List X) (x : X) → In x xs → p x ≡ true → list_any p xs ≡ true
+any_from_in p [] x i h = absurd i
+any_from_in p (y ∷ ys) x (inl is) h = or_left (p y) (list_any p ys) (ap p is ∙ h)
+any_from_in p (y ∷ ys) x (inr i) h = or_right (p y) (list_any p ys) (any_from_in p ys x i h)
 
-member_from_any : {X : Type 0} (p : X → Bool) (xs : List X) → list_any p xs ≡ true → (x : X) × In x xs × (p x ≡ true)
-member_from_any p [] e = absurd (false≢true e)
-member_from_any {X} p (y ∷ ys) e = by (p y) refl (member_from_any p ys)
-  where
-    by : (b : Bool) → p y ≡ b → (list_any p ys ≡ true → (x : X) × In x ys × (p x ≡ true)) → (x : X) × In x (y ∷ ys) × (p x ≡ true)
-    by true is others = (y, inl refl, is)
-    by false is others = let found = others (sym (ap (λ (b : Bool). b || list_any p ys) is) ∙ e) in (found.0, inr found.1, found.2)
+in_from_one : {X : Type 0} (b : Bool) (p : X → Bool) (y : X) (ys : List X) → p y ≡ b → (list_any p ys ≡ true → (x : X) × In x ys × (p x ≡ true)) → (b || list_any p ys) ≡ true → (x : X) × In x (y ∷ ys) × (p x ≡ true)
+in_from_one true p y ys e rest h = (y, inl refl, e)
+in_from_one false p y ys e rest h = let found = rest h in (found.0, inr found.1, found.2)
 
-same_test : (a b : Bool) → (a ≡ true → b ≡ true) → (b ≡ true → a ≡ true) → a ≡ b
-same_test true b f g = sym (f refl)
-same_test false true f g = g refl
-same_test false false f g = refl
+pub in_from_any : {X : Type 0} (p : X → Bool) (xs : List X) → list_any p xs ≡ true → (x : X) × In x xs × (p x ≡ true)
+in_from_any p [] h = absurd (false≢true h)
+in_from_any p (y ∷ ys) h = in_from_one (p y) p y ys refl (in_from_any p ys) h
+
+pub same_truth : (a b : Bool) → (a ≡ true → b ≡ true) → (b ≡ true → a ≡ true) → a ≡ b
+same_truth true b to from = sym (to refl)
+same_truth false true to from = from refl
+same_truth false false to from = refl
 
 -- a test on lists of the same members
 pub any_members : {X : Type 0} (p : X → Bool) (xs ys : List X) → ((x : X) → In x xs → In x ys) → ((x : X) → In x ys → In x xs) → list_any p xs ≡ list_any p ys
 any_members p xs ys f g =
-    same_test (list_any p xs) (list_any p ys)
-    (λ e. let found = member_from_any p xs e in any_from_member p ys found.0 (f found.0 found.1) found.2)
-    (λ e. let found = member_from_any p ys e in any_from_member p xs found.0 (g found.0 found.1) found.2)
+    same_truth (list_any p xs) (list_any p ys)
+    (λ e. let found = in_from_any p xs e in any_from_in p ys found.0 (f found.0 found.1) found.2)
+    (λ e. let found = in_from_any p ys e in any_from_in p xs found.0 (g found.0 found.1) found.2)
 
 pub any-map : {X Y : Type 0} (p : Y → Bool) (f : X → Y) (xs : List X) → list_any p (map f xs) ≡ list_any (λ x. p (f x)) xs
 any-map p f [] = refl
 any-map p f (x ∷ xs) = ap (λ (b : Bool). p (f x) || b) (any-map p f xs)
-
--- ---- lengths
-
-pub few_parts : {X Y : Type 0} (f : X → List Y) → ((x : X) → length (f x) ≤ 1) → (xs : List X) → length (flat_map f xs) ≤ length xs
-few_parts f one [] = omega arith
-few_parts f one (x ∷ xs) = omega (arith, length-append (f x) (flat_map f xs), one x, few_parts f one xs)

@@ -37,7 +37,7 @@ nothing_added point added p one (item ∷ items) none =
     let others : sum_by added items ≡ 0 = nothing_added point added p one items (λ i. none (In-joined (point item) (flat_map point items) p (inr i))) in
     omega (arith, sum_by-cons added item items)
 
-unless : (b : Bool) → (b ≡ true → ⊥) → b ≡ false
+pub unless : (b : Bool) → (b ≡ true → ⊥) → b ≡ false
 unless true f = absurd (f refl)
 unless false f = refl
 

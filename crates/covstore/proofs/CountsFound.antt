@@ -18,7 +18,8 @@ use Rattle.covstore.proofs.Ascend.{IsExactOrder, In-ascending, In-to_ascending, 
 use Rattle.covstore.proofs.CountsMapped.{count_by-map}
 use Rattle.covstore.proofs.Members.{In, In-map, In-unmap}
 use Rattle.covstore.proofs.Puts.{pair_in, some_in, value_of_before, value_of_pair}
-use Rattle.covstore.proofs.TotalsRows.{In-flat, In-to_flat, any_agree, any_from_in, in_from_any, sum_above}
+use Rattle.covstore.proofs.ContentsLists.{In-flat, In-unflat, any_from_in, in_from_any}
+use Rattle.covstore.proofs.TotalsRows.{any_agree, sum_above}
 
 -- ---- what is counted is above 0 where some member passes
 
@@ -44,7 +45,7 @@ unfolding IsStrictlySortedBy
 sorted_keys cmp [] sorted = tt
 sorted_keys cmp (pair ∷ pairs) sorted = (All-keys (λ key. cmp pair.0 key ≡ Less) pairs sorted.0, sorted_keys cmp pairs sorted.1)
 
-some_value : {V : Type 0} (value : Option V) → is_some value ≡ true → (v : V) × (value ≡ Some v)
+pub some_value : {V : Type 0} (value : Option V) → is_some value ≡ true → (v : V) × (value ≡ Some v)
 some_value None e = absurd (false≢true e)
 some_value (Some v) e = (v, refl)
 
@@ -68,11 +69,11 @@ module _ {K V : Type 0} {cmp : K → K → Ordering} (o : IsExactOrder cmp) {is_
       let test = in_from_any has tests (sym (any_counted has tests) ∙ some.0) in
       let value = some_value (value_of cmp pair.0.0 test.0) test.2 in
       subst (λ (k : K). In k (flat_map points_of tests)) pair.2
-      (In-to_flat points_of tests test.0 pair.0.0 test.1 (In-map (λ (p : K × V). p.0) test.0 (pair.0.0, value.0) (pair_in o pair.0.0 value.0 test.0 value.1)))
+      (In-flat points_of tests test.0 pair.0.0 test.1 (In-map (λ (p : K × V). p.0) test.0 (pair.0.0, value.0) (pair_in o pair.0.0 value.0 test.0 value.1)))
 
   kept_from : (key : K) → In key (flat_map points_of tests) → In key (points_of counts)
   kept_from key i =
-      let test = In-flat points_of tests key i in
+      let test = In-unflat points_of tests key i in
       let pair = In-unmap (λ (p : K × V). p.0) test.0 key test.2 in
       let has = λ (other : List (K × V)). is_some (value_of cmp pair.0.0 other) in
       let some : nat_lt 0 (count_with cmp pair.0.0 tests) ≡ true = any_counted has tests ∙ any_from_in has tests test.0 test.1 (some_in o pair.0.0 pair.0.1 test.0 pair.1) in

@@ -21,7 +21,6 @@ pub mod ContentsPoints
 pub mod ContentsSections
 pub mod ContentsChecksums
 pub mod Contents
-pub mod SumsPuts
 pub mod SumsKinds
 pub mod SumsLast
 pub mod SumsLines

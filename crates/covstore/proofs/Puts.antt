@@ -26,7 +26,7 @@ pub counted_one : (b : Bool) → cond {A = ℕ} b 1 0 ≡ one_if b
 counted_one true = refl
 counted_one false = refl
 
-same_pair : {K V : Type 0} {key other : K} {value committed : V} → key ≡ other → value ≡ committed → ◌≡◌ {A = K × V} (key, value) (other, committed)
+pub same_pair : {K V : Type 0} {key other : K} {value committed : V} → key ≡ other → value ≡ committed → ◌≡◌ {A = K × V} (key, value) (other, committed)
 same_pair keys values = λ i. (keys i, values i)
 
 module _ {K V : Type 0} {cmp : K → K → Ordering} (o : IsExactOrder cmp) where
@@ -127,7 +127,7 @@ module _ {K V : Type 0} {cmp : K → K → Ordering} (o : IsExactOrder cmp) wher
 
   -- ---- the keys stay ascending
 
-  All-put : (P : K × V → Type 0) (key : K) (value : V) (pairs : List (K × V)) → P (key, value) → AllByRecursion P pairs → AllByRecursion P (put cmp key value pairs)
+  pub All-put : (P : K × V → Type 0) (key : K) (value : V) (pairs : List (K × V)) → P (key, value) → AllByRecursion P pairs → AllByRecursion P (put cmp key value pairs)
   All-put P key value [] h all = (h, tt)
   All-put P key value (pair ∷ pairs) h all =
       All-match P (cmp pair.0 key) (pair ∷ put cmp key value pairs) ((key, value) ∷ pairs) ((key, value) ∷ pair ∷ pairs) (all.0, All-put P key value pairs h all.1) (h, all.1) (h, all)

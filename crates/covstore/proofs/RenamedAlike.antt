@@ -32,7 +32,7 @@ pub same_branch_sum : (point : BranchPoint) (xs ys : List ItemData) → branch_v
 same_branch_sum point xs ys times = λ i. (point, record { times = times i })
 
 -- alike points in their order, each with the same value
-same_mapped : {P V : Type 0} (cmp : P → P → Ordering) → IsExactOrder cmp → (some others : List P) (f g : P → V) → AreAlike some others → ((p : P) → f p ≡ g p)
+pub same_mapped : {P V : Type 0} (cmp : P → P → Ordering) → IsExactOrder cmp → (some others : List P) (f g : P → V) → AreAlike some others → ((p : P) → f p ≡ g p)
     → map f (ascending cmp some) ≡ map g (ascending cmp others)
 same_mapped cmp order some others f g alike same =
     map_same f g (ascending cmp some) same ∙ ap (map g) (same_ascending cmp order some others alike.there alike.back)

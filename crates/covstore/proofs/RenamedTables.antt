@@ -20,12 +20,11 @@ use Rattle.covstore.specs.TotalsSteps.{files_of, found_in, has_file, hit_in, hit
 use Rattle.covstore.specs.Value.{Key, branch_cmp, key_of_row, keys_of}
 use Rattle.covstore.specs.Without.{is_of_test, sections_of_test}
 use Rattle.covstore.proofs.Ascend.{In-to_ascending}
-use Rattle.covstore.proofs.ContentsLists.{In-filter}
+use Rattle.covstore.proofs.ContentsLists.{In-filter, in_from_any}
 use Rattle.covstore.proofs.Members.{In, In-map}
 use Rattle.covstore.proofs.Orders.{keys_order}
 use Rattle.covstore.proofs.StateSeen.{map_of_map}
 use Rattle.covstore.proofs.TotalsKinds.{same_totals, totals_are}
-use Rattle.covstore.proofs.TotalsRows.{in_from_any}
 
 row_with : List ℕ → List ℕ → ItemData → Row
 row_with test file item = record { test = test; file = file; item = item }

@@ -1,17 +1,15 @@
 -- The values of items as items, one for each point: they add up to the same, also beside others, and are no more than the items.
-use Rattle.std.proofs.Common.{◌≡◌, ℕ, ◌+◌, ◌≤◌, true, eqb, Option, Some, None, unwrap_or, List, [], ◌∷◌, ◌++◌, length, map, refl, ap, ap₂, ◌∙◌, inl, inr, arith}
+use Rattle.std.proofs.Common.{◌≡◌, ℕ, ◌+◌, ◌≤◌, eqb, Option, Some, None, unwrap_or, List, [], ◌∷◌, ◌++◌, length, map, refl, ap, ap₂, ◌∙◌, inl, inr, arith}
 use Rattle.std.specs.Cmp.Lexicographic.{slice_cmp}
 use Rattle.std.specs.List.{flat_map, sum_by}
 use Rattle.std.specs.Option.{is_some}
 use Rattle.std.specs.Ordering.{nat_cmp}
-use Rattle.std.specs.Str.{bytes_eq}
 use Rattle.std.proofs.lemmas.Bool.{cond-true, eq-eqb}
 use Rattle.std.proofs.lemmas.List.{append-nil, length-append, length-map}
 use Rattle.std.proofs.lemmas.List.Concat.{flat_map-append}
 use Rattle.std.proofs.lemmas.List.Folds.{flat_map-map}
 use Rattle.std.proofs.lemmas.List.Sorted.{IsPermutation-append_comm}
 use Rattle.std.proofs.lemmas.List.Sums.{sum_by-append, sum_by-cons}
-use Rattle.std.proofs.lemmas.Slice.Eq.{bytes_eq-Decides}
 use Rattle.covline.specs.Points.{BranchPoint, line_point, func_point, branch_point, line_points, func_points, branch_points, least}
 use Rattle.covline.specs.Row.{ItemData, LineItem, FuncItem, BranchItem}
 use Rattle.covstore.specs.Ascending.{ascending}
@@ -26,6 +24,8 @@ use Rattle.covstore.proofs.RenamedAlike.{same_sums, same_line_sum, same_function
 use Rattle.covstore.proofs.RenamedValuesLists.{flat_nothing, sum_nothing, flat_one, sum_one, flat_self, map_same_in, ascending_again}
 use Rattle.covstore.proofs.StateSame.{tests_with_more}
 use Rattle.covstore.proofs.TotalsKinds.{itself}
+use Rattle.covstore.proofs.SumsFunctions.{own_count as own_calls, own_start}
+use Rattle.covstore.proofs.SumsLines.{own_count}
 
 -- ---- the values as items
 
@@ -54,9 +54,6 @@ not_one p q other (inr i) = i
 bounded_twice : (n : ℕ) → bounded (bounded n) ≡ bounded n
 bounded_twice n = omega arith
 
-own_count : (line n : ℕ) (checksum : Option (List ℕ)) → line_added line (LineItem line n checksum) ≡ n
-own_count line n checksum = cond-true (eqb line line) n 0 (eq-eqb line line refl)
-
 own_checksum : (line n : ℕ) (checksum : Option (List ℕ)) → first_of (checksum_said line (LineItem line n checksum)) ≡ checksum
 own_checksum line n None = refl
 own_checksum line n (Some checksum) = ap first_of (cond-true (eqb line line) (checksum ∷ []) [] (eq-eqb line line refl))
@@ -73,15 +70,6 @@ own_taken point (n ∷ numbers) =
     let sum = sum_by (λ (m : ℕ). m) (n ∷ numbers) in
     ap sum_if_any (cond-true (is_branch point point.line point.block point.branch) (bounded sum ∷ []) [] (itself point))
     ∙ ap (λ (k : ℕ). Some k) (bounded_one sum)
-
-own_name : (name : List ℕ) → bytes_eq name name ≡ true
-own_name name = (bytes_eq-Decides name name).1 refl
-
-own_start : (name : List ℕ) (line count : ℕ) → start_said name (FuncItem name line count) ≡ line ∷ []
-own_start name line count = cond-true (bytes_eq name name) (line ∷ []) [] (own_name name)
-
-own_calls : (name : List ℕ) (line count : ℕ) → function_added name (FuncItem name line count) ≡ count
-own_calls name line count = cond-true (bytes_eq name name) count 0 (own_name name)
 
 -- ---- the items by kinds
 

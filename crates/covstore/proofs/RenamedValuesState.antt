@@ -1,22 +1,21 @@
 -- The values of a test of a file, as items, and the state of the rows that they are with another test's name.
-use Rattle.std.proofs.Common.{◌≡◌, ℕ, Bool, true, false, ◌&&◌, cond, Option, Some, None, List, [], ◌∷◌, ◌++◌, map, filter, refl, sym, ap, ap₂, ◌∙◌, subst, inl, ⊎_elim}
+use Rattle.std.proofs.Common.{◌≡◌, ℕ, Bool, true, false, ◌&&◌, cond, Option, Some, List, [], ◌∷◌, ◌++◌, map, filter, refl, sym, ap, ap₂, ◌∙◌, subst, inl, ⊎_elim}
 use Rattle.std.specs.Cmp.Lexicographic.{slice_cmp}
 use Rattle.std.specs.Option.{is_some}
 use Rattle.std.specs.Ordering.{nat_cmp}
 use Rattle.std.specs.Str.{bytes_eq}
-use Rattle.std.proofs.lemmas.Bool.{cond-true, cond-false, false≢true}
+use Rattle.std.proofs.lemmas.Bool.{cond-false, cond-true}
 use Rattle.std.proofs.lemmas.List.Concat.{flat_map-append}
 use Rattle.covline.specs.Row.{ItemData, LineItem, Row}
-use Rattle.covstore.specs.declared.sums.LineSum.{LineSum}
 use Rattle.covstore.specs.Clash.{Checksum, checksum_of, checksum_of_row, checksums_in}
 use Rattle.covstore.specs.KindIndexCounts.{is_above_at}
 use Rattle.covmap.specs.Puts.{value_of}
 use Rattle.covstore.specs.Renaming.{key_of, copied_rows, line_item, function_item, branch_item, items_of_test}
 use Rattle.covstore.specs.StoreSection.{rows_of_items}
-use Rattle.covstore.specs.State.{FileData, IsStateOf, IsWholeFile, has_checksum, points_in, tests_in, text_at}
+use Rattle.covstore.specs.State.{FileData, IsStateOf, IsWholeFile, has_checksum, points_in, tests_in}
 use Rattle.covstore.specs.Sums.{TestData, test_of, line_sum, function_sum, branch_sum}
 use Rattle.covstore.specs.Value.{Key, has_key, items_at, lines_in, names_in, branches_in, line_value, line_checksum}
-use Rattle.covstore.proofs.AddsPlace.{HasSum, held_of}
+use Rattle.covstore.proofs.AddsPlace.{HasSum, above_sum, held_of}
 use Rattle.covstore.proofs.ContentsLists.{In-flat, In-unflat, In-unfilter}
 use Rattle.covstore.proofs.ContentsSections.{items_at-append, own_key}
 use Rattle.covstore.proofs.Members.{In, In-from, Contains-from, All-in, In-map, In-unmap, In-joined, In-parts}
@@ -24,13 +23,9 @@ use Rattle.covstore.proofs.Orders.{names_order}
 use Rattle.covstore.proofs.Puts.{pair_in}
 use Rattle.covstore.proofs.RenamedValues.{values_of, values_stand, line_value_item, function_value_item, branch_value_item}
 use Rattle.covstore.proofs.StateSections.{file_has_checksums, points_there}
-use Rattle.covstore.proofs.StateSeen.{HasChecksums, map_of_map}
+use Rattle.covstore.proofs.StateSeen.{HasChecksums, map_of_map, text_as_said}
 
 -- ---- the items of a test
-
-text_as_said : (texts : List (ℕ × List ℕ)) (line : ℕ) (said : Option (List ℕ)) → ((text : List ℕ) → said ≡ Some text → value_of nat_cmp line texts ≡ Some text) → text_at texts line (is_some said) ≡ said
-text_as_said texts line None committed = refl
-text_as_said texts line (Some text) committed = committed text refl
 
 -- the items of what items add up to are their values
 pub items_as_values : (texts : List (ℕ × List ℕ)) (items : List ItemData) → HasChecksums texts items → items_of_test texts (test_of items) ≡ values_of items
@@ -122,10 +117,6 @@ module _ (rows : List Row) (name old new : List ℕ) where
   }
 
 -- ---- the lines with a checksum
-
-above_sum : (value : Option LineSum) → is_above_at has_checksum value ≡ true → (sum : LineSum) × (value ≡ Some sum) × (sum.has_checksum ≡ true)
-above_sum None e = absurd (false≢true e)
-above_sum (Some sum) e = (sum, refl, e)
 
 -- each line of a test that has a checksum is among those of which one is held
 pub holders_are : (rows : List Row) (files : List (List ℕ × FileData)) → IsStateOf rows files → (name old : List ℕ) (file : FileData) (source : TestData)

@@ -2,8 +2,6 @@
 use Rattle.std.proofs.Common.{◌≡◌, ℕ, false, Option, Some, List, [], ◌∷◌, ◌++◌, map, refl, sym, ap, ◌∙◌, subst, inl, inr, ⊎_elim}
 use Rattle.std.specs.Prelude.{◌⊎◌, Contains}
 use Rattle.std.specs.Cmp.Lexicographic.{slice_cmp}
-use Rattle.std.specs.declared.cmp.Ordering.{Ordering}
-use Rattle.std.specs.List.{AllByRecursion}
 use Rattle.std.specs.Ordering.{nat_cmp}
 use Rattle.std.specs.Str.{bytes_eq}
 use Rattle.std.proofs.lemmas.Bool.{cond-true, cond-false, false_from_ne_true}
@@ -16,13 +14,12 @@ use Rattle.covmap.specs.Puts.{put, value_of}
 use Rattle.covstore.specs.State.{FileData, IsStateOf, IsWholeFile, points_at, points_in, text_in}
 use Rattle.covstore.specs.Sums.{TestData, test_of, with_item}
 use Rattle.covstore.specs.Value.{Key, has_key, items_at}
-use Rattle.covstore.proofs.Ascend.{All-match}
 use Rattle.covstore.proofs.ContentsChecksums.{line_of_said, own_row}
 use Rattle.covstore.proofs.ContentsLists.{same_or_not, In-unflat}
 use Rattle.covstore.proofs.ContentsSections.{both, items_at-append}
 use Rattle.covstore.proofs.Members.{All-in, In, In-from, Contains-from, In-parts}
 use Rattle.covstore.proofs.Orders.{names_order}
-use Rattle.covstore.proofs.Puts.{ArePairs-put, pair_in, value_of-put, value_of-put_other}
+use Rattle.covstore.proofs.Puts.{All-put, ArePairs-put, pair_in, value_of-put, value_of-put_other}
 use Rattle.covstore.proofs.StateSections.{points_same, points_there}
 
 pub name_or_not : (one other : List ℕ) → (one ≡ other) ⊎ (one ≡ other → ⊥)
@@ -31,11 +28,6 @@ name_or_not one other = same_or_not (slice_cmp nat_cmp) names_order one other (s
 -- a file that is there is whole
 pub file_whole : (rows : List Row) (files : List (List ℕ × FileData)) → IsStateOf rows files → (name : List ℕ) (file : FileData) → value_of (slice_cmp nat_cmp) name files ≡ Some file → IsWholeFile file
 file_whole rows files state name file there = All-in (λ (pair : List ℕ × FileData). IsWholeFile pair.1) files (name, file) state.whole (pair_in names_order name file files there)
-
-All-put : {K V : Type 0} (cmp : K → K → Ordering) (P : K × V → Type 0) (key : K) (value : V) (pairs : List (K × V)) → P (key, value) → AllByRecursion P pairs → AllByRecursion P (put cmp key value pairs)
-All-put cmp P key value [] h all = (h, tt)
-All-put cmp P key value (pair ∷ pairs) h all =
-    All-match P (cmp pair.0 key) (pair ∷ put cmp key value pairs) ((key, value) ∷ pairs) ((key, value) ∷ pair ∷ pairs) (all.0, All-put cmp P key value pairs h all.1) (h, all.1) (h, all)
 
 -- ---- one file is as it is now, and the others as they were
 
@@ -73,7 +65,7 @@ module _ (rows more : List Row) (files : List (List ℕ × FileData)) (state : I
     ascending = ArePairs-put names_order name after files state.ascending;
     points = λ key. points_after key (name_or_not name key.file);
     texts = λ committed i. texts_after committed i (name_or_not name committed.file);
-    whole = All-put (slice_cmp nat_cmp) (λ (pair : List ℕ × FileData). IsWholeFile pair.1) name after files change.whole state.whole;
+    whole = All-put names_order (λ (pair : List ℕ × FileData). IsWholeFile pair.1) name after files change.whole state.whole;
   }
 
 -- ---- a file that shows the same points and has the same texts

@@ -1,20 +1,20 @@
 -- Two lists of rows with one state: with the same rows more they have one state again.
-use Rattle.std.proofs.Common.{◌≡◌, ℕ, List, [], ◌∷◌, ◌++◌, filter, map, sym, ap, ◌∙◌, subst, append_assoc, inl, inr, ⊎_elim}
-use Rattle.std.proofs.lemmas.List.{append-nil, map-append}
+use Rattle.std.proofs.Common.{◌≡◌, ℕ, List, [], ◌∷◌, ◌++◌, sym, ap, ◌∙◌, subst, append_assoc, inl, inr, ⊎_elim}
+use Rattle.std.proofs.lemmas.List.{append-nil}
 use Rattle.std.proofs.lemmas.List.Concat.{flat_map-append}
-use Rattle.std.proofs.lemmas.List.Elements.{filter-append}
 use Rattle.covline.specs.Row.{ItemData, Row}
 use Rattle.covstore.specs.Clash.{checksum_of_row, checksums_in, clash_of}
 use Rattle.covstore.specs.Content.{content_of}
 use Rattle.covstore.specs.State.{FileData, IsStateOf}
 use Rattle.covstore.specs.Sums.{test_of, with_item}
-use Rattle.covstore.specs.Value.{Key, has_key, items_at}
+use Rattle.covstore.specs.Value.{items_at}
 use Rattle.covstore.proofs.AddsPlace.{state_agrees}
 use Rattle.covstore.proofs.Contents.{clash_by_content}
 use Rattle.covstore.proofs.ContentsChecksums.{checksums_there}
 use Rattle.covstore.proofs.Members.{Contains-from, In, In-from, In-joined, In-parts}
 use Rattle.covstore.proofs.StateSections.{sections_are}
 use Rattle.covstore.proofs.SumsMore.{sums_more}
+use Rattle.covstore.proofs.ContentsSections.{items_at-append}
 
 -- items that add up to the same do so with the same items more
 pub tests_with_more : (xs ys more : List ItemData) → test_of xs ≡ test_of ys → test_of (xs ++ more) ≡ test_of (ys ++ more)
@@ -22,11 +22,6 @@ tests_with_more xs ys [] same = ap test_of (append-nil xs) ∙ same ∙ ap test_
 tests_with_more xs ys (item ∷ more) same =
     let one : test_of (xs ++ item ∷ []) ≡ test_of (ys ++ item ∷ []) = sums_more xs item ∙ ap (with_item item) same ∙ sym (sums_more ys item) in
     ap test_of (sym (append_assoc xs (item ∷ []) more)) ∙ tests_with_more (xs ++ item ∷ []) (ys ++ item ∷ []) more one ∙ ap test_of (append_assoc ys (item ∷ []) more)
-
-items_joined : (key : Key) (rows more : List Row) → items_at key (rows ++ more) ≡ items_at key rows ++ items_at key more
-items_joined key rows more =
-    ap (λ (rs : List Row). map (λ (r : Row). r.item) rs) (filter-append (has_key key) rows more)
-    ∙ map-append (λ (r : Row). r.item) (filter (has_key key) rows) (filter (has_key key) more)
 
 module _ (rows others : List Row) (files : List (List ℕ × FileData)) (state : IsStateOf rows files) (other : IsStateOf others files) where
   pub same_contents : content_of rows ≡ content_of others
@@ -36,9 +31,9 @@ module _ (rows others : List Row) (files : List (List ℕ × FileData)) (state :
   same_state more after later = record {
     ascending = later.ascending;
     points = λ key.
-        later.points key ∙ ap test_of (items_joined key rows more)
+        later.points key ∙ ap test_of (items_at-append key rows more)
         ∙ tests_with_more (items_at key rows) (items_at key others) (items_at key more) (sym (state.points key) ∙ other.points key)
-        ∙ ap test_of (sym (items_joined key others more));
+        ∙ ap test_of (sym (items_at-append key others more));
     texts = λ committed i. later.texts committed (Contains-from (checksums_in (rows ++ more)) committed (
         subst (In committed) (sym (flat_map-append checksum_of_row rows more))
         (⊎_elim {C = In committed (checksums_in rows ++ checksums_in more)}

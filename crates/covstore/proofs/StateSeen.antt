@@ -85,7 +85,7 @@ some_points_of (first ∷ others) item i none = some_points (first ∷ others) f
 
 -- ---- the values of the points
 
-text_as_said : (texts : List (ℕ × List ℕ)) (line : ℕ) (said : Option (List ℕ)) → ((text : List ℕ) → said ≡ Some text → value_of nat_cmp line texts ≡ Some text) → text_at texts line (is_some said) ≡ said
+pub text_as_said : (texts : List (ℕ × List ℕ)) (line : ℕ) (said : Option (List ℕ)) → ((text : List ℕ) → said ≡ Some text → value_of nat_cmp line texts ≡ Some text) → text_at texts line (is_some said) ≡ said
 text_as_said texts line None committed = refl
 text_as_said texts line (Some text) committed = committed text refl
 

@@ -37,10 +37,10 @@ function_others items item name none =
 
 -- ---- an item of the function
 
-own_count : (name : List ℕ) (line count : ℕ) → function_added name (FuncItem name line count) ≡ count
+pub own_count : (name : List ℕ) (line count : ℕ) → function_added name (FuncItem name line count) ≡ count
 own_count name line count = cond-true (bytes_eq name name) count 0 ((bytes_eq-Decides name name).1 refl)
 
-own_start : (name : List ℕ) (line count : ℕ) → start_said name (FuncItem name line count) ≡ line ∷ []
+pub own_start : (name : List ℕ) (line count : ℕ) → start_said name (FuncItem name line count) ≡ line ∷ []
 own_start name line count = cond-true (bytes_eq name name) (line ∷ []) [] ((bytes_eq-Decides name name).1 refl)
 
 least_last : (starts : List ℕ) (line : ℕ) → is_some (least starts) ≡ true → unwrap_or (least (starts ++ line ∷ [])) 0 ≡ min (unwrap_or (least starts) 0) line

@@ -15,7 +15,7 @@ use Rattle.covmap.specs.Puts.{ArePairs, put, value_of}
 use Rattle.covstore.proofs.Ascend.{IsExactOrder, ascending_sorted, In-ascending, In-to_ascending}
 use Rattle.covstore.proofs.ContentsLists.{In-or_not}
 use Rattle.covstore.proofs.Members.{In, In-from, Contains-from, In-joined, In-parts}
-use Rattle.covstore.proofs.SumsPuts.{if_not, less_not_equal, one_pairs, other_value, own_value, put_pairs}
+use Rattle.covstore.proofs.Puts.{ArePairs-put, same_pairs, value_of-put, value_of-put_other}
 
 -- ---- points with their values
 
@@ -31,6 +31,14 @@ paired_pairs : {P V : Type 0} (cmp : P → P → Ordering) (value : P → V) (ps
 unfolding IsStrictlySortedBy
 paired_pairs cmp value [] sorted = tt
 paired_pairs cmp value (p ∷ ps) sorted = (All-paired cmp value p ps sorted.0, paired_pairs cmp value ps sorted.1)
+
+if_not : {X : Type 0} (r : Ordering) (x y : X) → (r ≡ Equal → ⊥) → cond (is_eq r) x y ≡ y
+if_not Less x y not = refl
+if_not Equal x y not = absurd (not refl)
+if_not Greater x y not = refl
+
+less_not_equal : Less ≡ Equal → ⊥
+less_not_equal e = absurd cc
 
 greater_not_equal : Greater ≡ Equal → ⊥
 greater_not_equal e = absurd cc
@@ -96,7 +104,7 @@ module _ {P V : Type 0} {cmp : P → P → Ordering} (order : IsExactOrder cmp) 
     -- an item that speaks of no point changes nothing
     pub sums_same : point item ≡ [] → sums cmp point value (items ++ item ∷ []) ≡ sums cmp point value items
     sums_same nothing =
-        one_pairs order (sums cmp point value (items ++ item ∷ [])) (sums cmp point value items) (sums_pairs (items ++ item ∷ [])) (sums_pairs items)
+        same_pairs order (sums cmp point value (items ++ item ∷ [])) (sums cmp point value items) (sums_pairs (items ++ item ∷ [])) (sums_pairs items)
         (λ p. sums_others p (λ i. subst (In p) nothing i))
 
     -- an item of one point puts in a value made from the one before
@@ -113,7 +121,7 @@ module _ {P V : Type 0} {cmp : P → P → Ordering} (order : IsExactOrder cmp) 
       put_own =
           sums_some (items ++ item ∷ []) own (In-last items item own (inr (subst (In own) (sym one) (inl refl))))
           ∙ ap (λ v. Some v) own_with
-          ∙ sym (own_value order.total own (with (value_of cmp own (sums cmp point value items))) (sums cmp point value items))
+          ∙ sym (value_of-put order own (with (value_of cmp own (sums cmp point value items))) (sums cmp point value items))
 
       only : (p : P) → In p (own ∷ []) → own ≡ p
       only p (inl is) = is
@@ -126,14 +134,14 @@ module _ {P V : Type 0} {cmp : P → P → Ordering} (order : IsExactOrder cmp) 
           (λ (i : In p (point item)).
           subst (λ (q : P). value_of cmp q (sums cmp point value (items ++ item ∷ [])) ≡ value_of cmp q (put cmp own new (sums cmp point value items))) (only p (subst (In p) one i)) put_own)
           (λ (not : In p (point item) → ⊥).
-          sums_others p not ∙ sym (other_value order own new (sums cmp point value items) p (λ e. not (subst (In p) (sym one) (inl e)))))
+          sums_others p not ∙ sym (value_of-put_other order own p new (sums cmp point value items) (λ e. not (subst (In p) (sym one) (inl e)))))
           (In-or_not cmp order p (point item))
 
       pub sums_put : sums cmp point value (items ++ item ∷ []) ≡ put cmp own (with (value_of cmp own (sums cmp point value items))) (sums cmp point value items)
       sums_put =
           let new = with (value_of cmp own (sums cmp point value items)) in
-          one_pairs order (sums cmp point value (items ++ item ∷ [])) (put cmp own new (sums cmp point value items)) (sums_pairs (items ++ item ∷ []))
-          (put_pairs order.total own new (sums cmp point value items) (sums_pairs items)) put_each
+          same_pairs order (sums cmp point value (items ++ item ∷ [])) (put cmp own new (sums cmp point value items)) (sums_pairs (items ++ item ∷ []))
+          (ArePairs-put order own new (sums cmp point value items) (sums_pairs items)) put_each
 
   -- ---- which points have a value, and which
 

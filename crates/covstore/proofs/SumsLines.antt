@@ -33,7 +33,7 @@ line_others items item line none =
 
 -- ---- an item of the line
 
-own_count : (line count : ℕ) (checksum : Option (List ℕ)) → line_added line (LineItem line count checksum) ≡ count
+pub own_count : (line count : ℕ) (checksum : Option (List ℕ)) → line_added line (LineItem line count checksum) ≡ count
 own_count line count checksum = cond-true (eqb line line) count 0 (eq-eqb line line refl)
 
 own_checksum : (line count : ℕ) (checksum : Option (List ℕ)) → is_some (first_of (checksum_said line (LineItem line count checksum))) ≡ is_some checksum

@@ -1,5 +1,5 @@
 -- The totals count the different points of all rows, each in its file, and those that some test has above 0.
-use Rattle.std.proofs.Common.{◌≡◌, ℕ, ◌≤◌, ◌==◌, Bool, true, false, cond, List, [], ◌∷◌, ◌++◌, length, map, filter, refl, sym, ap, ◌∙◌, subst, inl, inr, ⊎_elim, arith}
+use Rattle.std.proofs.Common.{◌≡◌, ℕ, ◌≤◌, ◌==◌, Bool, true, false, cond, List, [], ◌∷◌, ◌++◌, length, map, filter, refl, sym, ap, ◌∙◌, subst, inl, inr, arith}
 use Rattle.std.specs.Bool.{Decides}
 use Rattle.std.specs.Cmp.{IsEquivalence, IsTotalOrder}
 use Rattle.std.specs.Cmp.Lexicographic.{slice_cmp}
@@ -9,7 +9,7 @@ use Rattle.std.specs.List.{flat_map, list_any, sum_by, count_by, AllByRecursion,
 use Rattle.std.specs.List.Sorted.{IsStrictlySortedBy}
 use Rattle.std.specs.Ordering.{nat_cmp}
 use Rattle.std.specs.Str.{bytes_eq}
-use Rattle.std.proofs.lemmas.Bool.{and_parts, and_from, cases_Bool, eqb-true, eq-eqb}
+use Rattle.std.proofs.lemmas.Bool.{and_from, and_parts, eq-eqb, eqb-true}
 use Rattle.std.proofs.lemmas.Cmp.{tied_itself}
 use Rattle.std.proofs.lemmas.List.{length-map}
 use Rattle.std.proofs.lemmas.List.Concat.{length-flat_map}
@@ -29,7 +29,10 @@ use Rattle.covstore.proofs.Ascend.{IsExactOrder, ascending_sorted, In-ascending,
 use Rattle.covstore.proofs.Members.{In, All-in, In-map, In-unmap}
 use Rattle.covstore.proofs.Orders.{lines_order, names_order, branches_order}
 use Rattle.covstore.proofs.TotalsKinds.{totals_are, sum_agree, count_agree, line_above, function_above, branch_above, same_branch, itself}
-use Rattle.covstore.proofs.TotalsRows.{SameMembers, same_truth, any_same_members, any_from_in, in_from_any, In-filter, In-to_filter, In-flat, In-to_flat}
+use Rattle.covstore.proofs.ContentsLists.{In-filter, In-flat, In-unfilter, In-unflat, any_from_in, in_from_any, same_truth}
+use Rattle.covstore.proofs.TotalsRows.{SameMembers, any_same_members}
+use Rattle.covstore.proofs.WithoutContent.{count_mapped}
+use Rattle.covstore.proofs.ContentsPoints.{unless}
 
 -- ---- no more are hit than found
 
@@ -74,27 +77,19 @@ unfolding IsDistinct
 distinct_filter e p [] d = tt
 distinct_filter e p (x ∷ xs) d =
     distinct_if e x (filter p xs) (p x)
-    (All-from (λ y. e x y ≡ false) (filter p xs) (λ y i. All-in (λ z. e x z ≡ false) xs y d.0 (In-filter p xs y i).0))
+    (All-from (λ y. e x y ≡ false) (filter p xs) (λ y i. All-in (λ z. e x z ≡ false) xs y d.0 (In-unfilter p xs y i).0))
     (distinct_filter e p xs d.1)
 
 same_filtered : {X : Type 0} (p : X → Bool) (xs ys : List X) → SameMembers xs ys → SameMembers (filter p xs) (filter p ys)
 same_filtered p xs ys same = (
-  λ x i. let own = In-filter p xs x i in In-to_filter p ys x (same.0 x own.0) own.1,
-  λ x i. let own = In-filter p ys x i in In-to_filter p xs x (same.1 x own.0) own.1,
+  λ x i. let own = In-unfilter p xs x i in In-filter p ys x (same.0 x own.0) own.1,
+  λ x i. let own = In-unfilter p ys x i in In-filter p xs x (same.1 x own.0) own.1,
 )
-
-not_true : (b : Bool) → (b ≡ true → ⊥) → b ≡ false
-not_true b never = ⊎_elim (λ (e : b ≡ true). absurd (never e)) (λ (e : b ≡ false). e) (cases_Bool b)
 
 pub not_less : {X : Type 0} {cmp : X → X → Ordering} → IsTotalOrder cmp → (x y : X) → cmp x y ≡ Less → x ≡ y → ⊥
 not_less {X} {cmp} t x y less is = let i = tied_itself t x in let own : cmp x x ≡ Less = subst (λ (z : X). cmp x z ≡ Less) (sym is) less in cc
 
 -- ---- counting along lists
-
-count_map : {X Y : Type 0} (p : Y → Bool) (f : X → Y) (xs : List X) → count_by p (map f xs) ≡ count_by (λ x. p (f x)) xs
-count_map p f [] = refl
-count_map p f (x ∷ xs) =
-    omega (arith, sum_by-cons (λ y. cond (p y) 1 0) (f x) (map f xs), sum_by-cons (λ z. cond (p (f z)) 1 0) x xs, count_map p f xs)
 
 count_flat : {X Y : Type 0} (p : Y → Bool) (f : X → List Y) (xs : List X) → count_by p (flat_map f xs) ≡ sum_by (λ x. count_by p (f x)) xs
 count_flat p f [] = refl
@@ -141,7 +136,7 @@ module _ {X : Type 0} {cmp : X → X → Ordering} (o : IsExactOrder cmp) (kind 
   distinct_own file (x ∷ xs) sorted = (
     All-from (λ p. is_same kind (in_file file x) p ≡ false) (map (in_file file) xs)
         (λ p i. let source = In-unmap (in_file file) xs p i in
-        not_true (is_same kind (in_file file x) p)
+        unless (is_same kind (in_file file x) p)
         (λ e. not_less o.total x source.0 (All-in (λ z. cmp x z ≡ Less) xs source.0 sorted.0 source.1)
         (ap (λ (q : FilePoint X). q.point) (same_is (in_file file x) p e ∙ sym source.2)))),
     distinct_own file xs sorted.1,
@@ -155,9 +150,9 @@ module _ {X : Type 0} {cmp : X → X → Ordering} (o : IsExactOrder cmp) (kind 
       (distinct_own file (own rows file) (ascending_sorted o.total (flat_map kind.point (items_of_file file rows))))
       (distinct_all rows files sorted.1)
       (λ p q i j. let here = In-unmap (in_file file) (own rows file) p i in
-      let other = In-flat (λ name. map (in_file name) (own rows name)) files q j in
+      let other = In-unflat (λ name. map (in_file name) (own rows name)) files q j in
       let there = In-unmap (in_file other.0) (own rows other.0) q other.2 in
-      not_true (is_same kind p q)
+      unless (is_same kind p q)
       (λ e. not_less names_order.total file other.0 (All-in (λ name. slice_cmp nat_cmp file name ≡ Less) files other.0 sorted.0 other.1)
       (ap (λ (r : FilePoint X). r.file) (here.2 ∙ same_is p q e ∙ sym there.2))))
 
@@ -165,27 +160,27 @@ module _ {X : Type 0} {cmp : X → X → Ordering} (o : IsExactOrder cmp) (kind 
 
   to_rows : (rows : List Row) (p : FilePoint X) → In p (all rows (files_of rows)) → In p (points_of kind rows)
   to_rows rows p i =
-      let file = In-flat (λ name. map (in_file name) (own rows name)) (files_of rows) p i in
+      let file = In-unflat (λ name. map (in_file name) (own rows name)) (files_of rows) p i in
       let x = In-unmap (in_file file.0) (own rows file.0) p file.2 in
-      let item = In-flat kind.point (items_of_file file.0 rows) x.0 (In-ascending o.exact x.0 (flat_map kind.point (items_of_file file.0 rows)) x.1) in
+      let item = In-unflat kind.point (items_of_file file.0 rows) x.0 (In-ascending o.exact x.0 (flat_map kind.point (items_of_file file.0 rows)) x.1) in
       let row = In-unmap (λ (r : Row). r.item) (filter (has_file file.0) rows) item.0 item.1 in
-      let of_file = In-filter (has_file file.0) rows row.0 row.1 in
+      let of_file = In-unfilter (has_file file.0) rows row.0 row.1 in
       let speaks : In x.0 (kind.point row.0.item) = subst (λ (it : ItemData). In x.0 (kind.point it)) (sym row.2) item.2 in
       let name : row.0.file ≡ file.0 = (bytes_eq-Decides row.0.file file.0).0 of_file.1 in
       let is : in_file row.0.file x.0 ≡ p = ap (λ (n : List ℕ). in_file n x.0) name ∙ x.2 in
-      In-to_flat (λ (r : Row). map (in_file r.file) (kind.point r.item)) rows row.0 p of_file.0
+      In-flat (λ (r : Row). map (in_file r.file) (kind.point r.item)) rows row.0 p of_file.0
       (subst (λ (q : FilePoint X). In q (map (in_file row.0.file) (kind.point row.0.item))) is (In-map (in_file row.0.file) (kind.point row.0.item) x.0 speaks))
 
   from_rows : (rows : List Row) (p : FilePoint X) → In p (points_of kind rows) → In p (all rows (files_of rows))
   from_rows rows p i =
-      let row = In-flat (λ (r : Row). map (in_file r.file) (kind.point r.item)) rows p i in
+      let row = In-unflat (λ (r : Row). map (in_file r.file) (kind.point r.item)) rows p i in
       let file = row.0.file in
       let x = In-unmap (in_file file) (kind.point row.0.item) p row.2 in
       let item : In row.0.item (items_of_file file rows) =
-      In-map (λ (r : Row). r.item) (filter (has_file file) rows) row.0 (In-to_filter (has_file file) rows row.0 row.1 ((bytes_eq-Decides file file).1 refl)) in
-      let mine : In x.0 (own rows file) = In-to_ascending o.exact x.0 (flat_map kind.point (items_of_file file rows)) (In-to_flat kind.point (items_of_file file rows) row.0.item x.0 item x.1) in
+      In-map (λ (r : Row). r.item) (filter (has_file file) rows) row.0 (In-filter (has_file file) rows row.0 row.1 ((bytes_eq-Decides file file).1 refl)) in
+      let mine : In x.0 (own rows file) = In-to_ascending o.exact x.0 (flat_map kind.point (items_of_file file rows)) (In-flat kind.point (items_of_file file rows) row.0.item x.0 item x.1) in
       let known : In file (files_of rows) = In-to_ascending names_order.exact file (map (λ (r : Row). r.file) rows) (In-map (λ (r : Row). r.file) rows row.0 row.1) in
-      In-to_flat (λ name. map (in_file name) (own rows name)) (files_of rows) file p known
+      In-flat (λ name. map (in_file name) (own rows name)) (files_of rows) file p known
       (subst (λ (q : FilePoint X). In q (map (in_file file) (own rows file))) x.2 (In-map (in_file file) (own rows file) x.0 mine))
 
   -- ---- a point is hit in a test where a row of its file hits it
@@ -199,21 +194,21 @@ module _ {X : Type 0} {cmp : X → X → Ordering} (o : IsExactOrder cmp) (kind 
           let key = key_at file test.0 in
           let item = in_from_any (hits x) (items_at key rows) (sym (above x (items_at key rows)) ∙ test.2) in
           let row = In-unmap (λ (r : Row). r.item) (filter (has_key key) rows) item.0 item.1 in
-          let of_key = In-filter (has_key key) rows row.0 row.1 in
+          let of_key = In-unfilter (has_key key) rows row.0 row.1 in
           let of_file : has_file file row.0 ≡ true = (and_parts (bytes_eq row.0.file file) (bytes_eq row.0.test test.0) of_key.1).0 in
           any_from_in (hits x) (items_of_file file rows) item.0
-          (subst (λ (it : ItemData). In it (items_of_file file rows)) row.2 (In-map (λ (r : Row). r.item) (filter (has_file file) rows) row.0 (In-to_filter (has_file file) rows row.0 of_key.0 of_file)))
+          (subst (λ (it : ItemData). In it (items_of_file file rows)) row.2 (In-map (λ (r : Row). r.item) (filter (has_file file) rows) row.0 (In-filter (has_file file) rows row.0 of_key.0 of_file)))
           item.2
 
       from : is_hit_in hits (items_of_file file rows) x ≡ true → is_hit_in_a_test kind rows (in_file file x) ≡ true
       from h =
           let item = in_from_any (hits x) (items_of_file file rows) h in
           let row = In-unmap (λ (r : Row). r.item) (filter (has_file file) rows) item.0 item.1 in
-          let of_file = In-filter (has_file file) rows row.0 row.1 in
+          let of_file = In-unfilter (has_file file) rows row.0 row.1 in
           let test = row.0.test in
           let of_key : has_key (key_at file test) row.0 ≡ true = and_from (bytes_eq row.0.file file) (bytes_eq test test) of_file.1 ((bytes_eq-Decides test test).1 refl) in
           let there : In item.0 (items_at (key_at file test) rows) =
-          subst (λ (it : ItemData). In it (items_at (key_at file test) rows)) row.2 (In-map (λ (r : Row). r.item) (filter (has_key (key_at file test)) rows) row.0 (In-to_filter (has_key (key_at file test)) rows row.0 of_file.0 of_key)) in
+          subst (λ (it : ItemData). In it (items_at (key_at file test) rows)) row.2 (In-map (λ (r : Row). r.item) (filter (has_key (key_at file test)) rows) row.0 (In-filter (has_key (key_at file test)) rows row.0 of_file.0 of_key)) in
           any_from_in (λ t. kind.is_above x (items_at (key_at file t) rows)) (map (λ (r : Row). r.test) rows) test (In-map (λ (r : Row). r.test) rows row.0 of_file.0)
           (above x (items_at (key_at file test) rows) ∙ any_from_in (hits x) (items_at (key_at file test) rows) item.0 there item.2)
 
@@ -232,7 +227,7 @@ module _ {X : Type 0} {cmp : X → X → Ordering} (o : IsExactOrder cmp) (kind 
       let files = files_of rows in
       let is_hit = is_hit_in_a_test kind rows in
       sum_agree (λ file. hit_in cmp kind.point hits (items_of_file file rows)) (λ file. count_by is_hit (map (in_file file) (own rows file)))
-      (λ file. count_agree (is_hit_in hits (items_of_file file rows)) (λ x. is_hit (in_file file x)) (λ x. sym (hit_in_test rows file x)) (own rows file) ∙ sym (count_map is_hit (in_file file) (own rows file))) files
+      (λ file. count_agree (is_hit_in hits (items_of_file file rows)) (λ x. is_hit (in_file file x)) (λ x. sym (hit_in_test rows file x)) (own rows file) ∙ sym (count_mapped is_hit (in_file file) (own rows file))) files
       ∙ sym (count_flat is_hit (λ file. map (in_file file) (own rows file)) files)
       ∙ sym (length-filter is_hit (all rows files))
       ∙ length-from_keys same_equiv (filter is_hit (all rows files)) (filter is_hit (points_of kind rows))

@@ -1,9 +1,9 @@
 -- The totals of the content are counts over rows: what some test has of a file, some row of the file has.
-use Rattle.std.proofs.Common.{◌≡◌, ℕ, zero, suc, ◌+◌, Bool, true, false, cond, ◌||◌, nat_lt, List, [], ◌∷◌, map, filter, refl, sym, ap, ◌∙◌, subst, inl, inr, ◌⊎◌, ⊎_elim, arith}
+use Rattle.std.proofs.Common.{◌≡◌, ℕ, zero, suc, ◌+◌, Bool, true, false, cond, ◌||◌, nat_lt, List, [], ◌∷◌, map, filter, refl, sym, ap, ◌∙◌, subst, arith}
 use Rattle.std.specs.declared.cmp.Ordering.{Ordering}
 use Rattle.std.specs.List.{flat_map, list_any, sum_by}
 use Rattle.std.specs.Str.{bytes_eq}
-use Rattle.std.proofs.lemmas.Bool.{false≢true, and_parts, and_from, cond-true, cond-false, cases_Bool, or_left, or_right, lt-ltb}
+use Rattle.std.proofs.lemmas.Bool.{and_from, and_parts, lt-ltb, or_left}
 use Rattle.std.proofs.lemmas.List.Folds.{list_any-append}
 use Rattle.std.proofs.lemmas.List.Sums.{sum_by-cons}
 use Rattle.std.proofs.lemmas.Slice.Eq.{bytes_eq-Decides}
@@ -13,77 +13,23 @@ use Rattle.covstore.specs.Content.{SectionData, section_of, content_of}
 use Rattle.covstore.specs.Totals.{files_in, sections_of}
 use Rattle.covstore.specs.TotalsSteps.{files_of, has_file, items_of_file}
 use Rattle.covstore.specs.Value.{Key, key_of_row, keys_of, has_key, items_at}
-use Rattle.covstore.proofs.Ascend.{IsExactOrder, ascending_is, one_ascending, In-ascending, In-to_ascending}
-use Rattle.covstore.proofs.Members.{In, In-from, Contains-from, In-map, In-unmap, In-joined, In-parts}
+use Rattle.covstore.proofs.Ascend.{In-ascending, In-to_ascending, IsExactOrder}
+use Rattle.covstore.proofs.Members.{In, In-map, In-unmap}
 use Rattle.covstore.proofs.Orders.{keys_order, names_order}
 use Rattle.covstore.proofs.TotalsWalks.{file_of_key, key_of_file}
+use Rattle.covstore.proofs.ContentsKinds.{same_ascending}
+use Rattle.covstore.proofs.ContentsLists.{In-filter, In-flat, In-unfilter, In-unflat, any_from_in, any_members, in_from_any, same_truth}
 
--- ---- members of lists that are filtered and joined
-
-In-filter_at : {X : Type 0} (x y : X) (ys : List X) (p : X → Bool) (b : Bool) → p y ≡ b → In x (cond b (y ∷ ys) ys) → ((y ≡ x) × (p x ≡ true)) ⊎ In x ys
-In-filter_at x y ys p true e (inl is) = inl (is, ap p (sym is) ∙ e)
-In-filter_at x y ys p true e (inr i) = inr i
-In-filter_at x y ys p false e i = inr i
-
-pub In-filter : {X : Type 0} (p : X → Bool) (xs : List X) (x : X) → In x (filter p xs) → In x xs × (p x ≡ true)
-In-filter p [] x i = absurd i
-In-filter p (y ∷ ys) x i =
-    ⊎_elim (λ found. (inl found.0, found.1)) (λ j. let later = In-filter p ys x j in (inr later.0, later.1)) (In-filter_at x y (filter p ys) p (p y) refl i)
-
-pub In-to_filter : {X : Type 0} (p : X → Bool) (xs : List X) (x : X) → In x xs → p x ≡ true → In x (filter p xs)
-In-to_filter p [] x i h = absurd i
-In-to_filter {X} p (y ∷ ys) x (inl is) h = subst (In x) (sym (cond-true (p y) (y ∷ filter p ys) (filter p ys) (ap p is ∙ h))) (inl is)
-In-to_filter {X} p (y ∷ ys) x (inr i) h =
-    ⊎_elim (λ (e : p y ≡ true). subst (In x) (sym (cond-true (p y) (y ∷ filter p ys) (filter p ys) e)) (inr (In-to_filter p ys x i h)))
-    (λ (e : p y ≡ false). subst (In x) (sym (cond-false (p y) (y ∷ filter p ys) (filter p ys) e)) (In-to_filter p ys x i h)) (cases_Bool (p y))
-
-pub In-flat : {X Y : Type 0} (f : X → List Y) (xs : List X) (y : Y) → In y (flat_map f xs) → (x : X) × In x xs × In y (f x)
-In-flat f [] y i = absurd i
-In-flat f (x ∷ xs) y i =
-    ⊎_elim (λ here. (x, inl refl, here)) (λ there. let found = In-flat f xs y there in (found.0, inr found.1, found.2)) (In-parts (f x) (flat_map f xs) y i)
-
-pub In-to_flat : {X Y : Type 0} (f : X → List Y) (xs : List X) (x : X) (y : Y) → In x xs → In y (f x) → In y (flat_map f xs)
-In-to_flat f [] x y i j = absurd i
-In-to_flat f (z ∷ xs) x y (inl is) j = In-joined (f z) (flat_map f xs) y (inl (subst (λ w. In y (f w)) (sym is) j))
-In-to_flat f (z ∷ xs) x y (inr i) j = In-joined (f z) (flat_map f xs) y (inr (In-to_flat f xs x y i j))
-
--- ---- some member passes
-
-pub any_from_in : {X : Type 0} (p : X → Bool) (xs : List X) (x : X) → In x xs → p x ≡ true → list_any p xs ≡ true
-any_from_in p [] x i h = absurd i
-any_from_in p (y ∷ ys) x (inl is) h = or_left (p y) (list_any p ys) (ap p is ∙ h)
-any_from_in p (y ∷ ys) x (inr i) h = or_right (p y) (list_any p ys) (any_from_in p ys x i h)
-
-in_from_one : {X : Type 0} (b : Bool) (p : X → Bool) (y : X) (ys : List X) → p y ≡ b → (list_any p ys ≡ true → (x : X) × In x ys × (p x ≡ true)) → (b || list_any p ys) ≡ true → (x : X) × In x (y ∷ ys) × (p x ≡ true)
-in_from_one true p y ys e rest h = (y, inl refl, e)
-in_from_one false p y ys e rest h = let found = rest h in (found.0, inr found.1, found.2)
-
-pub in_from_any : {X : Type 0} (p : X → Bool) (xs : List X) → list_any p xs ≡ true → (x : X) × In x xs × (p x ≡ true)
-in_from_any p [] h = absurd (false≢true h)
-in_from_any p (y ∷ ys) h = in_from_one (p y) p y ys refl (in_from_any p ys) h
-
-pub same_truth : (a b : Bool) → (a ≡ true → b ≡ true) → (b ≡ true → a ≡ true) → a ≡ b
-same_truth true b to from = sym (to refl)
-same_truth false true to from = from refl
-same_truth false false to from = refl
+-- ---- lists of the same members
 
 abbrev pub SameMembers : {X : Type 0} → List X → List X → Type 0
 SameMembers {X} xs ys = ((x : X) → In x xs → In x ys) × ((x : X) → In x ys → In x xs)
 
 pub any_same_members : {X : Type 0} (p : X → Bool) (xs ys : List X) → SameMembers xs ys → list_any p xs ≡ list_any p ys
-any_same_members p xs ys same =
-    same_truth (list_any p xs) (list_any p ys)
-    (λ h. let found = in_from_any p xs h in any_from_in p ys found.0 (same.0 found.0 found.1) found.2)
-    (λ h. let found = in_from_any p ys h in any_from_in p xs found.0 (same.1 found.0 found.1) found.2)
+any_same_members p xs ys same = any_members p xs ys same.0 same.1
 
 ascending_same_members : {X : Type 0} {cmp : X → X → Ordering} → IsExactOrder cmp → (xs ys : List X) → SameMembers xs ys → ascending cmp xs ≡ ascending cmp ys
-ascending_same_members {X} {cmp} o xs ys same =
-    let a = ascending_is o xs in
-    let b = ascending_is o ys in
-    one_ascending o xs (ascending cmp xs) (ascending cmp ys) a (record {
-      sorted = b.sorted;
-      members = λ x. (λ h. Contains-from xs x (same.1 x (In-from ys x ((b.members x).0 h))), λ h. (b.members x).1 (Contains-from ys x (same.0 x (In-from xs x h))));
-    })
+ascending_same_members {X} {cmp} o xs ys same = same_ascending cmp o xs ys same.0 same.1
 
 -- ---- the items of a file's keys are those of the file
 
@@ -98,24 +44,24 @@ items_of_file_keys file rows = (to, from)
   where
     to : (item : ItemData) → In item (items_of_keys rows (keys_of_file file rows)) → In item (items_of_file file rows)
     to item i =
-        let at_key = In-flat (λ (k : Key). items_at k rows) (keys_of_file file rows) item i in
-        let own = In-filter (λ (k : Key). bytes_eq k.file file) (keys_of rows) at_key.0 at_key.1 in
+        let at_key = In-unflat (λ (k : Key). items_at k rows) (keys_of_file file rows) item i in
+        let own = In-unfilter (λ (k : Key). bytes_eq k.file file) (keys_of rows) at_key.0 at_key.1 in
         let row = In-unmap (λ (r : Row). r.item) (filter (has_key at_key.0) rows) item at_key.2 in
-        let of_key = In-filter (has_key at_key.0) rows row.0 row.1 in
+        let of_key = In-unfilter (has_key at_key.0) rows row.0 row.1 in
         let same : at_key.0.file ≡ file = (bytes_eq-Decides at_key.0.file file).0 own.1 in
         let has : bytes_eq row.0.file file ≡ true = subst (λ (name : List ℕ). bytes_eq row.0.file name ≡ true) same (and_parts (bytes_eq row.0.file at_key.0.file) (bytes_eq row.0.test at_key.0.test) of_key.1).0 in
-        subst (λ (x : ItemData). In x (items_of_file file rows)) row.2 (In-map (λ (r : Row). r.item) (filter (has_file file) rows) row.0 (In-to_filter (has_file file) rows row.0 of_key.0 has))
+        subst (λ (x : ItemData). In x (items_of_file file rows)) row.2 (In-map (λ (r : Row). r.item) (filter (has_file file) rows) row.0 (In-filter (has_file file) rows row.0 of_key.0 has))
 
     from : (item : ItemData) → In item (items_of_file file rows) → In item (items_of_keys rows (keys_of_file file rows))
     from item i =
         let row = In-unmap (λ (r : Row). r.item) (filter (has_file file) rows) item i in
-        let of_file = In-filter (has_file file) rows row.0 row.1 in
+        let of_file = In-unfilter (has_file file) rows row.0 row.1 in
         let key = key_of_row row.0 in
         let there : In key (keys_of rows) = In-to_ascending keys_order.exact key (map key_of_row rows) (In-map key_of_row rows row.0 of_file.0) in
         let has : has_key key row.0 ≡ true = and_from (bytes_eq row.0.file row.0.file) (bytes_eq row.0.test row.0.test) ((bytes_eq-Decides row.0.file row.0.file).1 refl) ((bytes_eq-Decides row.0.test row.0.test).1 refl) in
-        In-to_flat (λ (k : Key). items_at k rows) (keys_of_file file rows) key item
-        (In-to_filter (λ (k : Key). bytes_eq k.file file) (keys_of rows) key there of_file.1)
-        (subst (λ (x : ItemData). In x (items_at key rows)) row.2 (In-map (λ (r : Row). r.item) (filter (has_key key) rows) row.0 (In-to_filter (has_key key) rows row.0 of_file.0 has)))
+        In-flat (λ (k : Key). items_at k rows) (keys_of_file file rows) key item
+        (In-filter (λ (k : Key). bytes_eq k.file file) (keys_of rows) key there of_file.1)
+        (subst (λ (x : ItemData). In x (items_at key rows)) row.2 (In-map (λ (r : Row). r.item) (filter (has_key key) rows) row.0 (In-filter (has_key key) rows row.0 of_file.0 has)))
 
 -- ---- the sections of a file
 
@@ -162,21 +108,21 @@ module _ {X : Type 0} {cmp : X → X → Ordering} (o : IsExactOrder cmp) (point
     where
       to : (x : X) → In x (flat_map points (map (section_of rows) keys)) → In x (flat_map point (items_of_keys rows keys))
       to x i =
-          let section = In-flat points (map (section_of rows) keys) x i in
+          let section = In-unflat points (map (section_of rows) keys) x i in
           let key = In-unmap (section_of rows) keys section.0 section.1 in
           let own : In x (ascending cmp (flat_map point (items_at key.0 rows))) = subst (In x) (reads rows key.0) (subst (λ (s : SectionData). In x (points s)) (sym key.2) section.2) in
-          let item = In-flat point (items_at key.0 rows) x (In-ascending o.exact x (flat_map point (items_at key.0 rows)) own) in
-          In-to_flat point (items_of_keys rows keys) item.0 x (In-to_flat (λ (k : Key). items_at k rows) keys key.0 item.0 key.1 item.1) item.2
+          let item = In-unflat point (items_at key.0 rows) x (In-ascending o.exact x (flat_map point (items_at key.0 rows)) own) in
+          In-flat point (items_of_keys rows keys) item.0 x (In-flat (λ (k : Key). items_at k rows) keys key.0 item.0 key.1 item.1) item.2
 
       from : (x : X) → In x (flat_map point (items_of_keys rows keys)) → In x (flat_map points (map (section_of rows) keys))
       from x i =
-          let item = In-flat point (items_of_keys rows keys) x i in
-          let key = In-flat (λ (k : Key). items_at k rows) keys item.0 item.1 in
-          let own : In x (points (section_of rows key.0)) = subst (In x) (sym (reads rows key.0)) (In-to_ascending o.exact x (flat_map point (items_at key.0 rows)) (In-to_flat point (items_at key.0 rows) item.0 x key.2 item.2)) in
-          In-to_flat points (map (section_of rows) keys) (section_of rows key.0) x (In-map (section_of rows) keys key.0 key.1) own
+          let item = In-unflat point (items_of_keys rows keys) x i in
+          let key = In-unflat (λ (k : Key). items_at k rows) keys item.0 item.1 in
+          let own : In x (points (section_of rows key.0)) = subst (In x) (sym (reads rows key.0)) (In-to_ascending o.exact x (flat_map point (items_at key.0 rows)) (In-flat point (items_at key.0 rows) item.0 x key.2 item.2)) in
+          In-flat points (map (section_of rows) keys) (section_of rows key.0) x (In-map (section_of rows) keys key.0 key.1) own
 
   points_of_items : (items others : List ItemData) → SameMembers items others → (x : X) → In x (flat_map point items) → In x (flat_map point others)
-  points_of_items items others same x i = let item = In-flat point items x i in In-to_flat point others item.0 x (same.0 item.0 item.1) item.2
+  points_of_items items others same x i = let item = In-unflat point items x i in In-flat point others item.0 x (same.0 item.0 item.1) item.2
 
   -- the points found in the sections of a file are those of its rows
   pub points_found : ascending cmp (flat_map points (sections_of file (content_of rows))) ≡ ascending cmp (flat_map point (items_of_file file rows))
@@ -218,7 +164,7 @@ module _ {X Y : Type 0} {cmp : X → X → Ordering} (o : IsExactOrder cmp) (poi
       reads source.0 (ap test source.2 ∙ value.2))
       (λ h. let item = in_from_any hits items h in
       any_from_in test (map at all) (at x)
-      (In-map at all x (In-to_ascending o.exact x (flat_map point items) (In-to_flat point items item.0 x item.1 (speaks item.0 item.2)))) (tests h))
+      (In-map at all x (In-to_ascending o.exact x (flat_map point items) (In-flat point items item.0 x item.1 (speaks item.0 item.2)))) (tests h))
 
 -- a sum is above 0 where one of its numbers is
 above_either : (a b : ℕ) → nat_lt 0 (a + b) ≡ (nat_lt 0 a || nat_lt 0 b)
