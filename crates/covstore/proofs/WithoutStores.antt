@@ -1,14 +1,16 @@
 -- A store without a test: what it stands for, and its totals.
-use Rattle.std.proofs.Common.{◌≡◌, ℕ, ◌≤◌, ◌^◌, not, List, [], ◌∷◌, length, filter, refl, sym, ap, ◌∙◌, arith}
+use Rattle.std.proofs.Common.{◌≡◌, ℕ, ◌≤◌, ◌^◌, not, List, [], ◌∷◌, length, filter, map, refl, sym, ap, ◌∙◌, arith}
 use Rattle.std.specs.List.{AllByRecursion, count_by}
 use Rattle.std.specs.Str.{bytes_eq}
 use Rattle.std.proofs.lemmas.List.{length-map}
+use Rattle.std.proofs.lemmas.List.Sums.{length-filter}
 use Rattle.covstore.specs.declared.file.File.{File}
 use Rattle.covstore.specs.declared.totals.Totals.{Totals}
 use Rattle.covstore.specs.Content.{SectionData, content_at}
 use Rattle.covstore.specs.FileDrops.{AreWithoutTest}
 use Rattle.covstore.specs.TotalsExchanged.{FitTotals}
 use Rattle.covstore.specs.FileView.{file_committed}
+use Rattle.covstore.specs.Renaming.{names_with}
 use Rattle.covstore.specs.StoreView.{IsStore, files_committed}
 use Rattle.covstore.specs.State.{FileData, IsWholeFile, has_points_of, sections_of, totals_in}
 use Rattle.covstore.specs.Store.{StandsFor, StoreData}
@@ -80,6 +82,14 @@ module _ (test : List ℕ) (members : ℕ) (committed : Totals) (files : List (L
   pub sections_with : (table : Table) → sections_of files ≡ content_at table → count_by (λ pair. has_points_of test pair.1) files ≡ sections_of_test test table
   sections_with table content =
       count_in_files test files is.state.whole ∙ ap (count_by (λ s. bytes_eq s.key.test test)) content ∙ sym (sections_counted test table)
+
+  -- of whose names there are as many
+  pub sections_named : (table : Table) → sections_of files ≡ content_at table → length (names_with test files) ≡ sections_of_test test table
+  sections_named table content =
+      length-map (filter (λ pair. has_points_of test pair.1) files) (λ (pair : List ℕ × FileData). pair.0) ∙ length-filter (λ pair. has_points_of test pair.1) files ∙ sections_with table content
+
+  pub names_counted : {X : Type 0} (name : X → List ℕ) (names : List X) (n : ℕ) → n ≡ length names → map name names ≡ names_with test files → (table : Table) → sections_of files ≡ content_at table → n ≡ sections_of_test test table
+  names_counted name names n same are table content = same ∙ sym (length-map names name) ∙ ap length are ∙ sections_named table content
 
 -- a store with the same content stands for the same tables
 pub stands_too : (store other : StoreData) (table : Table) → other.sections ≡ store.sections → other.members ≡ store.members → StandsFor store table → StandsFor other table

@@ -1,6 +1,6 @@
 //! A test that goes from the files of a store.
 
-ghost use Rattle.std.specs.Prelude.{◌≡◌, ℕ, List, true, count_by, map, IfOk};
+ghost use Rattle.std.specs.Prelude.{◌≡◌, ◌≢◌, ℕ, List, [], true, count_by, map, IfOk, OnErr};
 ghost use Rattle.std.specs.List.{AllByRecursion};
 ghost use Rattle.covstore.specs.FileDrops.{AreWithoutTest, IsWithoutTest};
 ghost use Rattle.covstore.specs.TotalsExchanged.{FitTotals};
@@ -93,7 +93,8 @@ pub(crate) fn names_with<A: Allocator + Copy>(
     alloc: A,
     test: &[u8],
 ) -> Result<Vec<Vec<u8, A>, A>, Memory>
-    ensures { IfOk result (λ names. map (λ name. name.items) names.items ≡ names_with test.now (files_committed (λ name. name.items) files.now.entries)) }
+    ensures names { IfOk result (λ names. map (λ name. name.items) names.items ≡ names_with test.now (files_committed (λ name. name.items) files.now.entries)) }
+    ensures some { OnErr result (names_with test.now (files_committed (λ name. name.items) files.now.entries) ≢ []) }
 {
     let mut names = Vec::new(alloc);
     for (name, file) in files.iter() {

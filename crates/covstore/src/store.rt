@@ -155,7 +155,7 @@ impl<A: Allocator + Copy> Store<A> {
     ghost use Rattle.covstore.specs.StoreKept.{IsKept};
     ghost use Rattle.covstore.specs.RefuseView.{refuse_data};
     ghost use Rattle.covstore.specs.Renamed.{renamed};
-    ghost use Rattle.covstore.specs.Renaming.{Copies, HasRoomToCopy, IsMoving, IsRenamingOf};
+    ghost use Rattle.covstore.specs.Renaming.{Copies, HasRoomToCopy, IsMoving, IsRenamingOf, names_with};
     ghost use Rattle.covstore.specs.State.{sections_of, totals_in};
     ghost use Rattle.covstore.specs.Table.{Table, all_rows, clash_at};
     ghost use Rattle.covstore.specs.Totals.{AreTotals, totals_of};
@@ -228,7 +228,7 @@ impl<A: Allocator + Copy> Store<A> {
     /// Makes the store ready to give the rows of one test another name, which can be any. The content stays as it is. What a
     /// renaming is made of is private. Callers know two things of it: in how many sections the old test stands; and that it
     /// is a renaming of the store as it is left here, which `commit_rename` asks for. Where no row is of the old test, or both
-    /// names are the same, it does nothing. The call takes a few look-ups in each file, and time for each point of the old
+    /// names are the same, it does nothing. The call takes a look-up in each file, and time for each point of the old
     /// test.
     ///
     /// # Errors
@@ -248,13 +248,16 @@ impl<A: Allocator + Copy> Store<A> {
     {
         // A plan that was dropped may have left something staged.
         self.rollback();
-        let sections = count_sections(&self.files, old);
-        if sections == 0 || old == new {
-            return Ok(Renaming::none(sections));
+        if old == new {
+            return Ok(Renaming::none(count_sections(&self.files, old)));
+        }
+        let names = names_with(&self.files, alloc, old)?;
+        if names.is_empty() {
+            return Ok(Renaming::none(0));
         }
         let leaves = Vec::from_slice(alloc, old)?;
-        match self.copy_all(alloc, old, new) {
-            Ok(()) => Ok(Renaming::of(sections, leaves)),
+        match self.copy_all(alloc, names.as_slice(), old, new) {
+            Ok(()) => Ok(Renaming::of(names.len() as u64, leaves)),
             Err(refused) => {
                 self.rollback();
                 Err(refused)
@@ -352,8 +355,15 @@ impl<A: Allocator + Copy> Store<A> {
         Ok(())
     }
 
-    /// Stages the values of the old test for the new one, file by file.
-    fn copy_all(&mut self, alloc: A, old: &[u8], new: &[u8]) -> Result<(), Memory>
+    /// Stages the values of the old test for the new one, in the files of these names, which are those that have it.
+    fn copy_all(
+        &mut self,
+        alloc: A,
+        names: &[Vec<u8, A>],
+        old: &[u8],
+        new: &[u8],
+    ) -> Result<(), Memory>
+        requires names { map (λ name. name.items) names.now ≡ names_with old.now self.old.committed }
         requires apart { old.now ≢ new.now }
         requires still { self.old.staged ≡ self.old.committed }
         ensures committed { SameCommitted self.old self.new }
@@ -361,8 +371,7 @@ impl<A: Allocator + Copy> Store<A> {
     {
         // The contract of this call tells that few enough rows are held.
         self.kept();
-        let names = names_with(&self.files, alloc, old)?;
-        for name in names.as_slice() {
+        for name in names {
             self.copy_file(alloc, name.as_slice(), old, new)?;
         }
         Ok(())

@@ -1,7 +1,6 @@
-use Rattle.std.proofs.Common.{◌+◌, ℕ, List, drop, map, take, sym, ap, ◌∙◌, subst}
+use Rattle.std.proofs.Common.{◌+◌, ℕ, List, drop, map, take, sym, ap, subst}
 use Rattle.std.proofs.lemmas.List.{drop_all}
-use Rattle.covstore.specs.Renaming.{Copies, HasRoomToCopy, names_with}
-use Rattle.covstore.specs.Store.{StoreData}
+use Rattle.covstore.specs.Renaming.{Copies, HasRoomToCopy}
 use Rattle.covstore.proofs.AddsLoop.{left_at, taken_at}
 use Rattle.covstore.proofs.AddsStore.{held_by_both}
 use Rattle.covstore.proofs.RenamedTablesLoop.{HasCopied, copy_room, moving_ready, none_copied, one_file_copied}
@@ -10,14 +9,14 @@ use Rattle.covstore.proofs.store.Store.copy_all.Goals as goal
 
 pub loop-name-init : goal.loop-name-init
 loop-name-init g c =
-    let items = c.as_slice-name-items.result.now in
+    let items = c.args.names.now in
     none_copied c.args.old.now c.args.new.now (map file_name items) c.args.self.now c.kept.result c.kept.ensures c.requires.still
-    (ap (map file_name) c.as_slice-name-items.ensures.value ∙ c.in_ok-names.ensures ∙ ap (λ (store : StoreData). names_with c.args.old.now store.committed) c.self.view_is)
+    c.requires.names
 
 pub copy_file-requires-clause-room : goal.copy_file-requires-clause-room
 copy_file-requires-clause-room g c =
     let l = c.loop-name in
-    let items = c.as_slice-name-items.result.now in
+    let items = c.args.names.now in
     subst (λ (file : List ℕ). HasRoomToCopy file c.args.old.now l.self) (sym c.as_slice.ensures.value)
     (copy_room c.args.old.now c.args.new.now c.requires.apart (map file_name (take l.name-index items)) c.args.self.now l.self (file_name c.name-item.result) (map file_name (drop (l.name-index + 1) items))
     (subst (λ (more : List (List ℕ)). HasCopied c.args.old.now c.args.new.now (map file_name (take l.name-index items)) more c.args.self.now l.self)
@@ -29,7 +28,7 @@ returns-in_err-copy_file-clause-committed g c = held_by_both c.args.self.now c.l
 pub loop-name-preserved : goal.loop-name-preserved
 loop-name-preserved g c =
     let l = c.loop-name in
-    let items = c.as_slice-name-items.result.now in
+    let items = c.args.names.now in
     let rest = map file_name (drop (l.name-index + 1) items) in
     let copies = subst (λ (file : List ℕ). Copies file c.args.old.now c.args.new.now l.self.staged c.copy_file.new.self.staged) c.as_slice.ensures.value c.in_ok-copy_file.ensures.ok in
     subst (λ (some : List (List ℕ)). HasCopied c.args.old.now c.args.new.now some rest c.args.self.now c.copy_file.new.self)
@@ -45,7 +44,7 @@ returns-clause-committed g c = c.loop-name.invariant.committed
 pub returns-clause-ok : goal.returns-clause-ok
 returns-clause-ok g c =
     let l = c.loop-name in
-    let items = c.as_slice-name-items.result.now in
+    let items = c.args.names.now in
     moving_ready c.args.old.now c.args.new.now c.requires.apart (map file_name (take l.name-index items)) c.args.self.now l.self
     (subst (λ (more : List (List ℕ)). HasCopied c.args.old.now c.args.new.now (map file_name (take l.name-index items)) more c.args.self.now l.self)
     (ap (map file_name) (drop_all l.name-index items c.loop-name-test.false)) l.invariant)

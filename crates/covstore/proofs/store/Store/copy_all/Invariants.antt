@@ -4,4 +4,4 @@ use Rattle.covstore.proofs.Settled.{file_name}
 use Rattle.covstore.proofs.store.Store.copy_all.Given as goal
 
 abbrev pub invariant-loop-name : goal.invariant-loop-name
-invariant-loop-name g l = HasCopied l.old l.new (map file_name (take l.name-index l.name-items)) (map file_name (drop l.name-index l.name-items)) l.initial.self l.self
+invariant-loop-name g l = HasCopied l.old l.new (map file_name (take l.name-index l.names)) (map file_name (drop l.name-index l.names)) l.initial.self l.self

@@ -1,65 +1,90 @@
-use Rattle.std.proofs.lemmas.Result.{err_from_is_err_and}
-use Rattle.std.proofs.Common.{◌≡◌, ℕ, List, sym, ap, ◌∙◌, subst}
+use Rattle.std.proofs.Common.{◌≡◌, ◌≢◌, ℕ, List, sym, ap, ◌∙◌, subst}
+use Rattle.std.specs.Prelude.{◌==◌}
+use Rattle.std.proofs.lemmas.Bool.{eqb-true, false≢true}
+use Rattle.std.proofs.lemmas.List.{nil_from_length}
 use Rattle.std.proofs.lemmas.Slice.Eq.{bytes_eq-Decides}
+use Rattle.covmap.proofs.SlotWrites.{on_err}
 use Rattle.covstore.specs.Renamed.{renamed}
-use Rattle.covstore.specs.Renaming.{IsMovingIfAny}
-use Rattle.std.proofs.lemmas.Bool.{false≢true}
-use Rattle.covstore.specs.Store.{StoreData}
+use Rattle.covstore.specs.Renaming.{IsMovingIfAny, names_with}
+use Rattle.covstore.specs.Store.{StandsFor, StoreData}
 use Rattle.covstore.specs.StoreView.{files_committed}
-use Rattle.covstore.proofs.Settled.{file_name}
-use Rattle.covstore.proofs.WithoutStores.{sections_with}
+use Rattle.covstore.specs.Table.{Table}
+use Rattle.covstore.specs.Without.{sections_of_test}
 use Rattle.covstore.proofs.RenamedTables.{renamed_none_counted, renamed_same}
+use Rattle.covstore.proofs.Settled.{file_name}
+use Rattle.covstore.proofs.WithoutStores.{names_counted, sections_named, sections_with}
 use Rattle.covstore.proofs.store.Store.prepare_rename.Goals as goal
-use Rattle.covstore.proofs.store.Store.prepare_rename.Goals.{then-sections-eq0-via-then-sections-eq0, then-sections-eq0-via-else-sections-eq0+then-eq}
 
-pub returns-then-sections-eq0-clause-planned : goal.returns-then-sections-eq0-clause-planned
-returns-then-sections-eq0-clause-planned g c =
+-- the names are the same
+
+pub returns-then-eq-clause-planned : goal.returns-then-eq-clause-planned
+returns-then-eq-clause-planned g c =
     let old = c.args.old.now in
     let new = c.args.new.now in
-    let inside = c.self.inside in
     subst (IsMovingIfAny c.rollback.new.self old new) (sym c.none.ensures.leaves)
-    (elim c.then-sections-eq0.branch [
-      | then-sections-eq0-via-then-sections-eq0 w ↦
-          (λ table stands.
-          let counted = c.count_sections-sections.ensures
-          ∙ sections_with old inside.members inside.committed (files_committed file_name inside.files.entries) c.self.invariant.0 table (ap (λ (store : StoreData). store.sections) c.self.view_is ∙ stands.content) in
-          renamed_none_counted old new table (sym counted ∙ w.if-sections-eq0.true))
-      | then-sections-eq0-via-else-sections-eq0+then-eq w ↦
-          (λ table stands. subst (λ (name : List ℕ). renamed old name table ≡ table) ((bytes_eq-Decides old new).0 (sym w.eq.ensures ∙ w.if-eq.true)) (renamed_same old table))
-    ])
+    (λ table stands. subst (λ (name : List ℕ). renamed old name table ≡ table) ((bytes_eq-Decides old new).0 (sym c.eq.ensures ∙ c.if-eq.true)) (renamed_same old table))
 
-pub returns-in-Err-clause-apart : goal.returns-in-Err-clause-apart
-returns-in-Err-clause-apart g c = λ same. false≢true (sym c.if-eq.false ∙ c.eq.ensures ∙ (bytes_eq-Decides c.args.old.now c.args.new.now).1 same)
-
-pub returns-in-Err-clause-some : goal.returns-in-Err-clause-some
-returns-in-Err-clause-some g c = λ table stands none.
-    c.if-sections-eq0.false (c.count_sections-sections.ensures
-    ∙ sections_with c.args.old.now c.self.inside.members c.self.inside.committed (files_committed file_name c.self.inside.files.entries) c.self.invariant.0 table
+pub returns-then-eq-clause-sections : goal.returns-then-eq-clause-sections
+returns-then-eq-clause-sections g c = λ table stands.
+    let inside = c.self.inside in
+    c.none.ensures.sections ∙ c.count_sections.ensures
+    ∙ sections_with c.args.old.now inside.members inside.committed (files_committed file_name inside.files.entries) c.self.invariant.0 table
     (ap (λ (store : StoreData). store.sections) c.self.view_is ∙ c.rollback.ensures.sections ∙ stands.content)
-    ∙ none)
 
-pub returns-in_err-leaves-clause-apart : goal.returns-in_err-leaves-clause-apart
-returns-in_err-leaves-clause-apart g c =
-    let p = err_from_is_err_and c.from_residual.result c.from_residual.ensures.1 in
-    rw (p.1, p.2) (λ same. false≢true (sym c.if-eq.false ∙ c.eq.ensures ∙ (bytes_eq-Decides c.args.old.now c.args.new.now).1 same))
+-- as many names are found as there are sections of the test
+
+pub returns-in_err-names-clause-some : goal.returns-in_err-names-clause-some
+returns-in_err-names-clause-some g c =
+    let inside = c.self.inside in
+    let files = files_committed file_name inside.files.entries in
+    let some : (table : Table) → StandsFor c.args.self.now table → sections_of_test c.args.old.now table ≢ 0 = λ table stands none.
+    c.in_err-names.ensures.some
+    (nil_from_length (names_with c.args.old.now files)
+    (sections_named c.args.old.now inside.members inside.committed files c.self.invariant.0 table (ap (λ (store : StoreData). store.sections) c.self.view_is ∙ c.rollback.ensures.sections ∙ stands.content) ∙ none)) in
+    on_err _ some
+
+pub returns-then-is_empty-clause-planned : goal.returns-then-is_empty-clause-planned
+returns-then-is_empty-clause-planned g c =
+    let inside = c.self.inside in
+    let names = c.in_ok-names.names in
+    subst (IsMovingIfAny c.rollback.new.self c.args.old.now c.args.new.now) (sym c.none-then-is_empty.ensures.leaves)
+    (λ table stands.
+    let counted = names_counted c.args.old.now inside.members inside.committed (files_committed file_name inside.files.entries) c.self.invariant.0 file_name names.items names.len names.ok.0 c.in_ok-names.ensures.names table
+    (ap (λ (store : StoreData). store.sections) c.self.view_is ∙ stands.content) in
+    renamed_none_counted c.args.old.now c.args.new.now table (sym counted ∙ eqb-true names.len 0 (sym c.is_empty.ensures ∙ c.if-is_empty.true)))
+
+pub returns-then-is_empty-clause-sections : goal.returns-then-is_empty-clause-sections
+returns-then-is_empty-clause-sections g c = λ table stands.
+    let inside = c.self.inside in
+    let names = c.in_ok-names.names in
+    c.none-then-is_empty.ensures.sections ∙ sym (eqb-true names.len 0 (sym c.is_empty.ensures ∙ c.if-is_empty.true))
+    ∙ names_counted c.args.old.now inside.members inside.committed (files_committed file_name inside.files.entries) c.self.invariant.0 file_name names.items names.len names.ok.0 c.in_ok-names.ensures.names table
+    (ap (λ (store : StoreData). store.sections) c.self.view_is ∙ c.rollback.ensures.sections ∙ stands.content)
 
 pub returns-in_err-leaves-clause-some : goal.returns-in_err-leaves-clause-some
 returns-in_err-leaves-clause-some g c =
-    let p = err_from_is_err_and c.from_residual.result c.from_residual.ensures.1 in
-    rw (p.1, p.2) (λ table stands none.
-    c.if-sections-eq0.false (c.count_sections-sections.ensures
-    ∙ sections_with c.args.old.now c.self.inside.members c.self.inside.committed (files_committed file_name c.self.inside.files.entries) c.self.invariant.0 table
-    (ap (λ (store : StoreData). store.sections) c.self.view_is ∙ c.rollback.ensures.sections ∙ stands.content)
-    ∙ none))
-
-pub returns-then-sections-eq0-clause-sections : goal.returns-then-sections-eq0-clause-sections
-returns-then-sections-eq0-clause-sections g c = λ table stands.
-    c.none.ensures.sections ∙ c.count_sections-sections.ensures
-    ∙ sections_with c.args.old.now c.self.inside.members c.self.inside.committed (files_committed file_name c.self.inside.files.entries) c.self.invariant.0 table
-    (ap (λ (store : StoreData). store.sections) c.self.view_is ∙ c.rollback.ensures.sections ∙ stands.content)
+    let inside = c.self.inside in
+    let names = c.in_ok-names.names in
+    let some : (table : Table) → StandsFor c.args.self.now table → sections_of_test c.args.old.now table ≢ 0 = λ table stands none.
+    let counted = names_counted c.args.old.now inside.members inside.committed (files_committed file_name inside.files.entries) c.self.invariant.0 file_name names.items names.len names.ok.0 c.in_ok-names.ensures.names table
+    (ap (λ (store : StoreData). store.sections) c.self.view_is ∙ c.rollback.ensures.sections ∙ stands.content) in
+    false≢true (sym c.if-is_empty.false ∙ c.is_empty.ensures ∙ ap (λ (n : ℕ). n == 0) (counted ∙ none)) in
+    on_err _ some
 
 pub returns-in-Ok-clause-sections : goal.returns-in-Ok-clause-sections
 returns-in-Ok-clause-sections g c = λ table stands.
-    c.of.ensures.sections ∙ c.count_sections-sections.ensures
-    ∙ sections_with c.args.old.now c.self.inside.members c.self.inside.committed (files_committed file_name c.self.inside.files.entries) c.self.invariant.0 table
+    let inside = c.self.inside in
+    let names = c.in_ok-names.names in
+    c.of.ensures.sections ∙ c.len.ensures
+    ∙ names_counted c.args.old.now inside.members inside.committed (files_committed file_name inside.files.entries) c.self.invariant.0 file_name names.items names.len names.ok.0 c.in_ok-names.ensures.names table
     (ap (λ (store : StoreData). store.sections) c.self.view_is ∙ c.rollback.ensures.sections ∙ stands.content)
+
+pub returns-clause-some : goal.returns-clause-some
+returns-clause-some g c =
+    let inside = c.self.inside in
+    let names = c.in_ok-names.names in
+    let some : (table : Table) → StandsFor c.args.self.now table → sections_of_test c.args.old.now table ≢ 0 = λ table stands none.
+    let counted = names_counted c.args.old.now inside.members inside.committed (files_committed file_name inside.files.entries) c.self.invariant.0 file_name names.items names.len names.ok.0 c.in_ok-names.ensures.names table
+    (ap (λ (store : StoreData). store.sections) c.self.view_is ∙ c.rollback.ensures.sections ∙ stands.content) in
+    false≢true (sym c.if-is_empty.false ∙ c.is_empty.ensures ∙ ap (λ (n : ℕ). n == 0) (counted ∙ none)) in
+    some
