@@ -8,6 +8,7 @@ mod calls;
 mod copies;
 mod heap;
 mod lists;
+mod maps;
 mod prints;
 mod readers;
 mod said;

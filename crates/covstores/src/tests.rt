@@ -10,6 +10,7 @@ mod maps;
 mod patterns;
 mod plans;
 mod renames;
+mod runs;
 mod shuffled;
 mod texts;
 

@@ -10,7 +10,8 @@ use std::alloc::{AllocError, Allocator};
 
 impl<K: Key + Drop, V: Value, A: Allocator + Copy> StagedMap<K, V, A> {
     /// Stages the sums of the staged values of a run of keys and their addends, in order, and puts behind what these tell.
-    /// Keys that ascend are looked up once for each page that they stand on.
+    /// Keys that ascend are looked up once for each page that they stand on. New keys behind all others get pages of their own
+    /// at once, and one between others is put in by itself.
     ///
     /// # Errors
     ///

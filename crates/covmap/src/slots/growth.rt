@@ -38,7 +38,7 @@ pub(crate) fn make_slot<K: Key + Drop, V: Value, A: Allocator + Copy, Q: Query<K
 }
 
 /// Puts an empty slot where it would go.
-pub(crate) fn put_slot<K: Key + Drop, V: Value, A: Allocator + Copy>(
+fn put_slot<K: Key + Drop, V: Value, A: Allocator + Copy>(
     slots: &mut Slots<K, V, A>,
     staged: &mut StagedColumns<V, A>,
     alloc: A,

@@ -6,7 +6,7 @@ ghost use Rattle.covmap.specs.Slots.{IsAscending, filled, page_at, slots_of};
 ghost use Rattle.covmap.specs.Staged.{AreColumnsOf, staged_of};
 
 use crate::key::{Addend, Key, Query, Value};
-use crate::slots::growth::put_slot;
+use crate::slots::growth::make_slot;
 use crate::slots::page::Page;
 use crate::slots::staged::StagedColumns;
 use crate::slots::{PAGE, Place, Slots, push};
@@ -28,6 +28,17 @@ impl<K: Key, V, A: Allocator> Slots<K, V, A> {
         match self.pages.last() {
             Some(page) => page.len() < PAGE,
             None => false,
+        }
+    }
+
+    /// A place to begin the search for a key at, no search among the pages: on the page of the guess.
+    fn near<Q: Query<K, A>>(&self, query: Q, guess: Place) -> Place
+    where
+        V: Value,
+    {
+        match self.page(guess.page) {
+            Some(page) => guess.at(page.near(guess.index, query)),
+            None => guess,
         }
     }
 
@@ -82,17 +93,46 @@ pub(crate) fn make_slots<
     ensures place { IfOk result (λ place. FirstHere K.cmp Q.named (page_at slots.new place.page) place.index run.now) }
 {
     let (query, _) = run[0];
-    match slots.find(query, guess) {
+    match slots.find(query, slots.near(query, guess)) {
         Ok(place) => Ok(place),
         Err(place) => {
             // New pages come behind full ones alone, so that short runs don't leave short pages.
             if place.page < slots.count() || slots.has_room() {
-                let key = query.key(alloc)?;
-                return put_slot(slots, staged, alloc, place, key);
+                make_ahead(slots, staged, alloc, run, place)?;
+                return make_slot(slots, staged, alloc, query, place);
             }
             put_run(slots, staged, alloc, run)
         }
     }
+}
+
+/// Sees to it that the keys at the front of a run have slots, as long as they go on one page that has room. A page that has
+/// no staged values yet gets them all before it has a column, into which each would have to be put as well.
+fn make_ahead<K: Key + Drop, V: Value, A: Allocator + Copy, Q: Query<K, A>, M: Addend<V>>(
+    slots: &mut Slots<K, V, A>,
+    staged: &mut StagedColumns<V, A>,
+    alloc: A,
+    run: &[(Q, M)],
+    first: Place,
+) -> Result<(), AllocError>
+    requires { AreColumnsOf slots.old staged.old }
+    ensures columns { AreColumnsOf slots.new staged.new }
+    ensures committed { filled (slots_of slots.new) ≡ filled (slots_of slots.old) }
+    ensures staged { OnOk result (filled (slots_of (staged_of slots.new staged.new)) ≡ filled (slots_of (staged_of slots.old staged.old))) }
+{
+    let mut place = first;
+    let mut count = 0;
+    while count < run.len() {
+        let (query, _) = run[count];
+        let guess = slots.near(query, place);
+        let next = make_slot(slots, staged, alloc, query, guess)?;
+        if next.page != first.page || slots.len_of(next.page) == PAGE {
+            return Ok(());
+        }
+        place = next;
+        count += 1;
+    }
+    Ok(())
 }
 
 /// Puts empty slots of the keys at the front of a run behind all others.

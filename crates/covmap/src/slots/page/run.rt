@@ -58,7 +58,7 @@ impl<K: Key, V: Value, A: Allocator> Page<K, V, A> {
     }
 
     /// Where to look for the slot of a key: at this slot, at one of the next, or where a search leads.
-    fn near<Q: Query<K, A>>(&self, start: usize, query: Q) -> usize
+    pub(crate) fn near<Q: Query<K, A>>(&self, start: usize, query: Q) -> usize
         requires { IsAscending K.cmp self.now }
         ensures { order_at (λ key. K.cmp key (Q.named query)) (slice_get self.now start) ≡ Equal → result ≡ start }
     {

@@ -1,0 +1,98 @@
+//! A run of keys that is staged into a map. After a refusal the committed entries are as before, and once the rest is rolled
+//! back, the same run with room is staged whole.
+
+use super::heap::{check_rising, narrow, widen};
+use super::{check_bytes, made};
+use bumpalo::Bump;
+use covmap::{Addend, StagedMap, Telling};
+use std::alloc::{AllocError, Allocator};
+use std::process::Abort;
+use std::test::*;
+
+/// A value that takes the place of any before it, and tells so.
+#[derive(Clone, Copy)]
+struct Newest {
+    value: u64,
+}
+
+impl Addend<u64> for Newest {
+    ghost fits = { λ newest value. Unit {0} };
+
+    ghost sum = { λ newest value. newest.value };
+
+    fn plus(self, _value: &Option<u64>) -> u64 {
+        self.value
+    }
+}
+
+impl Telling<u64, u64> for Newest {
+    ghost use Rattle.std.specs.Prelude.{Some};
+
+    ghost told = { λ newest before after. Some after };
+
+    fn tell(self, _before: &Option<u64>, after: &u64) -> Option<u64> {
+        Some(*after)
+    }
+}
+
+/// Stages a run.
+fn stage<A: Allocator + Copy>(
+    alloc: A,
+    map: &mut StagedMap<u64, u64, A>,
+    run: &[(u64, Newest)],
+) -> Result<Vec<(u64, u64), A>, AllocError> {
+    let mut told = Vec::new(alloc);
+    map.stage_run(alloc, run, &mut told)?;
+    Ok(told)
+}
+
+/// A map with one committed entry.
+fn one_entry<A: Allocator + Copy>(alloc: A) -> Result<StagedMap<u64, u64, A>, AllocError> {
+    let mut map = StagedMap::new(alloc);
+    map.stage(alloc, 4, 40)?;
+    map.commit();
+    Ok(map)
+}
+
+/// The committed entries, each as the bytes of its key and its value.
+fn entries<A: Allocator + Copy>(
+    alloc: A,
+    map: &StagedMap<u64, u64, A>,
+) -> Result<Vec<u8, A>, AllocError> {
+    let mut bytes = Vec::new(alloc);
+    for (key, value) in map.entries() {
+        bytes.push(*key as u8)?;
+        bytes.push(*value as u8)?;
+    }
+    Ok(bytes)
+}
+
+/// A run with keys before, at and behind the one that is there.
+fn a_run(rt: &impl Abort, heap: &Bump, room: usize) -> bool {
+    let run = [
+        (2, Newest { value: 21 }),
+        (4, Newest { value: 41 }),
+        (9, Newest { value: 91 }),
+    ];
+    let mut map = made(rt, one_entry(heap));
+    narrow(rt, heap, room);
+    let first = stage(heap, &mut map, &run);
+    widen(heap);
+    check_bytes(rt, &made(rt, entries(heap, &map)), &[4, 40]);
+    let (told, is_refused) = match first {
+        Ok(told) => (told, false),
+        Err(_refused) => {
+            map.rollback();
+            (made(rt, stage(heap, &mut map, &run)), true)
+        }
+    };
+    assert_eq!(rt; told.len(), 3);
+    map.commit();
+    check_bytes(rt, &made(rt, entries(heap, &map)), &[2, 21, 4, 41, 9, 91]);
+    is_refused
+}
+
+#[test]
+fn runs(rt: HostRuntime) {
+    check_rising(&rt, |heap, room| a_run(&rt, heap, room));
+}

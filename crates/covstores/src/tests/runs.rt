@@ -1,0 +1,162 @@
+//! Runs of keys with addends, staged at once into a map.
+
+use super::{check_bytes, push_line};
+use covmap::{Addend, StagedMap, Telling};
+use std::alloc::{AllocError, Global};
+use std::test::*;
+
+/// Flags that are set among those of a key.
+#[derive(Clone, Copy)]
+struct Flags {
+    bits: u64,
+}
+
+impl Addend<u64> for Flags {
+    ghost use Rattle.std.specs.Prelude.{bit_or};
+    ghost use Rattle.std.specs.Option.{unwrap_or};
+
+    ghost fits = { λ more value. Unit {0} };
+
+    ghost sum = { λ more value. bit_or more.bits (unwrap_or value 0) };
+
+    fn plus(self, value: &Option<u64>) -> u64 {
+        let before = match value {
+            Some(bits) => *bits,
+            None => 0,
+        };
+        self.bits | before
+    }
+}
+
+/// A key that had no flags tells those that it has now.
+impl Telling<u64, u64> for Flags {
+    ghost use Rattle.std.specs.Prelude.{is_some, if◌then◌else◌, Some, None};
+
+    ghost told = { λ more before after. if is_some before then None else Some after };
+
+    fn tell(self, before: &Option<u64>, after: &u64) -> Option<u64> {
+        match before {
+            Some(_) => None,
+            None => Some(*after),
+        }
+    }
+}
+
+/// Stages a run.
+fn stage(
+    alloc: Global,
+    map: &mut StagedMap<u64, u64, Global>,
+    run: &[(u64, Flags)],
+    told: &mut Vec<(u64, u64), Global>,
+) -> Result<(), AllocError> {
+    map.stage_run(alloc, run, told)
+}
+
+/// A run: so many keys, each this much behind the one before, with the same flags.
+fn run_of(
+    alloc: Global,
+    count: u64,
+    step: u64,
+    bits: u64,
+) -> Result<Vec<(u64, Flags), Global>, AllocError> {
+    let mut run = Vec::new(alloc);
+    for number in 0..count {
+        run.push((number.wrapping_mul(step), Flags { bits }))?;
+    }
+    Ok(run)
+}
+
+/// Keys with values, each a line: the key, a space and the value.
+fn printed(alloc: Global, pairs: &[(u64, u64)]) -> Result<Vec<u8>, Fail> {
+    let mut text = Vec::new(alloc);
+    for (key, value) in pairs {
+        let line = format!(in alloc; "{key} {value}")?;
+        push_line(&mut text, line.as_bytes())?;
+    }
+    Ok(text)
+}
+
+/// The committed entries.
+fn committed(
+    alloc: Global,
+    map: &StagedMap<u64, u64, Global>,
+) -> Result<Vec<(u64, u64), Global>, AllocError> {
+    let mut pairs = Vec::new(alloc);
+    for (key, value) in map.entries() {
+        pairs.push((*key, *value))?;
+    }
+    Ok(pairs)
+}
+
+/// A run that falls and repeats a key: sums are staged beside what is committed, and notes come behind those before.
+#[test]
+fn a_run_in_any_order(rt: HostRuntime) -> Result<(), Fail> {
+    let alloc = rt.alloc();
+    let mut map = StagedMap::new(alloc);
+    map.stage(alloc, 3, 1)?;
+    map.stage(alloc, 7, 2)?;
+    map.commit();
+    let mut told = Vec::new(alloc);
+    told.push((1, 1))?;
+    let run = [
+        (7, Flags { bits: 4 }),
+        (3, Flags { bits: 4 }),
+        (5, Flags { bits: 8 }),
+        (5, Flags { bits: 16 }),
+        (9, Flags { bits: 32 }),
+    ];
+    stage(alloc, &mut map, &run, &mut told)?;
+    check_bytes(&rt, &printed(alloc, &told)?, b"1 1\n5 8\n9 32\n");
+    check_bytes(
+        &rt,
+        &printed(alloc, &committed(alloc, &map)?)?,
+        b"3 1\n7 2\n",
+    );
+    map.commit();
+    check_bytes(
+        &rt,
+        &printed(alloc, &committed(alloc, &map)?)?,
+        b"3 5\n5 24\n7 6\n9 32\n",
+    );
+    Ok(())
+}
+
+/// Whether the committed keys are 0, 1, 2 and so on, so many, the even ones with the first value and the odd ones with the
+/// second.
+fn alternate(map: &StagedMap<u64, u64, Global>, count: u64, even: u64, odd: u64) -> bool {
+    let mut next = 0;
+    for (key, value) in map.entries() {
+        let wanted = if next % 2 == 0 { even } else { odd };
+        if *key != next || *value != wanted {
+            return false;
+        }
+        next = next.wrapping_add(1);
+    }
+    next == count
+}
+
+/// Runs of more keys than fit on a page: new ones behind all others, new ones between those that are there, and keys that
+/// are all there.
+#[test]
+fn runs_over_pages(rt: HostRuntime) -> Result<(), Fail> {
+    let alloc = rt.alloc();
+    let mut map = StagedMap::new(alloc);
+    let mut told = Vec::new(alloc);
+    stage(alloc, &mut map, &run_of(alloc, 600, 2, 1)?, &mut told)?;
+    map.commit();
+    assert_eq!(rt; told.len(), 600);
+    stage(alloc, &mut map, &run_of(alloc, 1200, 1, 2)?, &mut told)?;
+    assert_eq!(rt; (map.lookup(4), map.lookup_staged(4)), (Some(1), Some(3)));
+    assert_eq!(rt; (map.lookup(5), map.lookup_staged(5)), (None, Some(2)));
+    map.commit();
+    assert_eq!(rt; told.len(), 1200);
+    assert!(rt; alternate(&map, 1200, 3, 2));
+    stage(alloc, &mut map, &run_of(alloc, 600, 2, 8)?, &mut told)?;
+    map.rollback();
+    assert!(rt; alternate(&map, 1200, 3, 2));
+    stage(alloc, &mut map, &run_of(alloc, 600, 2, 4)?, &mut told)?;
+    map.commit();
+    assert_eq!(rt; told.len(), 1200);
+    assert!(rt; alternate(&map, 1200, 7, 2));
+    Ok(())
+}
