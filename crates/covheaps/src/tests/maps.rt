@@ -2,7 +2,7 @@
 //! back, the same run with room is staged whole.
 
 use super::heap::{check_rising, narrow, widen};
-use super::{check_bytes, made};
+use super::made;
 use bumpalo::Bump;
 use covmap::{Addend, StagedMap, Telling};
 use std::alloc::{AllocError, Allocator};
@@ -54,20 +54,25 @@ fn one_entry<A: Allocator + Copy>(alloc: A) -> Result<StagedMap<u64, u64, A>, Al
     Ok(map)
 }
 
-/// The committed entries, each as the bytes of its key and its value.
+/// The committed entries, each as its key and its value.
 fn entries<A: Allocator + Copy>(
     alloc: A,
     map: &StagedMap<u64, u64, A>,
-) -> Result<Vec<u8, A>, AllocError> {
-    let mut bytes = Vec::new(alloc);
+) -> Result<Vec<u64, A>, AllocError> {
+    let mut numbers = Vec::new(alloc);
     for (key, value) in map.entries() {
-        bytes.push(*key as u8)?;
-        bytes.push(*value as u8)?;
+        numbers.push(*key)?;
+        numbers.push(*value)?;
     }
-    Ok(bytes)
+    Ok(numbers)
 }
 
-/// A run with keys before, at and behind the one that is there.
+/// The numbers are the wanted ones.
+fn check_numbers(rt: &impl Abort, given: &[u64], wanted: &[u64]) {
+    assert_eq!(rt; given, wanted);
+}
+
+/// A run with keys before, at and after the one that is there.
 fn a_run(rt: &impl Abort, heap: &Bump, room: usize) -> bool {
     let run = [
         (2, Newest { value: 21 }),
@@ -78,7 +83,7 @@ fn a_run(rt: &impl Abort, heap: &Bump, room: usize) -> bool {
     narrow(rt, heap, room);
     let first = stage(heap, &mut map, &run);
     widen(heap);
-    check_bytes(rt, &made(rt, entries(heap, &map)), &[4, 40]);
+    check_numbers(rt, &made(rt, entries(heap, &map)), &[4, 40]);
     let (told, is_refused) = match first {
         Ok(told) => (told, false),
         Err(_refused) => {
@@ -88,7 +93,7 @@ fn a_run(rt: &impl Abort, heap: &Bump, room: usize) -> bool {
     };
     assert_eq!(rt; told.len(), 3);
     map.commit();
-    check_bytes(rt, &made(rt, entries(heap, &map)), &[2, 21, 4, 41, 9, 91]);
+    check_numbers(rt, &made(rt, entries(heap, &map)), &[2, 21, 4, 41, 9, 91]);
     is_refused
 }
 
