@@ -3,7 +3,7 @@ use Rattle.std.proofs.Common.{◌≡◌, ℕ, ◌+◌, ◌<◌, List, [], ◌∷
 use Rattle.std.proofs.lemmas.List.{get_or-map}
 use Rattle.covline.proofs.Copied.{copied_more}
 
--- one element more
+-- one more element
 pub alike_more : {X Y : Type 0} (f : X → Y) (xs ys : List X) (i : ℕ) (x y : X) → i < length xs → x ≡ get_or xs i x → i < length ys → y ≡ get_or ys i y
     → map f (take i xs) ≡ map f (take i ys) → f x ≡ f y → map f (take (i + 1) xs) ≡ map f (take (i + 1) ys)
 alike_more {X} {Y} f xs ys i x y in_xs is_x in_ys is_y so_far same =

@@ -1,4 +1,4 @@
--- The first line of a text, where it tells how often a branch was taken.
+-- The first line of a text, if it says how often a branch was taken.
 use Rattle.std.proofs.Common.{◌≡◌, ◌≢◌, ℕ, ◌<◌, ◌^◌, inl, inr, Bool, true, false, cond, eqb, List, [], ◌∷◌, ◌++◌, All, Option, Some, None, option_map, refl, sym, ap, subst, ◌∙◌, arith, append_assoc}
 use Rattle.std.specs.Prelude.{codes, IfSome, MatchOption}
 use Rattle.std.specs.Option.{option_and_then}
@@ -128,7 +128,7 @@ taken_is (d ∷ ds) rest (Some n) is small =
 field_parts : (fields rest : List ℕ) (n : ℕ) (f : HasNumber fields rest n (λ digits. digits ++ comma ∷ [])) → fields ≡ f.digits ++ comma ∷ rest
 field_parts fields rest n f = f.parts ∙ append_assoc f.digits (comma ∷ []) rest
 
--- the parts of a branch, where it is read so
+-- the parts of a branch line, if it is read in one pass
 branch_line_of : (text fields : List ℕ) (line block branch : ℕ × List ℕ) (taken : Option ℕ × List ℕ) (rest : List ℕ) → behind_key (codes "BRDA:") text ≡ Some fields
     → small_front (field_at fields) ≡ Some line → small_front (field_at line.1) ≡ Some block → small_front (field_at block.1) ≡ Some branch → taken_front branch.1 ≡ Some taken
     → behind_feed taken.1 ≡ Some rest → BeginsWithBranchLine text (record { line = line.0; block = block.0; branch = branch.0 }) taken.0 rest
@@ -187,7 +187,7 @@ branch_line_read text point taken rest begins =
     small_field : (digits behind : List ℕ) (n : ℕ) → IsNumeral digits n → n < 2 ^ 64 → small_front (field_at (digits ++ comma ∷ behind)) ≡ Some (n, behind)
     small_field digits behind n numeral small = ap small_front (field_is digits behind n numeral) ∙ small_is n behind small
 
--- such a first line says what it tells
+-- such a first line says the record that is read
 branch_line_says : (text : List ℕ) (point : BranchPoint) (taken : Option ℕ) (rest : List ℕ) → BeginsWithBranchLine text point taken rest
     → BeginsWithLine text (Branch point.line point.block point.branch taken) rest
 branch_line_says text point taken rest begins =

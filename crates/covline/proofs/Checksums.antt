@@ -1,4 +1,4 @@
--- Which texts are checksums, as a test, and how the checksum behind a count is read.
+-- Which texts are checksums, as a test, and how the checksum after a count is read.
 use Rattle.std.proofs.Common.{◌≡◌, ◌≢◌, ◌↔◌, ◌⊎◌, inl, inr, ℕ, Bool, true, false, ◌&&◌, not, eqb, List, [], ◌∷◌, ◌++◌, length, take, ◌+◌, ◌-◌, ◌≤◌, All, Option, Some, None, refl, sym, ap, ◌∙◌, arith}
 use Rattle.std.specs.Prelude.{IsTrue}
 use Rattle.std.proofs.lemmas.Bool.{and_from, and_parts, ne_eqb, eq-eqb, cases_eq, cases_Bool, false≢true}
@@ -44,7 +44,7 @@ pub checksum_from : (text : List ℕ) → is_checksum text ≡ true → IsChecks
 checksum_from [] e = absurd (false≢true e)
 checksum_from (b ∷ bs) e = record { some = omega arith; each = all_from (b ∷ bs) e }
 
--- what tells checksums is the test
+-- a result that is true of checksums alone is the test's
 pub checksum_test : (text : List ℕ) (test : Bool) → IsTrue test ↔ IsChecksum text → is_checksum text ≡ test
 checksum_test text true told = checksum_is text (told.0 refl)
 checksum_test text false told =
@@ -76,7 +76,7 @@ bytes_are text =
     let size : length text - length behind ≡ length bytes = omega (arith, e) in
     ap (λ (n : ℕ). take n text) size ∙ ap (λ (u : List ℕ). take (length bytes) u) (checksum_parts text) ∙ take-append_seam bytes behind
 
--- what stands before the rest is the checksum
+-- the bytes before the rest are the checksum
 pub front_is : (text rest : List ℕ) → rest ≡ behind_checksum text → some_front (take (length text - length rest) text) rest ≡ checksum_front text
 front_is text rest e =
     ap (λ (u : List ℕ). some_front (take (length text - length u) text) u) e ∙ ap (λ (u : List ℕ). some_front u (behind_checksum text)) (bytes_are text)
@@ -89,7 +89,7 @@ pub whole_front : (checksum rest : List ℕ) → eqb (length checksum) 0 ≡ fal
 whole_front [] rest e = absurd (false≢true (sym e))
 whole_front (b ∷ bs) rest e = refl
 
--- ---- behind a count
+-- ---- after a count
 
 -- nothing follows the count, or a comma and a checksum
 abbrev pub IsBehindCount : List ℕ → Option (List ℕ) → Type 0

@@ -1,4 +1,4 @@
--- A copy of a list, seen as plain data, with one element more.
+-- A copy of a list, seen as plain data, with one more element.
 use Rattle.std.proofs.Common.{◌≡◌, ℕ, ◌+◌, ◌<◌, List, [], ◌∷◌, ◌++◌, length, get_or, take, map, sym, ap, ◌∙◌}
 use Rattle.std.proofs.lemmas.List.{take_more, map-append}
 

@@ -1,4 +1,4 @@
--- The first line of a text, where it counts a line of a source file and may tell the checksum of its text.
+-- The first line of a text, if it counts a source line, with a checksum or without.
 use Rattle.std.proofs.Common.{◌≡◌, ℕ, ◌<◌, ◌^◌, inl, inr, Bool, true, false, cond, eqb, List, [], ◌∷◌, ◌++◌, length, All, Option, Some, None, option_map, refl, sym, ap, subst, ◌∙◌, arith, append_assoc}
 use Rattle.std.specs.Prelude.{codes, IfSome, MatchOption}
 use Rattle.std.specs.Option.{option_and_then}
@@ -80,7 +80,7 @@ module _ (digits counts rest : List ℕ) (line count : ℕ) where
       subst (λ (t : List ℕ). BeginsWithLine t (Line line count None) rest) (sym short_ended)
       (good_line short rest (Line line count None) (IsGoodTest-plain short plain) (record { form = (digits, counts, refl, numeral, inl counted); small = (small, omega (arith, few)) }))
 
--- such a first line says what it counts
+-- such a first line says the record that is read
 said : (digits counts end rest : List ℕ) (line count : ℕ) (checksum : Option (List ℕ)) → IsNumeral digits line → IsNumeral counts count → EndsCount end checksum rest → line < 2 ^ 64 → count < 2 ^ 64
     → BeginsWithLine (codes "DA:" ++ (digits ++ comma ∷ (counts ++ end))) (Line line count checksum) rest
 said digits counts end rest line count None numeral counted ends small few =
@@ -166,7 +166,7 @@ count_end_from (b ∷ bs) end e =
 abbrev Read : Type 0
 Read = (ℕ × ℕ) × (Option (List ℕ) × List ℕ)
 
--- the parts of a counted line, where it is read so
+-- the parts of a counted line, if it is read in one pass
 counted_line_of : (text fields : List ℕ) (line count : ℕ × List ℕ) (end : Option (List ℕ) × List ℕ) → behind_key (codes "DA:") text ≡ Some fields → small_front (field_at fields) ≡ Some line
     → small_front (number_at line.1) ≡ Some count → count_end count.1 ≡ Some end → BeginsWithCountedLine text line.0 count.0 end.0 end.1
 counted_line_of text fields line count end key field number last =
@@ -195,7 +195,7 @@ counted_line_from text read e =
     let end = mapped_some (λ (last : Option (List ℕ) × List ℕ). ((line.0, count.0), last)) (count_end count.1) read e3 in
     subst (λ (r : Read). BeginsWithCountedLine text r.0.0 r.0.1 r.1.0 r.1.1) end.2 (counted_line_of text fields line count end.0 key field number end.1))))
 
--- no digit stands at an end's front
+-- an end doesn't begin with a digit
 counts_read : (counts end : List ℕ) (count : ℕ) (checksum : Option (List ℕ)) (rest : List ℕ) → IsNumeral counts count → EndsCount end checksum rest → number_at (counts ++ end) ≡ Some (sized_number count, end)
 counts_read counts end count None rest counted ends =
     subst (λ (e : List ℕ). number_at (counts ++ e) ≡ Some (sized_number count, e)) (sym ends) (number_is counts (line_feed ∷ rest) count counted refl)

@@ -40,7 +40,7 @@ concat_cut : (b : ℕ) (pieces : List (List ℕ)) (test : Bool) → concat (cond
 concat_cut b pieces true = refl
 concat_cut b pieces false = concat-onto_first b pieces
 
--- joined again, the pieces are the text
+-- joined again, the pieces make up the text
 pub concat-pieces : (text : List ℕ) → concat (pieces_of text) ≡ text
 concat-pieces [] = refl
 concat-pieces (b ∷ bs) = concat_cut b (pieces_of bs) (eqb b line_feed) ∙ ap (λ (t : List ℕ). b ∷ t) (concat-pieces bs)
@@ -58,7 +58,7 @@ pub length-pieces : (text : List ℕ) → length (pieces_of text) ≤ length tex
 length-pieces [] = omega arith
 length-pieces (b ∷ bs) = omega (arith, length_cut b (pieces_of bs) (eqb b line_feed), length-pieces bs)
 
--- ---- what stands before the first line feed
+-- ---- the bytes before the first line feed
 
 pub before_feed-at : (front rest : List ℕ) → HasNoFeed front → before_feed (front ++ line_feed ∷ rest) ≡ front
 before_feed-at [] rest none = refl
@@ -189,7 +189,7 @@ bytes_of_lines [] = omega arith
 bytes_of_lines (piece ∷ pieces) =
     omega (arith, sum_by-cons length (line_of piece) (map line_of pieces), length-append piece (concat pieces), bytes_of_lines pieces, length-strip (before_feed piece), length-before_feed piece)
 
--- the lines have at most the bytes of the text
+-- together the lines have at most as many bytes as the text
 pub bytes-lines : (text : List ℕ) → sum_by length (lines_of text) ≤ length text
 bytes-lines text = omega (arith, bytes_of_lines (pieces_of text), ap length (concat-pieces text))
 
@@ -211,7 +211,7 @@ HasNoFeed-take text i none =
     let below : k < i = omega (arith, length-take i text) in
     none k (omega arith) below (eq-eqb (get_or text k 0) line_feed (sym (get_or-take i text k 0 below) ∙ e)))
 
--- where a line feed stands at this place, the text before it is the first line, and the text behind it follows
+-- if there is a line feed at this place, the text before it is the first line, and the text after it is the rest
 parts_at : (text : List ℕ) (i : ℕ) → NoneBefore (Passes (is_byte line_feed) text) 0 (length text) i → Passes (is_byte line_feed) text i → text ≡ take i text ++ line_feed ∷ drop (i + 1) text
 parts_at text i first here =
     let behind : drop i text ≡ line_feed ∷ drop (i + 1) text = drop_more text i 0 first.high ∙ ap (λ (b : ℕ). b ∷ drop (i + 1) text) (eqb-true (get_or text i 0) line_feed here) in
@@ -233,7 +233,7 @@ cut_whole b bs none = record {
   behind = sym (append-nil (b ∷ bs));
 }
 
--- the first line, where the search found a line feed behind it and where it found none
+-- the first line, both if the search found a line feed after it and if it found none
 pub first_cut_at : (text line rest : List ℕ) (i : ℕ) → NoneBefore (Passes (is_byte line_feed) text) 0 (length text) i × Passes (is_byte line_feed) text i → line ≡ strip (take i text) → rest ≡ drop (i + 1) text → IsFirstCut text line rest
 first_cut_at text line rest i found line-is rest-is =
     rw (line-is, rest-is) (cut_at text (take i text) (drop (i + 1) text) (HasNoFeed-take text i found.0.before) (parts_at text i found.0 found.1))
@@ -247,7 +247,7 @@ first_cut_whole text line (b ∷ bs) some none line-is empty = absurd (omega (ar
 pub lines_behind : (text line rest : List ℕ) → IsFirstCut text line rest → lines_of text ≡ line ∷ lines_of rest
 lines_behind text line rest cut = ap (map line_of) cut.first ∙ ap (λ (l : List ℕ). l ∷ lines_of rest) (sym cut.line_is)
 
--- ---- texts one behind the other
+-- ---- texts joined to others
 
 concat_first : (b : ℕ) (front rest : List (List ℕ)) → 0 < length front → onto_first b (front ++ rest) ≡ onto_first b front ++ rest
 concat_first b [] rest some = absurd (omega arith)
@@ -276,11 +276,11 @@ pieces-append (b ∷ bs) rest =
     let test = eqb b line_feed in
     ap (λ (ps : List (List ℕ)). cond test ((b ∷ []) ∷ ps) (onto_first b ps)) (pieces-append bs rest) ∙ cut_first b (pieces_of (bs ++ line_feed ∷ [])) (pieces_of rest) test (some_pieces bs)
 
--- behind a line feed the lines of the rest follow
+-- after a line feed the lines of the rest follow
 pub lines-append : (front rest : List ℕ) → lines_of (front ++ line_feed ∷ rest) ≡ lines_of (front ++ line_feed ∷ []) ++ lines_of rest
 lines-append front rest = ap (λ (ps : List (List ℕ)). map line_of ps) (pieces-append front rest) ∙ map-append line_of (pieces_of (front ++ line_feed ∷ [])) (pieces_of rest)
 
--- good lines with a line feed behind each are the lines of that text
+-- good lines with a line feed after each are the lines of that text
 pub lines-joined : (lines : List (List ℕ)) → All IsGoodTest lines → lines_of (flat_map (λ line. line ++ line_feed ∷ []) lines) ≡ lines
 lines-joined [] good = refl
 lines-joined (line ∷ lines) good =

@@ -6,7 +6,7 @@ use Rattle.std.proofs.lemmas.List.Elements.{All-head, All-append, All-drop, All-
 use Rattle.covline.specs.Lines.{line_feed, carriage_return}
 use Rattle.covline.specs.Lawful.{IsChecksum, IsChecksumByte, IsGoodTest}
 
--- where a text ends in a byte, so does each part of it that is its end and isn't empty
+-- if a text ends in a byte, so does each part at its end that isn't empty
 last_of_part : (front : List ℕ) (b : ℕ) (bs whole : List ℕ) (c : ℕ) → front ++ b ∷ bs ≡ whole ++ c ∷ [] → (rest : List ℕ) × (b ∷ bs ≡ rest ++ c ∷ [])
 last_of_part [] b bs whole c e = (whole, e)
 last_of_part (x ∷ []) b bs [] c e = absurd cc
@@ -18,7 +18,7 @@ last_of_part (x ∷ front) b bs (w ∷ whole) c e =
 pub All-part : {X : Type 0} (P : X → Type 0) (front rest : List X) → All P (front ++ rest) → All P rest
 All-part P front rest all = All-same P rest (drop (length front) (front ++ rest)) (sym (drop_at front rest (length front) refl)) (All-drop P (length front) (front ++ rest) all)
 
--- what stands behind the front of a good text is a good text
+-- what follows the front of a good text is a good text
 pub IsGoodTest-behind : (front rest : List ℕ) → IsGoodTest (front ++ rest) → IsGoodTest rest
 IsGoodTest-behind front rest good = record {
   one_line = All-part (λ b. b ≢ line_feed) front rest good.one_line;
@@ -37,7 +37,7 @@ IsGoodTest-append front rest good last = record {
   no_return = no_return_joined front rest good last;
 }
 
--- bytes behind the carriage return: those of a key, a number or a comma
+-- bytes above the carriage return: those of a key, a number or a comma
 abbrev pub IsPlain : ℕ → Type 0
 IsPlain b = carriage_return < b
 

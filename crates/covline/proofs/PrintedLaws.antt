@@ -88,7 +88,7 @@ good_number front n plain small = IsGoodTest-plain (front ++ decimal n) (All-app
 good_behind_comma : (rest : List ℕ) → IsGoodTest rest → IsGoodTest (comma ∷ rest)
 good_behind_comma rest good = IsGoodTest-append (comma ∷ []) rest (IsGoodTest-plain (comma ∷ []) (All-cons IsPlain comma [] (lit< tt) (All-nil IsPlain))) good
 
--- a number, a comma, and what stands behind it
+-- a number, a comma, and what follows
 good_field : (front : List ℕ) (n : ℕ) (rest : List ℕ) → All IsPlain front → n < 2 ^ 128 → IsGoodTest rest → IsGoodTest ((front ++ decimal n) ++ comma ∷ rest)
 good_field front n rest plain small good =
     IsGoodTest-append (front ++ decimal n) (comma ∷ rest) (good_number front n plain small) (good_behind_comma rest good)
@@ -97,7 +97,7 @@ good_field front n rest plain small good =
 good_first : (n : ℕ) (rest : List ℕ) → n < 2 ^ 128 → IsGoodTest rest → IsGoodTest (decimal n ++ comma ∷ rest)
 good_first n rest small good = good_field [] n rest (All-nil IsPlain) small good
 
--- where a branch's block was never executed, and where it was
+-- whether a branch's block was never executed, or was
 good_branch : (number block branch : ℕ) (text : List ℕ) → number < 2 ^ 64 → block < 2 ^ 64 → branch < 2 ^ 64 → IsGoodTest text → IsGoodTest (codes "BRDA:" ++ decimal number ++ comma ∷ (decimal block ++ comma ∷ (decimal branch ++ comma ∷ text)))
 good_branch number block branch text first second third good =
     good_field (codes "BRDA:") number (decimal block ++ comma ∷ (decimal branch ++ comma ∷ text)) plain_branch (wide number first)

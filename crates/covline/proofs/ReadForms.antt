@@ -1,5 +1,5 @@
--- The fields of each key: what has the key's form is read as what it says, its numbers' size considered, and what
--- has not is refused.
+-- The fields of each key: what has the key's form is read as what it says, if its numbers are small enough, and what
+-- doesn't have it is refused.
 use Rattle.std.proofs.Common.{◌≡◌, ℕ, ◌^◌, ◌<◌, ◌⊎◌, inl, inr, List, [], ◌∷◌, ◌++◌, length, Option, Some, None, option_map, Result, Ok, Err, refl, ap, ◌∙◌, arith}
 use Rattle.std.specs.Prelude.{codes}
 use Rattle.std.proofs.lemmas.Bool.{cases_lt}
@@ -66,7 +66,7 @@ more_sized n says small others =
       | inr le ↦ inr (λ all. omega (arith, all.0), rw (fit_large n le) refl)
     ]
 
--- what a branch is read as behind its small numbers
+-- what a branch is read as, once its three numbers are small
 abbrev behind_branch : Option ℕ → ℕ → ℕ → ℕ → Result LineData LineFault
 behind_branch taken number block b = with_taken number block b (option_map sized_number taken)
 
@@ -76,7 +76,7 @@ behind_block branch taken number k = with_fit (sized_number branch) (behind_bran
 abbrev behind_number : ℕ → ℕ → Option ℕ → ℕ → Result LineData LineFault
 behind_number block branch taken l = with_fit (sized_number block) (behind_block branch taken l)
 
--- the same for a fact that says the same
+-- the same for an equivalent condition
 resized : {P Q : Type 0} (read : Result LineData LineFault) → (P → Q) → (Q → P) → IsSized P read → IsSized Q read
 resized read there back (inl small) = inl (there small)
 resized read there back (inr large) = inr (λ small. large.0 (back small), large.1)
@@ -126,7 +126,7 @@ branch_read digits blocks branches text number block branch taken numbers block_
       taken_is text taken taken_so,
     ) refl
 
--- behind the count of a line no digit follows
+-- after the count of a line no digit follows
 behind_stops : (rest : List ℕ) (checksum : Option (List ℕ)) → IsBehindCount rest checksum → Stops rest
 behind_stops [] checksum behind = tt
 behind_stops (b ∷ bs) None behind = absurd cc

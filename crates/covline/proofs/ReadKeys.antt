@@ -46,7 +46,7 @@ behind_key-none (k ∷ ks) (b ∷ bs) other =
       | inr differ ↦ let test : eqb k b ≡ false = ne_eqb k b differ in rw test refl
     ]
 
--- the key stands at the line's front, or doesn't
+-- the line begins with the key, or doesn't
 stripped_cases : (key line : List ℕ) (r : Option (Bor (List ℕ))) → MatchOption r ((rest : List ℕ) → line ≢ key ++ rest) (λ x. line ≡ key ++ x.now) → option_map (λ rest. rest.now) r ≡ behind_key key line
 stripped_cases key line None other = sym (behind_key-none key line (λ begins. other begins.0 begins.1))
 stripped_cases key line (Some x) same = sym (ap (behind_key key) same ∙ behind_key-same key x.now)

@@ -1,4 +1,4 @@
--- The laws of reading a line: a line of some form is read as what the form says, its numbers' size considered, and a
+-- The laws of reading a line: a line of some form is read as what the form says, if its numbers are small enough, and a
 -- line without a form is refused as the definitions ask. So each line has one meaning or one fault.
 use Rattle.std.proofs.Common.{◌≡◌, ◌≢◌, ℕ, ◌<◌, ◌⊎◌, inl, inr, Bool, true, false, List, [], ◌∷◌, ◌++◌, length, Option, Some, None, Result, Ok, Err, refl, sym, ap, subst, ◌∙◌, arith}
 use Rattle.std.proofs.lemmas.List.{append-nil}
@@ -195,7 +195,7 @@ form_means line says form =
       | inr large ↦ meaning_at line (Err NumberTooLarge) (form_read line says form ∙ large.1) (says, form, large.0)
     ]
 
--- which fault a result has, as numbers
+-- which fault a result has, as tests
 abbrev is_bad : Result LineData LineFault → Bool
 is_bad (Ok says) = false
 is_bad (Err BadLine) = true
@@ -243,7 +243,7 @@ fault_read line BadLine fault =
       | inr (inr path) ↦ absurd (fault.1 path)
     ]
 
--- ---- what a function that gives what is read can promise
+-- ---- what a function that returns what is read can promise
 
 pub ok_spells : (line : List ℕ) (r : Result TraceLine LineFault) → Gives r (read_of line) → IfOk r (λ t. Spells line (line_data t))
 ok_spells line (Ok t) gives = let P : Result LineData LineFault → Type 0 = λ m. HasMeaning line m in subst P gives (meaning_of line)

@@ -218,7 +218,7 @@ count_or_none (b ∷ bs) =
       ]
     ]
 
--- ---- a number or a count, and the comma behind it
+-- ---- a number or a count, and the comma after it
 
 pub field_is : (digits rest : List ℕ) (n : ℕ) → IsNumeral digits n → field_at (digits ++ comma ∷ rest) ≡ Some (sized_number n, rest)
 field_is digits rest n numeral = ap field_of (number_is digits (comma ∷ rest) n numeral refl)

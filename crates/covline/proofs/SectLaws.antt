@@ -23,7 +23,7 @@ in_data sects i s at = omega (arith, length-map sects sect_data, at.within)
 data_at : {A : Type 0} (sects : List (Sect A)) (i : ℕ) (s : Sect A) → IsAt sects i s → (d : SectData) → get_or (map sect_data sects) i d ≡ sect_data s
 data_at sects i s at d = get_or-map sect_data sects i s d at.within ∙ ap sect_data (sym at.is)
 
--- how many items there are with this section, and that these are some of all
+-- how many items there are with this section, which are some of all
 pub items_more : {A : Type 0} (sects : List (Sect A)) (i : ℕ) (s : Sect A) → IsAt sects i s → items_in (take (i + 1) (map sect_data sects)) ≡ items_in (take i (map sect_data sects)) + length s.items
 items_more sects i s at =
     sum_by_more (λ d. length d.items) (map sect_data sects) i (sect_data s) (in_data sects i s at) ∙ ap (λ (d : SectData). items_in (take i (map sect_data sects)) + length d.items) (data_at sects i s at (sect_data s))
@@ -69,7 +69,7 @@ lawful_each (item ∷ items) lawful = All-cons (λ i. IsLawfulItem (item_data i)
 lawful_all : {A : Type 0} (items : List (Item A)) (seen : List ItemData) → map item_data items ≡ seen → HaveLawfulTexts items → AllByRecursion IsLawfulItem seen
 lawful_all items seen e lawful = subst (AllByRecursion IsLawfulItem) e (recursion_from_All IsLawfulItem (map item_data items) (All-map IsLawfulItem item_data items lawful))
 
--- a section with good names is lawful where the texts of its items are
+-- a section with good names is lawful if the texts of its items are
 pub lawful_sect : {A : Type 0} (s : SectData) (test file : List ℕ) (items : List (Item A)) → test ≡ s.test → file ≡ s.file → map item_data items ≡ s.items → IsGoodTest test → IsGoodName file → HaveLawfulTexts items ↔ IsLawfulSect s
 lawful_sect s test file items same_test same_file same_items good_test good_file = (
   λ lawful. record { test = subst IsGoodTest same_test good_test; file = subst IsGoodName same_file good_file; items = lawful_all items s.items same_items lawful },

@@ -1,5 +1,5 @@
--- First lines that are read without being cut: they count a line or tell of a branch in digits (or `-` for how often a
--- branch was taken), with numbers below 2^64, and a line feed ends them.
+-- First lines that are read without being cut: `DA:` and `BRDA:` lines of digits (or `-` for how often a branch was
+-- taken), with numbers below 2^64, that end in a line feed.
 use Rattle.std.specs.Prelude.{◌≡◌, ℕ, ◌<◌, ◌^◌, ◌==◌, if◌then◌else◌, List, [], ◌∷◌, ◌++◌, Option, Some, None, codes, option_map}
 use Rattle.std.specs.Option.{option_and_then}
 use Rattle.covline.specs.declared.reader.Number.{Number}
@@ -10,12 +10,12 @@ use Rattle.covline.specs.Points.{BranchPoint}
 use Rattle.covline.specs.Spells.{comma, minus, IsNumeral, IsTaken}
 use Rattle.covline.specs.Reading.{behind_key, field_at, is_checksum_byte, number_at}
 
--- behind a line's count: a line feed, or a comma, this checksum and a line feed
+-- after a line's count: a line feed, or a comma, this checksum and a line feed
 abbrev pub EndsCount : List ℕ → Option (List ℕ) → List ℕ → Type 0
 EndsCount text None rest = text ≡ line_feed ∷ rest
 EndsCount text (Some checksum) rest = (text ≡ comma ∷ (checksum ++ line_feed ∷ rest)) × IsChecksum checksum
 
--- the text begins with `DA:`, the digits of these numbers, this checksum where there is one, and a line feed, and this follows
+-- the text begins with `DA:`, the digits of these numbers, this checksum if there is one, and a line feed; this follows
 pub record BeginsWithCountedLine (text : List ℕ) (line count : ℕ) (checksum : Option (List ℕ)) (rest : List ℕ) : Type 0 where
   pub digits : List ℕ
   pub counts : List ℕ
@@ -27,12 +27,12 @@ pub record BeginsWithCountedLine (text : List ℕ) (line count : ℕ) (checksum 
   pub line_small : line < 2 ^ 64
   pub count_small : count < 2 ^ 64
 
--- a number that may be missing is below 2^64
+-- the number, if there is one, is below 2^64
 abbrev pub IsSmallIfAny : Option ℕ → Type 0
 IsSmallIfAny None = Unit {0}
 IsSmallIfAny (Some n) = n < 2 ^ 64
 
--- the text begins with `BRDA:`, the digits of these numbers (or `-` for the last one) and a line feed, and this follows
+-- the text begins with `BRDA:`, the digits of these numbers (or `-` for the last one) and a line feed; this follows
 pub record BeginsWithBranchLine (text : List ℕ) (point : BranchPoint) (taken : Option ℕ) (rest : List ℕ) : Type 0 where
   pub digits : List ℕ
   pub blocks : List ℕ
@@ -50,7 +50,7 @@ pub record BeginsWithBranchLine (text : List ℕ) (point : BranchPoint) (taken :
 
 -- ---- how they are read: from left to right
 
--- the number, where it is one of 64 bits
+-- the number, if it fits 64 bits
 abbrev pub small_of : Number → Option ℕ
 small_of (Value n) = Some n
 small_of (Wide n) = None
@@ -85,7 +85,7 @@ some_front (b ∷ bs) rest = Some (b ∷ bs, rest)
 abbrev pub checksum_front : List ℕ → Option (List ℕ × List ℕ)
 checksum_front text = some_front (checksum_bytes text) (behind_checksum text)
 
--- the checksum behind a count, where there is one, and what follows the line feed
+-- the checksum after a count, if any, and what follows the line feed
 abbrev pub checked_end : List ℕ × List ℕ → Option (Option (List ℕ) × List ℕ)
 checked_end front = option_map (λ (rest : List ℕ). (Some front.0, rest)) (behind_feed front.1)
 
@@ -96,7 +96,7 @@ abbrev pub count_end : List ℕ → Option (Option (List ℕ) × List ℕ)
 count_end [] = None
 count_end (b ∷ bs) = if b == comma then option_and_then checked_end (checksum_front bs) else plain_end (b ∷ bs)
 
--- a counted line behind its key, its line and its count
+-- a counted line, from its line, its count and what follows these
 abbrev pub counted_end : ℕ → ℕ × List ℕ → Option ((ℕ × ℕ) × (Option (List ℕ) × List ℕ))
 counted_end line count = option_map (λ (end : Option (List ℕ) × List ℕ). ((line, count.0), end)) (count_end count.1)
 
@@ -109,7 +109,7 @@ counted_behind_key fields = option_and_then counted_behind_line (small_front (fi
 abbrev pub counted_front : List ℕ → Option ((ℕ × ℕ) × (Option (List ℕ) × List ℕ))
 counted_front text = option_and_then counted_behind_key (behind_key (codes "DA:") text)
 
--- a branch behind its key, its line, its block, its number and how often it was taken
+-- a branch, from its point, how often it was taken and what follows these
 abbrev pub branch_end : BranchPoint → Option ℕ × List ℕ → Option ((BranchPoint × Option ℕ) × List ℕ)
 branch_end point taken = option_map (λ (rest : List ℕ). ((point, taken.0), rest)) (behind_feed taken.1)
 

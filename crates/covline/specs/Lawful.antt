@@ -6,7 +6,7 @@ use Rattle.covline.specs.declared.submission.BadSubmission.TheVariants.{TooMany,
 use Rattle.covline.specs.Lines.{line_feed, carriage_return}
 use Rattle.covline.specs.Row.{ItemData, LineItem, FuncItem, BranchItem, SectData, SubmissionData, items_in}
 
--- how many items a submission has at the most: 64 Mi
+-- the most items that a submission can have: 64 Mi
 abbrev pub most_items : ℕ
 most_items = 67108864
 
@@ -33,7 +33,7 @@ pub record IsChecksum (checksum : List ℕ) : Type 0 where
   pub some : 0 < length checksum
   pub each : All IsChecksumByte checksum
 
--- the texts of an item are lawful: the name of a function, and the checksum of a line where it has one
+-- the texts of an item are lawful: the name of a function, and the checksum of a line if it has one
 abbrev pub IsLawfulItem : ItemData → Type 0
 IsLawfulItem (LineItem line count (Some checksum)) = IsChecksum checksum
 IsLawfulItem (LineItem line count None) = Unit {0}
@@ -74,7 +74,7 @@ abbrev pub IsRefusedAs : List SectData → BadSubmission → Type 0
 IsRefusedAs sects TooMany = most_items < items_in sects
 IsRefusedAs sects (BadText k) = (items_in sects ≤ most_items) × IsFirstUnlawful sects k
 
--- the number of the reason, from the first day on
+-- the number of the reason, which stays the same in all versions
 abbrev pub refusal_number : BadSubmission → ℕ
 refusal_number TooMany = 1
 refusal_number (BadText sect) = 2

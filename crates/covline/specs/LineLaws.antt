@@ -6,7 +6,7 @@ use Rattle.covline.specs.Lawful.{IsGoodTest}
 use Rattle.covline.specs.Spells.{LineData, Spells}
 use Rattle.covline.specs.Printed.{IsReadable, line_text, printed}
 
--- joined again, the pieces of a text are the text
+-- joined again, the pieces of a text make up the text
 abbrev pub JoinedAgain : Type 0
 JoinedAgain = (text : List ℕ) → concat (pieces_of text) ≡ text
 
@@ -14,7 +14,8 @@ JoinedAgain = (text : List ℕ) → concat (pieces_of text) ≡ text
 abbrev pub GoodLines : Type 0
 GoodLines = (text : List ℕ) → All IsGoodTest (lines_of text)
 
--- nor does what stands behind the front of such a line, as a name behind its key, have a line feed or end in a carriage return
+-- what follows the front of such a line, as a name follows its key, has no line feed and doesn't end in a carriage return
+-- either
 abbrev pub GoodRest : Type 0
 GoodRest = (front rest : List ℕ) → IsGoodTest (front ++ rest) → IsGoodTest rest
 
@@ -22,7 +23,7 @@ GoodRest = (front rest : List ℕ) → IsGoodTest (front ++ rest) → IsGoodTest
 abbrev pub FewLines : Type 0
 FewLines = (text : List ℕ) → length (lines_of text) ≤ length text
 
--- the lines of a text have together at most its bytes
+-- together the lines of a text have at most as many bytes as the text
 abbrev pub FewBytes : Type 0
 FewBytes = (text : List ℕ) → sum_by length (lines_of text) ≤ length text
 
@@ -30,11 +31,11 @@ FewBytes = (text : List ℕ) → sum_by length (lines_of text) ≤ length text
 abbrev pub OnlyReturnsOff : Type 0
 OnlyReturnsOff = (text : List ℕ) → (n : ℕ) × (text ≡ strip text ++ replicate n carriage_return)
 
--- the lines of two texts, of which the first ends in a line feed, are those of the first and then those of the second
+-- if a text that ends in a line feed is joined to another, its lines come first and then those of the other
 abbrev pub OneBehindOther : Type 0
 OneBehindOther = (front rest : List ℕ) → lines_of (front ++ line_feed ∷ rest) ≡ lines_of (front ++ line_feed ∷ []) ++ lines_of rest
 
--- a text that is made of such lines, with a line feed behind each, has these lines
+-- a text made of such lines, each with a line feed after it, has these lines
 abbrev pub MadeOfLines : Type 0
 MadeOfLines = (lines : List (List ℕ)) → All IsGoodTest lines → lines_of (flat_map (λ line. line ++ line_feed ∷ []) lines) ≡ lines
 

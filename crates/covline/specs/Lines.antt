@@ -8,17 +8,17 @@ line_feed = 10
 abbrev pub carriage_return : ℕ
 carriage_return = 13
 
--- a byte at the beginning of the first piece
+-- puts a byte at the beginning of the first piece
 abbrev pub onto_first : ℕ → List (List ℕ) → List (List ℕ)
 onto_first b [] = (b ∷ []) ∷ []
 onto_first b (piece ∷ pieces) = (b ∷ piece) ∷ pieces
 
--- a text cut behind each line feed: joined again, the pieces are the text
+-- a text cut after each line feed: joined again, the pieces make up the text
 abbrev pub pieces_of : List ℕ → List (List ℕ)
 pieces_of [] = []
 pieces_of (b ∷ bs) = if b == line_feed then (b ∷ []) ∷ pieces_of bs else onto_first b (pieces_of bs)
 
--- what stands before the first line feed
+-- the bytes before the first line feed
 abbrev pub before_feed : List ℕ → List ℕ
 before_feed [] = []
 before_feed (b ∷ bs) = if b == line_feed then [] else b ∷ before_feed bs
@@ -41,7 +41,7 @@ line_of piece = strip (before_feed piece)
 abbrev pub lines_of : List ℕ → List (List ℕ)
 lines_of text = map line_of (pieces_of text)
 
--- the text's first piece is this line, and the text behind that piece is this
+-- the text is its first piece, which has this line, and this rest
 pub record IsFirstCut (text line rest : List ℕ) : Type 0 where
   pub piece : List ℕ
   pub first : pieces_of text ≡ piece ∷ pieces_of rest

@@ -1,4 +1,4 @@
--- What items speak of: lines, functions and branches of a source file.
+-- What items count: lines, functions and branches of a source file.
 use Rattle.std.specs.Prelude.{ℕ, Bool, false, nat_lt, min, List, [], ◌∷◌, Option, Some, None}
 use Rattle.std.specs.List.{flat_map, reduce}
 use Rattle.covline.specs.Row.{ItemData, LineItem, FuncItem, BranchItem}
@@ -27,7 +27,7 @@ branch_point (BranchItem line block branch taken) = record { line = line; block 
 branch_point (LineItem line count checksum) = []
 branch_point (FuncItem name line count) = []
 
--- the lines, functions and branches that items speak of, as often as they do
+-- the lines, functions and branches that items count, each as often as there are items of it
 abbrev pub line_points : List ItemData → List ℕ
 line_points items = flat_map line_point items
 
@@ -44,6 +44,6 @@ is_hit (FuncItem name line count) = nat_lt 0 count
 is_hit (BranchItem line block branch None) = false
 is_hit (BranchItem line block branch (Some taken)) = nat_lt 0 taken
 
--- the least number, where there is one
+-- the least number, if there is one
 abbrev pub least : List ℕ → Option ℕ
 least numbers = reduce min numbers

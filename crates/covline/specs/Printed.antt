@@ -4,12 +4,12 @@ use Rattle.covline.specs.Lines.{line_feed}
 use Rattle.covline.specs.Lawful.{IsGoodTest, IsGoodName, IsChecksum}
 use Rattle.covline.specs.Spells.{LineData, Test, Path, FuncStart, FuncCount, Branch, Line, Total, End, Skip, comma, minus, key_of, HasSmallNumbers}
 
--- how often a branch was taken: `-` where there is no number
+-- how often a branch was taken: `-` if there is no number
 abbrev pub taken_text : Option ℕ → List ℕ
 taken_text None = minus ∷ []
 taken_text (Some taken) = decimal taken
 
--- the checksum behind a line's count, where it has one
+-- the checksum after a line's count, if it has one
 abbrev pub checksum_text : Option (List ℕ) → List ℕ
 checksum_text None = []
 checksum_text (Some checksum) = comma ∷ checksum

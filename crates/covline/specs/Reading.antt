@@ -1,5 +1,5 @@
--- How a line is read: its key, and then the key's fields from left to right. The laws above it say that this is what
--- the definitions of a spelled line and of its fault ask for.
+-- How a line is read: its key, and then the key's fields from left to right. The laws say that this agrees with the
+-- definitions of a spelled line and of its fault.
 use Rattle.std.specs.Prelude.{ℕ, ◌+◌, ◌-◌, ◌*◌, ◌^◌, ◌≡◌, Bool, true, false, not, ◌&&◌, ◌==◌, nat_lt, nat_le, if◌then◌else◌, List, [], ◌∷◌, Option, Some, None, Result, Ok, Err, codes, option_map}
 use Rattle.covline.specs.declared.reader.Number.{Number}
 use Rattle.covline.specs.declared.reader.Number.TheVariants.{Value, Wide, TooLarge}
@@ -23,13 +23,13 @@ is_digit b = nat_le 48 b && nat_le b 57
 abbrev pub sized_number : ℕ → Number
 sized_number n = if nat_lt n (2 ^ 64) then Value n else (if nat_lt n (2 ^ 128) then Wide n else TooLarge)
 
--- one digit more behind a number
+-- a number followed by one more digit
 abbrev pub with_digit : Number → ℕ → Number
 with_digit TooLarge b = TooLarge
 with_digit (Value n) b = sized_number (n * 10 + (b - 48))
 with_digit (Wide n) b = sized_number (n * 10 + (b - 48))
 
--- the digits at the front, read behind a number, and what follows them
+-- a number followed by the digits at the front, and what follows them
 abbrev pub digits_from : Number → List ℕ → Number × List ℕ
 digits_from value [] = (value, [])
 digits_from value (b ∷ bs) = if is_digit b then digits_from (with_digit value b) bs else (value, b ∷ bs)
@@ -39,7 +39,7 @@ abbrev pub number_at : List ℕ → Option (Number × List ℕ)
 number_at [] = None
 number_at (b ∷ bs) = if is_digit b then Some (digits_from (Value 0) (b ∷ bs)) else None
 
--- the number, where nothing follows it
+-- the number, if nothing follows it
 abbrev pub if_last : Number → List ℕ → Option Number
 if_last value [] = Some value
 if_last value (b ∷ bs) = None
@@ -91,31 +91,31 @@ abbrev pub is_checksum : List ℕ → Bool
 is_checksum [] = false
 is_checksum (b ∷ bs) = all_checksum_bytes (b ∷ bs)
 
--- the text, where it is a checksum
+-- the text, if it is a checksum
 abbrev pub only_checksum : List ℕ → Option (List ℕ)
 only_checksum text = if is_checksum text then Some text else None
 
--- the checksum behind a count, where there is one
+-- the checksum after a count, if any
 abbrev pub checksum_of : List ℕ → Option (Option (List ℕ))
 checksum_of [] = Some None
 checksum_of (b ∷ bs) = if b == comma then option_map Some (only_checksum bs) else None
 
--- what the fields behind a key say
+-- what the fields after a key say
 abbrev pub Fields : Type 0
 Fields = List ℕ → Result LineData LineFault
 
--- a part that isn't there makes another form
+-- a line without this part is malformed
 abbrev pub with_part : {A : Type 0} → Option A → (A → Result LineData LineFault) → Result LineData LineFault
 with_part None says = Err BadLine
 with_part (Some part) says = says part
 
--- the number, where it is one of 64 bits
+-- the number, if it fits 64 bits
 abbrev pub fit : Number → Result ℕ LineFault
 fit TooLarge = Err NumberTooLarge
 fit (Wide n) = Err NumberTooLarge
 fit (Value n) = Ok n
 
--- the count, where it is one of 128 bits
+-- the count, if it fits 128 bits
 abbrev pub fit_count : Number → Result ℕ LineFault
 fit_count TooLarge = Err NumberTooLarge
 fit_count (Wide n) = Ok n

@@ -4,8 +4,8 @@ use Rattle.std.specs.List.{flat_map, sum_by}
 use Rattle.covline.specs.declared.item.Item.{Item}
 use Rattle.covline.specs.declared.item.Item.TheVariants as items
 
--- one count of a source file (geninfo(1), FILES): of an instrumented line, with the checksum of its text where there is
--- one (DA); of a function with its start line (FN, FNDA); of a branch, none where its block was never executed (BRDA)
+-- one count of a source file (geninfo(1), FILES): of an instrumented line, with the checksum of its text if there is
+-- one (DA); of a function with its start line (FN, FNDA); of a branch, none if its block was never executed (BRDA)
 pub data ItemData : Type 0 where
   LineItem : (line count : ℕ) (checksum : Option (List ℕ)) → ItemData
   FuncItem : (name : List ℕ) (line count : ℕ) → ItemData

@@ -1,4 +1,4 @@
--- What one line of a tracefile says (geninfo(1) of LCOV 1.x, FILES). A key stands at the very beginning of the line.
+-- What one line of a tracefile says (geninfo(1) of LCOV 1.x, FILES). A key is at the very beginning of the line.
 use Rattle.std.specs.Prelude.{◌≡◌, ◌≢◌, ℕ, ◌+◌, ◌-◌, ◌*◌, ◌<◌, ◌≤◌, ◌^◌, ◌⊎◌, List, [], ◌∷◌, ◌++◌, length, Option, Some, None, option_map, All, codes, fold}
 use Rattle.covline.specs.declared.trace_line.TraceLine.{TraceLine}
 use Rattle.covline.specs.declared.trace_line.TraceLine.TheVariants as lines
@@ -60,7 +60,7 @@ pub record IsNumeral (digits : List ℕ) (n : ℕ) : Type 0 where
 abbrev pub IsCount : List ℕ → ℕ → Type 0
 IsCount text n = IsNumeral text n ⊎ ((digits : List ℕ) × (below : ℕ) × (text ≡ minus ∷ digits) × IsNumeral digits below × (n ≡ 0))
 
--- how often a branch was taken: digits, or `-` where its block was never executed
+-- how often a branch was taken: digits, or `-` if its block was never executed
 abbrev pub IsTaken : List ℕ → Option ℕ → Type 0
 IsTaken text None = text ≡ codes "-"
 IsTaken text (Some n) = IsNumeral text n
@@ -124,7 +124,7 @@ pub record Spells (line : List ℕ) (says : LineData) : Type 0 where
   pub form : HasForm line says
   pub small : HasSmallNumbers says
 
--- the text's first line says this, and this is the text behind the line
+-- the text's first line says this, and this is the text after the line
 pub record BeginsWithLine (text : List ℕ) (says : LineData) (rest : List ℕ) : Type 0 where
   pub line : List ℕ
   pub cut : lines_of text ≡ line ∷ lines_of rest

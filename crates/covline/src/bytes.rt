@@ -28,7 +28,7 @@ impl<A: Allocator> Bytes<A> {
         }
     }
 
-    /// The empty text, with room for so many bytes: until it has more, it doesn't grow.
+    /// The empty text, with room for `bytes` bytes: up to that length it doesn't grow.
     pub fn with_room(alloc: A, bytes: usize) -> Result<Bytes<A>, Memory>
         ensures empty { IfOk result (λ b. b ≡ []) }
         ensures nothing { bytes ≡ 0 → IsOk result }
@@ -61,7 +61,7 @@ impl<A: Allocator> Bytes<A> {
         self.text.len()
     }
 
-    /// Appends the bytes. A refusal leaves the text as it was. No bytes are never refused.
+    /// Appends the bytes. On `Memory` the text stays as it was. An empty slice is never refused.
     pub fn append(&mut self, more: &[u8]) -> Result<(), Memory>
         ensures ok { OnOk result (self.new ≡ self.old ++ more.now) }
         ensures err { OnErr result (self.new ≡ self.old) }
@@ -71,7 +71,7 @@ impl<A: Allocator> Bytes<A> {
         Ok(())
     }
 
-    /// Keeps the first bytes, at most this many of them.
+    /// Keeps at most the first `len` bytes.
     pub(crate) fn truncate(&mut self, len: usize)
         ensures { self.new ≡ take len self.old }
     {

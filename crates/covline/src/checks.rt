@@ -1,4 +1,4 @@
-//! What is tested of sections before they make a submission.
+//! The checks that sections pass before they become a submission.
 
 ghost use Rattle.std.specs.Prelude.{◌≡◌, ◌<◌, ◌≤◌, ◌↔◌, IsTrue, IsSome, MatchOption, All, map};
 ghost use Rattle.std.specs.List.{AllByRecursion};
@@ -11,10 +11,10 @@ use crate::names::{good_checksum, good_name, good_test};
 use crate::sect::Sect;
 use std::alloc::Allocator;
 
-/// How many items a submission has at the most.
+/// The most items that a submission can have.
 const MOST_ITEMS: u64 = 67_108_864;
 
-/// How many items the sections have, or `None` where there are too many of them.
+/// The number of items in the sections, or `None` if there are too many.
 pub fn count_items<A: Allocator>(sects: &[Sect<A>]) -> Option<u64>
     ensures count { let all = map sect_data sects.now in
         MatchOption result (most_items < items_in all) (λ n. (n ≡ items_in all) × (n ≤ most_items)) }
@@ -31,7 +31,7 @@ pub fn count_items<A: Allocator>(sects: &[Sect<A>]) -> Option<u64>
     Some(items)
 }
 
-/// The number of the first section with an unlawful text.
+/// The index of the first section with an unlawful text.
 pub fn first_unlawful<A: Allocator>(sects: &[Sect<A>]) -> Option<usize>
     ensures { let all = map sect_data sects.now in
         MatchOption result (All IsLawfulSect all) (IsFirstUnlawful all) }
@@ -58,7 +58,7 @@ fn are_lawful<A: Allocator>(items: &[Item<A>]) -> bool
     items.iter().all(|item| is_lawful_item(item))
 }
 
-/// Whether the text of the item is lawful, where it has one.
+/// Whether the item's text is lawful, if it has one.
 fn is_lawful_item<A: Allocator>(item: &Item<A>) -> bool
     ensures { IsTrue result ↔ IsLawfulItem (item_data item.now) }
 {

@@ -11,8 +11,8 @@ use std::marker::Model;
 /// One count of a source file (geninfo(1), section FILES).
 #[derive(Drop)]
 pub enum Item<A: Allocator = Global> {
-    /// The execution count of an instrumented line, with the checksum of its text where the collector wrote one
-    /// (`DA:`). A checksum is one or more bytes without comma, space, tab, carriage return and line feed.
+    /// The execution count of an instrumented line, with the checksum of its text if the collector wrote one (`DA:`). A
+    /// checksum is one or more bytes without comma, space, tab, carriage return and line feed.
     Line {
         line: u64,
         count: u128,
@@ -25,7 +25,7 @@ pub enum Item<A: Allocator = Global> {
         line: u64,
         count: u128,
     },
-    /// How often a branch of a line was taken; none where its block was never executed (`BRDA:`).
+    /// How often a branch of a line was taken; `None` if its block was never executed (`BRDA:`).
     Branch {
         line: u64,
         block: u64,
@@ -40,7 +40,7 @@ impl<A: Allocator> Item<A> {
     ghost use Rattle.covline.specs.Points.{line_point, branch_point, is_hit};
     ghost use Rattle.covline.specs.PointView.{branch_point_data};
 
-    /// The line that a line's item speaks of.
+    /// The line that the item counts; `None` for an item of another kind.
     pub fn line_point(&self) -> Option<u64>
         ensures { option_to_list result ≡ line_point (item_data self.now) }
     {
@@ -50,7 +50,7 @@ impl<A: Allocator> Item<A> {
         }
     }
 
-    /// The branch that a branch's item speaks of.
+    /// The branch that the item counts; `None` for an item of another kind.
     pub fn branch_point(&self) -> Option<BranchPoint>
         ensures { option_to_list (option_map branch_point_data result) ≡ branch_point (item_data self.now) }
     {
@@ -69,7 +69,7 @@ impl<A: Allocator> Item<A> {
         }
     }
 
-    /// Whether the item's count is above 0. A branch whose block was never executed has none.
+    /// Whether the item's count is above 0; false for a branch whose block was never executed.
     pub fn is_hit(&self) -> bool
         ensures { result ≡ is_hit (item_data self.now) }
     {
@@ -155,7 +155,7 @@ impl<A: Allocator> Item<A> {
     }
 }
 
-/// Whether two checksums are equal, or both are missing.
+/// Whether two checksums are equal, or both missing.
 fn is_same_checksum<A: Allocator>(left: &Option<Bytes<A>>, right: &Option<Bytes<A>>) -> bool
     ensures { IsTrue result ↔ (left.now ≡ right.now) }
 {
@@ -202,7 +202,7 @@ impl<A: Allocator + Copy> Item<A> {
         }
     }
 
-    /// An equal checksum, in memory of its own, where there is one.
+    /// An equal checksum, in memory of its own, if there is one.
     fn copy_checksum(checksum: &Option<Bytes<A>>, alloc: A) -> Result<Option<Bytes<A>>, Memory>
         ensures { IfOk result (λ c. c ≡ checksum.now) }
     {
@@ -270,7 +270,7 @@ impl<A: Allocator> Items<A> {
         }
     }
 
-    /// Appends an item. A refusal gives it up and leaves the list as it was.
+    /// Appends an item. On `Memory` the item is dropped and the list stays as it was.
     pub fn push(&mut self, item: Item<A>) -> Result<(), Memory>
         ensures ok { OnOk result (self.new ≡ self.old ++ item_data item ∷ []) }
         ensures err { OnErr result (self.new ≡ self.old) }
@@ -279,7 +279,7 @@ impl<A: Allocator> Items<A> {
         Ok(())
     }
 
-    /// Gives the function's item at this place another start line. An item of another kind stays as it is.
+    /// Replaces the start line of the function's item at this place. An item of another kind stays as it is.
     pub fn set_start(&mut self, at: usize, line: u64)
         requires { at < length self.old }
         ensures { (before after : List ItemData) (item : ItemData) → self.old ≡ before ++ item ∷ after → at ≡ length before → self.new ≡ before ++ with_start line item ∷ after }
@@ -313,7 +313,7 @@ impl<A: Allocator> Items<A> {
         true
     }
 
-    /// Lets unused room go: for a list that is finished.
+    /// Frees the list's unused room, once no more items come.
     pub fn shrink(&mut self)
         ensures { self.new ≡ self.old }
     {

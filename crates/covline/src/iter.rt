@@ -3,7 +3,7 @@
 use crate::text_lines::first_line;
 use std::marker::Model;
 
-/// Goes over the lines of a text. Contracts see the bytes that are left.
+/// An iterator over the lines of a text. Contracts see the bytes that are left.
 #[derive(Drop)]
 pub struct Lines<'a> {
     rest: &'a [u8],
@@ -20,7 +20,7 @@ impl<'a> Model for Lines<'a> {
 impl<'a> Lines<'a> {
     ghost use Rattle.std.specs.Prelude.{◌≡◌};
 
-    /// At the front of the text.
+    /// The iterator at the front of the text.
     pub(crate) fn of(text: &'a [u8]) -> Lines<'a>
         ensures { result ≡ text.now }
     {

@@ -5,11 +5,11 @@ ghost use Rattle.covline.specs.declared.trace_line.LineFault.{LineFault};
 ghost use Rattle.covline.specs.Spells.{LineData, Spells, HasFault};
 ghost use Rattle.covline.specs.LineLaws.{JoinedAgain, GoodLines, GoodRest, FewLines, FewBytes, OnlyReturnsOff, OneBehindOther, MadeOfLines, PrintedSpells};
 
-/// The lines of a text are the text: cut into pieces and joined again it is the same, and a line is its piece
-/// without the line feed and the carriage returns at the end. Neither a line nor what stands behind a key in it
-/// has a line feed or ends in a carriage return. There are at most as many lines as bytes, and the lines have
-/// at most the bytes of the text. Texts one behind the other have the lines of both, and a text that is made of
-/// such lines has these lines.
+/// The lines of a text make up the text. Its pieces, each cut after a line feed, are joined to the same text; a line is
+/// its piece without the line feed and the carriage returns before it. Neither a line nor what follows a key in it has
+/// a line feed or ends in a carriage return. There are at most as many lines as bytes, and together the lines have at
+/// most as many bytes as the text. If a text that ends in a line feed is joined to another, its lines come first and
+/// then those of the other. A text made of such lines has these lines.
 pub fn lines_are_the_text()
     ensures joined { JoinedAgain }
     ensures good_lines { GoodLines }
@@ -29,7 +29,7 @@ pub fn each_line_has_one_meaning()
     ensures some { (line : List ℕ) → ((says : LineData) × Spells line says) ⊎ ((fault : LineFault) × HasFault line fault) }
 {}
 
-/// A printed record reads back: where its texts are lawful and its numbers small, its text is one line that says it.
+/// A printed record reads back: if its texts are lawful and its numbers small, it is printed as one line that says it.
 pub fn printed_records_spell()
     ensures { PrintedSpells }
 {}

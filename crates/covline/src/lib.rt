@@ -1,8 +1,8 @@
 //! Lines of lcov tracefiles (geninfo(1) of LCOV 1.x, section FILES), and what they say: records, items, sections and
 //! submissions.
 //!
-//! A text is cut into lines, each line is read by itself, and a line is printed so that it reads back. Items (the counts
-//! of lines, functions and branches) stand in sections (a test and a source file), and sections with lawful texts make a
+//! A text is cut into lines, each line is read by itself, and a line is printed so that it reads back. A section (of a
+//! test and a source file) has items (the counts of lines, functions and branches); sections with lawful texts make a
 //! submission.
 //!
 //! A sketch: the counted lines of a tracefile, printed again.

@@ -1,9 +1,9 @@
-//! The one fault of what only allocates.
+//! The fault of functions that can fail only by running out of memory.
 
 use std::alloc::{AllocError, AllocFailed};
 use thiserror::Error;
 
-/// A growth was refused: no memory was left for it.
+/// An allocation was refused: out of memory.
 #[derive(Clone, Copy, Debug, PartialEq, Eq, Error)]
 #[error("out of memory")]
 pub struct Memory;

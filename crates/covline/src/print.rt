@@ -12,8 +12,8 @@ use crate::tail::Tail;
 use crate::trace_line::{TotalKind, TraceLine};
 use std::alloc::Allocator;
 
-/// Appends the line that says this, and a line feed; nothing for a skipped line, which is never refused. A refusal leaves
-/// the text as it was.
+/// Appends the line that says this, with a line feed. A skipped line appends nothing and is never refused. On `Memory`
+/// the text stays as it was.
 pub fn put_line<A: Allocator>(line: &TraceLine<'_>, text: &mut Bytes<A>) -> Result<(), Memory>
     ensures ok { OnOk result (text.new ≡ text.old ++ printed (line_data line.now)) }
     ensures err { OnErr result (text.new ≡ text.old) }
@@ -30,7 +30,7 @@ pub fn put_line<A: Allocator>(line: &TraceLine<'_>, text: &mut Bytes<A>) -> Resu
     put
 }
 
-/// Appends the line. A refusal may leave a part of it behind the text, and so it is with the functions below.
+/// Appends the line. On `Memory` a part of it may be left at the end of the text, as with the functions below.
 fn append_line<A: Allocator>(line: &TraceLine<'_>, text: &mut Bytes<A>) -> Result<(), Memory>
     ensures ok { OnOk result (text.new ≡ text.old ++ printed (line_data line.now)) }
     ensures err { OnErr result ((more : List ℕ) × (text.new ≡ text.old ++ more)) }

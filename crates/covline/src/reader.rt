@@ -14,7 +14,7 @@ use crate::names::{good_checksum, is_checksum_byte};
 use crate::point::BranchPoint;
 use crate::trace_line::{LineFault, TotalKind, TraceLine};
 
-/// What digits say.
+/// The number that digits say, by its size.
 #[derive(Clone, Copy)]
 enum Number {
     /// A number of 64 bits, as most are.
@@ -36,7 +36,7 @@ impl Number {
         }
     }
 
-    /// The number, where it is one of 64 bits.
+    /// The number if it fits 64 bits, else `NumberTooLarge`.
     fn fit(self) -> Result<u64, LineFault>
         ensures { result ≡ fit self }
     {
@@ -46,7 +46,7 @@ impl Number {
         }
     }
 
-    /// The number as a count, which may have 128 bits.
+    /// The number if it fits the 128 bits of a count, else `NumberTooLarge`.
     fn fit_count(self) -> Result<u128, LineFault>
         ensures { result ≡ fit_count self }
     {
@@ -57,7 +57,7 @@ impl Number {
         }
     }
 
-    /// The number, where it is one of 64 bits, for those who leave others alone.
+    /// The number if it fits 64 bits, else `None`: for callers that leave larger numbers to `read_line`.
     fn small(self) -> Option<u64>
         ensures { result ≡ small_of self }
     {
@@ -68,7 +68,7 @@ impl Number {
     }
 }
 
-/// The number with one more digit behind it.
+/// The number followed by one more digit.
 fn push_digit(number: Number, digit: u8) -> Number
     requires { 48 ≤ digit }
     ensures { result ≡ with_digit number digit }
@@ -80,7 +80,7 @@ fn push_digit(number: Number, digit: u8) -> Number
     }
 }
 
-/// A number of 128 bits with one more digit behind it.
+/// A number of 128 bits followed by one more digit.
 fn push_wide(value: u128, digit: u8) -> Number
     requires { 48 ≤ digit }
     ensures { result ≡ sized_number (value * 10 + (digit - 48)) }
@@ -92,8 +92,8 @@ fn push_wide(value: u128, digit: u8) -> Number
     }
 }
 
-/// The largest number that stays below 2^64 with any one digit more behind it. All numbers of 18 digits are below it, so
-/// a number of up to 19 digits is read without a checked step.
+/// The largest number that stays below 2^64 whatever digit is appended. All numbers of 18 digits are below it, so a number of
+/// up to 19 digits is read without a checked step.
 const MOST_BEFORE_DIGIT: u64 = 1_844_674_407_370_955_160;
 
 /// The digits at the front of the text, and what follows them.
@@ -116,7 +116,7 @@ fn read_digits(text: &[u8]) -> (Number, &[u8])
     (Number::Value(value), rest)
 }
 
-/// The number with the digits at the front of the text behind it, each by a checked step, and what follows them.
+/// The number followed by the digits at the front of the text, each appended with an overflow check, and what follows them.
 #[cold]
 fn read_more_digits(front: Number, text: &[u8]) -> (Number, &[u8])
     ensures value { result.0 ≡ (digits_from front text.now).0 }
@@ -154,8 +154,7 @@ fn read_whole(text: &[u8]) -> Option<Number>
     }
 }
 
-/// The execution count at the front of the text, and what follows it. One with a minus counts as 0, whatever its
-/// digits are.
+/// The execution count at the front of the text, and what follows it. A count with a minus is 0, whatever its digits.
 #[inline]
 fn read_count(text: &[u8]) -> Option<(Number, &[u8])>
     ensures { option_map (λ front. (front.0, front.1.now)) result ≡ count_at text.now }
@@ -167,7 +166,7 @@ fn read_count(text: &[u8]) -> Option<(Number, &[u8])>
     Some((Number::Value(0), rest))
 }
 
-/// A number, and what follows the comma behind it.
+/// The number, and what follows the comma that has to come next.
 fn split_comma(number: Number, rest: &[u8]) -> Option<(Number, &[u8])>
     ensures { option_map (λ front. (front.0, front.1.now)) result ≡ before_comma number rest.now }
 {
@@ -177,7 +176,7 @@ fn split_comma(number: Number, rest: &[u8]) -> Option<(Number, &[u8])>
     }
 }
 
-/// The number at the front of the text, and what follows the comma behind it.
+/// The number at the front of the text, and what follows the comma after it.
 fn read_field(text: &[u8]) -> Option<(Number, &[u8])>
     ensures { option_map (λ front. (front.0, front.1.now)) result ≡ field_at text.now }
 {
@@ -195,14 +194,14 @@ fn read_taken(text: &[u8]) -> Option<Option<Number>>
     }
 }
 
-/// The text, where it is a checksum.
+/// The text if it is a checksum.
 fn whole_checksum(text: &[u8]) -> Option<&[u8]>
     ensures { option_map (λ c. c.now) result ≡ only_checksum text.now }
 {
     good_checksum(text).then_some(text)
 }
 
-/// The checksum behind a line's count, where there is one: nothing follows the count, or a comma and a checksum.
+/// The checksum after a line's count, if any: nothing follows the count, or a comma and a checksum.
 fn read_checksum(text: &[u8]) -> Option<Option<&[u8]>>
     ensures { option_map (option_map (λ c. c.now)) result ≡ checksum_of text.now }
 {
@@ -257,7 +256,7 @@ fn branch_record(fields: &[u8]) -> Result<TraceLine<'_>, LineFault>
     }
 }
 
-/// A branch, where its numbers fit.
+/// The record of a branch, if its numbers fit.
 fn fit_branch<'a>(
     line: Number,
     block: Number,
@@ -324,7 +323,7 @@ fn path_record(path: &[u8]) -> Result<TraceLine<'_>, LineFault>
     Ok(TraceLine::Path(path))
 }
 
-/// A line that begins with `B`, behind that: a key of branches, or no key.
+/// Reads what follows the first byte `B` of a line: a key of branches, or no key.
 #[tactic(auto, unfolding(crate::specs::Reading::read_of))]
 fn branch_key(rest: &[u8]) -> Result<TraceLine<'_>, LineFault>
     ensures { Gives result (read_of (codes "B" ++ rest.now)) }
@@ -341,7 +340,7 @@ fn branch_key(rest: &[u8]) -> Result<TraceLine<'_>, LineFault>
     Ok(TraceLine::Skip)
 }
 
-/// A line that begins with `F`, behind that: a key of functions, or no key.
+/// Reads what follows the first byte `F` of a line: a key of functions, or no key.
 #[tactic(auto, unfolding(crate::specs::Reading::read_of))]
 fn function_key(rest: &[u8]) -> Result<TraceLine<'_>, LineFault>
     ensures { Gives result (read_of (codes "F" ++ rest.now)) }
@@ -361,7 +360,7 @@ fn function_key(rest: &[u8]) -> Result<TraceLine<'_>, LineFault>
     Ok(TraceLine::Skip)
 }
 
-/// A line that begins with `L`, behind that: a total of lines, or no key.
+/// Reads what follows the first byte `L` of a line: a total of lines, or no key.
 #[tactic(auto, unfolding(crate::specs::Reading::read_of))]
 fn line_total(rest: &[u8]) -> Result<TraceLine<'_>, LineFault>
     ensures { Gives result (read_of (codes "L" ++ rest.now)) }
@@ -375,7 +374,7 @@ fn line_total(rest: &[u8]) -> Result<TraceLine<'_>, LineFault>
     Ok(TraceLine::Skip)
 }
 
-/// What follows the key, where the text begins with it.
+/// What follows the key, if the text begins with it.
 fn behind<'a>(text: &'a [u8], key: &[u8]) -> Option<&'a [u8]>
     ensures { option_map (λ rest. rest.now) result ≡ behind_key key.now text.now }
 {
@@ -391,7 +390,7 @@ fn behind<'a>(text: &'a [u8], key: &[u8]) -> Option<&'a [u8]>
     Some(rest)
 }
 
-/// A line that begins with `e`, behind that: it ends a section, or says nothing.
+/// Reads what follows the first byte `e` of a line: the end of a section, or nothing.
 #[tactic(auto, unfolding(crate::specs::Reading::read_of))]
 fn end_key(rest: &[u8]) -> TraceLine<'_>
     ensures { read_of (codes "e" ++ rest.now) ≡ Ok (line_data result) }
@@ -402,7 +401,7 @@ fn end_key(rest: &[u8]) -> TraceLine<'_>
     }
 }
 
-/// A line that begins with `D`, behind that: the key of a counted line, or no key.
+/// Reads what follows the first byte `D` of a line: the key of a counted line, or no key.
 #[tactic(auto, unfolding(crate::specs::Reading::read_of))]
 fn line_key(rest: &[u8]) -> Result<TraceLine<'_>, LineFault>
     ensures { Gives result (read_of (codes "D" ++ rest.now)) }
@@ -413,7 +412,7 @@ fn line_key(rest: &[u8]) -> Result<TraceLine<'_>, LineFault>
     Ok(TraceLine::Skip)
 }
 
-/// A line that begins with `S`, behind that: the key of a path, or no key.
+/// Reads what follows the first byte `S` of a line: the key of a path, or no key.
 #[tactic(auto, unfolding(crate::specs::Reading::read_of))]
 fn path_key(rest: &[u8]) -> Result<TraceLine<'_>, LineFault>
     ensures { Gives result (read_of (codes "S" ++ rest.now)) }
@@ -424,7 +423,7 @@ fn path_key(rest: &[u8]) -> Result<TraceLine<'_>, LineFault>
     Ok(TraceLine::Skip)
 }
 
-/// A line that begins with `T`, behind that: the key of a test, or no key.
+/// Reads what follows the first byte `T` of a line: the key of a test, or no key.
 #[tactic(auto, unfolding(crate::specs::Reading::read_of))]
 fn test_key(rest: &[u8]) -> TraceLine<'_>
     ensures { read_of (codes "T" ++ rest.now) ≡ Ok (line_data result) }
@@ -435,7 +434,7 @@ fn test_key(rest: &[u8]) -> TraceLine<'_>
     }
 }
 
-/// A line by its first byte, and what stands behind that.
+/// Reads a line that is given as its first byte and the rest.
 #[tactic(auto, unfolding(crate::specs::Reading::read_of))]
 fn read_behind(first: u8, rest: &[u8]) -> Result<TraceLine<'_>, LineFault>
     ensures { Gives result (read_of (first ∷ rest.now)) }
@@ -452,7 +451,7 @@ fn read_behind(first: u8, rest: &[u8]) -> Result<TraceLine<'_>, LineFault>
     }
 }
 
-/// What the line says: its key by its first byte, then the key's fields.
+/// Reads a line: its key by its first byte, then the key's fields.
 #[tactic(auto, unfolding(crate::specs::Reading::read_of))]
 fn read_any(line: &[u8]) -> Result<TraceLine<'_>, LineFault>
     ensures { Gives result (read_of line.now) }
@@ -463,9 +462,9 @@ fn read_any(line: &[u8]) -> Result<TraceLine<'_>, LineFault>
     }
 }
 
-/// What one line of a tracefile says (geninfo(1), FILES). The line has lost its line feed and the carriage returns
-/// at its end. A line with a known key has the key's form, its counts are below 2^128 and its other numbers below 2^64,
-/// and its path isn't empty; otherwise that is its fault, and the form comes before the size. Texts are slices of the line.
+/// Reads one line of a tracefile (geninfo(1), section FILES), given without its line feed and the carriage returns before it.
+/// Texts are slices of the line. Faults of a line with a known key: `BadLine` if it doesn't have the key's form, which is
+/// tested first; `NumberTooLarge` if a count is 2^128 or more, or another number 2^64 or more; `EmptyPath` for `SF:` alone.
 pub fn read_line(line: &[u8]) -> Result<TraceLine<'_>, LineFault>
     ensures ok { IfOk result (λ t. Spells line.now (line_data t)) }
     ensures err { IfErr result (λ f. HasFault line.now f) }
@@ -495,20 +494,20 @@ fn behind_feed(text: &[u8]) -> Option<&[u8]>
     }
 }
 
-/// The first line of a text, which counts a line of a source file and may tell its checksum, and what stands behind it.
+/// The first line of a text that counts a source line, with its checksum if it has one, and the rest of the text.
 #[derive(Clone, Copy)]
 pub struct FirstLine<'a> {
     /// The line of the source file.
     pub line: u64,
     /// Its execution count.
     pub count: u64,
-    /// The checksum of its text, where there is one.
+    /// The checksum of its text, if it has one.
     pub checksum: Option<&'a [u8]>,
-    /// What stands behind the first line.
+    /// The text after the first line.
     pub rest: &'a [u8],
 }
 
-/// What stands behind the bytes at the front of the text that a checksum may have.
+/// What follows the bytes at the front of the text that a checksum may have.
 fn behind_checksum(text: &[u8]) -> &[u8]
     ensures { result.now ≡ behind_checksum text.now }
 {
@@ -522,7 +521,7 @@ fn behind_checksum(text: &[u8]) -> &[u8]
     rest
 }
 
-/// The checksum at the front of the text, where there is one, and what stands behind it.
+/// The checksum at the front of the text, if any, and what follows it.
 fn front_checksum(text: &[u8]) -> Option<(&[u8], &[u8])>
     ensures { option_map (λ front. (front.0.now, front.1.now)) result ≡ checksum_front text.now }
 {
@@ -534,7 +533,7 @@ fn front_checksum(text: &[u8]) -> Option<(&[u8], &[u8])>
     Some((checksum, rest))
 }
 
-/// The checksum behind a line's count, where there is one, and what stands behind the line feed.
+/// The checksum after a line's count, if any, and what follows the line feed.
 fn split_count_end(text: &[u8]) -> Option<(Option<&[u8]>, &[u8])>
     ensures { option_map (λ end. (option_map (λ c. c.now) end.0, end.1.now)) result ≡ count_end text.now }
 {
@@ -545,9 +544,9 @@ fn split_count_end(text: &[u8]) -> Option<(Option<&[u8]>, &[u8])>
     Some((None, behind_feed(text)?))
 }
 
-/// The first line, where it is `DA:<line>,<count>` of digits with numbers below 2^64, or that with a checksum behind it, and a
-/// line feed ends it: most lines of a tracefile are so, and these are read in one pass. Any other first line is left to be
-/// cut and read.
+/// Reads the first line if it is `DA:<line>,<count>` or `DA:<line>,<count>,<checksum>` of digits, with numbers below 2^64, and
+/// ends in a line feed. Most lines of a tracefile do, so these are read in one pass. For any other first line it returns
+/// `None`, and the caller cuts and reads that.
 #[inline]
 pub fn first_counted(text: &[u8]) -> Option<FirstLine<'_>>
     ensures says { IfSome result (λ f. BeginsWithLine text.now (Line f.line f.count (option_map (λ c. c.now) f.checksum)) f.rest.now) }
@@ -557,7 +556,7 @@ pub fn first_counted(text: &[u8]) -> Option<FirstLine<'_>>
     front_counted(text)
 }
 
-/// The same, as it is read.
+/// Reads such a first line from left to right.
 #[inline]
 fn front_counted(text: &[u8]) -> Option<FirstLine<'_>>
     ensures { option_map (λ f. ((f.line, f.count), (option_map (λ c. c.now) f.checksum, f.rest.now))) result ≡ counted_front text.now }
@@ -573,18 +572,18 @@ fn front_counted(text: &[u8]) -> Option<FirstLine<'_>>
     })
 }
 
-/// The first line of a text, which tells how often a branch was taken, and what stands behind it.
+/// The first line of a text that says how often a branch was taken, and the rest of the text.
 #[derive(Clone, Copy)]
 pub struct FirstBranch<'a> {
     /// The branch.
     pub point: BranchPoint,
-    /// How often it was taken; none where its block was never executed.
+    /// How often it was taken; `None` if its block was never executed.
     pub taken: Option<u64>,
-    /// What stands behind the first line.
+    /// The text after the first line.
     pub rest: &'a [u8],
 }
 
-/// The number of 64 bits at the front of the text, and what follows the comma behind it.
+/// The number of 64 bits at the front of the text, and what follows the comma after it.
 fn small_field(text: &[u8]) -> Option<(u64, &[u8])>
     ensures { option_map (λ front. (front.0, front.1.now)) result ≡ small_front (field_at text.now) }
 {
@@ -600,7 +599,7 @@ fn small_number(text: &[u8]) -> Option<(u64, &[u8])>
     Some((number.small()?, rest))
 }
 
-/// How often a branch was taken, in 64 bits, at the front of the text, and what follows it: no number for `-`.
+/// How often a branch was taken (below 2^64; no number for `-`), at the front of the text, and what follows it.
 fn front_taken(text: &[u8]) -> Option<(Option<u64>, &[u8])>
     ensures { option_map (λ front. (front.0, front.1.now)) result ≡ taken_front text.now }
 {
@@ -611,9 +610,9 @@ fn front_taken(text: &[u8]) -> Option<(Option<u64>, &[u8])>
     Some((Some(taken), rest))
 }
 
-/// The first line, where it is `BRDA:<line>,<block>,<branch>,<taken>` of digits (or `-` for how often the branch was taken)
-/// with numbers below 2^64, and a line feed ends it: read in one pass, as by `first_counted`. Any other first line is left to
-/// be cut and read.
+/// Reads the first line if it is `BRDA:<line>,<block>,<branch>,<taken>` of digits (or `-` for how often the branch was taken),
+/// with numbers below 2^64, and ends in a line feed: in one pass, as `first_counted` does. For any other first line it returns
+/// `None`, and the caller cuts and reads that.
 #[inline]
 pub fn first_branch(text: &[u8]) -> Option<FirstBranch<'_>>
     ensures says { IfSome result (λ f. BeginsWithLine text.now (Branch f.point.line f.point.block f.point.branch f.taken) f.rest.now) }
@@ -623,7 +622,7 @@ pub fn first_branch(text: &[u8]) -> Option<FirstBranch<'_>>
     front_branch(text)
 }
 
-/// The same, as it is read.
+/// Reads such a first line from left to right.
 #[inline]
 fn front_branch(text: &[u8]) -> Option<FirstBranch<'_>>
     ensures { option_map (λ f. ((branch_point_data f.point, f.taken), f.rest.now)) result ≡ branch_front text.now }

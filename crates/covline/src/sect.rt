@@ -101,7 +101,7 @@ impl<A: Allocator> Sects<A> {
         }
     }
 
-    /// Appends a section. A refusal gives it up and leaves the list as it was.
+    /// Appends a section. On `Memory` the section is dropped and the list stays as it was.
     pub fn push(&mut self, sect: Sect<A>) -> Result<(), Memory>
         ensures ok { OnOk result (self.new ≡ self.old ++ sect_data sect ∷ []) }
         ensures err { OnErr result (self.new ≡ self.old) }
@@ -127,7 +127,7 @@ impl<A: Allocator> Sects<A> {
         true
     }
 
-    /// Lets unused room of the list itself go: for a list that is finished.
+    /// Frees the unused room of the list itself, once no more sections come.
     pub fn shrink(&mut self)
         ensures { self.new ≡ self.old }
     {

@@ -33,8 +33,8 @@ impl BadSubmission {
     }
 }
 
-/// What one text says: at most 67,108,864 items in sections with lawful texts, and how many of its lines
-/// don't fit the others. Contracts see the sections and that number.
+/// What one text says: at most 67,108,864 items in sections with lawful texts, and its number of odd lines, which don't fit
+/// the others. Contracts see the sections and that number.
 #[derive(Drop)]
 pub struct Submission<A: Allocator = Global> {
     sects: Sects<A>,
@@ -75,8 +75,8 @@ impl<A: Allocator> Submission<A> {
     ghost use Rattle.covline.specs.SectView.{sect_data};
     ghost use Rattle.covline.specs.Lawful.{IsLawful, IsRefusedAs};
 
-    /// The submission of these sections, of whose text so many lines don't fit the others. A refusal gives the sections back:
-    /// there are too many items, or else a text is unlawful.
+    /// The submission of these sections, with the number of odd lines of their text. If it is refused, the sections are given
+    /// back: they have too many items, or else one of their texts is unlawful.
     pub fn of(sects: Sects<A>, odd: u64) -> Result<Submission<A>, (Sects<A>, BadSubmission)>
         ensures ok { IfOk result (λ s. s ≡ record { sects = sects; odd = odd }) }
         ensures lawful { IsOk result ↔ IsLawful (record { sects = sects; odd = odd }) }
@@ -92,8 +92,8 @@ impl<A: Allocator> Submission<A> {
         Ok(Submission { sects, items, odd })
     }
 
-    /// The submission of sections that are known to make one, of whose text so many lines don't fit the others: no text
-    /// is tested again.
+    /// The submission of sections that are known to be lawful, with the number of odd lines of their text: nothing is tested
+    /// again.
     pub fn of_lawful(sects: Sects<A>, odd: u64) -> Submission<A>
         requires { IsLawful (record { sects = sects; odd = odd }) }
         ensures { result ≡ record { sects = sects; odd = odd } }
@@ -125,8 +125,8 @@ impl<A: Allocator> Submission<A> {
         self.items
     }
 
-    /// How many lines of the text don't fit the others: counts of functions without a start line, and totals that differ
-    /// from the section's own.
+    /// The number of odd lines in the text: counts of functions without a start line, and totals that differ from the
+    /// section's own.
     pub fn odd(&self) -> u64
         ensures { result ≡ self.now.odd }
     {

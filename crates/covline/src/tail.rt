@@ -26,7 +26,7 @@ impl Model for Tail {
 }
 
 impl Tail {
-    /// No bytes.
+    /// The end of a line, without bytes yet.
     #[inline]
     pub(crate) fn new() -> Tail
         ensures { result ≡ [] }

@@ -14,10 +14,10 @@ pub struct Tally {
 }
 
 impl Tally {
-    /// That of no points.
+    /// The tally of no points.
     pub const NONE: Tally = Tally { found: 0, hit: 0 };
 
-    /// With one point more.
+    /// The tally with one more point.
     pub fn and(self, is_hit: bool) -> Tally
         requires { self.found + 1 < 2 ^ 64 }
         ensures found { result.found ≡ self.found + 1 }

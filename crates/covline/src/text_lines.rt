@@ -15,7 +15,7 @@ pub fn lines(text: &[u8]) -> Lines<'_>
     Lines::of(text)
 }
 
-/// The first line, and the text behind its line feed.
+/// The first line, and the text after its line feed.
 pub fn first_line(text: &[u8]) -> (&[u8], &[u8])
     requires { 0 < length text.now }
     ensures lines { lines_of text.now ≡ result.0.now ∷ lines_of result.1.now }

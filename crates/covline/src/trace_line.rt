@@ -39,7 +39,7 @@ pub enum TraceLine<'a> {
         count: u128,
         name: &'a [u8],
     },
-    /// `BRDA:<line>,<block>,<branch>,<taken>`, how often a branch was taken: none for `-`, which says that its block
+    /// `BRDA:<line>,<block>,<branch>,<taken>`, how often a branch was taken: `None` for `-`, which says that its block
     /// was never executed.
     Branch {
         line: u64,
@@ -65,16 +65,16 @@ pub enum TraceLine<'a> {
     Skip,
 }
 
-/// Why a line says nothing that can be taken.
+/// Why a line can't be read.
 #[derive(Clone, Copy, Debug, PartialEq, Eq, Error)]
 pub enum LineFault {
-    /// The line has a known key, and another form than the key's.
+    /// The line has a known key, but not the key's form.
     #[error("BadLine")]
     BadLine = 1,
-    /// The form is right, and a number is too large: a count of 2^128 or more, or another number of 2^64 or more.
+    /// The form is right, but a number is too large: a count of 2^128 or more, or another number of 2^64 or more.
     #[error("NumberTooLarge")]
     NumberTooLarge = 2,
-    /// `SF:` and nothing behind it.
+    /// `SF:` with nothing after it.
     #[error("EmptyPath")]
     EmptyPath = 3,
 }
