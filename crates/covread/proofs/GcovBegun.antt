@@ -1,4 +1,4 @@
--- Memory runs out only where keeping began: behind first lines without a fault, one of which begins it.
+-- Memory runs out only after keeping began: after first lines without a fault, one of which begins it.
 use Rattle.std.proofs.Common.{◌≡◌, ℕ, ◌+◌, ◌≤◌, ◌⊎◌, inl, inr, Bool, true, false, cond, List, [], ◌∷◌, ◌++◌, length, Option, Some, None, Result, Ok, Err, refl, sym, ap, subst, ◌∙◌, append_assoc}
 use Rattle.std.specs.Prelude.{◌||◌, is_ok, is_some}
 use Rattle.std.specs.List.{list_any}
@@ -32,7 +32,7 @@ section_path : (above : List GcovLine) (section : Option SectionData) → Sectio
 section_path above None stands some = absurd (false≢true some)
 section_path above (Some s) stands some = stands.0
 
--- a section is open behind some first lines
+-- a section is open after some first lines
 open_begun : (test : List ℕ) (before after all : List (List ℕ)) (above : List GcovLine) (held : HeldData) → all ≡ before ++ after → Above test before above held → is_some held.section ≡ true → HasBegun all
 open_begun test before after all above held e h some = record {
   before = before;
@@ -47,7 +47,7 @@ or_last : (a b : Bool) → a ≡ false → (a || b) ≡ true → b ≡ true
 or_last true b f h = absurd (false≢true (sym f))
 or_last false b f h = h
 
--- a line goes on and makes lists grow behind some first lines
+-- a line goes on and makes lists grow after some first lines
 pub line_begun : (test : List ℕ) (before rest all : List (List ℕ)) (above : List GcovLine) (held : HeldData) (line : List ℕ) (at : ℕ) (says : Says)
     → all ≡ before ++ line ∷ rest → Above test before above held → at ≡ length before → LineSays line says → is_ok (line_step test (at + 1) held says) ≡ true → line_grows held says ≡ true → HasBegun all
 line_begun test before rest all above held line at (Err why) e h number spells ok grows = absurd (false≢true ok)
@@ -78,7 +78,7 @@ err_isnt_ok fault x a e f = cc
 err_same : (x y : ReadFault) (a : Stepped) → a ≡ Err x → a ≡ Err y → x ≡ y
 err_same x y a e f = cc
 
--- a section is open behind the last line
+-- a section is open after the last line
 end_begun : (test text : List ℕ) (held : HeldData) → whole_run test text ≡ Ok held → is_some held.section ≡ true → HasBegun (lines_of text)
 end_begun test text held e some =
     elim (ending test text) [

@@ -1,4 +1,4 @@
--- What was read makes a submission: its texts fit into lines, its numbers 64 bits, and its items aren't too many.
+-- What was read makes a submission: its texts fit into lines, its numbers fit 64 bits, and its items aren't too many.
 use Rattle.std.proofs.Common.{◌≡◌, ◌≢◌, ℕ, ◌+◌, ◌<◌, ◌≤◌, ◌^◌, inl, inr, Bool, true, false, cond, eqb, List, [], ◌∷◌, ◌++◌, length, map, Option, Some, None, Result, Ok, Err, refl, sym, ap, subst, ◌∙◌, arith}
 use Rattle.std.specs.Prelude.{codes, All, option_map, ◌||◌, if◌then◌else◌}
 use Rattle.std.specs.Str.{bytes_eq}

@@ -22,7 +22,7 @@ use Rattle.covread.proofs.GcovLawful.{lawful_run}
 
 -- ---- one line after the other
 
--- what is left of the text leads on to where the whole text leads, behind lines without a fault
+-- what is left of the text leads to the same end as the whole text, after lines without a fault
 pub record Reading (test text rest : List ℕ) (held : HeldData) (at : ℕ) : Type 0 where
   pub same : run test at held (lines_of rest) ≡ whole_run test text
   pub before : List (List ℕ)
@@ -50,7 +50,7 @@ stepped_on : (test text rest line left : List ℕ) (held : HeldData) (at : ℕ) 
 stepped_on test text rest line left held at stepped r e f =
     ap (λ (s : Stepped). run_on s (λ next. run test (at + 1) next (lines_of left))) (sym f) ∙ ap (run test at held) (sym e) ∙ r.same
 
--- what is known behind a line more
+-- what is known after one more line
 known_more : (test : List ℕ) (before : List (List ℕ)) (above : List GcovLine) (held next : HeldData) (line : List ℕ) (at : ℕ) (says : Says) → Above test before above held → at ≡ length before
     → LineSays line says → line_step test (at + 1) held says ≡ Ok next → (more : GcovLine) × Above test (before ++ line ∷ []) (above ++ more ∷ []) next
 known_more test before above held next line at (Err why) h number spells f = absurd cc

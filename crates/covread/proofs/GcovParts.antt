@@ -1,4 +1,4 @@
--- The parts of a line: what stands at its front is found, and what is found stands there.
+-- The parts of a line: what is at its front is found, and what is found is there.
 use Rattle.std.proofs.Common.{◌≡◌, ◌≢◌, ℕ, ◌+◌, ◌-◌, ◌<◌, ◌≤◌, ◌⊎◌, inl, inr, Bool, true, false, cond, eqb, List, [], ◌∷◌, ◌++◌, length, take, Option, Some, None, refl, sym, ap, subst, ◌∙◌, arith}
 use Rattle.std.specs.Prelude.{codes, not, ◌&&◌, is_some}
 use Rattle.std.specs.Option.{option_or}

@@ -1,4 +1,4 @@
--- What one line more changes of what stands above.
+-- What one more line changes in what the lines above give.
 use Rattle.std.proofs.Common.{◌≡◌, ℕ, Bool, true, false, List, [], ◌∷◌, ◌++◌, Option, Some, None, refl, sym, ap, ◌∙◌, append_assoc, inl, inr}
 use Rattle.std.specs.Option.{option_or}
 use Rattle.std.specs.List.{list_any}
@@ -8,7 +8,7 @@ use Rattle.covline.specs.Row.{ItemData, SectData}
 use Rattle.covread.specs.Gcov.{GcovLine, Path}
 use Rattle.covread.specs.GcovItems.{is_path, behind_last, last_given, items_given, items_until, section_at, sects_from, is_empty}
 
--- ---- the lines behind the last one
+-- ---- the lines after the last one
 
 pub any-yes : (so : GcovLine → Bool) (xs : List GcovLine) (says : GcovLine) → so says ≡ true → list_any so (xs ++ says ∷ []) ≡ true
 any-yes so [] says holds = rw holds refl

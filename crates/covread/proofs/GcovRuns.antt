@@ -1,4 +1,4 @@
--- What the reader holds between two lines is what the lines above say by their places.
+-- What the reader holds between two lines is what the lines above say at their places.
 use Rattle.std.proofs.Common.{◌≡◌, ℕ, Bool, true, false, List, [], ◌∷◌, ◌++◌, Option, Some, None, Ok, Err, refl, sym, ap, ◌∙◌, inl, inr, ◌⊎◌, map}
 use Rattle.std.specs.Prelude.{◌||◌, option_map, is_some}
 use Rattle.std.specs.Option.{option_or}
@@ -96,7 +96,7 @@ section_same above says (Some s) no_path no_source no_block stands = (path_same 
 
 -- ---- the steps
 
--- a step goes on where the line's place is right, and else tells the fault
+-- a step goes on if the line's place is right, and else returns the fault
 abbrev pub Goes : List ℕ → ℕ → List GcovLine → HeldData → GcovLine → Type 0
 Goes test at above held says =
     ((next : HeldData) × (step test at held says ≡ Ok next) × (place_fault at above says ≡ None) × Stands test (above ++ says ∷ []) next)

@@ -65,7 +65,7 @@ block_found mark number gap block rest gaps digits ends =
 
 -- ---- a numbered line begins with neither of the other keys
 
--- the line says so by its numbers, and isn't one of instances
+-- the line doesn't begin as those on template instances
 record IsPlain (line : List ℕ) : Type 0 where
   plain : behind_key (codes "-----") line ≡ None
 
@@ -154,7 +154,7 @@ shape_read line Other some form plain = absurd some
 
 -- ---- what is found fits
 
--- the shape that is found, where one is
+-- the shape that is found, if one is
 abbrev Fits : List ℕ → Option Shape → Type 0
 Fits line found = IfSome found (λ shape. HasShape line shape)
 

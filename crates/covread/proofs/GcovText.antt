@@ -33,7 +33,7 @@ says_is line says h = ap says_of (one_shape line h.0 h.1) ∙ sym h.2
 pub one_says : (line : List ℕ) (x y : Says) → LineSays line x → LineSays line y → x ≡ y
 one_says line x y h k = sym (says_is line x h) ∙ says_is line y k
 
--- ---- one line more
+-- ---- one more line
 
 pub more_above : (above : List GcovLine) (says : GcovLine) (said : List GcovLine) → (above ++ says ∷ []) ++ said ≡ above ++ says ∷ said
 more_above above says said = append_assoc above (says ∷ []) said

@@ -1,4 +1,4 @@
--- What a reader between two sections makes of a test's name and of the text's end, and one in a section.
+-- What a reader makes of a test's name and of the text's end, between two sections and in one.
 use Rattle.std.proofs.Common.{refl, ◌≡◌, true, false, ℕ, List, Option, Some, None, Ok, Err, option_map}
 use Rattle.std.specs.Option.{is_some}
 use Rattle.covline.specs.Spells.{LineData, Test, Skip}

@@ -6,7 +6,7 @@ use Rattle.covline.specs.Spells.{End}
 use Rattle.covread.specs.Reads.{items_of, is_odd}
 use Rattle.covread.specs.TraceSteps.{SectionData, HeldData, closed, step_at, step}
 
--- what is held is the same where its fields are
+-- what is held is the same if its fields are
 pub same_held : (test test2 : List ℕ) (section section2 : Option SectionData) (sects sects2 : List SectData) (odd odd2 : ℕ)
     → test ≡ test2 → section ≡ section2 → sects ≡ sects2 → odd ≡ odd2
     → let x : HeldData = record { test = test; section = section; sects = sects; odd = odd } in

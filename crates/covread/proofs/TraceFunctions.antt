@@ -29,7 +29,7 @@ use Rattle.covread.proofs.TraceDistinct.{distinct_is_count, distinct_on, list_an
 
 -- ---- one more start line
 
--- the start line with one more, of which the least is kept
+-- the least of a start line and those before it
 abbrev pub sooner : ℕ → Option ℕ → ℕ
 sooner line None = line
 sooner line (Some other) = min other line
@@ -63,7 +63,7 @@ start_of names name (Some line) = refl
 abbrev pub Puts : BTreeMap (Bor (List ℕ)) Function → BTreeMap (Bor (List ℕ)) Function → List ℕ → Function → Type 0
 Puts old new name f = (q : List ℕ) → function_at new q ≡ cond (bytes_eq name q) (Some f) (function_at old q)
 
--- the map with one start line more
+-- the map with one more start line
 pub start_taken : (old new : BTreeMap (Bor (List ℕ)) Function) (records : List LineData) (line : ℕ) (name : List ℕ) (f : Function) → f.start ≡ sooner line (option_map (λ (g : Function). g.start) (function_at old name)) → f.is_hit ≡ false
     → Puts old new name f → AreFunctions old (λ other. start_in other records) [] → AreFunctions new (λ other. start_in other (records ++ FuncStart line name ∷ [])) []
 start_taken old new records line name f start unhit puts h = record { at = λ q. by q (bytes_eq name q) refl }
@@ -121,7 +121,7 @@ start_again old mid new records line name g was early first back h =
     twice true o = refl
     twice false o = refl
 
--- the functions where a record gives no start line
+-- the functions, if a record gives no start line
 pub starts_same : (functions : BTreeMap (Bor (List ℕ)) Function) (records : List LineData) (r : LineData) → ((name : List ℕ) → start_said name r ≡ []) → AreFunctions functions (λ name. start_in name records) []
     → AreFunctions functions (λ name. start_in name (records ++ r ∷ [])) []
 starts_same functions records r none h = record { at = λ q. h.at q ∙ sym (ap (option_map (known [] q)) (start_same q records r (none q))) }
@@ -145,7 +145,7 @@ hit_elsewhere names name q true (Some line) e =
 hit_elsewhere names name q true None e = ap (list_any (bytes_eq q)) (append-nil names)
 hit_elsewhere names name q false start e = ap (list_any (bytes_eq q)) (append-nil names)
 
--- the map with one count more
+-- the map with one more count
 pub count_taken : (old new : BTreeMap (Bor (List ℕ)) Function) (starts : List ℕ → Option ℕ) (names : List (List ℕ)) (name : List ℕ) (b : Bool) (was now : Function) → function_at old name ≡ Some was → now.start ≡ was.start → now.is_hit ≡ (was.is_hit || b)
     → Puts old new name now → AreFunctions old starts names → AreFunctions new starts (names ++ named name b (starts name))
 count_taken old new starts names name b was now there start hit puts h = record { at = λ q. by q (bytes_eq name q) refl }
@@ -216,7 +216,7 @@ some_start name (Path path ∷ rs) = some_start name rs
 some_start name (End ∷ rs) = some_start name rs
 some_start name (Skip ∷ rs) = some_start name rs
 
--- an item of the record speaks of the function
+-- an item of the record counts the function
 abbrev speaks : List LineData → List ℕ → LineData → Bool
 speaks inside name r = list_any (bytes_eq name) (func_points (items_said inside r))
 
@@ -227,7 +227,7 @@ any_speaks : (inside : List LineData) (name : List ℕ) (rs : List LineData) →
 any_speaks inside name [] = refl
 any_speaks inside name (r ∷ rs) = speaks_cons inside name r rs ∙ ap (λ b. speaks inside name r || b) (any_speaks inside name rs)
 
--- of a function that has a start line in the section, and of no other, some item speaks
+-- some item counts a function exactly if the function has a start line in the section
 gives_speaks : (inside : List LineData) (name : List ℕ) (r : LineData) → gives name r ≡ true → speaks inside name r ≡ true
 gives_speaks inside name (FuncStart line other) h = or_false (bytes_eq name other) ∙ bytes_eq_flips name other ∙ h
 gives_speaks inside name (FuncCount count other) h = absurd (cc)

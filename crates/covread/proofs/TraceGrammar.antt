@@ -22,7 +22,7 @@ pub record TextLaw : Type 0 where
   pub good_lines : GoodLines
   pub good_rest : GoodRest
 
--- where a reader stands: between sections, or in one that began with this path
+-- where a reader is: between sections, or in one that began with this path
 pub data Place : Type 0 where
   Between : Place
   Within : (path : List ℕ) (inside : List LineData) → Place
@@ -77,7 +77,7 @@ parts_from-parts (part ∷ parts) h = parts_from-part part (flat_map records_of 
 pub one_parts : (a b : List Part) → AllByRecursion IsLawfulPart a → AllByRecursion IsLawfulPart b → flat_map records_of a ≡ flat_map records_of b → a ≡ b
 one_parts a b la lb e = sym (parts_from-parts a la) ∙ ap (parts_from Between) e ∙ parts_from-parts b lb
 
--- whether the rest is accepted doesn't hang on what the open section said
+-- whether the rest is accepted doesn't depend on what the open section said
 pub accepts_open : (more : List LineData) (p q : List ℕ) (a b : List LineData) → Accepts (Within p a) more → Accepts (Within q b) more
 accepts_open [] p q a b h = h
 accepts_open (Test name ∷ more) p q a b h = h

@@ -1,4 +1,4 @@
--- What a section gives doesn't hang on its skipped lines, so that a reader need not keep them.
+-- What a section gives doesn't depend on its skipped lines, so a reader need not keep them.
 use Rattle.std.proofs.Common.{◌≡◌, ℕ, ◌≤◌, Bool, false, cond, List, [], ◌∷◌, ◌++◌, length, Option, refl, sym, ap, ◌∙◌, arith}
 use Rattle.std.specs.Prelude.{count_by, not, is_none, ◌==◌}
 use Rattle.std.specs.List.{flat_map}

@@ -13,7 +13,7 @@ use Rattle.covread.proofs.TraceGrammar.{LineLaw, Place, Between, Within}
 use Rattle.covread.proofs.TraceStands.{Stands, stands_at_first, stands_outside, stands_path, stands_inside, stands_end, stands_reads, stop_by_fault, stop_outside, stop_inside, stop_open}
 use Rattle.covread.proofs.TraceOutcome.{one_outcome}
 
--- ---- one at the least
+-- ---- at least one
 
 -- a line leads on, or it is the first faulty one
 data Verdict (lines all : List (List ℕ)) : Type 0 where

@@ -37,7 +37,7 @@ record IsGood (says : LineData) : Type 0 where
   small : HasSmallNumbers says
   texts : HasGoodTexts says
 
--- a text behind a key, a number and a comma
+-- a text after a key, a number and a comma
 good_behind : GoodRest → (key number rest line : List ℕ) → line ≡ key ++ number ++ comma ∷ rest → IsGoodTest line → IsGoodTest rest
 good_behind good_rest key number rest line e good =
     good_rest (comma ∷ []) rest (good_rest (key ++ number) (comma ∷ rest) (subst (λ (x : List ℕ). IsGoodTest x) e good))

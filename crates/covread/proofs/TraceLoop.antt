@@ -94,7 +94,7 @@ begun_at all lines parts (Within path inside) line after says s e spells grows =
     let whole : all ≡ k.0 ++ k.1 ∷ (k.2 ++ line ∷ after) = e ∙ ap (λ (x : List (List ℕ)). x ++ line ∷ after) k.3 ∙ append_assoc k.0 (k.1 ∷ k.2) (line ∷ after) in
     (k.0, k.1, k.2 ++ line ∷ after, path, whole, k.5, stands_goes_on (k.0 ++ k.1 ∷ []) parts (Within path []) (stands_path k.0 parts k.1 path k.4 k.5))
 
--- memory ran out behind a path
+-- memory ran out after a path
 pub reading_grows : (text rest line left : List ℕ) (before : HeldData) (at : ℕ) (fault : ReadFault) → Reading text rest before at → lines_of rest ≡ line ∷ lines_of left
     → StopsAt fault before line (at + 1) → GrowsLate text (Err fault)
 reading_grows text rest line left before at faults.Memory r e takes = λ same.
@@ -110,7 +110,7 @@ pub ends_late : (text : List ℕ) (section : Option SectionData) (held : HeldDat
 ends_late text None held = λ same. absurd cc
 ends_late text (Some s) held = λ same. absurd cc
 
--- ---- behind the last line
+-- ---- after the last line
 
 abbrev Ended : List ℕ → HeldData → Type 0
 Ended text held = Answers text (ends held) × EndsLawfully held
@@ -136,7 +136,7 @@ pub reading_begins : (text rest : List ℕ) (held : HeldData) → held ≡ empty
 reading_begins text rest held e f =
     subst (λ (h : HeldData). Reading text rest h 0) (sym e) (subst (λ (x : List ℕ). Reading text x empty 0) (sym f) (reading_at_first text))
 
--- what is held at the end doesn't hang on the records of an open section
+-- what is held at the end doesn't depend on the records of an open section
 abbrev EndsAt : {A : Type 0} → List ℕ → List ℕ → List SectData → ℕ → Option (OpenSection A) → List LineData → Type 0
 EndsAt text test sects odd section inside = Ended text (record { test = test; section = option_map (section_data inside) section; sects = sects; odd = odd })
 

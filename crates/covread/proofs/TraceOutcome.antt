@@ -12,7 +12,7 @@ use Rattle.covread.specs.Outcome.{most_bytes, IsLawfulText, MayGoOn, IsFirstFaul
 use Rattle.covread.proofs.TraceGrammar.{LineLaw, one_parts}
 use Rattle.covread.proofs.TraceStands.{AllSpell-one}
 
--- ---- one at the most
+-- ---- at most one
 
 pub one_submission : LineLaw → (lines : List (List ℕ)) (a b : SubmissionData) → Reads lines a → Reads lines b → a ≡ b
 one_submission law lines a b ra rb =
@@ -44,7 +44,7 @@ apart (z ∷ p) (w ∷ q) x y a b e =
     let k : p ++ x ∷ a ≡ q ++ y ∷ b = cc in
     subst (λ (v : List ℕ). Apart (z ∷ p) (v ∷ q) x y) h (apart_cons z p q x y (apart p q x y a b k))
 
--- what begins a lawful text, its beginnings begin one too
+-- if lines begin a lawful text, so do their own first lines
 shorter : (front : List (List ℕ)) (x : List ℕ) (more all : List (List ℕ)) → all ≡ front ++ x ∷ more → MayGoOn all → MayGoOn (front ++ x ∷ [])
 shorter front x more all e on =
     let k : all ++ on.0 ≡ (front ++ x ∷ []) ++ (more ++ on.0) = ap (λ (w : List (List ℕ)). w ++ on.0) e ∙ simp append_assoc in

@@ -172,7 +172,7 @@ module _ {P : Type 0} {R : P → P → Ordering} (o : IsTotalOrder R) where
       by Equal h = absurd cc
       by Greater h = absurd cc
 
--- ---- the points that items speak of
+-- ---- the points that items count
 
 module _ {P : Type 0} (points : ItemData → List P) where
   pub hits_said_push : (items : List ItemData) (i : ItemData) → hits_said points (items ++ i ∷ []) ≡ hits_said points items ++ hits_of_item points i

@@ -1,4 +1,4 @@
--- What the reader holds, against where it stands in the text.
+-- What the reader holds, compared with where it is in the text.
 use Rattle.std.proofs.Common.{◌≡◌, ℕ, ◌+◌, List, [], ◌∷◌, ◌++◌, length, Option, Some, None, Result, Ok, Err, refl, sym, ap, subst, ◌∙◌, arith}
 use Rattle.std.specs.Prelude.{count_by}
 use Rattle.std.specs.List.{sum_by}
@@ -41,7 +41,7 @@ pub record Holds (lines : List (List ℕ)) (held : HeldData) : Type 0 where
 pub holds_at_first : Holds [] empty
 holds_at_first = record { parts = []; place = Between; stands = stands_at_first; is = refl }
 
--- ---- one part more
+-- ---- one more part
 
 test_push : (test : List ℕ) (parts : List Part) (part : Part) → test_behind test (parts ++ part ∷ []) ≡ test_behind (test_behind test parts) (part ∷ [])
 test_push test [] part = refl
@@ -62,7 +62,7 @@ no_error x m e = absurd cc
 two_errors : (let a : Result HeldData Misplaced = Err misplaced.Outside in let b : Result HeldData Misplaced = Err misplaced.Inside in a ≡ b) → ⊥
 two_errors e = absurd cc
 
--- ---- one line more
+-- ---- one more line
 
 outside_held : (parts : List Part) (says : LineData) (test : List ℕ) → test ≡ test_after (test_behind [] parts) says
     → let h : HeldData = record { test = test; section = None; sects = sects_from [] parts; odd = sum_by odd_in parts } in
@@ -127,7 +127,7 @@ pub holds_more : (lines : List (List ℕ)) (line : List ℕ) (before after : Hel
 holds_more lines line before after says h spells e =
     step_on lines line h.parts h.place says after h.stands spells (subst (λ (x : HeldData). step x says ≡ Ok after) h.is e)
 
--- ---- a line that can't stand there
+-- ---- a misplaced line
 
 outside_stop : LineLaw → (lines : List (List ℕ)) (line : List ℕ) (rest all : List (List ℕ)) (parts : List Part) (place : Place) (says : LineData)
     → Stands lines parts place → all ≡ lines ++ line ∷ rest → Spells line says → step (held_of parts place) says ≡ Err misplaced.Outside → IsFirstFault all (faults.Outside (length lines + 1))

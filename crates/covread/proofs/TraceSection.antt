@@ -1,4 +1,4 @@
--- What an open section gives with one line more, and what becomes of it at its end.
+-- What an open section gives with one more line, and what becomes of it at its end.
 use Rattle.std.proofs.Common.{◌≡◌, ℕ, zero, suc, ◌+◌, ◌<◌, ◌≤◌, ◌^◌, nat_lt, Bool, true, false, cond, ◌==◌, ◌&&◌, not, List, [], ◌∷◌, ◌++◌, length, get_or, map, Option, None, Some, refl, sym, ap, subst, ◌∙◌, append_assoc, arith}
 use Rattle.std.specs.Prelude.{filter, count_by, is_none, option_map}
 use Rattle.std.specs.List.{flat_map, list_any}
@@ -27,7 +27,7 @@ use Rattle.covread.specs.declared.trace.tally.Stated.{Stated}
 use Rattle.covread.specs.TraceTally.{is_total, branch_cmp, stated_record, HasTotals, AreFew}
 use Rattle.covread.proofs.TraceDistinct.{distinct_push, none_if}
 
--- ---- one record more
+-- ---- one more record
 
 pub stored_push : (inside : List LineData) (r : LineData) → stored (inside ++ r ∷ []) ≡ stored inside ++ item_said r
 stored_push inside r = flat_map-append item_said inside (r ∷ []) ∙ ap (λ (x : List ItemData). stored inside ++ x) (append-nil (item_said r))
@@ -46,7 +46,7 @@ marks_push at (says ∷ inside) r =
     (marks_at ((at + length (item_said says)) + length (stored inside)) (at + length (item_said says ++ stored inside)) (r ∷ [])
     (let k = length-append (item_said says) (stored inside) in omega (arith, k)))
 
--- the counts with those of one record more
+-- the counts with those of one more record
 pub marks_more : (inside : List LineData) (r : LineData) (n : ℕ) (all new : List Mark) → n ≡ length (stored inside) → all ≡ marks_from 0 inside → new ≡ all ++ marks_from n (r ∷ []) → new ≡ marks_from 0 (inside ++ r ∷ [])
 marks_more inside r n all new e f g =
     g ∙ ap (λ (x : List Mark). x ++ marks_from n (r ∷ [])) f ∙ ap (λ (x : List Mark). marks_from 0 inside ++ x) (marks_at n (0 + length (stored inside)) (r ∷ []) (omega (arith, e))) ∙ sym (marks_push 0 inside r)
@@ -60,14 +60,14 @@ totals_push inside r = filter-append is_total inside (r ∷ [])
 pub totals_same : (inside totals : List LineData) (r : LineData) → is_total r ≡ false → totals ≡ filter is_total inside → totals ≡ filter is_total (inside ++ r ∷ [])
 totals_same inside totals r isnt e = e ∙ sym (totals_push inside r ∙ ap (λ (b : Bool). filter is_total inside ++ cond b (r ∷ []) []) isnt ∙ append-nil (filter is_total inside))
 
--- the items with those of one record more
+-- the items with those of one more record
 pub items_more : (inside : List LineData) (r : LineData) (old new : List ItemData) (item : ItemData) → item_said r ≡ item ∷ [] → old ≡ stored inside → new ≡ old ++ item ∷ [] → new ≡ stored (inside ++ r ∷ [])
 items_more inside r old new item e f g = g ∙ ap (λ (x : List ItemData). x ++ item ∷ []) f ∙ ap (λ (x : List ItemData). stored inside ++ x) (sym e) ∙ sym (stored_push inside r)
 
 pub items_same : (inside : List LineData) (r : LineData) (items : List ItemData) → item_said r ≡ [] → items ≡ stored inside → items ≡ stored (inside ++ r ∷ [])
 items_same inside r items none e = e ∙ sym (stored_push inside r ∙ ap (λ (x : List ItemData). stored inside ++ x) none ∙ append-nil (stored inside))
 
--- the points of a record that speaks of none
+-- the points of a record that counts none
 pub hits_same : {P : Type 0} (points : ItemData → List P) (inside : List LineData) (r : LineData) → hits_said points (item_said r) ≡ [] → hits_said points (stored inside) ≡ hits_said points (stored (inside ++ r ∷ []))
 hits_same points inside r none =
     sym (ap (hits_said points) (stored_push inside r) ∙ flat_map-append (hits_of_item points) (stored inside) (item_said r) ∙ ap (λ xs. hits_said points (stored inside) ++ xs) none ∙ append-nil (hits_said points (stored inside)))
@@ -81,7 +81,7 @@ few_stored (Branch line block branch taken ∷ inside) = let k = few_stored insi
 few_stored (Line line count checksum ∷ inside) = let k = few_stored inside in omega (arith, k)
 few_stored (says ∷ inside) = let k = few_stored inside in omega (arith, k)
 
--- an item speaks of at most one line, and of at most one branch
+-- an item counts at most one line, and at most one branch
 abbrev pub SpeaksOnce : {P : Type 0} → (ItemData → List P) → Type 0
 SpeaksOnce points = (item : ItemData) → length (points item) ≤ 1
 
@@ -108,7 +108,7 @@ branch_once (BranchItem line block branch taken) = omega arith
 
 -- ---- the section's end
 
--- what an item's record gives where its function has this start line
+-- what an item's record gives if its function has this start line
 abbrev finished : (List ℕ → Option ℕ) → LineData → List ItemData
 finished starts (FuncCount count name) = counted name count (starts name)
 finished starts says = item_said says
@@ -222,7 +222,7 @@ items_are inside items places e f =
     ap (λ (x : List ℕ). left 0 x items) e ∙ ap (left 0 (unstarted_in starts (marks_from 0 inside))) (f ∙ filled_from starts [] inside) ∙ left_from starts 0 inside
     ∙ flat_same (finished starts) (items_said inside) (finished_is inside) inside
 
--- where each count has a start line
+-- if each count has a start line
 pub items_stay : (items : List ItemData) (places : List ℕ) → length places ≡ 0 → left 0 places items ≡ items
 items_stay items [] e = left_nil 0 items
 items_stay items (p ∷ ps) e = absurd (omega (arith, e))
@@ -244,7 +244,7 @@ unstarted_count inside at (says ∷ rest) =
     let b = sum_by-cons (λ (x : LineData). cond (is_unstarted inside x) 1 0) says rest in
     omega (arith, b, unstarted_count inside (at + length (item_said says)) rest)
 
--- so many counts have none
+-- the number of counts without a start line
 pub odd_counts : (inside : List LineData) (places : List ℕ) → places ≡ unstarted_in (λ name. start_in name inside) (marks_from 0 inside) → length places ≡ count_by (is_unstarted inside) inside
 odd_counts inside places e = ap length e ∙ unstarted_count inside 0 inside
 
@@ -286,7 +286,7 @@ names_from inside at (Line line count checksum ∷ rest) = names_from inside (at
     by false = refl
 names_from inside at (says ∷ rest) = names_from inside (at + 0) rest
 
--- so many functions are hit
+-- the number of functions that are hit
 pub hit_names : (inside : List LineData) (n : ℕ) → n ≡ distinct bytes_eq (names_in (λ name. start_in name inside) (marks_from 0 inside)) → n ≡ distinct bytes_eq (func_points (filter is_hit (items_of inside)))
 hit_names inside n e = e ∙ ap (distinct bytes_eq) (names_from inside 0 inside)
 
@@ -294,7 +294,7 @@ hits_none : {P : Type 0} (points : ItemData → List P) → ((name : List ℕ) (
     → hits_said points (FuncItem name line count ∷ items) ≡ hits_said points items
 hits_none {P} points none name line count items = ap (λ (ps : List P). map (λ p. record { point = p; is_hit = is_hit (FuncItem name line count) }) ps ++ hits_said points items) (none name line count)
 
--- what points the items had before the section's end, they have behind it
+-- the items have the same points before and after the section's end
 same_hits : {P : Type 0} (points : ItemData → List P) → ((name : List ℕ) (line count : ℕ) → points (FuncItem name line count) ≡ []) → (inside rest : List LineData) → hits_said points (stored rest) ≡ hits_said points (flat_map (items_said inside) rest)
 same_hits points none inside [] = refl
 same_hits {P} points none inside (FuncCount count name ∷ rest) =
@@ -323,7 +323,7 @@ places_from at (says ∷ inside) n le = places_from (at + length (item_said says
 pub have_places : (inside : List LineData) (items : List ItemData) (marks : List Mark) → items ≡ stored inside → marks ≡ marks_from 0 inside → HavePlaces (length items) marks
 have_places inside items marks e f = subst (HavePlaces (length items)) (sym f) (places_from 0 inside (length items) (let k = ap length e in omega (arith, k)))
 
--- ---- one count more
+-- ---- one more count
 
 names_push : (starts : List ℕ → Option ℕ) (ms : List Mark) (m : Mark) → names_in starts (ms ++ m ∷ []) ≡ names_in starts ms ++ named m.name m.is_hit (starts m.name)
 names_push starts ms m =

@@ -1,4 +1,4 @@
--- Where a reader stands after some lines, what the next line makes of it, and why it stops.
+-- Where a reader is after some lines, what the next line makes of it, and why it stops.
 use Rattle.std.proofs.Common.{◌≡◌, ℕ, ◌+◌, List, [], ◌∷◌, ◌++◌, length, refl, sym, ap, subst, ◌∙◌, append_assoc}
 use Rattle.std.specs.Prelude.{codes}
 use Rattle.std.specs.List.{flat_map, sum_by, AllByRecursion}
@@ -47,7 +47,7 @@ AllSpell-length [] (s ∷ a) h = absurd h
 AllSpell-length (l ∷ ls) [] h = absurd h
 AllSpell-length (l ∷ ls) (s ∷ a) h = let k = AllSpell-length ls a h.1 in cc
 
--- ---- where a reader stands
+-- ---- where a reader is
 
 -- the records of the open section so far
 abbrev pub begun : Place → List LineData
@@ -58,7 +58,7 @@ abbrev pub IsLawfulPlace : Place → Type 0
 IsLawfulPlace Between = Unit {0}
 IsLawfulPlace (Within path inside) = AllByRecursion IsInside inside
 
--- the lines so far are whole parts, and the beginning of a section where one is open
+-- the lines so far are whole parts, and the beginning of a section if one is open
 pub record Stands (lines : List (List ℕ)) (parts : List Part) (place : Place) : Type 0 where
   pub lawful : AllByRecursion IsLawfulPart parts
   pub inside : IsLawfulPlace place
@@ -67,7 +67,7 @@ pub record Stands (lines : List (List ℕ)) (parts : List Part) (place : Place) 
 pub stands_at_first : Stands [] [] Between
 stands_at_first = record { lawful = tt; inside = tt; spelled = tt }
 
--- one part more
+-- one more part
 flat_push : (parts : List Part) (part : Part) → flat_map records_of (parts ++ part ∷ []) ≡ flat_map records_of parts ++ records_of part
 flat_push parts part = flat_map-append records_of parts (part ∷ []) ∙ ap (λ (x : List LineData). flat_map records_of parts ++ x) (append-nil (records_of part))
 
@@ -221,7 +221,7 @@ in_section (Test name) path inside more n a = a
 in_section (Path other) path inside more n a = a
 in_section says path inside more n a = n
 
--- a line that needs a section, where none is open
+-- a line that needs a section, if none is open
 pub stop_outside : LineLaw → (lines : List (List ℕ)) (parts : List Part) (line : List ℕ) (after all : List (List ℕ)) (says : LineData)
     → Stands lines parts Between → all ≡ lines ++ line ∷ after → Spells line says → NeedsSection says → IsFirstFault all (faults.Outside (length lines + 1))
 stop_outside law lines parts line after all says s e spells needs = (
@@ -233,7 +233,7 @@ stop_outside law lines parts line after all says s e spells needs = (
   needs,
 )
 
--- a line that stands outside of sections alone, in an open one
+-- a line that belongs outside of sections, in an open one
 pub stop_inside : LineLaw → (lines : List (List ℕ)) (parts : List Part) (path : List ℕ) (inside : List LineData) (line : List ℕ) (after all : List (List ℕ)) (says : LineData)
     → Stands lines parts (Within path inside) → all ≡ lines ++ line ∷ after → Spells line says → NeedsOutside says → IsFirstFault all (faults.Inside (length lines + 1))
 stop_inside law lines parts path inside line after all says s e spells needs = (

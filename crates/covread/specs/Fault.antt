@@ -1,4 +1,4 @@
--- The numbers of a reader's faults, the same from the first day on, and which of them is no fault of the text.
+-- The numbers of a reader's faults, which stay the same in all versions, and which of the faults isn't the text's.
 use Rattle.std.specs.Prelude.{ℕ, Bool, true, false}
 use Rattle.covread.specs.declared.fault.ReadFault.{ReadFault}
 use Rattle.covread.specs.declared.fault.ReadFault.TheVariants.{TooLong, Line, Outside, Inside, OpenEnd, BadMark, NoSource, Percent, Instances, Misplaced, LostFunction, BadTest, Memory}
@@ -18,7 +18,7 @@ fault_number LostFunction = 11
 fault_number BadTest = 12
 fault_number Memory = 13
 
--- memory ran out, which says nothing of the text
+-- memory ran out, which is no fault of the text
 abbrev pub is_memory : ReadFault → Bool
 is_memory TooLong = false
 is_memory (Line at fault) = false

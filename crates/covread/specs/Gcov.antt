@@ -60,7 +60,7 @@ abbrev pub EndsWord : List ℕ → Type 0
 EndsWord [] = Unit {0}
 EndsWord (b ∷ bs) = b ≡ space
 
--- no digit comes
+-- the text doesn't begin with a digit
 abbrev pub EndsDigits : List ℕ → Type 0
 EndsDigits [] = Unit {0}
 EndsDigits (b ∷ bs) = is_digit b ≡ false
@@ -70,7 +70,7 @@ pub record IsName (name : List ℕ) : Type 0 where
   pub some : 0 < length name
   pub no_return : (front : List ℕ) → name ≢ front ++ carriage_return ∷ []
 
--- the words stand nowhere in the text
+-- the text doesn't contain the words
 abbrev pub Lacks : List ℕ → List ℕ → Type 0
 Lacks words text = (before after : List ℕ) → text ≢ before ++ (words ++ after)
 
@@ -103,8 +103,8 @@ pub record IsShapeOf (line : List ℕ) (shape : Shape) : Type 0 where
 
 -- ---- what a shape says
 
--- what a line says: the path of a source file, the count of a source line (none where it has no code), of a function,
--- or of a branch (none where it was never executed), or the number of a block
+-- what a line says: the path of a source file, the count of a source line (none if it has no code), of a function, or
+-- of a branch (none if it was never executed), or the number of a block
 pub data GcovLine : Type 0 where
   Path : (path : List ℕ) → GcovLine
   SourceLine : (line : ℕ) (count : Option ℕ) → GcovLine
@@ -116,7 +116,7 @@ pub data GcovLine : Type 0 where
 abbrev pub Says : Type 0
 Says = Result GcovLine OwnFault
 
--- the number that digits say, where it is below 2^64
+-- the number that digits say, if it is below 2^64
 abbrev pub fit : List ℕ → Result ℕ OwnFault
 fit digits = if nat_lt (digits_value digits) (2 ^ 64) then Ok (digits_value digits) else Err own.NumberTooLarge
 
@@ -130,7 +130,7 @@ with_number digits says = if_ok (fit digits) says
 abbrev pub are_digits : List ℕ → Bool
 are_digits text = nat_lt 0 (length text) && list_all is_digit text
 
--- without this byte at the end, where it is there
+-- the text without this byte at its end, if it ends in it
 abbrev pub without_last : ℕ → List ℕ → List ℕ
 without_last c [] = []
 without_last c (b ∷ []) = if b == c then [] else b ∷ []
@@ -152,8 +152,8 @@ star = 42
 abbrev pub bare_says : List ℕ → Says
 bare_says line = with_number line (λ l. Ok (SourceLine l None))
 
--- the mark of a source line: `-` without code; `#####` and `=====` not executed; a count, with a `*` where the line has
--- a block that wasn't executed
+-- the mark of a source line: `-` without code; `#####` and `=====` not executed; a count, with a `*` if the line has a
+-- block that wasn't executed
 abbrev pub source_says : List ℕ → List ℕ → Says
 source_says mark line =
     if bytes_eq mark (codes "-") then bare_says line
@@ -161,7 +161,7 @@ source_says mark line =
     else (if are_digits (without_last star mark) then with_number line (λ l. with_number (without_last star mark) (λ n. Ok (SourceLine l (Some n))))
     else Err own.BadMark))
 
--- a line with the number 0 tells of a source file as a whole; only the file's path matters
+-- a line with the number 0 is about the source file as a whole; only the file's path matters
 abbrev pub path_says : Option (List ℕ) → Says
 path_says None = Ok Nothing
 path_says (Some path) = Ok (Path path)

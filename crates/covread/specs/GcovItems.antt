@@ -1,4 +1,4 @@
--- What the lines of gcov's annotated source give, each at its place: `above` are the lines above it.
+-- What the lines of gcov's annotated source give, each at its place; `above` are the lines above it.
 use Rattle.std.specs.Prelude.{ℕ, Bool, true, false, ◌||◌, ◌&&◌, is_some, List, [], ◌∷◌, ◌++◌, Option, Some, None, map, if◌then◌else◌}
 use Rattle.std.specs.Option.{option_or}
 use Rattle.std.specs.List.{flat_map, list_any}
@@ -29,17 +29,17 @@ abbrev pub func_said : GcovLine → List (List ℕ × ℕ)
 func_said (FuncCount name count) = (name, count) ∷ []
 func_said says = []
 
--- the lines behind the last one that is so; all of them where none is
+-- the lines after the last one of which this holds; all of them if it holds of none
 abbrev pub behind_last : (GcovLine → Bool) → List GcovLine → List GcovLine
 behind_last so [] = []
 behind_last so (says ∷ more) = if list_any so more then behind_last so more else (if so says then more else says ∷ more)
 
--- what the last of the lines that gives something gives
+-- the number of the last line that gives one
 abbrev pub last_given : (GcovLine → Option ℕ) → List GcovLine → Option ℕ
 last_given gives [] = None
 last_given gives (says ∷ more) = option_or (last_given gives more) (gives says)
 
--- the function lines behind the last source line and the last path: they wait for a source line
+-- the function lines after the last source line and the last path: they wait for a source line
 abbrev pub waiting : List GcovLine → List (List ℕ × ℕ)
 waiting above = flat_map func_said (behind_last (λ says. is_source says || is_path says) above)
 
@@ -51,7 +51,7 @@ abbrev pub or_zero : Option ℕ → ℕ
 or_zero None = 0
 or_zero (Some n) = n
 
--- the number of the nearest block line between that source line and here, 0 where there is none
+-- the number of the nearest block line between that source line and here, 0 if there is none
 abbrev pub block_above : List GcovLine → ℕ
 block_above above = or_zero (last_given block_number (behind_last is_source above))
 
@@ -78,7 +78,7 @@ abbrev pub items_until : List GcovLine → List GcovLine → List ItemData
 items_until above [] = []
 items_until above (says ∷ more) = if is_path says then [] else items_given above says ++ items_until (above ++ says ∷ []) more
 
--- the section that begins at a line, of which this test tells: each path begins one
+-- the section that begins at a line, with this test's name: each path begins one
 abbrev pub section_at : List ℕ → List ItemData → GcovLine → List SectData
 section_at test items (Path path) = record { test = test; file = path; items = items } ∷ []
 section_at test items says = []
@@ -91,11 +91,11 @@ sects_from test above (says ∷ more) =
 
 -- ---- what is wrong with a line's place
 
--- a path stands above
+-- there is a path above
 abbrev pub has_path : List GcovLine → Bool
 has_path above = list_any is_path above
 
--- a path stands above, and a source line between the last path and here
+-- there is a path above, and a source line between the last path and here
 abbrev pub has_line : List GcovLine → Bool
 has_line above = has_path above && list_any is_source (behind_last is_path above)
 
@@ -103,7 +103,7 @@ abbrev pub is_empty : {X : Type 0} → List X → Bool
 is_empty [] = true
 is_empty (x ∷ xs) = false
 
--- the fault of the line's place: with the line's number, but for functions that wait and are lost at a path
+-- the fault of the line's place, with the line's number; functions that wait are lost at a path
 abbrev pub place_fault : ℕ → List GcovLine → GcovLine → Option ReadFault
 place_fault at above (Path []) = Some (faults.NoSource at)
 place_fault at above (Path (b ∷ bs)) = if is_empty (waiting above) then None else Some faults.LostFunction

@@ -13,7 +13,7 @@ use Rattle.covread.specs.Gcov.{GcovLine, LineSays}
 use Rattle.covread.specs.Outcome.{most_bytes}
 use Rattle.covread.specs.GcovItems.{begins_keeping, place_fault, waiting, sects_from, is_empty}
 
--- the lines below the ones above say this one by one, and none of them is at a wrong place
+-- these lines, below the ones above, say this one by one, and none of them is misplaced
 abbrev pub AllSay : List GcovLine → List (List ℕ) → List GcovLine → Type 0
 AllSay above [] [] = Unit {0}
 AllSay above [] (says ∷ more) = ⊥
@@ -76,7 +76,7 @@ IsOutcome test text (Err fault) =
 abbrev pub Answers : List ℕ → List ℕ → Result SubmissionData ReadFault → Type 0
 Answers test text answer = ((length text ≤ most_bytes) × IsGoodTest test × (answer ≡ Err faults.Memory)) ⊎ IsOutcome test text answer
 
--- keeping began: of some first lines none is faulty, and one begins it
+-- keeping began: some first lines have no fault, and one of them begins it
 pub record HasBegun (lines : List (List ℕ)) : Type 0 where
   pub before : List (List ℕ)
   pub after : List (List ℕ)
@@ -85,6 +85,6 @@ pub record HasBegun (lines : List (List ℕ)) : Type 0 where
   pub said : AllSay [] before above
   pub begun : list_any begins_keeping above ≡ true
 
--- memory ran out only where keeping began
+-- memory ran out only after keeping began
 abbrev pub GrowsLate : List ℕ → Result SubmissionData ReadFault → Type 0
 GrowsLate text answer = answer ≡ Err faults.Memory → HasBegun (lines_of text)

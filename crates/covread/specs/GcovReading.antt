@@ -1,5 +1,4 @@
--- How the shape of a line is found: from the line's front on. The laws above it say that this is the first shape that
--- fits.
+-- How the shape of a line is found: from the line's front on. The laws say that this is the first shape that fits.
 use Rattle.std.specs.Prelude.{ℕ, ◌+◌, ◌-◌, ◌^◌, Bool, true, false, not, ◌&&◌, ◌==◌, nat_lt, if◌then◌else◌, List, [], ◌∷◌, length, take, Option, Some, None, codes, option_map}
 use Rattle.std.specs.Option.{option_or}
 use Rattle.covline.specs.Spells.{digits_value}
@@ -24,7 +23,7 @@ abbrev pub rest_of : (ℕ → Bool) → List ℕ → List ℕ
 rest_of kind [] = []
 rest_of kind (b ∷ bs) = if kind b then rest_of kind bs else b ∷ bs
 
--- the same where there is at least one such byte
+-- the same if there is at least one such byte
 abbrev pub some_front : (ℕ → Bool) → List ℕ → Option (List ℕ × List ℕ)
 some_front kind [] = None
 some_front kind (b ∷ bs) = if kind b then Some (front_of kind (b ∷ bs), rest_of kind (b ∷ bs)) else None
@@ -37,7 +36,7 @@ if_some (Some a) next = next a
 abbrev pub behind_spaces : List ℕ → Option (List ℕ)
 behind_spaces text = option_map (λ parts. parts.1) (some_front is_space text)
 
--- the number, where it is below 2^64
+-- the number, if it is below 2^64
 abbrev pub fitting : ℕ → Option ℕ
 fitting n = if nat_lt n (2 ^ 64) then Some n else None
 
@@ -70,7 +69,7 @@ abbrev pub function_shape : List ℕ → Option Shape
 function_shape text =
     if_some (last_called text) (λ behind. if_some (some_front is_digit behind) (λ count. function_of (before_called text behind) count.0 count.1))
 
--- a branch's number, and what follows the spaces behind it
+-- a branch's number, and what follows the spaces after it
 abbrev pub branch_front : List ℕ → Option (List ℕ × List ℕ)
 branch_front text =
     if_some (behind_spaces text) (λ a. if_some (some_front is_digit a) (λ digits. if_some (behind_spaces digits.1) (λ rest. Some (digits.0, rest))))

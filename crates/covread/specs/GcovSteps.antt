@@ -1,5 +1,5 @@
--- What the reader of gcov's text holds between two lines, and what a line makes of it. The contracts of its private
--- steps speak of it; what a text is read as is said in GcovItems and GcovOutcome.
+-- What the reader of gcov's text holds between two lines, and what a line makes of it: for the contracts of its private
+-- steps. GcovItems and GcovOutcome say what a text is read as.
 use Rattle.std.specs.Prelude.{Bool, true, false, ◌||◌, is_some, is_ok, ◌⊎◌, ◌≡◌, ℕ, ◌+◌, List, [], ◌∷◌, ◌++◌, Option, Some, None, Result, Ok, Err, map, option_map, if◌then◌else◌}
 use Rattle.covline.specs.Row.{ItemData, BranchItem, SectData, SubmissionData}
 use Rattle.covline.specs.Lines.{lines_of}
@@ -38,7 +38,7 @@ held_data r = record { waiting = map func_data r.waiting.items; section = option
 abbrev pub empty : HeldData
 empty = record { waiting = []; section = None; sects = [] }
 
--- the section that ends, where one is open
+-- the section that ends, if one is open
 abbrev pub closed : List ℕ → Option SectionData → List SectData
 closed test None = []
 closed test (Some s) = record { test = test; file = s.file; items = s.items } ∷ []
@@ -103,7 +103,7 @@ abbrev pub line_grows : HeldData → Says → Bool
 line_grows held (Err why) = false
 line_grows held (Ok says) = grows held says
 
--- what the code's step gives is that, unless memory ran out, which comes only where a step goes on and lists grow
+-- the code's step returns this, unless memory ran out, which happens only if the step goes on and lists grow
 abbrev pub StepsTo : {T : Type 0} → Result T ReadFault → HeldData → Bool → Stepped → Type 0
 StepsTo (Ok done) after growing stepped = stepped ≡ Ok after
 StepsTo (Err fault) after growing stepped = ((fault ≡ faults.Memory) × (is_ok stepped ≡ true) × (growing ≡ true)) ⊎ (stepped ≡ Err fault)
@@ -121,13 +121,13 @@ abbrev pub ReadsTo : {A : Type 0} → List ℕ → List ℕ → Result (Reader A
 ReadsTo test text (Ok reader) = (run test 0 empty (lines_of text) ≡ Ok (held_data reader)) × (reader.test.now ≡ test)
 ReadsTo test text (Err fault) = ((fault ≡ faults.Memory) × HasBegun (lines_of text)) ⊎ (run test 0 empty (lines_of text) ≡ Err fault)
 
--- behind the last line
+-- after the last line
 abbrev pub submission_held : List ℕ → HeldData → SubmissionData
 submission_held test held = record { sects = held.sects ++ closed test held.section; odd = 0 }
 
 abbrev pub ends : List ℕ → HeldData → Result SubmissionData ReadFault
 ends test held = if is_empty held.waiting then Ok (submission_held test held) else Err faults.LostFunction
 
--- what the end gives is that, unless memory ran out, which comes only where a section is open
+-- the end returns this, unless memory ran out, which happens only if a section is open
 abbrev pub EndsTo : Result SubmissionData ReadFault → Bool → Result SubmissionData ReadFault → Type 0
 EndsTo answer is_open ended = ((answer ≡ Err faults.Memory) × (is_open ≡ true)) ⊎ (answer ≡ ended)

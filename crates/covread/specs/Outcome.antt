@@ -7,7 +7,7 @@ use Rattle.covread.specs.declared.fault.ReadFault.{ReadFault}
 use Rattle.covread.specs.declared.fault.ReadFault.TheVariants as faults
 use Rattle.covread.specs.Reads.{Reads}
 
--- how many bytes a text has at the most: 64 MiB
+-- the most bytes that a text can have: 64 MiB
 abbrev pub most_bytes : ℕ
 most_bytes = 67108864
 
@@ -27,7 +27,7 @@ pub record IsFirstFaulty (lines : List (List ℕ)) (at : ℕ) (line : List ℕ) 
   pub goes_on : MayGoOn before
   pub ends_here : ¬ MayGoOn (before ++ line ∷ [])
 
--- start lines, counts, totals and ends stand in sections alone; test names and paths stand outside of them alone
+-- start lines, counts, totals and ends occur in sections alone; test names and paths occur outside of them alone
 abbrev pub NeedsSection : LineData → Type 0
 NeedsSection (Test name) = ⊥
 NeedsSection (Path path) = ⊥
@@ -67,6 +67,6 @@ HasBegun lines =
     (before : List (List ℕ)) × (line : List ℕ) × (after : List (List ℕ)) × (path : List ℕ)
     × (lines ≡ before ++ line ∷ after) × Spells line (Path path) × MayGoOn (before ++ line ∷ [])
 
--- memory ran out only where a section began: before the first path nothing is kept
+-- memory ran out only after a section began: before the first path nothing is kept
 abbrev pub GrowsLate : List ℕ → Result SubmissionData ReadFault → Type 0
 GrowsLate text answer = answer ≡ Err faults.Memory → HasBegun (lines_of text)

@@ -21,13 +21,13 @@ pub data Part : Type 0 where
   Outside : (says : LineData) → Part
   Section : (path : List ℕ) (inside : List LineData) → Part
 
--- outside of sections stand test names and skipped lines
+-- outside of sections there are test names and skipped lines
 abbrev pub IsOutside : LineData → Type 0
 IsOutside (Test name) = Unit {0}
 IsOutside Skip = Unit {0}
 IsOutside says = ⊥
 
--- inside of a section stand start lines, counts, totals and skipped lines: all but test names, paths and ends
+-- inside of a section there are start lines, counts, totals and skipped lines: all but test names, paths and ends
 abbrev pub IsInside : LineData → Type 0
 IsInside (Test name) = ⊥
 IsInside (Path path) = ⊥
@@ -38,7 +38,7 @@ abbrev pub IsLawfulPart : Part → Type 0
 IsLawfulPart (Outside says) = IsOutside says
 IsLawfulPart (Section path inside) = AllByRecursion IsInside inside
 
--- the records of a part: those of a section stand between its path and its end
+-- the records of a part; a section has its path, its inner records and its end
 abbrev pub records_of : Part → List LineData
 records_of (Outside says) = says ∷ []
 records_of (Section path inside) = Path path ∷ (inside ++ End ∷ [])
@@ -48,11 +48,11 @@ abbrev pub start_said : List ℕ → LineData → List ℕ
 start_said name (FuncStart line other) = if bytes_eq other name then line ∷ [] else []
 start_said name says = []
 
--- the least start line of a function in a section, before or behind the place that asks; none where no record gives one
+-- the least start line of a function in a section, above or below its count; none if no record gives one
 abbrev pub start_in : List ℕ → List LineData → Option ℕ
 start_in name inside = least (flat_map (start_said name) inside)
 
--- the item of a function's count, where the function has a start line
+-- the item of a function's count, if the function has a start line
 abbrev pub counted : List ℕ → ℕ → Option ℕ → List ItemData
 counted name count None = []
 counted name count (Some line) = FuncItem name line count ∷ []
@@ -69,7 +69,7 @@ items_said inside says = []
 abbrev pub items_of : List LineData → List ItemData
 items_of inside = flat_map (items_said inside) inside
 
--- how many members a list has, those that are the same counted once
+-- how many different members a list has
 abbrev pub distinct : {X : Type 0} → (X → X → Bool) → List X → ℕ
 distinct same [] = 0
 distinct same (x ∷ xs) = if list_any (same x) xs then distinct same xs else distinct same xs + 1
@@ -97,7 +97,7 @@ abbrev pub odd_in : Part → ℕ
 odd_in (Outside says) = 0
 odd_in (Section path inside) = count_by (is_odd inside) inside
 
--- the test's name behind a line outside of sections
+-- the test's name after a line outside of sections
 abbrev pub test_after : List ℕ → LineData → List ℕ
 test_after test (Test name) = name
 test_after test says = test

@@ -17,7 +17,7 @@ use Rattle.covread.specs.Reads.{own_total, items_of}
 abbrev pub function_at : BTreeMap (Bor (List ℕ)) Function → List ℕ → Option Function
 function_at functions name = get_by (λ k. slice_cmp nat_cmp name k.now) functions
 
--- a function with this start line, where those of these names are hit
+-- a function with this start line, which is hit if its name is one of these
 abbrev pub known : List (List ℕ) → List ℕ → ℕ → Function
 known names name line = record { start = line; is_hit = list_any (bytes_eq name) names }
 
@@ -25,7 +25,7 @@ known names name line = record { start = line; is_hit = list_any (bytes_eq name)
 pub record AreFunctions (functions : BTreeMap (Bor (List ℕ)) Function) (starts : List ℕ → Option ℕ) (names : List (List ℕ)) : Type 0 where
   pub at : (name : List ℕ) → function_at functions name ≡ option_map (known names name) (starts name)
 
--- what a count of a function finds, where those of these names were hit before
+-- what a count of a function finds, if the functions of these names were hit before
 abbrev pub found_by : List (List ℕ) → List ℕ → Bool → ℕ → Found
 found_by names name is_hit line = record { start = line; is_first_hit = is_hit && not (list_any (bytes_eq name) names) }
 

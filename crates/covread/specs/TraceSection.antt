@@ -44,7 +44,7 @@ pub record Mark : Type 0 where
 abbrev pub mark : Waiting → Mark
 mark w = record { at = w.at; name = w.name.now; is_hit = w.is_hit }
 
--- the counts of functions, where the first item has this place
+-- the counts of functions, if the first item has this place
 abbrev pub marks_from : ℕ → List LineData → List Mark
 marks_from at [] = []
 marks_from at (FuncCount count name ∷ rest) = record { at = at; name = name; is_hit = nat_lt 0 count } ∷ marks_from (at + 1) rest

@@ -17,7 +17,7 @@ is_unstarted inside says = false
 abbrev pub names_in : (List ℕ → Option ℕ) → List Mark → List (List ℕ)
 names_in starts marks = flat_map (λ m. named m.name m.is_hit (starts m.name)) marks
 
--- the place, where the function has no start line
+-- the place, if the function has no start line
 abbrev pub alone : ℕ → Option ℕ → List ℕ
 alone at None = at ∷ []
 alone at (Some line) = []

@@ -1,5 +1,5 @@
--- What the reader of a tracefile holds between two lines, and what a line makes of it. The contracts of its private
--- steps speak of it; what a text is read as is said in Reads and Outcome.
+-- What the reader of a tracefile holds between two lines, and what a line makes of it: for the contracts of its private
+-- steps. Reads and Outcome say what a text is read as.
 use Rattle.std.specs.Prelude.{◌≡◌, ℕ, ◌+◌, ◌<◌, ◌^◌, List, [], ◌∷◌, ◌++◌, length, Option, Some, None, Result, Ok, Err, count_by, option_map}
 use Rattle.covline.specs.Row.{SectData, SubmissionData}
 use Rattle.covline.specs.Spells.{LineData, Test, Path, End, Skip, Spells, HasFault}
@@ -25,7 +25,7 @@ pub record HeldData : Type 0 where
   pub sects : List SectData
   pub odd : ℕ
 
--- what a reader holds, where its open section has these records so far
+-- what a reader holds, if its open section has these records so far
 abbrev pub section_data : {A : Type 0} → List LineData → OpenSection A → SectionData
 section_data inside s = record { file = s.file; lines = inside }
 
@@ -36,7 +36,7 @@ abbrev pub IsOpen : {A : Type 0} → Option (OpenSection A) → List LineData �
 IsOpen None inside = inside ≡ []
 IsOpen (Some s) inside = IsGathered s.gathered inside
 
--- the reader has room for one line more
+-- the reader has room for one more line
 pub record HasRoom {A : Type 0} (r : Reader A) (inside : List LineData) : Type 0 where
   pub is_open : IsOpen r.section inside
   pub few : r.odd + length inside + 1 < 2 ^ 64
@@ -45,7 +45,7 @@ pub record HasRoom {A : Type 0} (r : Reader A) (inside : List LineData) : Type 0
 abbrev pub empty : HeldData
 empty = record { test = []; section = None; sects = []; odd = 0 }
 
--- an open section with one line more
+-- an open section with one more line
 abbrev pub kept : SectionData → HeldData → LineData → HeldData
 kept s held says = record { test = held.test; section = Some (record { file = s.file; lines = s.lines ++ says ∷ [] }); sects = held.sects; odd = held.odd }
 
@@ -58,7 +58,7 @@ closed s held = record {
   odd = held.odd + count_by (is_odd s.lines) s.lines;
 }
 
--- one line, where no section is open and in an open one
+-- one line, between sections and in an open one
 abbrev pub step_between : HeldData → LineData → Result HeldData Misplaced
 step_between held (Test name) = Ok (record { test = name; section = None; sects = held.sects; odd = held.odd })
 step_between held (Path path) = Ok (record { test = held.test; section = Some (record { file = path; lines = [] }); sects = held.sects; odd = held.odd })
@@ -111,12 +111,12 @@ misplaced_at misplaced.Outside at = faults.Outside at
 misplaced_at misplaced.Inside at = faults.Inside at
 misplaced_at misplaced.Memory at = faults.Memory
 
--- what a reader takes of a line, or why it doesn't
+-- what a reader makes of a line, or why it doesn't take it
 abbrev pub TakesLine : {A T : Type 0} → Result T ReadFault → HeldData → Reader A → List ℕ → ℕ → Type 0
 TakesLine (Ok done) before after line at = (says : LineData) × Spells line says × (inside : List LineData) × (step before says ≡ Ok (held_data after inside)) × IsOpen after.section inside
 TakesLine (Err fault) before after line at = StopsAt fault before line at
 
--- what is held behind the last line makes a submission, unless a section is open
+-- what is held after the last line makes a submission, unless a section is open
 abbrev pub submission_held : HeldData → SubmissionData
 submission_held held = record { sects = held.sects; odd = held.odd }
 
@@ -134,7 +134,7 @@ IsLawfulAt (Some s) held = Unit {0}
 abbrev pub EndsLawfully : HeldData → Type 0
 EndsLawfully held = IsLawfulAt held.section held
 
--- what all lines of a text lead to. What is held behind the last line doesn't hang on the records of an open section
+-- what all lines of a text lead to. What is held after the last line doesn't depend on the records of an open section
 abbrev pub ReadsTo : {A : Type 0} → List ℕ → Result (Reader A) ReadFault → Type 0
 ReadsTo text (Ok reader) = Answers text (ends (held_data reader [])) × EndsLawfully (held_data reader [])
 ReadsTo text (Err fault) = Answers text (Err fault) × GrowsLate text (Err fault)

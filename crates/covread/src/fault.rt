@@ -7,10 +7,10 @@ use covline::{LineFault, Memory};
 use std::alloc::AllocFailed;
 use thiserror::Error;
 
-/// How many bytes a text has at the most: 64 MiB.
+/// The most bytes that a text can have: 64 MiB.
 pub const MOST_BYTES: usize = 67_108_864;
 
-/// Why a text was not read. The first fault of a text is told, with the number of its line, counted from 1.
+/// Why a text isn't read: its first fault, with the number of the faulty line, counted from 1.
 #[derive(Clone, Copy, Debug, PartialEq, Eq, Error)]
 pub enum ReadFault {
     /// Fault 1: the text has more than 67,108,864 bytes. This is tested first.
@@ -43,7 +43,7 @@ pub enum ReadFault {
     /// Fault 10: a branch before the first source line of its source file.
     #[error("Misplaced at {at}")]
     Misplaced { at: u64 },
-    /// Fault 11: function lines wait for a source line where the next source file, or the text's end, comes.
+    /// Fault 11: the next source file, or the text's end, comes while function lines wait for a source line.
     #[error("LostFunction")]
     LostFunction,
     /// Fault 12: a tracefile can't hold the test's name. This is tested after the text's length.
@@ -79,7 +79,7 @@ impl ReadFault {
         }
     }
 
-    /// Whether memory ran out, which says nothing of the text.
+    /// Whether memory ran out, which is no fault of the text.
     pub fn is_memory(self) -> bool
         ensures { result ≡ is_memory self }
     {

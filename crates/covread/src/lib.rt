@@ -1,8 +1,8 @@
 //! Readers of coverage data: what a text says, as a submission, or its first fault.
 //!
 //! A text is a tracefile (geninfo(1) of LCOV 1.x, section FILES) or gcov's annotated source (gcov(1), and the GCC
-//! manual's chapter on gcov). It is read forward once. Its items are copied, so the text may be let go when the answer is
-//! there.
+//! manual's chapter on gcov). It is read forward once. Items are copied out of it, so the text can be freed once it is
+//! read.
 //!
 //! A sketch: how many items a tracefile has, and why another isn't read.
 //!

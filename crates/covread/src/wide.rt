@@ -2,7 +2,7 @@
 
 ghost use Rattle.std.specs.Prelude.{◌≡◌};
 
-/// How often a branch was taken, where it is known, as a count.
+/// How often a branch was taken, if that is known, as a count.
 #[inline]
 pub(crate) fn wide(taken: Option<u64>) -> Option<u128>
     ensures { result ≡ taken }

@@ -18,7 +18,7 @@ pub fn each_gcov_text_has_one_outcome()
     ensures one { (test text : List ℕ) (x y : Result SubmissionData Fault) → IsOutcome test text x → IsOutcome test text y → x ≡ y }
 {}
 
-/// Where the first fault comes before anything was kept, it is answered: by what `read_gcov` ensures, memory can't have
+/// If the first fault comes before anything was kept, it is the answer: by what `read_gcov` ensures, memory can't have
 /// run out before it.
 pub fn an_early_fault_is_told()
     ensures { (test text : List ℕ) (answer : Result SubmissionData Fault) (fault : Fault) → Answers test text answer → GrowsLate text answer

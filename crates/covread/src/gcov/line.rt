@@ -26,11 +26,11 @@ pub enum OwnFault {
 pub enum GcovLine<'a> {
     /// The path of a source file.
     Path(&'a [u8]),
-    /// A line of the source file, with its count where it has code.
+    /// A line of the source file, with its count if it has code.
     Source { line: u64, count: Option<u64> },
     /// A function's count; the function begins at the next source line.
     Function { name: &'a [u8], count: u64 },
-    /// How often a branch of the source line above was taken; none where its block was never executed.
+    /// How often a branch of the source line above was taken; `None` if its block was never executed.
     Branch { branch: u64, taken: Option<u64> },
     /// The number of the block that the branches below belong to.
     Block { block: u64 },
@@ -76,7 +76,7 @@ fn fit(digits: &[u8]) -> Result<u64, OwnFault>
     number(digits).ok_or(OwnFault::NumberTooLarge)
 }
 
-/// How often a branch was taken. A word of another form is told before a number that is too large.
+/// How often a branch was taken. A word of another form is reported before a number that is too large.
 fn read_branch<'a>(branch: &[u8], word: &[u8]) -> Result<GcovLine<'a>, OwnFault>
     ensures { Gives result (branch_says branch.now word.now) }
 {
@@ -92,7 +92,7 @@ fn read_branch<'a>(branch: &[u8], word: &[u8]) -> Result<GcovLine<'a>, OwnFault>
     }
 }
 
-/// A line with a mark and a number: one with the number 0 tells of a source file as a whole.
+/// Reads a line with a mark and a number. One with the number 0 is about the source file as a whole.
 fn read_numbered<'a>(mark: &[u8], line: &[u8], text: &'a [u8]) -> Result<GcovLine<'a>, OwnFault>
     ensures { Gives result (says_of (Numbered mark.now line.now text.now)) }
 {
@@ -113,7 +113,7 @@ fn read_bare<'a>(line: &[u8]) -> Result<GcovLine<'a>, OwnFault>
     Ok(GcovLine::Source { line, count: None })
 }
 
-/// A line of the source file. A mark of no known form is told before a number that is too large.
+/// A line of the source file. A mark of no known form is reported before a number that is too large.
 fn read_source<'a>(mark: &[u8], line: &[u8]) -> Result<GcovLine<'a>, OwnFault>
     ensures { Gives result (source_says mark.now line.now) }
 {

@@ -15,17 +15,18 @@ use crate::gcov::reader::Reader;
 use covline::{LineFault, Submission, good_test, lines};
 use std::alloc::Allocator;
 
-/// Reads gcov's annotated source, as the counts of this test: answers what its lines say, or the text's first fault.
+/// Reads gcov's annotated source (gcov(1)) as counts of this test. Returns the submission that its lines make, or the
+/// text's first fault.
 pub fn read_gcov<A: Allocator + Copy>(
     alloc: A,
     test: &[u8],
     text: &[u8],
 ) -> Result<Submission<A>, ReadFault>
-    // What is answered is what the text is read as, or memory ran out.
+    // The answer is what the text is read as, or memory ran out.
     ensures answers { Answers test.now text.now result }
-    // What the text is read as is the answer, unless memory ran out.
+    // No other answer is possible, unless memory ran out.
     ensures only { (outcome : Result SubmissionData Fault) → IsOutcome test.now text.now outcome → IsOrMemory result outcome }
-    // Nothing is kept before the first path or function, so memory runs out only behind one.
+    // Nothing is kept before the first path or function, so memory runs out only after one.
     ensures memory { GrowsLate text.now result }
 {
     if text.len() > MOST_BYTES {

@@ -14,7 +14,7 @@ use crate::wide::wide;
 use covline::{Bytes, Item, Items, Sect, Sects, Submission};
 use std::alloc::Allocator;
 
-/// A function whose source line didn't come yet.
+/// A function whose source line hasn't come yet.
 #[derive(Clone, Copy)]
 pub struct Function<'a> {
     /// Its name.
@@ -23,12 +23,12 @@ pub struct Function<'a> {
     pub count: u128,
 }
 
-/// Where a branch belongs to.
+/// Where a branch belongs.
 #[derive(Clone, Copy)]
 pub struct Place {
     /// The last source line.
     pub line: u64,
-    /// The last block of that line, 0 where none was told.
+    /// The last block of that line, 0 if none was named.
     pub block: u64,
 }
 
@@ -57,7 +57,7 @@ pub struct Reader<'a, A: Allocator> {
 }
 
 impl<'a, A: Allocator + Copy> Reader<'a, A> {
-    /// Before the first line.
+    /// The reader before the first line.
     pub fn new(alloc: A, test: &'a [u8]) -> Reader<'a, A>
         ensures held { held_data result ≡ empty }
         ensures test { result.test.now ≡ test.now }
@@ -91,7 +91,7 @@ impl<'a, A: Allocator + Copy> Reader<'a, A> {
         }
     }
 
-    /// A source file begins. Functions that wait don't find their line any more.
+    /// Begins a source file. Functions that still wait for their line are lost, which is a fault.
     fn begin(&mut self, alloc: A, at: u64, path: &[u8]) -> Result<(), ReadFault>
         ensures steps { StepsTo result (held_data self.new) true (step_path self.old.test.now at (held_data self.old) path.now) }
         ensures test { self.new.test.now ≡ self.old.test.now }
@@ -111,7 +111,7 @@ impl<'a, A: Allocator + Copy> Reader<'a, A> {
         Ok(())
     }
 
-    /// The open section ends.
+    /// Ends the open section, if there is one.
     fn close(&mut self, alloc: A) -> Result<(), ReadFault>
         ensures ok { OnOk result (held_data self.new ≡ record { waiting = map func_data self.old.waiting.items; section = None; sects = self.old.sects ++ closed self.old.test.now (held_data self.old).section }) }
         ensures err { OnErr result (result ≡ Err NoMemory) }
@@ -131,7 +131,7 @@ impl<'a, A: Allocator + Copy> Reader<'a, A> {
         Ok(())
     }
 
-    /// A source line: the functions that wait begin at it.
+    /// Takes a source line: the functions that wait begin at it.
     fn source(&mut self, alloc: A, at: u64, line: u64, count: Option<u64>) -> Result<(), ReadFault>
         ensures steps { StepsTo result (held_data self.new) (is_some (held_data self.old).section) (step_source at (held_data self.old).section (held_data self.old) line count) }
         ensures test { self.new.test.now ≡ self.old.test.now }
@@ -146,7 +146,7 @@ impl<'a, A: Allocator + Copy> Reader<'a, A> {
         Err(ReadFault::NoSource { at })
     }
 
-    /// A function, which waits for the next source line.
+    /// Takes a function, which waits for the next source line.
     fn wait(&mut self, function: Function<'a>) -> Result<(), ReadFault>
         ensures steps { StepsTo result (held_data self.new) true (Ok (step_func (held_data self.old) function.entry.name.now function.entry.count)) }
         ensures test { self.new.test.now ≡ self.old.test.now }
@@ -155,7 +155,7 @@ impl<'a, A: Allocator + Copy> Reader<'a, A> {
         Ok(())
     }
 
-    /// A branch of the last source line.
+    /// Takes a branch of the last source line.
     fn branch(&mut self, at: u64, branch: u64, taken: Option<u64>) -> Result<(), ReadFault>
         ensures steps { StepsTo result (held_data self.new) (is_some (held_data self.old).section) (step_branch at (held_data self.old).section (held_data self.old) branch taken) }
         ensures test { self.new.test.now ≡ self.old.test.now }
@@ -174,7 +174,7 @@ impl<'a, A: Allocator + Copy> Reader<'a, A> {
         Err(ReadFault::Misplaced { at })
     }
 
-    /// The branches below belong to this block of the last source line, where there is one.
+    /// Takes a block of the last source line, if there is one: the branches below belong to it.
     fn enter(&mut self, block: u64)
         ensures held { held_data self.new ≡ step_block (held_data self.old) block }
         ensures test { self.new.test.now ≡ self.old.test.now }
@@ -186,7 +186,7 @@ impl<'a, A: Allocator + Copy> Reader<'a, A> {
         }
     }
 
-    /// What was read, behind the last line.
+    /// Returns what was read, after the last line.
     pub fn finish(mut self, alloc: A) -> Result<Submission<A>, ReadFault>
         requires { IsLawful (submission_held self.test.now (held_data self)) }
         ensures { EndsTo result (is_some (held_data self.entry).section) (ends self.entry.test.now (held_data self.entry)) }
@@ -221,7 +221,7 @@ fn push_functions<A: Allocator + Copy>(
     Ok(())
 }
 
-/// Appends the count of a line, where it has code.
+/// Appends the count of a line, if it has code.
 fn push_line<A: Allocator>(
     items: &mut Items<A>,
     line: u64,

@@ -43,9 +43,8 @@ pub(crate) enum Shape<'a> {
     Other,
 }
 
-/// Whether a line of gcov's text has none of the known shapes, so that it isn't read: it tells neither of template
-/// instances, of a function, of a branch nor of a block, and doesn't begin with a mark and the number of a line. A blank line
-/// has none.
+/// Whether a line of gcov's text has none of the known shapes, so that it isn't read: it isn't about template instances, a
+/// function, a branch or a block, and doesn't begin with a mark and the number of a line. A blank line has no shape.
 pub fn fits_no_shape(line: &[u8]) -> bool
     ensures { IsTrue result ↔ IsShapeOf line.now Other }
 {
@@ -82,8 +81,7 @@ fn any_shape(line: &[u8]) -> Option<Shape<'_>>
     other_shape(line)
 }
 
-/// The shape of a line that tells of no function and of no template instances. A mark may begin as the lines of branches
-/// do.
+/// The shape of a line that is about neither a function nor template instances. A mark may begin as the lines of branches do.
 fn other_shape(line: &[u8]) -> Option<Shape<'_>>
     ensures { option_map shape_data result ≡ other_shape line.now }
 {
@@ -95,7 +93,7 @@ fn other_shape(line: &[u8]) -> Option<Shape<'_>>
     numbered_shape(line)
 }
 
-/// The name and the count of a function, behind `function `.
+/// The name and the count of a function, after `function `.
 fn function_shape(text: &[u8]) -> Option<Shape<'_>>
     ensures { option_map shape_data result ≡ function_shape text.now }
 {
@@ -109,7 +107,7 @@ fn function_shape(text: &[u8]) -> Option<Shape<'_>>
     }
 }
 
-/// A branch's number and what follows it, behind `branch`.
+/// A branch's number and what follows it, after `branch`.
 fn branch_shape(text: &[u8]) -> Option<Shape<'_>>
     ensures { option_map shape_data result ≡ branch_shape text.now }
 {
@@ -117,7 +115,7 @@ fn branch_shape(text: &[u8]) -> Option<Shape<'_>>
     branch_rest(branch, text)
 }
 
-/// A branch's number, and what follows the spaces behind it.
+/// A branch's number, and what follows the spaces after it.
 fn branch_front(text: &[u8]) -> Option<(&[u8], &[u8])>
     ensures { option_map (λ parts. (parts.0.now, parts.1.now)) result ≡ branch_front text.now }
 {
@@ -140,7 +138,7 @@ fn branch_rest<'a>(branch: &'a [u8], text: &'a [u8]) -> Option<Shape<'a>>
     None
 }
 
-/// The word behind `taken`.
+/// The word after `taken`.
 fn taken<'a>(branch: &'a [u8], text: &'a [u8]) -> Option<Shape<'a>>
     ensures { option_map shape_data result ≡ taken_of branch.now text.now }
 {
@@ -181,7 +179,7 @@ fn numbered_rest<'a>(mark: &'a [u8], line: &'a [u8], text: &'a [u8]) -> Option<S
     None
 }
 
-/// The number behind `-block`.
+/// The number after `-block`.
 fn block<'a>(line: &'a [u8], text: &'a [u8]) -> Option<Shape<'a>>
     ensures { option_map shape_data result ≡ block_of line.now text.now }
 {

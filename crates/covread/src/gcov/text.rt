@@ -58,7 +58,7 @@ pub(crate) fn split_some(text: &[u8], class: Class) -> Option<(&[u8], &[u8])>
     Some((&text[..text.len() - rest.len()], rest))
 }
 
-/// What follows one or more spaces.
+/// What follows the spaces at the front; `None` if there are none.
 pub(crate) fn behind_spaces(text: &[u8]) -> Option<&[u8]>
     ensures { option_map (λ rest. rest.now) result ≡ behind_spaces text.now }
 {
@@ -66,7 +66,7 @@ pub(crate) fn behind_spaces(text: &[u8]) -> Option<&[u8]>
     Some(rest)
 }
 
-/// What follows the key, where the text begins with it.
+/// What follows the key, if the text begins with it.
 pub(crate) fn behind<'a>(text: &'a [u8], key: &[u8]) -> Option<&'a [u8]>
     ensures { option_map (λ rest. rest.now) result ≡ behind_key key.now text.now }
 {
@@ -87,7 +87,7 @@ fn all_digits(text: &[u8]) -> bool
     text.iter().all(|byte| byte.is_ascii_digit())
 }
 
-/// The number that digits say, where it is below 2^64.
+/// The number that digits say, if it is below 2^64.
 pub(crate) fn number(digits: &[u8]) -> Option<u64>
     ensures { result ≡ number_of digits.now }
 {
@@ -98,7 +98,7 @@ pub(crate) fn number(digits: &[u8]) -> Option<u64>
     Some(number)
 }
 
-/// The number with one more digit behind it, where it is below 2^64.
+/// The number followed by one more digit, if that is below 2^64.
 fn push_digit(number: u64, digit: u8) -> Option<u64>
     ensures { result ≡ fitting (number * 10 + (digit - 48)) }
 {
@@ -106,7 +106,7 @@ fn push_digit(number: u64, digit: u8) -> Option<u64>
     tens.and_then(|tens| tens.checked_add(u64::from(digit.saturating_sub(b'0'))))
 }
 
-/// The text without this byte at its end, where it has it there.
+/// The text without this byte at its end, if it ends in it.
 pub(crate) fn without_last(text: &[u8], byte: u8) -> &[u8]
     ensures { result.now ≡ without_last byte text.now }
 {

@@ -14,14 +14,14 @@ use std::collections::BTreeMap;
 pub struct Function {
     /// The least of its start lines.
     pub start: u64,
-    /// Whether some line counts it above 0, as far as the counts were passed over.
+    /// Whether one of its counts so far is above 0.
     pub is_hit: bool,
 }
 
 /// The functions that have a start line, by their names.
 pub type Functions<'a, A> = BTreeMap<&'a [u8], Function, A>;
 
-/// What a count of a function finds.
+/// The function that a count belongs to.
 #[derive(Clone, Copy, Drop)]
 pub struct Found {
     /// The function's start line.
@@ -30,7 +30,7 @@ pub struct Found {
     pub is_first_hit: bool,
 }
 
-/// Takes a start line of the function of this name, of which the least is kept.
+/// Takes a start line of the function with this name; the least is kept.
 pub fn take_start<'a, A: Allocator + Copy>(
     functions: &mut Functions<'a, A>,
     name: &'a [u8],
@@ -59,7 +59,7 @@ fn starts_before(function: &Function, line: u64) -> bool
     function.start < line
 }
 
-/// Takes a count of the function of this name; nothing where it has no start line.
+/// Takes a count of the function with this name. Returns `None` if it has no start line.
 pub fn take_count<'a, A: Allocator>(
     functions: &mut Functions<'a, A>,
     name: &'a [u8],

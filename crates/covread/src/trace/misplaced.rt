@@ -1,4 +1,4 @@
-//! Why a line can't stand at its place.
+//! Why a line is misplaced.
 
 ghost use Rattle.std.specs.Prelude.{◌≡◌};
 ghost use Rattle.covread.specs.declared.trace.misplaced.Misplaced.TheVariants.{Memory as NoMemory};

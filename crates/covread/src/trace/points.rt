@@ -1,4 +1,4 @@
-//! How many different lines and branches items speak of.
+//! How many different lines and branches items count.
 
 ghost use Rattle.std.specs.Prelude.{◌≡◌, ◌<◌, ◌^◌, ◌++◌, List, [], ◌∷◌, true, Some, IfOk, option_map, MatchOption, map, length};
 ghost use Rattle.covline.specs.Row.{ItemData, item_data};
@@ -9,11 +9,11 @@ ghost use Rattle.covread.specs.TracePoints.{AreTotals, Counts, IsAscent, IsTally
 use covline::{BranchPoint, Item, Memory, Tally};
 use std::alloc::Allocator;
 
-/// What tells lines from one another, or branches.
+/// What identifies a line, or a branch, within its section.
 pub trait Point: Ord + Copy + Drop {
     ghost points: { ItemData → List Self };
 
-    /// What the item speaks of; nothing for an item of another kind.
+    /// The point that the item counts; `None` for an item of another kind.
     fn of<A: Allocator>(item: &Item<A>) -> Option<Self>
         ensures { MatchOption result (points (item_data item.now) ≡ []) (λ p. points (item_data item.now) ≡ p ∷ []) };
 }
@@ -34,14 +34,14 @@ impl Point for BranchPoint {
     }
 }
 
-/// A point that an item speaks of, and whether the item's count is above 0.
+/// A point that an item counts, and whether the item's count is above 0.
 #[derive(Clone, Copy, PartialEq, Eq, PartialOrd, Ord, Drop)]
 pub struct Hit<P> {
     pub point: P,
     pub is_hit: bool,
 }
 
-/// Points none of which is below the one before it. The last one may come again, so it isn't counted yet.
+/// Points in ascending order, which may repeat. The last one may come again, so it isn't counted yet.
 #[derive(Clone, Copy, Drop)]
 pub struct Ascent<P> {
     /// Those below the last one.
@@ -54,12 +54,12 @@ pub struct Ascent<P> {
 pub enum Points<P> {
     /// They ascend, as in most tracefiles.
     Ascending(Ascent<P>),
-    /// One of them is below the one before it. They are counted when all of them are known.
+    /// One of them is below the one before it. They are counted once all of them are known.
     Scattered,
 }
 
 impl<P: Point> Ascent<P> {
-    /// No points.
+    /// No points yet.
     pub fn new() -> Ascent<P>
         ensures { IsAscent P.cmp result [] }
     {
@@ -79,7 +79,7 @@ impl<P: Point> Ascent<P> {
         }
     }
 
-    /// Takes one point more, in place: a copy of the whole, with its tags, costs as much as the rest of a line.
+    /// Adds a point, in place: a copy of the whole, with its tags, would cost as much as the rest of a line.
     fn add(&mut self, next: Hit<P>)
         requires ascends { goes_on P.cmp self.old.last next.point ≡ true }
         requires fits { (seen : List (HitOf P)) × IsAscent P.cmp self.old seen × length seen < 2 ^ 64 }
@@ -113,7 +113,7 @@ impl<P: Point> Ascent<P> {
 }
 
 impl<P: Point> Points<P> {
-    /// Takes what the next item speaks of.
+    /// Adds the point that the next item counts.
     pub fn take<A: Allocator>(&mut self, item: &Item<A>)
         requires { (seen : List (HitOf P)) × Counts P.cmp self.old seen × length seen < 2 ^ 64 }
         ensures { (items : List ItemData) → Counts P.cmp self.old (hits_said P.points items) → Counts P.cmp self.new (hits_said P.points (items ++ item_data item.now ∷ [])) }
@@ -132,8 +132,8 @@ impl<P: Point> Points<P> {
     }
 }
 
-/// The totals of the items, whose points these are. Where the points ascend, nothing is allocated; else they are
-/// sorted, in time n log n.
+/// The totals of the items that have these points. If the points ascend, nothing is allocated; else they are sorted, in
+/// time n log n.
 pub fn totals_of<P: Point, A: Allocator + Copy>(
     alloc: A,
     points: Points<P>,
@@ -149,7 +149,7 @@ pub fn totals_of<P: Point, A: Allocator + Copy>(
     }
 }
 
-/// The points of items, as often as they speak of them.
+/// The points that items count, one for each such item.
 fn hits_of<P: Point, A: Allocator + Copy>(
     alloc: A,
     items: &[Item<A>],

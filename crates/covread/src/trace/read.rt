@@ -17,13 +17,14 @@ use covline::{
 };
 use std::alloc::Allocator;
 
-/// Reads a tracefile: answers what its lines say, or the text's first fault.
+/// Reads a tracefile (geninfo(1), section FILES). Returns the submission that its lines make, or the text's first
+/// fault.
 pub fn read_trace<A: Allocator + Copy>(alloc: A, text: &[u8]) -> Result<Submission<A>, ReadFault>
-    // What is answered is what the text is read as, or memory ran out.
+    // The answer is what the text is read as, or memory ran out.
     ensures answers { Answers text.now result }
-    // What the text is read as is the answer, unless memory ran out.
+    // No other answer is possible, unless memory ran out.
     ensures only { (outcome : Result SubmissionData Fault) → IsOutcome text.now outcome → IsOrMemory result outcome }
-    // Nothing is kept before the first path, so memory runs out only behind one.
+    // Nothing is kept before the first path, so memory runs out only after one.
     ensures memory { GrowsLate text.now result }
 {
     // The proof cites this law.
@@ -52,8 +53,8 @@ fn read_lines<'a, A: Allocator + Copy>(alloc: A, text: &'a [u8]) -> Result<Reade
     Ok(reader)
 }
 
-/// Takes the first line of what is left of the text, which has this number, and answers what stands behind it. A line
-/// that counts, with a checksum or without, or tells of a branch, is read before it is cut, as most lines are such.
+/// Takes the first line of the rest of a text, which has this number, and returns what follows it. Most lines count a
+/// source line or a branch, so these are read before they are cut.
 #[inline]
 fn take_first<'a, A: Allocator + Copy>(
     reader: &mut Reader<'a, A>,
@@ -98,7 +99,7 @@ fn take_count<A: Allocator + Copy>(
     }
 }
 
-/// Takes a line with this number that tells how often a branch was taken.
+/// Takes a line with this number that says how often a branch was taken.
 #[inline]
 fn take_branch<A: Allocator + Copy>(
     reader: &mut Reader<'_, A>,

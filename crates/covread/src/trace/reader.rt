@@ -13,7 +13,7 @@ use crate::wide::wide;
 use covline::{BranchPoint, Bytes, Sect, Sects, Submission, TraceLine};
 use std::alloc::Allocator;
 
-/// A section whose end didn't come yet.
+/// A section whose end hasn't come yet.
 #[derive(Drop)]
 pub struct OpenSection<'a, A: Allocator> {
     /// Its path.
@@ -31,12 +31,12 @@ pub struct Reader<'a, A: Allocator> {
     pub section: Option<OpenSection<'a, A>>,
     /// The sections that ended.
     pub sects: Sects<A>,
-    /// How many lines of these don't fit the others of their section.
+    /// The number of odd lines in these.
     pub odd: u64,
 }
 
 impl<'a, A: Allocator + Copy> Reader<'a, A> {
-    /// Before the first line. The test's name is empty.
+    /// The reader before the first line, with an empty test name.
     pub fn new(alloc: A) -> Reader<'a, A>
         ensures held { held_data result [] ≡ empty }
         ensures closed { IsOpen result.section [] }
@@ -67,7 +67,7 @@ impl<'a, A: Allocator + Copy> Reader<'a, A> {
         }
     }
 
-    /// The test name of the sections that follow.
+    /// Takes the test name of the sections that follow.
     fn name_test(&mut self, name: &'a [u8]) -> Result<(), Misplaced>
         ensures { (inside : List LineData) → IsOpen self.old.section inside → Steps result (held_data self.old inside) self.new (Test name.now) }
     {
@@ -78,7 +78,7 @@ impl<'a, A: Allocator + Copy> Reader<'a, A> {
         Ok(())
     }
 
-    /// A section begins.
+    /// Begins a section.
     fn begin(&mut self, alloc: A, path: &[u8]) -> Result<(), Misplaced>
         ensures { (inside : List LineData) → IsOpen self.old.section inside → Steps result (held_data self.old inside) self.new (Path path.now) }
     {
@@ -92,7 +92,7 @@ impl<'a, A: Allocator + Copy> Reader<'a, A> {
         Ok(())
     }
 
-    /// A line of the open section.
+    /// Takes a line of the open section.
     fn keep(&mut self, alloc: A, line: TraceLine<'a>) -> Result<(), Misplaced>
         requires room { (inside : List LineData) × HasRoom self.old inside }
         requires kept { IsKept (line_data line) }
@@ -105,7 +105,7 @@ impl<'a, A: Allocator + Copy> Reader<'a, A> {
         Err(Misplaced::Outside)
     }
 
-    /// A line of the open section that counts a line of the source file.
+    /// Takes a line of the open section that counts a source line.
     #[inline]
     pub fn keep_count(
         &mut self,
@@ -126,7 +126,7 @@ impl<'a, A: Allocator + Copy> Reader<'a, A> {
         Err(Misplaced::Outside)
     }
 
-    /// A line of the open section that tells how often a branch was taken.
+    /// Takes a line of the open section that says how often a branch was taken.
     #[inline]
     pub fn keep_branch(&mut self, point: BranchPoint, taken: Option<u64>) -> Result<(), Misplaced>
         requires { (inside : List LineData) × HasRoom self.old inside }
@@ -139,7 +139,7 @@ impl<'a, A: Allocator + Copy> Reader<'a, A> {
         Err(Misplaced::Outside)
     }
 
-    /// The open section ends: it is settled, and kept with the test's name.
+    /// Ends the open section: it is settled, and kept with the test's name.
     fn end(&mut self, alloc: A) -> Result<(), Misplaced>
         requires { (inside : List LineData) × HasRoom self.old inside }
         ensures { (inside : List LineData) → IsOpen self.old.section inside → Steps result (held_data self.old inside) self.new End }
@@ -155,7 +155,7 @@ impl<'a, A: Allocator + Copy> Reader<'a, A> {
         Ok(())
     }
 
-    /// What was read, behind the last line. The room that the lists don't use is given back.
+    /// Returns what was read, after the last line. Room that the lists don't use is freed.
     pub fn finish(self) -> Result<Submission<A>, ReadFault>
         requires { EndsLawfully (held_data self []) }
         ensures { result ≡ ends (held_data self.entry []) }

@@ -22,7 +22,7 @@ pub struct Waiting<'a> {
     pub is_hit: bool,
 }
 
-/// What the lines of an open section gave so far. Counts of functions and totals hang on lines behind them, so they wait
+/// What the lines of an open section gave so far. Counts of functions, and totals, depend on later lines, so they wait
 /// for the section's end.
 #[derive(Drop)]
 pub struct Gathered<'a, A: Allocator> {
@@ -47,7 +47,7 @@ impl<'a, A: Allocator + Copy> Gathered<'a, A> {
     ghost use Rattle.covread.specs.TraceSection.{IsGathered, IsKept};
     ghost use Rattle.covread.specs.TraceTally.{stated_record};
 
-    /// Before the section's first line. Takes no memory.
+    /// Nothing gathered, before the section's first line.
     pub fn new(alloc: A) -> Gathered<'a, A>
         ensures { IsGathered result [] }
     {
@@ -95,7 +95,7 @@ impl<'a, A: Allocator + Copy> Gathered<'a, A> {
         }
     }
 
-    /// A start line of a function.
+    /// Takes a start line of a function.
     fn take_start(&mut self, alloc: A, line: u64, name: &'a [u8]) -> Result<(), Memory>
         ensures { OnOk result ((inside : List LineData) → IsGathered self.old inside → IsGathered self.new (inside ++ FuncStart line name.now ∷ [])) }
     {
@@ -104,7 +104,7 @@ impl<'a, A: Allocator + Copy> Gathered<'a, A> {
         Ok(())
     }
 
-    /// A count of a function.
+    /// Takes a count of a function.
     fn take_count(&mut self, alloc: A, count: u128, name: &'a [u8]) -> Result<(), Memory>
         ensures { OnOk result ((inside : List LineData) → IsGathered self.old inside → IsGathered self.new (inside ++ FuncCount count name.now ∷ [])) }
     {
@@ -117,7 +117,7 @@ impl<'a, A: Allocator + Copy> Gathered<'a, A> {
         Ok(())
     }
 
-    /// How often a branch was taken. It takes no memory but for the list.
+    /// Takes how often a branch was taken. Only the list of items may allocate.
     #[inline]
     pub fn take_branch(&mut self, branch: BranchPoint, taken: Option<u128>) -> Result<(), Memory>
         requires { (inside : List LineData) × IsGathered self.old inside × length inside + 1 < 2 ^ 64 }
@@ -134,7 +134,7 @@ impl<'a, A: Allocator + Copy> Gathered<'a, A> {
         Ok(())
     }
 
-    /// The execution count of a line without a checksum. It takes no memory but for the list.
+    /// Takes the execution count of a line without a checksum. Only the list of items may allocate.
     #[inline]
     fn take_plain(&mut self, line: u64, count: u128) -> Result<(), Memory>
         requires { (inside : List LineData) × IsGathered self.old inside × length inside + 1 < 2 ^ 64 }
@@ -150,7 +150,7 @@ impl<'a, A: Allocator + Copy> Gathered<'a, A> {
         Ok(())
     }
 
-    /// The execution count of a line.
+    /// Takes the execution count of a line.
     #[inline]
     pub fn take_line(
         &mut self,
@@ -168,7 +168,7 @@ impl<'a, A: Allocator + Copy> Gathered<'a, A> {
         }
     }
 
-    /// The execution count of a line with a checksum.
+    /// Takes the execution count of a line with a checksum.
     fn take_checked(&mut self, line: u64, count: u128, checksum: Bytes<A>) -> Result<(), Memory>
         requires { (inside : List LineData) × IsGathered self.old inside × length inside + 1 < 2 ^ 64 }
         ensures { OnOk result ((inside : List LineData) → IsGathered self.old inside → IsGathered self.new (inside ++ Line line count (Some checksum) ∷ [])) }
@@ -183,7 +183,7 @@ impl<'a, A: Allocator + Copy> Gathered<'a, A> {
         Ok(())
     }
 
-    /// A total.
+    /// Takes a total.
     fn take_total(&mut self, stated: Stated) -> Result<(), Memory>
         ensures { OnOk result ((inside : List LineData) → IsGathered self.old inside → IsGathered self.new (inside ++ stated_record stated ∷ [])) }
     {
@@ -192,7 +192,7 @@ impl<'a, A: Allocator + Copy> Gathered<'a, A> {
     }
 }
 
-/// The item of a function. It owns its name.
+/// The item of a function, with its own copy of the name.
 fn func_item<A: Allocator>(alloc: A, name: &[u8], line: u64, count: u128) -> Result<Item<A>, Memory>
     ensures { IfOk result (λ item. item_data item ≡ FuncItem name.now line count) }
 {

@@ -16,7 +16,7 @@ use std::alloc::Allocator;
 /// What a section gives.
 #[derive(Drop)]
 pub struct Settled<A: Allocator> {
-    /// Its items, in the order of their lines. Room that they don't use is given back.
+    /// Its items, in the order of their lines. Room that they don't use is freed.
     pub items: Items<A>,
     /// How many of its lines are odd: counts of functions without a start line, and totals that differ from the
     /// section's own.
@@ -26,13 +26,13 @@ pub struct Settled<A: Allocator> {
 /// What the counts of functions say.
 #[derive(Drop)]
 pub struct Counts<A: Allocator> {
-    /// How many functions are counted above 0.
+    /// How many functions have a count above 0.
     pub hit: u64,
     /// The places of the counts whose function has no start line. They ascend.
     pub unstarted: Vec<usize, A>,
 }
 
-/// Settles a section of which this was gathered: each function's count gets the least start line of the function, and
+/// Settles a section from what was gathered of it: each function's count gets the least start line of the function, and
 /// the totals are compared. Takes time n log n for n lines.
 pub fn settle<'a, A: Allocator + Copy>(
     alloc: A,
@@ -126,7 +126,7 @@ impl<A: Allocator + Copy> Counts<A> {
     }
 }
 
-/// The items without those at these places, which ascend. Takes memory only where there are such places.
+/// The items without those at these places, which ascend. Allocates only if there are such places.
 fn without<A: Allocator + Copy>(
     alloc: A,
     items: Items<A>,
@@ -137,7 +137,7 @@ fn without<A: Allocator + Copy>(
     if places.is_empty() {
         return Ok(items);
     }
-    // Read for its bound, which the places below have too.
+    // Read for the bound that its contract gives: the places below have it too.
     let _count = items.len();
     let mut left = Items::new(alloc);
     let mut places = places;
@@ -152,7 +152,7 @@ fn without<A: Allocator + Copy>(
     Ok(left)
 }
 
-/// The places behind this one, where it is the first of them.
+/// The places after this one, if it is the first of them.
 fn behind(places: &[usize], at: usize) -> Option<&[usize]>
     ensures { MatchOption result (starts_with at places.entry.now ≡ false) (λ rest. places.entry.now ≡ at ∷ rest.now) }
 {

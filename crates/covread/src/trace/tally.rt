@@ -51,7 +51,7 @@ struct Own {
     lines: Tally,
 }
 
-/// How many of the totals that a section's lines state differ from the section's own, which follow from what it has.
+/// How many of the totals that a section states differ from its own, which follow from what it has.
 pub fn odd_totals<A: Allocator + Copy>(
     alloc: A,
     totals: &[Stated],
@@ -70,7 +70,7 @@ pub fn odd_totals<A: Allocator + Copy>(
     Ok(count_odd(totals, &own))
 }
 
-/// The totals of points, where a line states a total of their sort.
+/// The totals of points, if a line states a total of their sort.
 fn stated_totals<P: Point, A: Allocator + Copy>(
     alloc: A,
     totals: &[Stated],
