@@ -1,4 +1,4 @@
--- A fault is the same, whatever is answered where there is none.
+-- A fault is the same, whatever is returned without one.
 use Rattle.std.proofs.Common.{◌≡◌, Result, Err, ap, ◌∙◌}
 use Rattle.covread.specs.declared.fault.ReadFault.{ReadFault}
 

@@ -13,7 +13,7 @@ abbrev pub IsFirstSoFar : Option SkippedLine → List Line → List Line → Typ
 IsFirstSoFar None left those = those ≡ left
 IsFirstSoFar (Some first) left those = IsFirstOf those (Some first)
 
--- whichever of the lines that are left aren't read: with those that were counted they are all
+-- the lines counted so far, and those of the rest that aren't read, are all that aren't read
 abbrev pub Passing : (Line → Type 0) → List Line → List Line → ℕ → Option SkippedLine → Type 0
 Passing holds all rest count first =
     (left : List Line) → AreThose holds rest left

@@ -1,4 +1,4 @@
--- What a text holds that is read: its sections, their items, its odd lines, and the lines that aren't read.
+-- What a text that is read holds: its sections, their items, its odd lines, and the lines that aren't read.
 use Rattle.std.specs.Prelude.{◌≡◌, ℕ, List, [], ◌∷◌, length, Option, Some, None, Result, Ok, Err}
 use Rattle.std.specs.List.{enumerate_from}
 use Rattle.covline.specs.Lines.{lines_of}
@@ -8,18 +8,19 @@ use Rattle.covcheck.specs.declared.holding.Holding.{Holding}
 use Rattle.covcheck.specs.declared.holding.SkippedLine.{SkippedLine}
 use Rattle.covcheck.specs.Skipped.{AreThose, start_of}
 
--- the lines of a text that are so, each with its number; lines are counted from 1, empty ones too
+-- the lines of a text of which this holds, each with its number; lines are counted from 1, empty ones too
 abbrev pub AreLinesThat : (List ℕ → Type 0) → List ℕ → List (ℕ × List ℕ) → Type 0
 AreLinesThat is_so text lines = AreThose (λ (l : ℕ × List ℕ). is_so l.1) (enumerate_from 1 (lines_of text)) lines
 
--- the number and the beginning of the first of these lines; none where there is no line
+-- the number and the beginning of the first of these lines; none if there is no line
 abbrev pub IsFirstOf : List (ℕ × List ℕ) → Option SkippedLine → Type 0
 IsFirstOf [] None = Unit {0}
 IsFirstOf [] (Some first) = ⊥
 IsFirstOf (line ∷ lines) None = ⊥
 IsFirstOf (line ∷ lines) (Some first) = (first.at ≡ line.0) × (first.start.now ≡ start_of line.1)
 
--- this is what the text holds, which is read as this submission; a line that is so isn't read
+-- what the text holds, which is read as this submission; the lines that aren't read are those of which `is_skipped`
+-- holds
 pub record Holds (is_skipped : List ℕ → Type 0) (text : List ℕ) (submission : SubmissionData) (holding : Holding) : Type 0 where
   pub sections : holding.sections ≡ length submission.sects
   pub items : holding.items ≡ items_in submission.sects
@@ -29,7 +30,7 @@ pub record Holds (is_skipped : List ℕ → Type 0) (text : List ℕ) (submissio
   pub skipped : holding.skipped ≡ length lines
   pub first : IsFirstOf lines holding.first
 
--- what a check answers of a text that is read as this: what it holds, or the fault
+-- what a check returns for a text that is read as this: what it holds, or the fault
 abbrev pub Tells : (List ℕ → Type 0) → List ℕ → Result SubmissionData ReadFault → Result Holding ReadFault → Type 0
 Tells is_skipped text (Ok submission) (Ok holding) = Holds is_skipped text submission holding
 Tells is_skipped text (Ok submission) (Err told) = ⊥

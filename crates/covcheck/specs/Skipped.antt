@@ -29,7 +29,7 @@ abbrev pub word_at : List ℕ → List ℕ
 word_at [] = []
 word_at (b ∷ bs) = if is_cut b then [] else b ∷ word_at bs
 
--- the same, with the colons, spaces and tabs that stand before them
+-- the same, with the colons, spaces and tabs that come before them
 abbrev pub beginning_of : List ℕ → List ℕ
 beginning_of [] = []
 beginning_of (b ∷ bs) = if is_cut b then b ∷ beginning_of bs else b ∷ word_at bs

@@ -1,9 +1,9 @@
--- The line that tells what a text holds.
+-- The line that says what a text holds.
 use Rattle.std.specs.Prelude.{ℕ, ◌&&◌, nat_lt, if◌then◌else◌, List, [], ◌++◌, Option, Some, None, codes, decimal, map}
 use Rattle.covcheck.specs.declared.holding.Holding.{Holding}
 use Rattle.covcheck.specs.declared.holding.SkippedLine.{SkippedLine}
 
--- a byte as it is shown: a question mark stands for a space, and for what isn't printable ASCII
+-- a byte as it is shown: a question mark in place of a space, and of what isn't printable ASCII
 abbrev pub shown : ℕ → ℕ
 shown b = if nat_lt 32 b && nat_lt b 127 then b else 63
 

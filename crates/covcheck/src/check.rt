@@ -17,37 +17,38 @@ use covline::Submission;
 use covread::{ReadFault, read_gcov, read_trace};
 use std::alloc::Allocator;
 
-/// Reads a tracefile (geninfo(1) of LCOV 1.x, section FILES), and answers what it holds, or the fault that `read_trace`
-/// answers. What was read is let go.
+/// Reads a tracefile (geninfo(1) of LCOV 1.x, section FILES). Returns what it holds, or the fault that `read_trace`
+/// returns. What was read is freed.
 pub fn check_trace<'a, A: Allocator + Copy>(
     alloc: A,
     text: &'a [u8],
 ) -> Result<Holding<'a>, ReadFault>
-    // It tells of what the reader answers: of what the text is read as, or that memory ran out after a path.
+    // The answer is about what the reader returns: what the text is read as, or that memory ran out after a path.
     ensures answers { (read : Result SubmissionData Fault) × Answers text.now read × GrowsLate text.now read × Tells IsSkippedRecord text.now read result }
-    // What the text is read as is what is told of, unless memory ran out.
+    // It is about what the text is read as, unless memory ran out.
     ensures only { (outcome : Result SubmissionData Fault) → IsOutcome text.now outcome → (result ≡ Err NoMemory) ⊎ Tells IsSkippedRecord text.now outcome result }
 {
     let submission = read_trace(alloc, text)?;
     Ok(holding_of(&submission, text, Format::Trace))
 }
 
-/// Reads gcov's annotated source (gcov(1)), as the counts of the test with the empty name, and answers what it holds, or the
-/// fault that `read_gcov` answers. What was read is let go.
+/// Reads gcov's annotated source (gcov(1)), as counts of the test with the empty name. Returns what it holds, or the fault
+/// that `read_gcov` returns. What was read is freed.
 pub fn check_gcov<'a, A: Allocator + Copy>(
     alloc: A,
     text: &'a [u8],
 ) -> Result<Holding<'a>, ReadFault>
-    // It tells of what the reader answers: of what the text is read as, or that memory ran out after a path or a function.
+    // The answer is about what the reader returns: what the text is read as, or that memory ran out after a path or a
+    // function.
     ensures answers { (read : Result SubmissionData Fault) × gcov.Answers [] text.now read × gcov.GrowsLate text.now read × Tells IsSkippedGcov text.now read result }
-    // What the text is read as is what is told of, unless memory ran out.
+    // It is about what the text is read as, unless memory ran out.
     ensures only { (outcome : Result SubmissionData Fault) → gcov.IsOutcome [] text.now outcome → (result ≡ Err NoMemory) ⊎ Tells IsSkippedGcov text.now outcome result }
 {
     let submission = read_gcov(alloc, b"", text)?;
     Ok(holding_of(&submission, text, Format::Gcov))
 }
 
-/// What the text holds, which was read as this submission.
+/// What a text holds that was read as this submission.
 fn holding_of<'a, A: Allocator>(
     submission: &Submission<A>,
     text: &'a [u8],

@@ -1,6 +1,6 @@
 //! What a text holds.
 
-/// What a text holds that is read.
+/// What a text that is read holds.
 #[derive(Clone, Copy, Debug)]
 pub struct Holding<'a> {
     /// How many sections it has.
@@ -12,15 +12,15 @@ pub struct Holding<'a> {
     pub odd: u64,
     /// How many lines aren't read. Empty lines don't count.
     pub skipped: u64,
-    /// The first of these; none where there is none.
+    /// The first of these, if there is one.
     pub first: Option<SkippedLine<'a>>,
 }
 
 /// A line that isn't read.
 #[derive(Clone, Copy, Debug)]
 pub struct SkippedLine<'a> {
-    /// How it begins within its first 16 bytes: colons, spaces and tabs at the front, and what follows them up to the next
-    /// one. It has at least one byte.
+    /// The beginning of the line, within its first 16 bytes: colons, spaces and tabs at the front, and what follows them
+    /// up to the next one. It has at least one byte.
     pub start: &'a [u8],
     /// Its number in the text. Lines are counted from 1, empty ones too.
     pub at: u64,
@@ -29,7 +29,7 @@ pub struct SkippedLine<'a> {
 impl Holding<'_> {
     ghost use Rattle.std.specs.Prelude.{◌↔◌, ◌<◌, IsTrue};
 
-    /// Whether the text gives an item.
+    /// Whether the text has an item.
     pub fn has_item(&self) -> bool
         ensures { IsTrue result ↔ (0 < self.now.items) }
     {

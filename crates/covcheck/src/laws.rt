@@ -1,18 +1,18 @@
-//! Laws of what a check tells, as functions that do nothing: their contracts are the laws.
+//! Laws of what a check reports, as functions that do nothing: their contracts are the laws.
 
 ghost use Rattle.std.specs.Prelude.{◌≡◌, ◌≢◌, ◌<◌, ◌≤◌, ℕ, [], List, length};
 ghost use Rattle.covcheck.specs.Holding.{AreLinesThat};
 ghost use Rattle.covcheck.specs.Skipped.{start_of, IsSkippedGcov, IsSkippedRecord};
 ghost use Rattle.covcheck.specs.Told.{shown};
 
-/// No other list of lines is the one of those that aren't read, so their number and the first of them are told in one way.
+/// There is only one list of the lines that aren't read, so their number and the first of them are determined.
 pub fn skipped_lines_are_unique()
     ensures trace { (text : List ℕ) (x y : List (ℕ × List ℕ)) → AreLinesThat IsSkippedRecord text x → AreLinesThat IsSkippedRecord text y → x ≡ y }
     ensures gcov { (text : List ℕ) (x y : List (ℕ × List ℕ)) → AreLinesThat IsSkippedGcov text x → AreLinesThat IsSkippedGcov text y → x ≡ y }
 {}
 
-/// How a line begins is one word where it is told: of a line that isn't empty it has 1 to 16 bytes, and each byte is shown
-/// as printable ASCII that isn't a space.
+/// The beginning of a line is printed as one word: for a line that isn't empty it has 1 to 16 bytes, and each byte is
+/// shown as printable ASCII that isn't a space.
 pub fn a_beginning_is_one_word()
     ensures some { (line : List ℕ) → line ≢ [] → 0 < length (start_of line) }
     ensures few { (line : List ℕ) → length (start_of line) ≤ 16 }

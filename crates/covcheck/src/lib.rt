@@ -1,8 +1,8 @@
 //! What texts hold, without adding them up: how many sections and items, how many odd lines, and which lines aren't read.
 //!
-//! A text is read as covread reads it, so a check answers the same fault. Lines that aren't read are no fault: a tracefile
+//! A text is read as covread reads it, so a check returns the same fault. Lines that aren't read are no fault: a tracefile
 //! may have records of later versions (`FNL:`), and gcov's text has `call` lines. They are counted, and the first of them
-//! is shown, since a text without a single line that is read, such as a page of HTML, is read as an empty submission.
+//! is shown, because a text that has no other lines, such as a page of HTML, is read as an empty submission.
 //!
 //! A sketch: the line of a tracefile.
 //!

@@ -1,4 +1,4 @@
-//! The pass over the lines of a text that tells which of them aren't read.
+//! The pass over the lines of a text that finds those that aren't read.
 
 ghost use Rattle.std.specs.Prelude.{◌≡◌, ℕ, List, length, None, Some, IfSome, MatchOption};
 ghost use Rattle.covcheck.specs.Holding.{AreLinesThat, IsFirstOf};
@@ -10,7 +10,7 @@ use crate::holding::SkippedLine;
 use crate::start::start_of;
 use covline::lines;
 
-/// The lines that a pass found which aren't read.
+/// What a pass found of the lines that aren't read.
 #[derive(Clone, Copy)]
 pub(crate) struct SkippedLines<'a> {
     /// How many there are.
@@ -36,7 +36,7 @@ pub(crate) fn skipped_lines_in(text: &[u8], format: Format) -> SkippedLines<'_>
     SkippedLines { count, first }
 }
 
-/// The first line that isn't read, where this one isn't and has this number.
+/// The first line that isn't read: the one found before, or else this line, which has this number.
 fn first_with<'a>(
     first: Option<SkippedLine<'a>>,
     line: &'a [u8],

@@ -4,10 +4,11 @@ ghost use Rattle.std.specs.Prelude.{◌≡◌};
 ghost use Rattle.covcheck.specs.Skipped.{is_cut, start_of};
 ghost use Rattle.covcheck.specs.CheckSteps.{after_cuts, after_word};
 
-/// Within how many bytes the beginning of a line ends.
+/// The most bytes that the beginning of a line can have.
 const MOST_SHOWN: usize = 16;
 
-/// How a line begins within its first 16 bytes: up to the first colon, space or tab, with those at its front.
+/// The beginning of a line, within its first 16 bytes: colons, spaces and tabs at its front, and what follows them up
+/// to the next one.
 pub(crate) fn start_of(line: &[u8]) -> &[u8]
     ensures { result.now ≡ start_of line.now }
 {

@@ -1,4 +1,4 @@
-//! Telling what a text holds.
+//! The line that says what a text holds.
 
 ghost use Rattle.std.specs.Prelude.{◌≡◌, ◌++◌, IfOk, OnOk, decimal, map};
 ghost use Rattle.covcheck.specs.Told.{first_text, holding_text, shown};
@@ -8,8 +8,8 @@ use covline::Memory;
 use itoa::Buffer;
 use std::alloc::Allocator;
 
-/// The line that tells what a text holds, without the name of its file and with a line feed:
-/// `sections 3 items 40 odd 6 skipped 9 first FNL at 3`.
+/// The line that says what a text holds, without the name of its file and with a line feed: `sections 3 items 40 odd 6
+/// skipped 9 first FNL at 3`.
 pub fn holding_line<A: Allocator>(alloc: A, holding: &Holding<'_>) -> Result<Vec<u8, A>, Memory>
     ensures { IfOk result (λ line. line.items ≡ holding_text holding.now) }
 {
@@ -32,7 +32,7 @@ fn put_number<A: Allocator>(line: &mut Vec<u8, A>, words: &[u8], number: u64) ->
     Ok(())
 }
 
-/// Appends how the first line that isn't read begins, and its number, where there is one.
+/// Appends the beginning of the first line that isn't read, and its number, if there is one.
 fn put_first<A: Allocator>(
     line: &mut Vec<u8, A>,
     first: Option<SkippedLine<'_>>,
@@ -57,7 +57,7 @@ fn put_shown<A: Allocator>(line: &mut Vec<u8, A>, text: &[u8]) -> Result<(), Mem
     Ok(())
 }
 
-/// The byte as it is shown: a question mark stands for a space, and for what isn't printable ASCII.
+/// The byte as it is shown: a question mark in place of a space, and of what isn't printable ASCII.
 fn shown(byte: u8) -> u8
     ensures { result ≡ shown byte }
 {
