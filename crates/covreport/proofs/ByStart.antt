@@ -14,7 +14,7 @@ use Rattle.covreport.specs.Report.{by_start, function_cmp, functions_hit}
 use Rattle.covreport.proofs.Sorting.{moved_sorted, rises_sorted, sorted_from_rises, sorted_is}
 use Rattle.covstore.specs.Content.{FunctionValueData}
 
--- ---- the order tells all functions apart
+-- ---- the order distinguishes all functions
 
 function_cmp_total : IsTotalOrder function_cmp
 function_cmp_total =

@@ -1,4 +1,4 @@
--- The first part of a pattern, and the parts behind it.
+-- The first part of a pattern, and the parts after it.
 use Rattle.std.proofs.Common.{◌≡◌, ℕ, zero, suc, ◌+◌, ◌-◌, ◌≤◌, List, [], ◌∷◌, length, get_or, take, drop, refl, sym, ap, arith}
 use Rattle.std.proofs.lemmas.List.{take_all, length-drop}
 use Rattle.covreport.specs.Pattern.{Part, head_of, parts_behind, parts_of}

@@ -1,4 +1,4 @@
--- A told rate is near the true one, and all and none are told only where it is so.
+-- A printed rate is near the true one, and it shows all or none only if that is so.
 use Rattle.std.proofs.Common.{◌≡◌, ℕ, zero, suc, ◌+◌, ◌*◌, ◌/◌, ◌<◌, ◌≤◌, Bool, true, false, cond, min, max, nat_lt, refl, sym, ap, ◌∙◌, subst, arith}
 use Rattle.std.proofs.Math.Nat.{mul-div-le, lt-mul-div-succ, mul-le-mul_left}
 use Rattle.std.proofs.lemmas.Bool.{ltb-true, ltb-false}
@@ -15,7 +15,7 @@ rounded_none found some =
     let whole : 2000 * 0 + found ≡ 0 * (2 * found) + found = omega arith in
     ap (λ (n : ℕ). n / (2 * found)) whole ∙ div-mul-add 0 (2 * found) found (omega (arith, some))
 
--- what is told, by whether less than all are hit and whether some are
+-- the printed rate, by whether less than all are hit and whether some are
 abbrev told : Bool → Bool → ℕ → ℕ
 told is_less is_some tenths = cond is_some (max (cond is_less (min tenths 999) tenths) 1) (cond is_less (min tenths 999) tenths)
 
@@ -36,7 +36,7 @@ module _ (hit found : ℕ) (some : 0 < found) (fewer : hit ≤ found) where
       by false true tenths one e = absurd (omega (arith, e))
       by is_less false tenths one e = omega (arith, ltb-false 0 hit one)
 
-  -- so many tenths of a percent are less than one tenth off
+  -- this rate, in tenths of a percent, is less than one tenth off
   abbrev Near : ℕ → Type 0
   Near tenths = (found * tenths < 1000 * hit + found) × (1000 * hit < found * tenths + found)
 

@@ -53,7 +53,7 @@ set_takes_none first b body rest path none =
     (rw (close_found body rest none) refl)
     ∙ ap (λ (t : List ℕ). not (in_body b (first ∷ body)) && matches t path) (behind_none first body rest)
 
--- where nothing is opened the bracket is plain
+-- if nothing is opened, the bracket is plain
 bracket_plain : (b : ℕ) (after path : List ℕ) → opened_set after ≡ None → matches (91 ∷ after) (b ∷ path) ≡ (eqb b 91 && matches after path)
 bracket_plain b after path e = by_head 91 after (b ∷ path) (plain 91) (rw e refl)
 

@@ -1,4 +1,4 @@
--- A list has one sorted order where the order tells all members apart, and `sorted` gives it.
+-- A list has one sorted order if the order distinguishes all members, and `sorted` gives it.
 use Rattle.std.proofs.Common.{◌≡◌, ℕ, zero, suc, add-one, ◌+◌, ◌<◌, Bool, false, true, cond, List, [], ◌∷◌, length, get_or, refl, sym, ap, ap₂, ◌∙◌, arith}
 use Rattle.std.specs.Cmp.{IsTotalOrder}
 use Rattle.std.specs.declared.cmp.Ordering.{Ordering}
@@ -37,7 +37,7 @@ module _ {X : Type 0} (cmp : X → X → Ordering) (total : IsTotalOrder cmp) wh
   abbrev AtMost : X → X → Type 0
   AtMost a b = is_gt (cmp a b) ≡ false
 
-  -- each member is at most each one behind it
+  -- each member is at most each one after it
   abbrev pub Rises : List X → Type 0
   Rises [] = Unit {0}
   Rises (x ∷ xs) = AllByRecursion (AtMost x) xs × Rises xs

@@ -12,7 +12,7 @@ use Rattle.covreport.specs.Report.{function_records, branch_records, line_record
 use Rattle.covreport.specs.Choice.{ChoiceData, is_chosen}
 use Rattle.covstore.specs.Content.{SectionData}
 
--- ---- one part more
+-- ---- one more part
 
 module _ {X Y : Type 0} (part : X → List Y) (whole text : List Y) where
   pub goes_on : (new : List Y) (x : X) (left more : List X) → left ≡ x ∷ more → text ++ flat_map part left ≡ whole → new ≡ text ++ part x → new ++ flat_map part more ≡ whole
@@ -62,7 +62,7 @@ module _ {X : Type 0} (part : X → List ℕ) (is_hit : X → Bool) (all : List 
   printed_all left text found hit none so_far =
       (ends part (before ++ flat_map part all) text left none so_far.written, omega (arith, ap length none, so_far.counted), omega (arith, ap (count_by is_hit) none, so_far.hits))
 
-  -- one point more can be counted
+  -- one more point can be counted
   pub count_fits : (x : X) (left more : List X) (text : List ℕ) (found hit : ℕ) → length all < 2 ^ 64 → left ≡ x ∷ more → IsPrinted part is_hit all left before text found hit → found + 1 < 2 ^ 64
   count_fits x left more text found hit few next so_far =
       let size : length left ≡ length (x ∷ more) = ap length next in
@@ -125,7 +125,7 @@ module _ (choice : ChoiceData) (all : List SectionData) (text : List ℕ) where
   pub report_ends : (left : List SectionData) → left ≡ [] → text ++ report_text choice left ≡ report_text choice all → text ≡ report_text choice all
   report_ends left none so_far = sym (append-nil text) ∙ ap (λ (s : List SectionData). text ++ report_text choice s) (sym none) ∙ so_far
 
-  -- where a file is chosen, the text of all sections is not empty
+  -- if a file is chosen, the text of all sections is not empty
   pub report_there : (s : SectionData) (left more : List SectionData) → left ≡ s ∷ more → text ++ report_text choice left ≡ report_text choice all → is_chosen choice s.key.file ≡ true → report_text choice all ≢ []
   report_there s left more next so_far chosen none =
       let rest = filter (λ (s : SectionData). is_chosen choice s.key.file) more in

@@ -1,4 +1,4 @@
--- Which files a text speaks of, by patterns (lcov(1), --extract and --remove).
+-- Which files a printed text includes, by patterns (lcov(1), --extract and --remove).
 use Rattle.std.specs.Prelude.{ℕ, Bool, true, not, List}
 use Rattle.std.specs.List.{list_any}
 use Rattle.covreport.specs.Pattern.{matches}
@@ -18,7 +18,7 @@ is_chosen AllFiles file = true
 is_chosen (Extracted patterns) file = any_matches patterns file
 is_chosen (Removed patterns) file = not (any_matches patterns file)
 
--- how many patterns one list has at the most, and how many bytes one pattern
+-- the most patterns in one list, and the most bytes in one pattern
 abbrev pub most_patterns : ℕ
 most_patterns = 64
 

@@ -2,7 +2,7 @@
 use Rattle.std.specs.Prelude.{ℕ, ◌+◌, zero, suc, Bool, true, false, ◌==◌, ◌&&◌, ◌||◌, not, nat_le, List, [], ◌∷◌, length, Option, Some, None, option_map, unwrap_or, if◌then◌else◌}
 use Rattle.std.specs.List.{list_any}
 
--- which bytes a part takes one of: any, this one, one that a set's body has, one that it doesn't have
+-- the bytes of which a part takes one: any byte, this one, one that is in a set's body, one that isn't
 pub data ByteSet : Type 0 where
   Any : ByteSet
   Exactly : (byte : ℕ) → ByteSet
@@ -14,17 +14,17 @@ pub data Part : Type 0 where
   AnyRun : Part
   OneByte : (set : ByteSet) → Part
 
--- a part, and how many bytes of the pattern behind its first one belong to it too
+-- a part, and how many bytes of the pattern after its first one belong to it too
 pub record Head : Type 0 where
   pub part : Part
   pub more : ℕ
 
--- the bytes before the first ] where there is one
+-- the bytes before the first ] if there is one
 abbrev pub before_close : List ℕ → Option (List ℕ)
 before_close [] = None
 before_close (b ∷ rest) = if b == 93 then Some [] else option_map (λ body. b ∷ body) (before_close rest)
 
--- the body of a set: at least one byte, whatever that is, and the bytes behind it before the first ]
+-- the body of a set: at least one byte, whatever that is, and the bytes after it before the first ]
 abbrev pub body_of : List ℕ → Option (List ℕ)
 body_of [] = None
 body_of (first ∷ rest) = option_map (λ body. first ∷ body) (before_close rest)
@@ -37,17 +37,17 @@ opened_set (b ∷ rest) =
     then option_map (λ body. record { part = OneByte (NoneOf body); more = length body + 2 }) (body_of rest)
     else option_map (λ body. record { part = OneByte (OneOf body); more = length body + 1 }) (body_of (b ∷ rest))
 
--- \ takes the next byte as itself, and stands for itself at the end
+-- \ takes the next byte as itself; at the end it takes itself
 abbrev pub quoted : List ℕ → Head
 quoted [] = record { part = OneByte (Exactly 92); more = 0 }
 quoted (b ∷ rest) = record { part = OneByte (Exactly b); more = 1 }
 
--- a byte that stands for itself
+-- a byte that takes itself
 abbrev pub plain : ℕ → Head
 plain b = record { part = OneByte (Exactly b); more = 0 }
 
 -- the part that begins with this byte before these: * takes any run, ? any byte, \ quotes, [ opens a set; each other byte,
--- and a [ that opens none, stands for itself
+-- and a [ that opens none, takes itself
 abbrev pub head_of : ℕ → List ℕ → Head
 head_of b rest =
     if b == 42 then record { part = AnyRun; more = 0 }
@@ -56,7 +56,7 @@ head_of b rest =
     else if b == 91 then unwrap_or (opened_set rest) (plain b)
     else plain b
 
--- the parts of a pattern, of which so many bytes belong to the part before
+-- the parts of a pattern without its first `taken` bytes, which belong to the part before
 abbrev pub parts_behind : ℕ → List ℕ → List Part
 parts_behind taken [] = []
 parts_behind (suc taken) (b ∷ rest) = parts_behind taken rest
@@ -81,12 +81,12 @@ takes (Exactly other) byte = byte == other
 takes (OneOf body) byte = in_body byte body
 takes (NoneOf body) byte = not (in_body byte body)
 
--- what is left of a path behind each of the runs that it begins with, the empty one first
+-- what is left of a path after each of the runs that it begins with, the empty one first
 abbrev pub ends_of : List ℕ → List (List ℕ)
 ends_of [] = [] ∷ []
 ends_of (b ∷ path) = (b ∷ path) ∷ ends_of path
 
--- parts fit a path: a run is taken if the other parts fit what is left behind some run
+-- parts fit a path: a run is taken if the other parts fit what is left after some run
 abbrev pub fits : List Part → List ℕ → Bool
 fits [] [] = true
 fits [] (b ∷ path) = false

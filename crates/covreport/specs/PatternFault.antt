@@ -1,4 +1,4 @@
--- The numbers of the reasons why a pattern isn't taken, the same from the first day on.
+-- The numbers of the reasons why a pattern isn't taken, which stay the same in all versions.
 use Rattle.std.specs.Prelude.{ℕ}
 use Rattle.covreport.specs.declared.patterns.PatternFault.{PatternFault}
 use Rattle.covreport.specs.declared.patterns.PatternFault.TheVariants.{TooMany, TooLong, Memory}

@@ -28,10 +28,10 @@ pub record BeginsWithRange (body : List ℕ) (low high : ℕ) (rest : List ℕ) 
 abbrev pub head_data : Head → pattern.Part × List ℕ
 head_data head = (part_data head.part, head.rest.now)
 
--- a set's body, and what follows the ] behind it
+-- a set's body, and what follows the ] after it
 abbrev pub behind_body : List ℕ → List ℕ → List ℕ × List ℕ
 behind_body text body = (body, drop (length body + 1) text)
 
--- a part, and what follows it where its first byte stands before these
+-- a part whose first byte comes right before these, and what follows it
 abbrev pub behind_head : List ℕ → pattern.Head → pattern.Part × List ℕ
 behind_head rest head = (head.part, drop head.more rest)

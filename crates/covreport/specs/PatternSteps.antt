@@ -1,4 +1,4 @@
--- Where a match stands: what its answer will be, how many steps are left at the most, and what a step keeps.
+-- How far a match has come: what its answer will be, at most how many steps are left, and what a step keeps.
 use Rattle.std.specs.Prelude.{◌≡◌, ◌<◌, ◌≤◌, ◌+◌, ◌*◌, ℕ, Bool, true, false, ◌||◌, List, [], ◌∷◌, length, Option, None, Some}
 use Rattle.covreport.specs.Pattern.{Part, AnyRun, parts_of, fits}
 use Rattle.covreport.specs.declared.pattern.steps.Place.{Place}
@@ -13,7 +13,7 @@ abbrev pub fits_later : List Part → List ℕ → Bool
 fits_later parts [] = false
 fits_later parts (b ∷ path) = fits (AnyRun ∷ parts) path
 
--- the parts behind the last star fit where its run ends later than it was last taken to
+-- the parts after the last star fit where its run ends later than it was last taken to
 abbrev pub fits_behind : Option Place → Bool
 fits_behind None = false
 fits_behind (Some star) = fits_later (parts_of star.pattern.now) star.path.now
@@ -22,7 +22,7 @@ fits_behind (Some star) = fits_later (parts_of star.pattern.now) star.path.now
 abbrev pub answer_of : Matcher → Bool
 answer_of matcher = fits_at matcher.here || fits_behind matcher.star
 
--- how many steps a match takes at the most, which stands here and has a star there
+-- the most steps that a match takes from this place, with this last star
 abbrev pub steps_from : Place → Option Place → ℕ
 steps_from here None = (length here.pattern.now + 1) * (length here.path.now + 1)
 steps_from here (Some star) = length here.pattern.now + 1 + (length star.pattern.now + 1) * length star.path.now
@@ -30,7 +30,7 @@ steps_from here (Some star) = length here.pattern.now + 1 + (length star.pattern
 abbrev pub steps_left : Matcher → ℕ
 steps_left matcher = steps_from matcher.here matcher.star
 
--- what is left here comes from what was left behind the star: where the star's parts fit some end of its path, the parts
+-- what is left here comes from what was left after the star: if the star's parts fit some end of its path, the parts
 -- that are left here fit some end of the path that is left here
 pub record ComesFrom (star here : Place) : Type 0 where
   pub pattern : length here.pattern.now ≤ length star.pattern.now

@@ -3,7 +3,7 @@ use Rattle.std.specs.Prelude.{ℕ, ◌+◌, ◌*◌, ◌/◌, ◌%◌, ◌==◌,
 use Rattle.covline.specs.Lines.{line_feed}
 use Rattle.covstore.specs.declared.totals.Totals.{Totals}
 
--- tenths of a percent, rounded to the nearest, halves up; less than all is never told as all, nor more than none as none
+-- tenths of a percent, rounded to the nearest, halves up; less than all never shows as all, nor more than none as none
 abbrev pub rounded : ℕ → ℕ → ℕ
 rounded hit found = (2000 * hit + found) / (2 * found)
 
@@ -16,7 +16,7 @@ not_none hit tenths = if nat_lt 0 hit then max tenths 1 else tenths
 abbrev pub tenths_of : ℕ → ℕ → ℕ
 tenths_of hit found = not_none hit (not_all hit found (rounded hit found))
 
--- the noun for so many
+-- the noun for this number
 abbrev pub noun : List ℕ → List ℕ → ℕ → List ℕ
 noun one many found = if found == 1 then one else many
 

@@ -1,4 +1,4 @@
-//! Which files a text speaks of.
+//! Which files a printed text includes.
 
 use crate::patterns::Patterns;
 use std::alloc::{Allocator, Global};
@@ -8,9 +8,9 @@ use std::alloc::{Allocator, Global};
 pub enum Choice<A: Allocator = Global> {
     /// Every file.
     All,
-    /// The files that match at least one of the patterns; none where there are no patterns.
+    /// The files that match at least one of the patterns; none if there are no patterns.
     Extract(Patterns<A>),
-    /// The files that match none of the patterns; every file where there are no patterns.
+    /// The files that match none of the patterns; every file if there are no patterns.
     Remove(Patterns<A>),
 }
 

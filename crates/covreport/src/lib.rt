@@ -1,5 +1,5 @@
-//! What a store holds, told in texts: the merged tracefile (geninfo(1), FILES), of all files or of those that patterns
-//! choose (lcov(1), `--extract` and `--remove`), and the summary of totals (lcov(1), `--summary`).
+//! Prints what a store holds: the merged tracefile (geninfo(1), FILES), of all files or of those that patterns choose
+//! (lcov(1), `--extract` and `--remove`), and the summary of totals (lcov(1), `--summary`).
 //!
 //! A sketch of its use, where `store` is a `covstore::Store` with the allocator `alloc`:
 //!

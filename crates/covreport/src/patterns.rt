@@ -6,13 +6,13 @@ use std::alloc::{Allocator, Global};
 use std::marker::Model;
 use thiserror::Error;
 
-/// How many patterns one list has at the most.
+/// The most patterns in one list.
 pub const MOST_PATTERNS: usize = 64;
 
-/// How many bytes one pattern has at the most.
+/// The most bytes in one pattern.
 pub const MOST_PATTERN_BYTES: usize = 1_024;
 
-/// Why a list takes no further pattern.
+/// Why a pattern isn't added to a list.
 #[derive(Clone, Copy, Debug, PartialEq, Eq, Error)]
 pub enum PatternFault {
     /// The list has 64 patterns. This is tested first.
@@ -81,7 +81,7 @@ impl<A: Allocator + Copy> Patterns<A> {
         }
     }
 
-    /// One pattern more at the end. A refusal leaves the list as it was.
+    /// Appends a pattern. If it is refused, the list stays as it was.
     pub fn add(&mut self, alloc: A, pattern: &[u8]) -> Result<(), PatternFault>
         ensures ok { OnOk result (self.new ≡ self.old ++ pattern.now ∷ []) }
         ensures err { OnErr result (self.new ≡ self.old) }
@@ -98,7 +98,7 @@ impl<A: Allocator + Copy> Patterns<A> {
         Ok(())
     }
 
-    /// Appends a pattern, for which there is a place.
+    /// Appends a pattern to a list that isn't full.
     fn push(&mut self, pattern: Bytes<A>) -> Result<(), Memory>
         requires few { length self.old < most_patterns }
         requires short { length pattern ≤ most_pattern_bytes }

@@ -9,8 +9,8 @@ use covstore::Totals;
 use itoa::Buffer;
 use std::alloc::Allocator;
 
-/// Tenths of a percent for so many points hit of those found, from 0 to 1000: rounded to the nearest, halves up, but at most 999
-/// where some point isn't hit, and at least 1 where some is. Takes no memory.
+/// The rate of points hit, in tenths of a percent from 0 to 1000: rounded to the nearest, halves up, but at most 999 if some
+/// point isn't hit, and at least 1 if some point is. Takes no memory.
 pub fn tenths(hit: u64, found: u64) -> u32
     requires some { 0 < found }
     requires fewer { hit ≤ found }
@@ -89,7 +89,7 @@ fn put_summary<A: Allocator>(
     text.append(b"\n")
 }
 
-/// Appends the rate of points hit, where there are any points.
+/// Appends the rate of points hit, if there are any points.
 fn put_value<A: Allocator>(
     words: &Words<'_>,
     hit: u64,
@@ -108,7 +108,7 @@ fn put_value<A: Allocator>(
     put_parts(words, hit, found, text)
 }
 
-/// Appends how many points are hit, of how many.
+/// Appends the number of points hit and the number found.
 fn put_parts<A: Allocator>(
     words: &Words<'_>,
     hit: u64,
@@ -126,14 +126,14 @@ fn put_parts<A: Allocator>(
     text.append(b")")
 }
 
-/// The noun for so many points.
+/// The noun for this number of points.
 fn noun<'a>(words: &Words<'a>, found: u64) -> &'a [u8]
     ensures { result.now ≡ noun_of words.now.one.now words.now.many.now found }
 {
     if found == 1 { words.one } else { words.many }
 }
 
-/// Appends tenths of a percent as a number of percent with one place behind the point.
+/// Appends tenths of a percent as a number of percent with one place after the point.
 fn put_tenths<A: Allocator>(tenths: u32, text: &mut Bytes<A>) -> Result<(), Memory>
     ensures { OnOk result (text.new ≡ text.old ++ (decimal (tenths / 10) ++ (codes "." ++ decimal (tenths % 10)))) }
 {

@@ -18,8 +18,8 @@ use covline::{Bytes, Memory, TraceLine, put_line};
 use covstore::{Section, Store};
 use std::alloc::Allocator;
 
-/// The text of the sections of all chosen files, in order. It takes memory for the text, and for the functions of one
-/// section: none where no section is chosen.
+/// The text of the sections of all chosen files, in order. It allocates the text, and the list of one section's
+/// functions at a time; nothing if no section is chosen.
 pub fn trace_text<A: Allocator + Copy>(
     alloc: A,
     store: &Store<A>,

@@ -6,7 +6,7 @@ ghost use Rattle.covreport.specs.PatternParts.{set_data, BeginsWithRange, head_d
 
 use memchr::memchr;
 
-/// The bytes that a part takes one of. A set keeps its body.
+/// The bytes of which a part takes one. A set keeps its body.
 #[derive(Clone, Copy)]
 pub(crate) enum ByteSet<'a> {
     /// Each byte.
@@ -74,7 +74,7 @@ pub(crate) struct Head<'a> {
     pub(crate) rest: &'a [u8],
 }
 
-/// A part of one byte before these.
+/// A part of one byte, which these bytes follow.
 fn one_byte<'a>(set: ByteSet<'a>, rest: &'a [u8]) -> Head<'a>
     ensures { head_data result ≡ (OneByte (set_data set.entry), rest.now) }
 {
@@ -84,7 +84,7 @@ fn one_byte<'a>(set: ByteSet<'a>, rest: &'a [u8]) -> Head<'a>
     }
 }
 
-/// The body of the set that was opened before these bytes, where they close it, and what follows the set.
+/// The body of the set whose `[` comes right before these bytes, if they close it, and what follows the set.
 fn read_body(text: &[u8]) -> Option<(&[u8], &[u8])>
     ensures { option_map (λ read. (read.0.now, read.1.now)) result ≡ option_map (behind_body text.now) (body_of text.now) }
 {
@@ -93,7 +93,7 @@ fn read_body(text: &[u8]) -> Option<(&[u8], &[u8])>
     Some((&text[..close + 1], &behind[close + 1..]))
 }
 
-/// The set that `[` opened before these bytes, where they close it.
+/// The set whose `[` comes right before these bytes, if they close it.
 fn read_set(rest: &[u8]) -> Option<Head<'_>>
     ensures { option_map head_data result ≡ option_map (behind_head rest.now) (opened_set rest.now) }
 {
@@ -105,7 +105,7 @@ fn read_set(rest: &[u8]) -> Option<Head<'_>>
     Some(one_byte(ByteSet::OneOf(body), behind))
 }
 
-/// The byte that was quoted before these bytes: the backslash itself where there is none.
+/// The part of a `\` right before these bytes: it takes the first of them as itself, or `\` itself if there is none.
 fn read_quoted(rest: &[u8]) -> Head<'_>
     ensures { head_data result ≡ behind_head rest.now (quoted rest.now) }
 {
@@ -115,7 +115,7 @@ fn read_quoted(rest: &[u8]) -> Head<'_>
     }
 }
 
-/// The part that begins with this byte before these.
+/// The part that begins with this byte, which these bytes follow.
 pub(crate) fn read_head(first: u8, rest: &[u8]) -> Head<'_>
     ensures { head_data result ≡ behind_head rest.now (head_of first rest.now) }
 {

@@ -14,12 +14,12 @@ struct Place<'a> {
     path: &'a [u8],
 }
 
-/// Where a match stands. It goes back to the last star only: the parts before that one fit as early in the path as they
-/// can, and to fit them later leaves that star no more.
+/// How far a match has come. It goes back to the last star only: the parts before it fit as early in the path as they
+/// can, and fitting them later would leave that star no more to take.
 #[derive(Drop)]
 pub(crate) struct Matcher<'a> {
     here: Place<'a>,
-    /// Behind the last star, where its run was last taken to end.
+    /// What is left after the last star, where its run was last taken to end.
     star: Option<Place<'a>>,
 }
 
@@ -36,8 +36,8 @@ impl<'a> Matcher<'a> {
         }
     }
 
-    /// One step: the answer, where it is found. A match takes at most as many steps as there are pairs of a place in
-    /// the pattern and a place in the path.
+    /// Takes one step, and returns the answer once it is found. A match takes at most as many steps as there are pairs
+    /// of a place in the pattern and a place in the path.
     pub(crate) fn step(&mut self) -> Option<bool>
         requires { GoesOn self.old }
         ensures { MatchOption result (Proceeds self.old self.new) (λ answer. answer ≡ answer_of self.old) }
@@ -68,7 +68,7 @@ impl<'a> Matcher<'a> {
         self.go_back()
     }
 
-    /// Takes a byte of the set, which the pattern begins with before the rest.
+    /// Takes a byte of the set at the front of the pattern, which the rest follows.
     fn take_byte(&mut self, set: ByteSet<'a>, rest: &'a [u8]) -> Option<bool>
         requires goes_on { GoesOn self.old }
         requires parts { parts_of self.old.here.pattern.now ≡ OneByte (set_data set) ∷ parts_of rest.now }
@@ -87,7 +87,8 @@ impl<'a> Matcher<'a> {
         }
     }
 
-    /// The last star takes one byte more, and the match goes on behind it: no match where there is none.
+    /// Lets the last star take one more byte, and goes on after it. Without a star, or without a byte, there is no
+    /// match.
     fn go_back(&mut self) -> Option<bool>
         requires { fits_at self.old.here ≡ false }
         ensures { MatchOption result (Proceeds self.old self.new) (λ answer. answer ≡ answer_of self.old) }

@@ -22,7 +22,7 @@ struct PrintedFunction<'a> {
 }
 
 impl<'a> PrintedFunction<'a> {
-    /// That of a function of the store.
+    /// A function of the store, as it is printed.
     fn of(function: FunctionValue<'a>) -> PrintedFunction<'a>
         ensures { printed_function result ≡ function_data function.entry }
     {
@@ -34,7 +34,7 @@ impl<'a> PrintedFunction<'a> {
     }
 }
 
-/// Appends the functions of a section and their totals. It takes memory for the functions while it lasts.
+/// Appends the functions of a section and their totals. It allocates a list of the functions while it runs.
 pub(super) fn put_functions<A: Allocator>(
     alloc: A,
     section: &Section<'_, A>,

@@ -22,7 +22,7 @@ pub(super) fn put_totals<A: Allocator>(
     put_total(hit, tally.hit, text)
 }
 
-/// Appends the two totals where there is a point.
+/// Appends the two totals if there is a point.
 pub(super) fn put_totals_if_any<A: Allocator>(
     found: TotalKind,
     hit: TotalKind,
