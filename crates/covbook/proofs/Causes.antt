@@ -16,7 +16,7 @@ use Rattle.covbook.proofs.Gathered.{job_told, log_told}
 use Rattle.covbook.proofs.Merged.{entries_are, entries_miss, jobs_from, jobs_to, later, log_holds, log_is, log_of_receipts, logs_are, logs_right, receipts_of_log}
 use Rattle.covbook.proofs.PlaceCounts.{In, In-all, In-from, Contains-from}
 
--- ---- claims in two parts, and what stands at a place
+-- ---- claims in two parts, and what is at a place
 
 first_parts : (xs ys : List {1} Claim) (f : GatherFault) → FirstFails (xs ++ ys) f → FirstFails xs f ⊎ (AllHold xs × FirstFails ys f)
 first_parts [] ys f h = inr (tt, h)
@@ -275,7 +275,7 @@ HasCause entries logs (Missing place) = IsMissing entries logs place
 HasCause entries logs (BadReading log index) = IsBadReading entries logs log index
 HasCause entries logs (SameJob log) = IsSameJob logs log
 
--- the logs before one are right, as are the receipts of it that come before one: a wrong receipt, and what is told of it
+-- a wrong receipt and its fault, if the logs before are right, and so are the receipts before it in its log
 receipt_cause : (entries : List EntryData) (logs : List LogData) (number index : ℕ) (log : LogData) → Differ (jobs_of logs) → AllByRecursion (IsRightLog entries) (take number logs)
     → slice_get logs number ≡ Some log → IsLogOf entries (first_receipts index log) → (IsWrong : LogData → ReceiptData → Type 0) (r : ReceiptData) → slice_get log.receipts index ≡ Some r
     → IsWrong log r → IsFirstWrongLog entries logs number (IsFirstWrongReceipt entries index IsWrong)
@@ -432,7 +432,7 @@ missing_is_told entries logs place cause =
     first_right (jobs ++ kept) (entry_claims logs 0 entries) (Missing place) (all_join jobs kept (jobs_to logs cause.differ) (logs_are entries 0 logs cause.right))
     (entries_miss logs 0 entries place (omega arith) (omega (arith, cause.within)) cause.wrong (λ p low under. cause.before p under))
 
--- ---- where entries are a merge of logs, the only fault is a reading's
+-- ---- if entries are a merge of logs, the only fault is a reading's
 
 abbrev pub IsOfNoReading : GatherFault → Type 0
 IsOfNoReading f = (log index : ℕ) → f ≢ BadReading log index

@@ -1,4 +1,4 @@
--- What the steps over logs and receipts tell, one after another.
+-- What the steps over logs and receipts return, one after another.
 use Rattle.std.proofs.Common.{◌≡◌, ℕ, zero, suc, ◌+◌, ◌-◌, ◌<◌, ◌≤◌, Bool, true, eqb, List, [], ◌∷◌, ◌++◌, Option, Some, None, Result, length, get_or, take, drop, map, sym, refl, ap, ◌∙◌, inl, inr, subst, arith}
 use Rattle.std.specs.Prelude.{◌≢◌, ◌↔◌, ◌&&◌, IsTrue, slice_get, IsSomeAnd, option_map}
 use Rattle.std.specs.List.{All, AllByRecursion}
@@ -91,7 +91,7 @@ receipt_is {X} f entries entry job log index least receipt at own same low =
       (subst (λ (o : Option EntryData). IsSomeAnd o (λ (e : EntryData). receipt_of receipt.place e ≡ receipt)) there same, (low, tt)),
     )
 
--- an entry of another job, one that the receipt doesn't tell, and one whose place is too low
+-- an entry of another job, one that the receipt doesn't fit, and one whose place is too low
 pub other_job : {X : Type 0} (f : X → EntryData) (entries : List X) (entry : X) (job log index least : ℕ) (receipt : ReceiptData) → slice_get entries receipt.place ≡ Some entry
     → ((f entry).job ≡ job → ⊥) → FirstFails (claims_of (map f entries) job log index least receipt) (Stranger log index)
 other_job {X} f entries entry job log index least receipt at other =
@@ -163,7 +163,7 @@ pub totals_at_last : {X : Type 0} (f : X → EntryData) (entries : List X) (i up
 totals_at_last {X} f entries i upto e is at =
     subst (λ (n : ℕ). (f e).after ≡ last_totals (take n (map f entries))) (sym is) (sym (last_at (map f entries) i (f e) (mapped_get f entries i e at)))
 
--- totals are the same where their fields are
+-- totals are the same if their fields are
 fields_are : (lf lh ff fh bf bh lf' lh' ff' fh' bf' bh' : ℕ) → lf ≡ lf' → lh ≡ lh' → ff ≡ ff' → fh ≡ fh' → bf ≡ bf' → bh ≡ bh' → (mk : ℕ → ℕ → ℕ → ℕ → ℕ → ℕ → Totals)
     → mk lf lh ff fh bf bh ≡ mk lf' lh' ff' fh' bf' bh'
 fields_are lf lh ff fh bf bh lf' lh' ff' fh' bf' bh' a b c d e f mk = cc
@@ -199,7 +199,7 @@ fields_same a b same =
 pub same_totals : (a b : Totals) (same : Bool) → same ≡ same_fields a b → IsTrue same ↔ (a ≡ b)
 same_totals a b same is = ((λ yes. fields_same a b (sym is ∙ yes)), λ e. is ∙ ap (same_fields a) (sym e) ∙ same_itself a)
 
--- a reading with the totals after so many entries
+-- a reading with the totals after its number of entries
 pub reading_is : {X : Type 0} (f : X → EntryData) (entries : List X) (reading : Reading) (totals : Totals) (same : Bool) → reading.upto ≤ length entries
     → totals ≡ last_totals (take reading.upto (map f entries)) → IsTrue same ↔ (totals ≡ reading.totals) → IsTrue same ↔ IsReadingOf (map f entries) reading
 reading_is f entries reading totals same within are is = (

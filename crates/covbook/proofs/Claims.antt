@@ -38,7 +38,7 @@ one_fails (c ∷ xs) f g (inl h) (inr k) = absurd (h.0 k.0)
 one_fails (c ∷ xs) f g (inr h) (inl k) = absurd (k.0 h.0)
 one_fails (c ∷ xs) f g (inr h) (inr k) = one_fails xs f g h.1 k.1
 
--- what is told of the claims behind those that hold is told of all
+-- the answer for the claims after some that hold is the answer for all
 pub tells_behind : {T : Type 0} (r : Result T GatherFault) (xs ys : List {1} Claim) → AllHold xs → Tells r ys → Tells r (xs ++ ys)
 tells_behind (Ok x) xs ys a t = all_join xs ys a t
 tells_behind (Err f) xs ys a t = first_right xs ys f a t

@@ -1,4 +1,4 @@
--- What a gathering tells of entries and logs as a whole.
+-- What a gathering returns for entries and logs as a whole.
 use Rattle.std.proofs.Common.{◌≡◌, ℕ, List, [], ◌++◌, Result, Ok, Err, IsOk, Some, None, length, refl, ap, subst, arith}
 use Rattle.std.specs.Prelude.{◌↔◌}
 use Rattle.std.proofs.lemmas.Bool.{false≢true}

@@ -40,7 +40,7 @@ still_after store accepted room entries book op totals b view is still =
     is ∙ ap totals_of b.stands.content ∙ ap (λ (x : BookData). totals_at (table_of (ops_in x.entries))) view
     ∙ ap totals_at (sym still)
 
--- they are told of the book as it was
+-- the same of the book as it was
 pub told_after : (before book : BookData) (asker : ℕ) (asked : OpData) (made : ReadyData) → SameBook before book → IsReadyFor book asker asked made → IsAfter before asked made.after
 told_after before book asker asked made same r =
     r.ready.after ∙ ap (λ (es : List EntryData). totals_at (table_after (table_of (ops_in es)) made.entry.op)) same.entries
@@ -53,7 +53,7 @@ next_with entries job op answer after said told =
     let entry : AnswerData → Totals → EntryData = λ a t. record { job = job; op = op; answer = a; after = t } in
     ap (λ (a : AnswerData). entry a after) said ∙ ap (entry (answer_of (table_of (ops_in entries)) op)) told
 
--- the entry of a test that is dropped, of which a row is
+-- the entry of a drop, of a test that has a row
 pub dropped_next : (entries : List EntryData) (job : ℕ) (test : List ℕ) (answer : AnswerData) (after : Totals) → has_test (table_of (ops_in entries)) test ≡ true
     → answer ≡ DroppedAnswer (sections_of_test test (table_of (ops_in entries))) → after ≡ totals_at (without_test test (table_of (ops_in entries)))
     → record { job = job; op = DropTestOp test; answer = answer; after = after } ≡ next_entry entries job (DropTestOp test)
@@ -63,7 +63,7 @@ dropped_next entries job test answer after there said told =
     (said ∙ ap (answer_to_drop table test) (sym there))
     (told ∙ ap (λ (b : Bool). totals_at (table_after_drop table test b)) (sym there))
 
--- the entry of a test that is renamed, of which a row is
+-- the entry of a rename, of a test that has a row
 pub renamed_next : (entries : List EntryData) (job : ℕ) (old new : List ℕ) (answer : AnswerData) (after : Totals) → has_test (table_of (ops_in entries)) old ≡ true
     → answer ≡ RenamedAnswer (sections_of_test old (table_of (ops_in entries))) → after ≡ totals_at (renamed old new (table_of (ops_in entries)))
     → record { job = job; op = RenameOp old new; answer = answer; after = after } ≡ next_entry entries job (RenameOp old new)
@@ -85,7 +85,7 @@ renaming_planned store table old new own_old own_new renaming there same_old sam
       ∙ ap (λ (t : List ℕ). renamed old t table) same_new,
 )
 
--- the test is there by its own copy of the name, in the book's table
+-- the test is there, by the step's own copy of the name, in the book's table
 pub row_there : (store : StoreData) (room : ℕ) (entries : List EntryData) (book : BookData) (own given : List ℕ) → shown store room entries ≡ book → own ≡ given
     → true ≡ has_test (table_of (ops_in entries)) given → has_test (table_of (ops_in book.entries)) own ≡ true
 row_there store room entries book own given view is found =

@@ -1,4 +1,4 @@
--- Logs of different jobs tell no place twice.
+-- Receipts in logs of different jobs have different places.
 use Rattle.std.proofs.Common.{◌≡◌, ℕ, ◌≤◌, List, [], ◌∷◌, Option, Some, None, map, sym, ◌∙◌, inl, inr, subst, arith}
 use Rattle.std.specs.Prelude.{◌≢◌, slice_get, IsSomeAnd}
 use Rattle.std.specs.List.{AllByRecursion}
@@ -8,7 +8,7 @@ use Rattle.covbook.specs.Gather.{LogData, jobs_of, places_of, places_in, Rise, D
 use Rattle.covbook.specs.GatherSteps.{AreApart, times}
 use Rattle.covbook.proofs.PlaceCounts.{In, In-parts, all_weaker, rise_once, times_append, times_in}
 
--- at a place that a log tells stands an entry of its job
+-- at the place of a log's receipt there is an entry of the log's job
 owned : (entries : List EntryData) (job : ℕ) (receipts : List ReceiptData) (place : ℕ) → AllByRecursion (IsOfJob entries job) receipts → In place (map (λ (r : ReceiptData). r.place) receipts)
     → IsSomeAnd (slice_get entries place) (λ (e : EntryData). e.job ≡ job)
 owned entries job [] place own h = absurd h
@@ -19,7 +19,7 @@ one_job : (o : Option EntryData) (job other : ℕ) → IsSomeAnd o (λ (e : Entr
 one_job None job other a b = absurd a
 one_job (Some e) job other a b = sym a ∙ b
 
--- no log of another job tells it
+-- no log of another job has it
 not_others : (entries : List EntryData) (job place : ℕ) (logs : List LogData) → IsSomeAnd (slice_get entries place) (λ (e : EntryData). e.job ≡ job)
     → AllByRecursion (λ (other : ℕ). job ≢ other) (jobs_of logs) → AllByRecursion (IsLogOf entries) logs → In place (places_in logs) → ⊥
 not_others entries job place [] at differ of h = h

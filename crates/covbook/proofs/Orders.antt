@@ -1,4 +1,5 @@
--- Runs of submissions whose checksums agree: none clashes, the table has the rows of each, and the texts don't tell their order.
+-- Runs of submissions whose checksums agree: none clashes, the table has the rows of each, and the texts don't depend on their
+-- order.
 use Rattle.std.proofs.Common.{◌≡◌, ℕ, ◌+◌, List, [], ◌∷◌, ◌++◌, length, map, refl, sym, ap, ◌∙◌, subst, append_assoc}
 use Rattle.std.specs.Prelude.{◌↔◌, None, Contains}
 use Rattle.std.specs.List.{AllByRecursion, flat_map}
@@ -20,7 +21,7 @@ use Rattle.covbook.specs.Order.{submission_of, submissions_in, AreTheSame, AreAg
 use Rattle.covbook.specs.Step.{answer_to_submit, answer_of, table_after_submit, table_after, answers_from, answers_to, table_from, table_of}
 use Rattle.covbook.specs.Texts.{IsText}
 
--- what covstore's laws say: where all checksums agree nothing clashes, and of tables in two orders
+-- what covstore's laws say: if all checksums agree nothing clashes, and of tables in two orders
 abbrev pub NoneClashes : Type 0
 NoneClashes = (held given : List Checksum) → Agree held → first_clash held given ≡ None ↔ Agree (held ++ given)
 
@@ -140,7 +141,7 @@ same_text table others same (RemoveOp patterns) text = ap (λ (sections : List S
 same_text table others same SummaryOp text = ap (λ (sections : List SectionData). TextAnswer (summary_of (totals_of sections))) same
 same_text table others same other text = absurd text
 
--- checksums that agree still do where the submissions come in another order
+-- checksums that agree still do if the submissions come in another order
 pub agreement_stays : AgreementStays → (some others : List SubmissionData) → AreTheSame some others → AreAgreeing some → AreAgreeing others
 agreement_stays stays some others same agree =
     let agree_some : Agree (checksums_in (all_rows (map rows_of some))) = subst (λ (rows : List Row). Agree (checksums_in rows)) (sym (rows_with some)) agree in

@@ -1,4 +1,4 @@
--- Membership in a list of numbers, and how many of them are below one, where none comes twice.
+-- Membership in a list of numbers in which none comes twice, and how many of them are below one.
 use Rattle.std.proofs.Common.{◌≡◌, ℕ, zero, suc, ◌+◌, ◌<◌, ◌≤◌, Bool, true, false, cond, eqb, ltb, List, [], ◌∷◌, ◌++◌, length, map, sym, refl, ap, ◌∙◌, inl, inr, subst, ⊎_elim, arith}
 use Rattle.std.specs.Prelude.{◌⊎◌, slice_index_or}
 use Rattle.std.specs.List.{AllByRecursion, AllWithin, Contains}
@@ -149,7 +149,7 @@ below_most xs once (suc m) = omega (arith, below_step m xs, once m, below_most x
 below_other : (m n : ℕ) → m ≤ suc n → (m ≡ suc n → ⊥) → m ≤ n
 below_other m n le other = elim (cases_order m (suc n)) [ inl e ↦ absurd (other e) | inr h ↦ elim h [ inl lt ↦ omega (arith, lt) | inr gt ↦ omega (arith, le, gt) ] ]
 
--- where as many are below as there can be, so there are below each smaller number
+-- if as many are below a number as there can be, the same holds of each smaller number
 pub full_below : (xs : List ℕ) → ((x : ℕ) → times x xs ≤ 1) → (n m : ℕ) → m ≤ n → below n xs ≡ n → below m xs ≡ m
 full_below xs once zero m le full = let e : 0 ≡ m = omega (arith, le) in subst (λ (k : ℕ). below k xs ≡ k) e (below_none xs)
 full_below xs once (suc n) m le full = elim (cases_eq m (suc n)) [
@@ -176,7 +176,7 @@ rise_by n (x ∷ xs) r zero (suc j) d le lt = let above = all_at (λ y. n x < n 
 rise_by n (x ∷ xs) r (suc i) zero d le lt = absurd (omega (arith, le))
 rise_by n (x ∷ xs) r (suc i) (suc j) d le lt = rise_by n xs r.1 i j d (omega (arith, le)) (omega (arith, lt))
 
--- so many are below as stand before the first that isn't
+-- the elements below a number are those before the first that isn't
 none_below : {X : Type 0} (n : X → ℕ) (m : ℕ) (xs : List X) → AllWithin (λ (x : X). ltb (n x) m ≡ false) xs 0 (length xs) → below m (map n xs) ≡ 0
 none_below n m [] a = refl
 none_below n m (x ∷ xs) a =

@@ -1,4 +1,4 @@
--- A run with one operation more, and a history with one entry more.
+-- A run with one more operation, and a history with one more entry.
 use Rattle.std.proofs.Common.{◌≡◌, ℕ, ◌+◌, ◌<◌, ◌≤◌, List, [], ◌∷◌, ◌++◌, length, None, refl, sym, ap, ◌∙◌, subst, arith}
 use Rattle.std.proofs.lemmas.List.{map_push, length_push}
 use Rattle.covstore.specs.declared.totals.Totals.{Totals}
@@ -50,7 +50,7 @@ lawful_more : (ops : List OpData) (op : OpData) → AreLawfulOps ops → IsLawfu
 lawful_more [] op all one = (one, tt)
 lawful_more (first ∷ ops) op all one = (all.0, lawful_more ops op all.1 one)
 
--- with one lawful operation more a history's operations are lawful
+-- with one more lawful operation a history's operations are lawful
 lawful-next : (entries : List EntryData) (job : ℕ) (op : OpData) → AreLawfulOps (ops_in entries) → IsLawfulOp op → AreLawfulOps (ops_in (entries ++ next_entry entries job op ∷ []))
 lawful-next entries job op all one =
     subst AreLawfulOps (sym (map_push (λ (x : EntryData). x.op) entries (next_entry entries job op))) (lawful_more (ops_in entries) op all one)
@@ -66,7 +66,8 @@ text_lawful other text = tt
 abbrev pub shown : StoreData → ℕ → List EntryData → BookData
 shown store room entries = record { entries = entries; room = room; store = store }
 
--- the store stands for the table that the operation leaves, and so many submissions are accepted then
+-- the store stands for the table that the operation leaves, and this is the number of submissions that are then
+-- accepted
 next_book : (store : StoreData) (accepted : ℕ) (entries : List EntryData) (job : ℕ) (op : OpData) → IsLegal entries → AreLawfulOps (ops_in entries) → IsLawfulOp op → length entries < most_entries
     → StandsFor store (table_after (table_of (ops_in entries)) op) → accepted ≡ length (table_after (table_of (ops_in entries)) op) → accepted ≤ length entries + 1
     → IsBook store accepted (entries ++ next_entry entries job op ∷ [])

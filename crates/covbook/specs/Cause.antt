@@ -1,4 +1,4 @@
--- What each fault of a gathering says: what is wrong at the log, receipt, reading or place that it names, where all that comes
+-- What each fault of a gathering says: what is wrong at the log, receipt, reading or place that it names, while all that comes
 -- before it in the order of faults is right.
 use Rattle.std.specs.Prelude.{◌≢◌, ℕ, ◌-◌, ◌<◌, ◌≤◌, ◌⊎◌, List, length, slice_get, take, IsSomeAnd}
 use Rattle.std.specs.List.{AllByRecursion, Contains}
@@ -32,12 +32,12 @@ pub record IsFirstWrongReceipt (entries : List EntryData) (index : ℕ) (IsWrong
   pub before : IsLogOf entries (first_receipts index log)
   pub wrong : IsSomeAnd (slice_get log.receipts index) (IsWrong log)
 
--- `Stranger`: at the receipt's place stands no entry of the log's job
+-- `Stranger`: at the receipt's place there is no entry of the log's job
 abbrev pub IsStranger : List EntryData → List LogData → (log index : ℕ) → Type 0
 IsStranger entries logs number index =
     IsFirstWrongLog entries logs number (IsFirstWrongReceipt entries index (λ (log : LogData) (r : ReceiptData). ¬ IsOfJob entries log.job r))
 
--- `Differs`: at the receipt's place stands an entry of the log's job, with another operation or answer
+-- `Differs`: at the receipt's place there is an entry of the log's job, with another operation or answer
 abbrev pub IsDiffering : List EntryData → List LogData → (log index : ℕ) → Type 0
 IsDiffering entries logs number index =
     IsFirstWrongLog entries logs number (IsFirstWrongReceipt entries index (λ (log : LogData) (r : ReceiptData). IsOfJob entries log.job r × ¬ IsReceiptOf entries r))
@@ -52,7 +52,7 @@ IsBackwards entries logs number index =
     IsFirstWrongLog entries logs number
     (IsFirstWrongReceipt entries index (λ (log : LogData) (r : ReceiptData). IsOfJob entries log.job r × IsReceiptOf entries r × IsNotAbove index log r))
 
--- a reading's number of entries is past the end, or its totals are others than those after so many entries
+-- a reading's number of entries is past the end, or its totals aren't those after that number of entries
 abbrev pub IsNoReadingOf : List EntryData → Reading → Type 0
 IsNoReadingOf entries r = (length entries < r.upto) ⊎ (r.totals ≢ last_totals (take r.upto entries))
 

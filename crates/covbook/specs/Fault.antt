@@ -1,4 +1,4 @@
--- The numbers of a book's faults, the same from the first day on.
+-- The numbers of a book's faults, which stay the same in all versions.
 use Rattle.std.specs.Prelude.{ℕ}
 use Rattle.covbook.specs.declared.book.BookFault.{BookFault}
 use Rattle.covbook.specs.declared.book.BookFault.TheVariants.{Full, Memory}

@@ -1,5 +1,5 @@
 -- A history gathered from what each job kept of it: when its entries are a merge of the jobs' logs and all readings are right,
--- and the first fault where they aren't.
+-- and the first fault if they aren't.
 use Rattle.std.specs.Prelude.{◌≡◌, ◌≢◌, ℕ, ◌+◌, ◌<◌, ◌≤◌, ◌⊎◌, List, [], ◌∷◌, ◌++◌, length, map, slice_get, take, IsSomeAnd}
 use Rattle.std.specs.List.{AllByRecursion, Contains, flat_map}
 use Rattle.covbook.specs.declared.gather_fault.GatherFault.{GatherFault}
@@ -14,7 +14,7 @@ pub record LogData : Type 0 where
   pub receipts : List ReceiptData
   pub readings : List Reading
 
--- the places that a log's receipts tell, and those that logs tell
+-- the places of a log's receipts, and those of all logs' receipts
 abbrev pub places_of : LogData → List ℕ
 places_of log = map (λ (r : ReceiptData). r.place) log.receipts
 
@@ -33,11 +33,11 @@ abbrev pub Differ : List ℕ → Type 0
 Differ [] = Unit {0}
 Differ (x ∷ xs) = AllByRecursion (λ (y : ℕ). x ≢ y) xs × Differ xs
 
--- at a receipt's place stands an entry of this job
+-- at a receipt's place there is an entry of this job
 abbrev pub IsOfJob : List EntryData → ℕ → ReceiptData → Type 0
 IsOfJob entries job r = IsSomeAnd (slice_get entries r.place) (λ (e : EntryData). e.job ≡ job)
 
--- at a receipt's place stands an entry with the receipt's operation and answer
+-- at a receipt's place there is an entry with the receipt's operation and answer
 abbrev pub IsReceiptOf : List EntryData → ReceiptData → Type 0
 IsReceiptOf entries r = IsSomeAnd (slice_get entries r.place) (λ (e : EntryData). receipt_of r.place e ≡ r)
 
@@ -54,7 +54,7 @@ pub record IsMerge (entries : List EntryData) (logs : List LogData) : Type 0 whe
   pub kept : AllByRecursion (IsLogOf entries) logs
   pub whole : (place : ℕ) → place < length entries → Contains (places_in logs) place
 
--- a reading is of a history: so many entries are there, and its totals are those after them, all zeros where they are none
+-- a reading is of a history: the history has its number of entries, and its totals are those after them, zeros for none
 pub record IsReadingOf (entries : List EntryData) (r : Reading) : Type 0 where
   pub within : r.upto ≤ length entries
   pub totals : r.totals ≡ last_totals (take r.upto entries)
@@ -67,7 +67,7 @@ pub record IsGathered (entries : List EntryData) (logs : List LogData) : Type 0 
   pub merge : IsMerge entries logs
   pub readings : AllByRecursion (AreReadingsOf entries) logs
 
--- what has to hold, and the fault where it doesn't
+-- what has to hold, and the fault if it doesn't
 pub record Claim : Type 1 where
   pub holds : Type 0
   pub fault : GatherFault
@@ -90,8 +90,8 @@ job_claims number before [] = []
 job_claims number before (log ∷ logs) =
     claim (AllByRecursion (λ (job : ℕ). job ≢ log.job) before) (SameJob number) ∷ job_claims (number + 1) (before ++ log.job ∷ []) logs
 
--- a receipt of a log: an entry of the job stands at its place, with its operation and answer, and the place is above that of
--- the receipt before (`least` is the least that is)
+-- a receipt of a log: an entry of the job is at its place, with its operation and answer, and the place is above that of the
+-- receipt before (`least` is the least such place)
 abbrev pub claims_of : List EntryData → (job log index least : ℕ) → ReceiptData → List {1} Claim
 claims_of entries job log index least r =
     claim (IsOfJob entries job r) (Stranger log index) ∷ claim (IsReceiptOf entries r) (Differs log index) ∷ claim (least ≤ r.place) (Backwards log index) ∷ []
@@ -119,10 +119,10 @@ abbrev pub entry_claims : List LogData → (place : ℕ) → List EntryData → 
 entry_claims logs place [] = []
 entry_claims logs place (e ∷ entries) = claim (Contains (places_in logs) place) (Missing place) ∷ entry_claims logs (place + 1) entries
 
--- all that makes a history gathered from logs, in the order in which faults are told
+-- all that makes a history gathered from logs, in the order in which faults are tested
 abbrev pub gather_claims : List EntryData → List LogData → List {1} Claim
 gather_claims entries logs = job_claims 0 [] logs ++ log_claims entries 0 logs ++ entry_claims logs 0 entries
 
--- the fault that is told of entries and logs
+-- the first fault of entries and logs
 abbrev pub IsGatherFault : List EntryData → List LogData → GatherFault → Type 0
 IsGatherFault entries logs fault = FirstFails (gather_claims entries logs) fault

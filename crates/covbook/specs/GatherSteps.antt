@@ -1,4 +1,4 @@
--- What the private steps of a gathering tell.
+-- What the private steps of a gathering return.
 use Rattle.std.specs.Prelude.{ℕ, ◌+◌, ◌<◌, ◌≤◌, cond, List, [], ◌∷◌, Option, Result, MatchOption, MatchResult, eqb, ltb}
 use Rattle.std.specs.List.{AllByRecursion, Contains}
 use Rattle.covbook.specs.declared.gather_fault.GatherFault.{GatherFault}
@@ -17,12 +17,12 @@ abbrev pub below : ℕ → List ℕ → ℕ
 below place [] = 0
 below place (p ∷ places) = cond (ltb p place) 1 0 + below place places
 
--- in each log the places rise, and no place is told twice
+-- in each log the places rise, and no place comes twice
 pub record AreApart (logs : List LogData) : Type 0 where
   pub rise : AllByRecursion (λ (log : LogData). Rise (places_of log)) logs
   pub once : (place : ℕ) → times place (places_in logs) ≤ 1
 
--- all places below this many are told; or this is the least that isn't
+-- all places below this count are there; or this is the least that isn't
 abbrev pub TellsLeast : Option ℕ → ℕ → List ℕ → Type 0
 TellsLeast result count places =
     MatchOption result ((p : ℕ) → p < count → Contains places p) (λ (place : ℕ). (place < count) × (Contains places place → ⊥) × ((p : ℕ) → p < place → Contains places p))

@@ -9,20 +9,19 @@ pub record HistoryData : Type 0 where
   pub entries : List EntryData
   pub room : ℕ
 
--- the history. Beside it stands what a step that was made ready rests on: for how many entries there is room, and what the
--- store shows
+-- the history, and what a step that was made ready relies on: for how many entries there is room, and what the store shows
 pub record BookData : Type 0 where
   pub entries : List EntryData
   pub room : ℕ
   pub store : StoreData
 
--- the same history, and the same content of the store; room and what else the store shows may differ
+-- the same history, and the same content of the store; the room and what else the store shows may differ
 pub record SameBook (before after : BookData) : Type 0 where
   pub entries : after.entries ≡ before.entries
   pub content : SameContent before.store after.store
 
--- the history is legal and its operations are lawful, the store stands for the last table of its run, and so many submissions
--- were accepted
+-- the history is legal and its operations are lawful, the store stands for the last table of its run, and this is the number
+-- of accepted submissions
 pub record IsBook (store : StoreData) (accepted : ℕ) (entries : List EntryData) : Type 0 where
   pub legal : IsLegal entries
   pub lawful : AreLawfulOps (ops_in entries)

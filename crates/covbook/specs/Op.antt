@@ -56,7 +56,7 @@ pub record EntryData : Type 0 where
   pub answer : AnswerData
   pub after : Totals
 
--- what the asking job gets of an operation: its place in the history, counted from 0, and the answer
+-- what a job gets back for an operation: its place in the history, counted from 0, and the answer
 pub record ReceiptData : Type 0 where
   pub place : ℕ
   pub op : OpData

@@ -1,4 +1,4 @@
--- Where the order in which jobs hand in doesn't matter: the same submissions, whose checksums agree.
+-- When the order in which jobs hand in doesn't matter: the same submissions, whose checksums agree.
 use Rattle.std.specs.Prelude.{List, [], ◌∷◌}
 use Rattle.std.specs.List.{AllByRecursion, flat_map}
 use Rattle.std.specs.List.Sorted.{IsPermutation}
@@ -6,7 +6,7 @@ use Rattle.covline.specs.Row.{SubmissionData, rows_of}
 use Rattle.covstore.specs.Clash.{Agree, checksums_in}
 use Rattle.covbook.specs.Op.{OpData, SubmitOp, DropTestOp, RenameOp, ReportOp, ExtractOp, RemoveOp, SummaryOp}
 
--- the submission that an operation hands in, where it does
+-- the submission that an operation hands in, if it does
 abbrev pub submission_of : OpData → List SubmissionData
 submission_of (SubmitOp submission) = submission ∷ []
 submission_of (DropTestOp test) = []
@@ -24,7 +24,7 @@ submissions_in ops = flat_map submission_of ops
 abbrev pub AreTheSame : List SubmissionData → List SubmissionData → Type 0
 AreTheSame some others = IsPermutation some others
 
--- any two rows of any of them that have a checksum for one line of one file have the same
+-- two rows that have a checksum for one line of one file have the same, whichever of the submissions they are of
 abbrev pub AreAgreeing : List SubmissionData → Type 0
 AreAgreeing submissions = Agree (checksums_in (flat_map rows_of submissions))
 

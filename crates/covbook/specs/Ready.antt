@@ -34,9 +34,9 @@ pub record HasRoom (book : BookData) : Type 0 where
 abbrev pub IsNextOf : BookData → EntryData → Type 0
 IsNextOf book entry = ComesNext book.entries entry
 
--- the change does to the store what the operation does to the table. No change is made for an operation that leaves the table as
--- it is. A plan is one of this store, for a submission whose rows the operation adds to the table. A test is dropped for an
--- operation that takes its rows out of the table. A renaming is one of this store, for two names, where the operation gives the
+-- the change does to the store what the operation does to the table. No change is made for an operation that leaves the table
+-- as it is. A plan is one of this store, for a submission whose rows the operation adds to the table. A test is dropped for an
+-- operation that takes its rows out of the table. A renaming is one of this store, for two names, if the operation gives the
 -- rows of the first name the second
 abbrev pub IsPlanned : StoreData → Table → OpData → ChangeData → Type 0
 IsPlanned store table op NoChange = table_after table op ≡ table
@@ -44,7 +44,7 @@ IsPlanned store table op (HoldChange plan) = (s : SubmissionData) × IsPlanOf st
 IsPlanned store table op (DropChange test) = table_after table op ≡ without_test test table
 IsPlanned store table op (RenameChange renaming) = (old new : List ℕ) × IsRenamingOf store old new renaming × (table_after table op ≡ renamed old new table)
 
--- the totals are those that stand when the operation is answered
+-- the totals are those after the operation
 abbrev pub IsAfter : BookData → OpData → Totals → Type 0
 IsAfter book op totals = totals ≡ totals_at (table_after (table_of (ops_in book.entries)) op)
 

@@ -1,9 +1,9 @@
--- What a book answers where its store can't hold a submission.
+-- What a book answers if its store can't hold a submission.
 use Rattle.std.specs.Prelude.{Option, Some, None}
 use Rattle.covstore.specs.Store.{RefuseData, ClashRefuse, MemoryRefuse}
 use Rattle.covbook.specs.Op.{AnswerData, ClashAnswer}
 
--- a clash is an answer, and a want of memory is none
+-- a clash is an answer, and out of memory is none
 abbrev pub refusal_answer : RefuseData → Option AnswerData
 refusal_answer (ClashRefuse clash) = Some (ClashAnswer clash)
 refusal_answer MemoryRefuse = None

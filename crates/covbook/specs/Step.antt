@@ -27,7 +27,8 @@ table_after_submit table submission None = table ++ rows_of submission ∷ []
 abbrev pub has_test : Table → List ℕ → Bool
 has_test table test = list_any (is_of_test test) (all_rows table)
 
--- a test without a row can't be dropped: there is no such test. Else its rows go out of the members of the table, which all stay
+-- a test without a row can't be dropped: there is no such test. Else its rows are removed from the members of the table, which
+-- all stay
 abbrev pub answer_to_drop : Table → List ℕ → Bool → AnswerData
 answer_to_drop table test true = DroppedAnswer (sections_of_test test table)
 answer_to_drop table test false = NoSuchTestAnswer
@@ -36,7 +37,8 @@ abbrev pub table_after_drop : Table → List ℕ → Bool → Table
 table_after_drop table test true = without_test test table
 table_after_drop table test false = table
 
--- a test without a row can't be renamed: there is no such test. Else its rows get the new name, beside those that have it already
+-- a test without a row can't be renamed: there is no such test. Else its rows get the new name, together with those that have
+-- it already
 abbrev pub answer_to_rename : Table → List ℕ → Bool → AnswerData
 answer_to_rename table old true = RenamedAnswer (sections_of_test old table)
 answer_to_rename table old false = NoSuchTestAnswer
@@ -111,7 +113,7 @@ pub record IsLegal (entries : List EntryData) : Type 0 where
 abbrev pub no_totals : Totals
 no_totals = record { lf = 0; lh = 0; ff = 0; fh = 0; bf = 0; bh = 0 }
 
--- the totals after the last entry, and none where there are no entries
+-- the totals after the last entry, and zeros if there are no entries
 abbrev pub last_totals : List EntryData → Totals
 last_totals [] = no_totals
 last_totals (e ∷ []) = e.after
@@ -125,10 +127,10 @@ next_entry history job op = record { job = job; op = op; answer = answer_of (tab
 abbrev pub ComesNext : List EntryData → EntryData → Type 0
 ComesNext history entry = entry ≡ next_entry history entry.job entry.op
 
--- what the asking job gets of the entry at a place
+-- what a job gets back for the entry at a place
 abbrev pub receipt_of : ℕ → EntryData → ReceiptData
 receipt_of place entry = record { place = place; op = entry.op; answer = entry.answer }
 
--- how many entries one history has at the most
+-- the most entries in one history
 abbrev pub most_entries : ℕ
 most_entries = 1048576

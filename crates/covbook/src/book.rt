@@ -47,8 +47,8 @@ impl From<Memory> for BookFault {
     }
 }
 
-/// A table of counts with its history. Contracts see the history, which is legal at every moment; the table is
-/// the last one of its run. Beside it they see what `finish` rests on: room, and what the store shows.
+/// A table of counts with its history. Contracts see the history, which is legal at every moment; the table is the last
+/// one of its run. They also see what `finish` relies on: room, and what the store shows.
 #[derive(Drop)]
 pub struct Book<A: Allocator = Global> {
     store: Store<A>,
@@ -101,7 +101,7 @@ impl<A: Allocator + Copy> Book<A> {
         self.history.get()
     }
 
-    /// The totals now: those after the last entry, and zeros where there are no entries. Takes no memory.
+    /// The totals now: those after the last entry, or zeros if there are no entries. Takes no memory.
     pub fn totals(&self) -> Totals
         ensures last { result ≡ last_totals self.now.entries }
         ensures table { result ≡ totals_at (table_of (ops_in self.now.entries)) }
@@ -110,8 +110,8 @@ impl<A: Allocator + Copy> Book<A> {
         self.store.totals()
     }
 
-    /// One step of the table: the operation is answered, and its entry appended. A refusal leaves history and content
-    /// as they were. This is `ready` and then `finish`.
+    /// Takes one step of the table: answers the operation, and appends its entry. If it is refused, history and content stay as
+    /// they were. This is `ready` and then `finish`.
     pub fn step(&mut self, alloc: A, job: u32, op: &Op<A>) -> Result<Receipt<A>, BookFault>
         ensures answer { IfOk result (λ r. answer_data r.answer ≡ answer_of (table_of (ops_in self.old.entries)) (op_data op.now)) }
         ensures place { IfOk result (λ r. r.place ≡ length self.old.entries) }
@@ -125,10 +125,10 @@ impl<A: Allocator + Copy> Book<A> {
         Ok(self.finish(ready))
     }
 
-    /// The first half of a step: all that can be refused. The operation is answered and its entry made, with room for it
-    /// and, for a submission or a rename, what the store plans; for a test that is dropped, in how many sections it stands and the
-    /// totals without it. The history and the table stay as they are, whatever is answered.
-    /// `finish` does the rest, where the book is as it is left here; a step that is dropped is none.
+    /// Takes the first half of a step: all that can be refused. The operation is answered, and its entry made, with
+    /// room for it. A submission or a rename is planned in the store; of a test to drop, the number of its sections and
+    /// the totals without it are found. History and table stay as they are, whatever is answered. `finish` does the
+    /// rest, if the book is still as this call left it. Dropping the `Ready` cancels the step.
     pub fn ready(&mut self, alloc: A, job: u32, op: &Op<A>) -> Result<Ready<A>, BookFault>
         ensures same { SameBook self.old self.new }
         ensures ready { IfOk result (λ r. IsReadyFor self.new job (op_data op.now) r) }
@@ -142,7 +142,7 @@ impl<A: Allocator + Copy> Book<A> {
         Ok(self.made_ready(alloc, job, op)?)
     }
 
-    /// The second half of a step: its entry is appended, and what is planned is done, or the test dropped. Takes no memory.
+    /// Takes the second half of a step: appends its entry, and does what is planned, or drops the test. Takes no memory.
     pub fn finish(&mut self, ready: Ready<A>) -> Receipt<A>
         requires { IsReadyOf self.old ready }
         ensures receipt { receipt_data result ≡ receipt_of (length self.old.entries) (next_entry self.old.entries ready.entry.job ready.entry.op) }
@@ -159,7 +159,7 @@ impl<A: Allocator + Copy> Book<A> {
         receipt
     }
 
-    /// A step made ready where the history isn't full: first room for its entry, then the rest.
+    /// Makes a step ready in a history that isn't full: first room for its entry, then the rest.
     fn made_ready(&mut self, alloc: A, job: u32, op: &Op<A>) -> Result<Ready<A>, Memory>
         requires { length self.old.entries < most_entries }
         ensures same { SameBook self.old self.new }
@@ -186,7 +186,7 @@ impl<A: Allocator + Copy> Book<A> {
         Ok(())
     }
 
-    /// A submission made ready: it is planned, unless it clashes.
+    /// Makes a submission ready: it is planned, unless it clashes.
     fn submission_ready(
         &mut self,
         alloc: A,
@@ -219,7 +219,7 @@ impl<A: Allocator + Copy> Book<A> {
         }
     }
 
-    /// The answer that accepts a submission of so many items and odd lines, with the next number.
+    /// The answer that accepts a submission with these numbers of items and odd lines, and the next number.
     fn accepting(&self, items: u64, odd: u64) -> Answer<A>
         ensures { answer_data result ≡ AcceptedAnswer (length (table_of (ops_in self.now.entries)) + 1) items odd }
     {
@@ -230,7 +230,7 @@ impl<A: Allocator + Copy> Book<A> {
         }
     }
 
-    /// The drop of a test made ready, where a row is of it.
+    /// Makes the drop of a test ready that has a row.
     fn drop_ready(&self, alloc: A, job: u32, test: &Bytes<A>) -> Result<Ready<A>, Memory>
         requires { HasRoom self.now }
         ensures { IfOk result (λ r. IsReadyFor self.now job (DropTestOp test.now) r) }
@@ -260,7 +260,7 @@ impl<A: Allocator + Copy> Book<A> {
         (Answer::Dropped { sections }, after)
     }
 
-    /// The rename of a test made ready, where a row is of it. The totals stay.
+    /// Makes the rename of a test ready that has a row. The totals stay.
     fn rename_ready(
         &mut self,
         alloc: A,
@@ -280,7 +280,7 @@ impl<A: Allocator + Copy> Book<A> {
             return self.noting(alloc, job, op, Answer::NoSuchTest);
         }
         let renaming = self.store.prepare_rename(alloc, old.get(), new.get())?;
-        // Tells that the totals stay.
+        // Proof only: the totals stay.
         renaming_keeps_totals();
         let entry = Entry {
             job,
@@ -293,7 +293,7 @@ impl<A: Allocator + Copy> Book<A> {
         self.changing(alloc, entry, Change::Rename(renaming))
     }
 
-    /// A text made ready: it is printed, and shared between the entry and the receipt.
+    /// Makes a text ready: it is printed, and shared between the entry and the receipt.
     fn text_ready(&self, alloc: A, job: u32, op: &Op<A>) -> Result<Ready<A>, Memory>
         requires room { HasRoom self.now }
         requires text { IsText (op_data op.now) }
@@ -411,7 +411,7 @@ impl<A: Allocator> Book<A> {
     ghost use Rattle.covbook.specs.Op.{AreLawfulOps};
     ghost use Rattle.covbook.specs.Step.{ops_in};
 
-    /// The entries of the book, which is given up; each submission in it is lawful. Takes no memory.
+    /// Consumes the book, and returns its entries; each submission in them is lawful. Takes no memory.
     pub fn into_entries(self) -> Entries<A>
         ensures entries { result ≡ self.entries }
         ensures lawful { AreLawfulOps (ops_in self.entries) }
@@ -425,7 +425,7 @@ ghost use Rattle.covstore.specs.RefuseView.{refuse_data};
 ghost use Rattle.covbook.specs.Refusal.{refusal_answer};
 ghost use Rattle.covbook.specs.View.{answer_data};
 
-/// The answer that tells of a clash. A want of memory has none.
+/// The answer to a clash. Out of memory is an error, and no answer.
 fn clash_of<A: Allocator>(refuse: Refuse<A>) -> Result<Answer<A>, Memory>
     ensures { MatchResult result (λ a. refusal_answer (refuse_data refuse) ≡ Some (answer_data a)) (λ _. refusal_answer (refuse_data refuse) ≡ None) }
 {

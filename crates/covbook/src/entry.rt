@@ -6,10 +6,10 @@ use covstore::Totals;
 use std::alloc::{Allocator, Global};
 use std::marker::Model;
 
-/// How many entries one history has at the most.
+/// The most entries in one history.
 pub const MOST_ENTRIES: u64 = 1_048_576;
 
-/// One operation that a book was asked, by which job, what it answered, and the totals after it.
+/// One operation of a job on a book, the answer to it, and the totals after it.
 #[derive(Drop)]
 pub struct Entry<A: Allocator = Global> {
     pub job: u32,
@@ -35,7 +35,7 @@ impl<A: Allocator + Copy> Entry<A> {
     }
 }
 
-/// What the asking job gets of its operation: its place in the history, counted from 0, and the answer.
+/// What a job gets back for an operation: its place in the history, counted from 0, and the answer.
 #[derive(Drop)]
 pub struct Receipt<A: Allocator = Global> {
     pub place: u64,
@@ -72,14 +72,14 @@ impl<A: Allocator> Entries<A> {
         }
     }
 
-    /// The list of these entries. Takes no memory.
+    /// The list of these entries.
     pub(crate) fn of(entries: Vec<Entry<A>, A>) -> Entries<A>
         ensures { result ≡ map entry_data entries.items }
     {
         Entries { entries }
     }
 
-    /// Appends an entry. A refusal gives it up and leaves the list as it was.
+    /// Appends an entry. On `Memory` the entry is dropped and the list stays as it was.
     pub fn push(&mut self, entry: Entry<A>) -> Result<(), Memory>
         ensures ok { OnOk result (self.new ≡ self.old ++ entry_data entry ∷ []) }
         ensures err { OnErr result (self.new ≡ self.old) }
@@ -125,7 +125,7 @@ impl<A: Allocator> Receipts<A> {
         }
     }
 
-    /// Appends a receipt. A refusal gives it up and leaves the list as it was.
+    /// Appends a receipt. On `Memory` the receipt is dropped and the list stays as it was.
     pub fn push(&mut self, receipt: Receipt<A>) -> Result<(), Memory>
         ensures ok { OnOk result (self.new ≡ self.old ++ receipt_data receipt ∷ []) }
         ensures err { OnErr result (self.new ≡ self.old) }

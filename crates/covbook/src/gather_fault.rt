@@ -2,7 +2,7 @@
 
 use thiserror::Error;
 
-/// Why a history isn't gathered from logs. Logs, receipts, readings and places are counted from 0. The faults are told in this
+/// Why a history isn't gathered from logs. Logs, receipts, readings and places are counted from 0. Faults are tested in this
 /// order: jobs first, then the logs in turn, in each its receipts and then its readings, and the missing entry last.
 #[derive(Clone, Copy, Debug, PartialEq, Eq, Error)]
 pub enum GatherFault {
@@ -18,7 +18,7 @@ pub enum GatherFault {
     /// Fault 4: this is the least place whose entry is in no log.
     #[error("missing")]
     Missing { place: u64 },
-    /// Fault 5: the reading counts more entries than there are, or its totals aren't those after so many entries.
+    /// Fault 5: the reading counts more entries than there are, or its totals aren't those after its number of entries.
     #[error("bad reading")]
     BadReading { log: usize, index: usize },
     /// Fault 6: an earlier log has the same job. This is tested first.

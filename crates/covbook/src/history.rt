@@ -26,7 +26,7 @@ impl<A: Allocator> History<A> {
     ghost use Rattle.covbook.specs.EntryView.{entry_data};
     ghost use Rattle.covbook.specs.Step.{most_entries};
 
-    /// A history without entries. Takes no memory.
+    /// A history without entries.
     pub(crate) fn new(alloc: A) -> History<A>
         ensures { result.entries ≡ [] }
     {
@@ -49,7 +49,7 @@ impl<A: Allocator> History<A> {
         self.get().len() as u64
     }
 
-    /// Whether it takes no more.
+    /// Whether the history takes no more entries.
     pub(crate) fn is_full(&self) -> bool
         ensures { IsTrue result ↔ (length self.now.entries ≡ most_entries) }
     {
@@ -65,7 +65,7 @@ impl<A: Allocator> History<A> {
         Ok(())
     }
 
-    /// Appends an entry, for which there is room. Takes no memory.
+    /// Appends an entry, for which there is room.
     pub(crate) fn append(&mut self, entry: Entry<A>)
         requires { length self.old.entries < self.old.room }
         ensures { self.new.entries ≡ self.old.entries ++ entry_data entry ∷ [] }
@@ -73,7 +73,7 @@ impl<A: Allocator> History<A> {
         self.entries.push_reserved(entry);
     }
 
-    /// The entries, given up without memory.
+    /// Consumes the history, and returns its entries.
     pub(crate) fn into_entries(self) -> Entries<A>
         ensures { result ≡ self.entries }
     {
@@ -86,7 +86,7 @@ impl<A: Allocator + Copy> History<A> {
     ghost use Rattle.covbook.specs.EntryView.{entry_data, receipt_data};
     ghost use Rattle.covbook.specs.Step.{receipt_of};
 
-    /// The receipt of an entry that comes next.
+    /// The receipt of the entry that comes next.
     pub(crate) fn receipt(&self, alloc: A, entry: &Entry<A>) -> Result<Receipt<A>, Memory>
         ensures { IfOk result (λ r. receipt_data r ≡ receipt_of (length self.now.entries) (entry_data entry.now)) }
     {

@@ -26,16 +26,15 @@ pub fn no_versions_are_mixed()
     renaming_keeps_totals();
 }
 
-/// A run goes on where it stood: with one operation more the answers and the totals get one more, and the table goes one
-/// step on.
+/// A run goes on where it ended: one more operation adds one answer and one set of totals, and takes the table one step on.
 pub fn a_run_goes_on()
     ensures answers { (ops : List OpData) (op : OpData) → answers_to (ops ++ op ∷ []) ≡ answers_to ops ++ answer_of (table_of ops) op ∷ [] }
     ensures totals { (ops : List OpData) (op : OpData) → totals_to (ops ++ op ∷ []) ≡ totals_to ops ++ totals_at (table_after (table_of ops) op) ∷ [] }
     ensures table { (ops : List OpData) (op : OpData) → table_of (ops ++ op ∷ []) ≡ table_after (table_of ops) op }
 {}
 
-/// The order in which submissions come doesn't matter, where their checksums agree: none is refused, the table has the rows
-/// of each, and with the same submissions in another order each text is the same, whatever was asked in between. In the other
+/// The order in which submissions come doesn't matter, if their checksums agree: none is refused, the table has the rows of
+/// each, and with the same submissions in another order each text is the same, whatever was asked in between. In the other
 /// order they agree too, so none is refused there either.
 pub fn order_does_not_matter()
     ensures accepted { (ops : List OpData) → OnlySubmitsAndAsks ops → AreAgreeing (submissions_in ops) → (clash : ClashData) → ¬ Contains (answers_to ops) (ClashAnswer clash) }
@@ -50,9 +49,8 @@ pub fn order_does_not_matter()
     order_of_submissions_does_not_matter();
 }
 
-/// The claims on entries and logs, one after another, all hold exactly where the history is gathered from the logs. No two
-/// faults are the first, and where there is a fault the history isn't gathered. Where it isn't `BadReading`, the entries aren't
-/// a merge of the logs either.
+/// The claims on entries and logs all hold exactly if the history is gathered from the logs. At most one fault is the first. If
+/// there is one, the history isn't gathered; unless it is `BadReading`, the entries aren't a merge of the logs either.
 pub fn claims_make_a_gathering()
     ensures gathered { (entries : List EntryData) (logs : List LogData) → AllHold (gather_claims entries logs) ↔ IsGathered entries logs }
     ensures fault { (entries : List EntryData) (logs : List LogData) (some other : GatherFault) → IsGatherFault entries logs some → IsGatherFault entries logs other → some ≡ other }
@@ -60,7 +58,7 @@ pub fn claims_make_a_gathering()
     ensures merge { (entries : List EntryData) (logs : List LogData) (fault : GatherFault) → IsGatherFault entries logs fault → ((log index : ℕ) → fault ≢ BadReading log index) → ¬ IsMerge entries logs }
 {}
 
-/// Each fault is told exactly where it has its cause: what is wrong at the log, receipt, reading or place that it names, where
+/// A fault is returned exactly if it has its cause: what is wrong at the log, receipt, reading or place that it names, while
 /// all that comes before it is right.
 pub fn each_fault_has_its_cause()
     ensures stranger { (entries : List EntryData) (logs : List LogData) (log index : ℕ) → IsGatherFault entries logs (Stranger log index) ↔ IsStranger entries logs log index }

@@ -2,13 +2,13 @@
 //!
 //! An `Op` is an operation on the table: add a submission, drop a test or rename it, or print a text of what is held.
 //! `Book::step` answers one and appends its entry; the job that asked gets a `Receipt` with the entry's place and answer. The
-//! history is legal at every moment: its answers are those of a run over its operations that begins with nothing.
+//! history is legal at every moment: its answers are those of a run over its operations from an empty table.
 //!
-//! A caller with something to do in between takes a step in two halves: `Book::ready` makes all that can be refused, and what
-//! it makes tells the totals behind the step (`Ready::after`); `Book::finish` takes the step, and no memory.
+//! A caller with something to do in between takes a step in two halves. `Book::ready` does all that can be refused, and
+//! returns a `Ready`, which has the totals after the step (`Ready::after`). `Book::finish` takes the step, and no memory.
 //!
-//! Several jobs that share a book keep their receipts and the totals that they read, each in a `JobLog`; `gather` tells whether
-//! the history is a merge of these logs and each reading has its totals, or the first fault.
+//! Several jobs that share a book keep their receipts and the totals that they read, each in a `JobLog`. `gather` checks that
+//! the history is a merge of these logs and that each reading has its totals, and returns the first fault otherwise.
 //!
 //! A sketch, which no test runs:
 //!

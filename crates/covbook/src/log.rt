@@ -43,7 +43,7 @@ impl<A: Allocator> Logs<A> {
         }
     }
 
-    /// Appends a log. A refusal gives it up and leaves the list as it was.
+    /// Appends a log. On `Memory` the log is dropped and the list stays as it was.
     pub fn push(&mut self, log: JobLog<A>) -> Result<(), Memory>
         ensures ok { OnOk result (self.new ≡ self.old ++ log_data log ∷ []) }
         ensures err { OnErr result (self.new ≡ self.old) }

@@ -17,10 +17,11 @@ use crate::reading::Reading;
 use covstore::Totals;
 use std::alloc::Allocator;
 
-/// Says yes exactly where the entries are a merge of the logs and the readings are right: the logs' jobs differ, in each log the
-/// places rise, each receipt is that of an entry of the log's job, each entry is in a log, and each reading has the totals after
-/// its number of entries. Else tells the first fault (`GatherFault` has their order). Takes no memory. The time is linear in
-/// entries, receipts, readings and the bytes that are compared, but for the logs' jobs, which are compared each with each.
+/// Checks that the entries are a merge of the logs and that the readings are right: the logs' jobs differ, in each log
+/// the places rise, each receipt is that of an entry of the log's job, each entry is in a log, and each reading has the
+/// totals after its number of entries. Otherwise returns the first fault (`GatherFault` has their order). Takes no
+/// memory. The time is linear in entries, receipts, readings and the bytes that are compared, but for the logs' jobs,
+/// which are compared each with each.
 pub fn gather<A: Allocator>(entries: &[Entry<A>], logs: &[JobLog<A>]) -> Result<(), GatherFault>
     ensures gathered { IsOk result ↔ IsGathered (map entry_data entries.now) (map log_data logs.now) }
     ensures fault { (fault : GatherFault) → (result ≡ Err fault) ↔ IsGatherFault (map entry_data entries.now) (map log_data logs.now) fault }
@@ -33,7 +34,7 @@ pub fn gather<A: Allocator>(entries: &[Entry<A>], logs: &[JobLog<A>]) -> Result<
     }
 }
 
-/// Whether each log's job is another one than those of the logs before.
+/// Checks that each log's job differs from those of the logs before.
 fn check_jobs<A: Allocator>(logs: &[JobLog<A>]) -> Result<(), GatherFault>
     ensures { Tells result (job_claims 0 [] (map log_data logs.now)) }
 {
@@ -52,7 +53,7 @@ fn is_new_job<A: Allocator>(job: u32, logs: &[JobLog<A>]) -> bool
     logs.iter().all(|log| log.job != job)
 }
 
-/// Whether all logs are of the history, with their readings.
+/// Checks that all logs are of the history, with their readings.
 fn check_logs<A: Allocator>(entries: &[Entry<A>], logs: &[JobLog<A>]) -> Result<(), GatherFault>
     ensures { Tells result (log_claims (map entry_data entries.now) 0 (map log_data logs.now)) }
 {
@@ -62,7 +63,7 @@ fn check_logs<A: Allocator>(entries: &[Entry<A>], logs: &[JobLog<A>]) -> Result<
     Ok(())
 }
 
-/// Whether the log with this number is of the history: first its receipts, then its readings.
+/// Checks that the log with this number is of the history: first its receipts, then its readings.
 fn check_log<A: Allocator>(
     entries: &[Entry<A>],
     number: usize,
@@ -75,7 +76,7 @@ fn check_log<A: Allocator>(
     Ok(())
 }
 
-/// Whether the receipts of the log with this number are those of its entries, and their places rise.
+/// Checks that the receipts of the log with this number are those of its entries, and their places rise.
 fn check_receipts<A: Allocator>(
     entries: &[Entry<A>],
     number: usize,
@@ -91,8 +92,8 @@ fn check_receipts<A: Allocator>(
     Ok(())
 }
 
-/// Whether the receipt is that of an entry of the job, and its place at least this one. Tells the least place that the next
-/// receipt may have.
+/// Checks that the receipt is that of an entry of the job, and that its place is at least this one. Returns the least
+/// place that the next receipt may have.
 fn check_receipt<A: Allocator>(
     entries: &[Entry<A>],
     job: u32,
@@ -119,14 +120,14 @@ fn check_receipt<A: Allocator>(
     Ok(receipt.place + 1)
 }
 
-/// Whether the receipt tells the operation and the answer of the entry.
+/// Whether the receipt has the operation and the answer of the entry.
 fn is_receipt_of<A: Allocator>(receipt: &Receipt<A>, entry: &Entry<A>) -> bool
     ensures { IsTrue result ↔ (receipt_of receipt.now.place (entry_data entry.now) ≡ receipt_data receipt.now) }
 {
     entry.op.is_same(&receipt.op) && entry.answer.is_same(&receipt.answer)
 }
 
-/// Whether the readings of the log with this number are of the history.
+/// Checks that the readings of the log with this number are of the history.
 fn check_readings<A: Allocator>(
     entries: &[Entry<A>],
     number: usize,
@@ -143,7 +144,7 @@ fn check_readings<A: Allocator>(
     Ok(())
 }
 
-/// Whether so many entries are there, and the totals are those after them.
+/// Whether the reading's entries are there, and its totals are those after them.
 fn is_reading_of<A: Allocator>(reading: &Reading, entries: &[Entry<A>]) -> bool
     ensures { IsTrue result ↔ IsReadingOf (map entry_data entries.now) reading.now }
 {
@@ -153,8 +154,8 @@ fn is_reading_of<A: Allocator>(reading: &Reading, entries: &[Entry<A>]) -> bool
     }
 }
 
-/// The totals after the first entries, of which there are so many: those of the last one, and zeros where they are none. `None`
-/// where there are fewer.
+/// The totals after the first `upto` entries: those of the last of these, and zeros for none. `None` if there are fewer
+/// entries.
 fn totals_after<A: Allocator>(entries: &[Entry<A>], upto: u64) -> Option<Totals>
     ensures { MatchOption result (length entries.now < upto) (λ totals. (upto ≤ length entries.now) × (totals ≡ last_totals (take upto (map entry_data entries.now)))) }
 {

@@ -10,10 +10,11 @@ use std::alloc::{Allocator, Global};
 pub enum Op<A: Allocator = Global> {
     /// Add the counts of a submission.
     Submit(SubRef<A>),
-    /// Take the counts of a test out again, in all files.
+    /// Remove the counts of a test, in all files.
     DropTest(Bytes<A>),
-    /// Give the counts of a test the name of another, in all files. Counts that meet there are added up. Any new name is
-    /// taken; a tracefile that is printed can be read only if the name fits into one line of it (`covline::good_test`).
+    /// Give the counts of a test the name of another, in all files. Counts that meet at one point are added up. Any new
+    /// name is taken; a printed tracefile can be read back only if the name fits into one line of it
+    /// (`covline::good_test`).
     Rename { old: Bytes<A>, new: Bytes<A> },
     /// Print the merged tracefile.
     Report,
@@ -88,7 +89,7 @@ impl<A: Allocator> Op<A> {
         }
     }
 
-    /// Whether this gives the one test the name of the other.
+    /// Whether this renames the one test to the other name.
     fn is_rename(&self, old: &Bytes<A>, new: &Bytes<A>) -> bool
         ensures { IsTrue result ↔ (RenameOp old.now new.now ≡ op_data self.now) }
     {
@@ -125,14 +126,14 @@ impl<A: Allocator> Op<A> {
 /// What an operation was answered.
 #[derive(Drop)]
 pub enum Answer<A: Allocator = Global> {
-    /// The submission is the book's with this number, counted from 1; so many items it has, and so many of
-    /// its text's lines don't fit the others.
+    /// The submission is the book's with this number, counted from 1. It has this number of items, and its text this
+    /// number of odd lines.
     Accepted {
         number: u64,
         items: u64,
         odd: u64,
     },
-    /// The submission brings another checksum of this line of this file than the one that is held, so it comes from
+    /// The submission has another checksum for this line of this file than the one that is held, so it comes from
     /// another version of the source. Nothing of it is taken.
     Clash {
         file: Bytes<A>,
@@ -140,15 +141,15 @@ pub enum Answer<A: Allocator = Global> {
         held: Bytes<A>,
         given: Bytes<A>,
     },
-    /// The test's counts are gone. It stood in so many sections, each of a file.
+    /// The test's counts are gone from this number of sections, one for each file that had them.
     Dropped {
         sections: u64,
     },
-    /// The test's counts have the new name. It stood in so many sections, each of a file.
+    /// The test's counts have the new name in this number of sections, one for each file that had them.
     Renamed {
         sections: u64,
     },
-    /// No count is of this test.
+    /// There is no count of this test.
     NoSuchTest,
     /// The printed text.
     Text(TextRef<A>),
@@ -229,7 +230,7 @@ impl<A: Allocator> Answer<A> {
         }
     }
 
-    /// Whether this tells a clash of this line, with equal texts.
+    /// Whether this is a clash of this line, with equal texts.
     fn is_clash(&self, file: &Bytes<A>, line: u64, held: &Bytes<A>, given: &Bytes<A>) -> bool
         ensures { IsTrue result ↔ (ClashAnswer (record { file = file.now; line = line; held = held.now; given = given.now }) ≡ answer_data self.now) }
     {
@@ -249,7 +250,7 @@ impl<A: Allocator> Answer<A> {
         }
     }
 
-    /// Whether this tells of so many dropped sections.
+    /// Whether this is a drop of this number of sections.
     fn is_dropped(&self, sections: u64) -> bool
         ensures { IsTrue result ↔ (DroppedAnswer sections ≡ answer_data self.now) }
     {
@@ -259,7 +260,7 @@ impl<A: Allocator> Answer<A> {
         }
     }
 
-    /// Whether this tells of so many renamed sections.
+    /// Whether this is a rename of this number of sections.
     fn is_renamed(&self, sections: u64) -> bool
         ensures { IsTrue result ↔ (RenamedAnswer sections ≡ answer_data self.now) }
     {

@@ -1,4 +1,4 @@
-//! The places that logs tell.
+//! The places of receipts.
 
 ghost use Rattle.std.specs.Prelude.{◌≡◌, map};
 ghost use Rattle.covbook.specs.Gather.{Rise, places_in, places_of};
@@ -8,8 +8,8 @@ ghost use Rattle.covbook.specs.LogView.{log_data};
 use crate::log::JobLog;
 use std::alloc::Allocator;
 
-/// The least place below `count` that no receipt of the logs tells, if there is one. No place is told twice; so all below a
-/// place are told where as many are, and the least that isn't is found by halves.
+/// The least place below `count` that no receipt of the logs has, if there is one. No two receipts have the same place, so
+/// all places below n are there exactly if n receipts are below n. A binary search finds the least place that is missing.
 pub(crate) fn least_missing<A: Allocator>(count: u64, logs: &[JobLog<A>]) -> Option<u64>
     requires { AreApart (map log_data logs.now) }
     ensures { TellsLeast result count (places_in (map log_data logs.now)) }
@@ -17,7 +17,7 @@ pub(crate) fn least_missing<A: Allocator>(count: u64, logs: &[JobLog<A>]) -> Opt
     if receipts_below(logs, count) == count {
         return None;
     }
-    // all below `told` are told, and one below `beyond` isn't
+    // no place below `told` is missing, and one below `beyond` is
     let mut told = 0;
     let mut beyond = count;
     while told + 1 < beyond {
@@ -31,7 +31,7 @@ pub(crate) fn least_missing<A: Allocator>(count: u64, logs: &[JobLog<A>]) -> Opt
     Some(told)
 }
 
-/// How many receipts of the logs tell a place below this one.
+/// How many receipts of the logs have a place below this one.
 fn receipts_below<A: Allocator>(logs: &[JobLog<A>], place: u64) -> u64
     requires { AreApart (map log_data logs.now) }
     ensures { result ≡ below place (places_in (map log_data logs.now)) }
@@ -43,7 +43,7 @@ fn receipts_below<A: Allocator>(logs: &[JobLog<A>], place: u64) -> u64
     count
 }
 
-/// How many receipts of the log tell a place below this one, found by halves, as its places rise.
+/// How many receipts of the log have a place below this one: by a binary search, as its places rise.
 fn log_below<A: Allocator>(log: &JobLog<A>, place: u64) -> u64
     requires { Rise (places_of (log_data log.now)) }
     ensures { result ≡ below place (places_of (log_data log.now)) }

@@ -40,7 +40,7 @@ impl<A: Allocator> Readings<A> {
         }
     }
 
-    /// Appends a reading. A refusal gives it up and leaves the list as it was.
+    /// Appends a reading. On `Memory` the reading is dropped and the list stays as it was.
     pub fn push(&mut self, reading: Reading) -> Result<(), Memory>
         ensures ok { OnOk result (self.new ≡ self.old ++ reading ∷ []) }
         ensures err { OnErr result (self.new ≡ self.old) }

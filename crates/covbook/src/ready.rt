@@ -20,7 +20,7 @@ pub(crate) enum Change<A: Allocator> {
 }
 
 /// A step that its book can take without further memory. Contracts see its entry with its place, what it does to the
-/// store, and the totals that stand when it is taken. Dropped, it leaves the book's history and content as they are.
+/// store, and the totals after it. Dropping it cancels the step: the book's history and content stay as they are.
 #[derive(Drop)]
 pub struct Ready<A: Allocator = Global> {
     entry: Entry<A>,
@@ -71,7 +71,7 @@ impl<A: Allocator> Ready<A> {
         }
     }
 
-    /// The totals that stand after the step. Takes no memory.
+    /// The totals after the step. Takes no memory.
     pub fn after(&self) -> Totals
         ensures value { result ≡ self.now.after }
         ensures bounds { AreTotals result }

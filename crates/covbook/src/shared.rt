@@ -20,7 +20,7 @@ impl<T: Drop, A: Allocator> Model for SharedValue<T, A> {
 impl<T: Drop, A: Allocator> SharedValue<T, A> {
     ghost use Rattle.std.specs.Prelude.{◌≡◌, IfOk};
 
-    /// The value, to be shared. A refusal gives it up.
+    /// The value, to be shared. On `Memory` it is dropped.
     fn of(alloc: A, value: T) -> Result<SharedValue<T, A>, Memory>
         ensures { IfOk result (λ s. s ≡ value) }
     {
@@ -29,7 +29,7 @@ impl<T: Drop, A: Allocator> SharedValue<T, A> {
         })
     }
 
-    /// What is shared.
+    /// The value that is shared.
     fn get(&self) -> &T
         ensures { result.now ≡ self.now }
     {
@@ -63,7 +63,7 @@ impl<A: Allocator> Model for SubRef<A> {
 impl<A: Allocator> SubRef<A> {
     ghost use Rattle.std.specs.Prelude.{◌≡◌, ◌↔◌, IfOk, IsTrue};
 
-    /// The submission, to be shared. A refusal gives it up.
+    /// The submission, to be shared. On `Memory` it is dropped.
     pub fn of(alloc: A, submission: Submission<A>) -> Result<SubRef<A>, Memory>
         ensures { IfOk result (λ s. s ≡ submission) }
     {
@@ -72,7 +72,7 @@ impl<A: Allocator> SubRef<A> {
         })
     }
 
-    /// What is shared.
+    /// The submission that is shared.
     pub fn get(&self) -> &Submission<A>
         ensures { result.now ≡ self.now }
     {
@@ -113,7 +113,7 @@ impl<A: Allocator> Model for TextRef<A> {
 impl<A: Allocator> TextRef<A> {
     ghost use Rattle.std.specs.Prelude.{◌≡◌, ◌↔◌, IfOk, IsTrue};
 
-    /// The text, to be shared. A refusal gives it up.
+    /// The text, to be shared. On `Memory` it is dropped.
     pub fn of(alloc: A, text: Bytes<A>) -> Result<TextRef<A>, Memory>
         ensures { IfOk result (λ t. t ≡ text) }
     {
@@ -122,7 +122,7 @@ impl<A: Allocator> TextRef<A> {
         })
     }
 
-    /// What is shared.
+    /// The text that is shared.
     pub fn get(&self) -> &Bytes<A>
         ensures { result.now ≡ self.now }
     {

@@ -8,7 +8,7 @@ use Rattle.covbook.specs.Step.{no_totals}
 use Rattle.covbook.proofs.Checked.{reading_on, reading_stops}
 use Rattle.covbook.proofs.merge.check_readings.Goals as goal
 
--- what stands where there is no reading
+-- a reading for places past the end
 abbrev no_reading : Reading
 no_reading = record { upto = 0; totals = no_totals }
 

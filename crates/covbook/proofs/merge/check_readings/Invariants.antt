@@ -5,7 +5,7 @@ use Rattle.covbook.specs.Gather.{reading_claims}
 use Rattle.covbook.specs.GatherSteps.{Tells}
 use Rattle.covbook.proofs.merge.check_readings.Given as goal
 
--- what is told of the readings that are left is told of all
+-- the answer for the readings that are left is the answer for all
 abbrev pub invariant-loop-index : goal.invariant-loop-index
 invariant-loop-index g l = (r : Result (Unit {0}) GatherFault)
     → Tells r (reading_claims (map entry_data l.entries) l.number l.index (drop l.index l.readings))

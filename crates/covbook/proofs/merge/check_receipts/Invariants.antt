@@ -5,7 +5,7 @@ use Rattle.covbook.specs.Gather.{receipt_claims}
 use Rattle.covbook.specs.GatherSteps.{Tells}
 use Rattle.covbook.proofs.merge.check_receipts.Given as goal
 
--- what is told of the receipts that are left is told of all
+-- the answer for the receipts that are left is the answer for all
 abbrev pub invariant-loop-index : goal.invariant-loop-index
 invariant-loop-index g l = (r : Result (Unit {0}) GatherFault)
     → Tells r (receipt_claims (map entry_data l.entries) l.log.job l.number l.index l.least (map receipt_data (drop l.index l.receipts)))

@@ -8,7 +8,7 @@ use Rattle.covbook.proofs.places.receipts_below.Goals as goal
 pub log_below-count-requires : goal.log_below-count-requires
 log_below-count-requires g c = rise_at (log_data {A = g.row.A.Denot}) c.args.logs.now c.loop-log.log-index c.log-item.result c.loop-log-test.true c.log-item.is c.requires.rise
 
--- no place comes twice, so fewer than so many are below it
+-- no place comes twice, so at most `place` places are below `place`
 pub overflow_add-count : goal.overflow_add-count
 overflow_add-count g c =
     let f = log_data {A = g.row.A.Denot} in
