@@ -30,7 +30,7 @@ words_at length = (length, true) ∷ (0, true) ∷ []
 abbrev GoesOn : List EntryData → EntryData → ℕ → List Cell → List EntryData → Type 0
 GoesOn seen entry upto = Goes IsNoted shown moved 0 (seen_as seen) (λ n. either (n == upto) (upto + 1) n) (Appends (step 0 upto (upto + 1) entry) (seen_as seen))
 
--- where the length is the one that was seen, the entry is appended; else nothing is
+-- if the length is the one that was seen, the entry is appended; else nothing is
 goes_on : (history seen : List EntryData) (entry : EntryData) (upto : ℕ) → length seen ≡ upto → ComesNext seen entry → IsLegal history → IsPrefix seen history
     → (same : Bool) → (length history == upto) ≡ same → GoesOn seen entry upto (words_at (length history)) history
 goes_on history seen entry upto long next legal prefix true is =

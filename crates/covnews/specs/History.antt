@@ -14,6 +14,6 @@ pub record IsNoted (words : List Cell) (history : List EntryData) : Type 0 where
 abbrev pub length_of : Book → Named
 length_of book = record { tracked = true; key = 0; book = book }
 
--- the step appended the entry to the history that had been seen. Where it found another length, this says nothing
+-- the step appended the entry to the history that had been seen. If it found another length, this says nothing
 abbrev pub Appends : Step EntryData → View EntryData ℕ → ℕ → View EntryData ℕ → Type 0
 Appends step before found after = MatchBool (found == step.old) (after.0 ≡ before.0 ++ step.ask ∷ []) (Unit {0})

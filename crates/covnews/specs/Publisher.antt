@@ -3,11 +3,11 @@ use Rattle.std.specs.Prelude.{ℕ, List}
 pub use Rattle.logbook.specs.Pages.{Book}
 use Rattle.covbook.specs.Op.{EntryData}
 
--- which book's history it is that begins here
+-- the book whose history begins here
 pub record OpeningData : Type 0 where
   pub book : Book
 
--- the history that is noted, and the one that is published; for so many more readers there are places
+-- the history that is noted, the one that is published, and for how many more readers there are places
 pub record PublisherData : Type 0 where
   pub noted : List EntryData
   pub published : List EntryData

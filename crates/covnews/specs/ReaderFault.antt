@@ -1,4 +1,4 @@
--- The numbers of a reader's faults, the same from the first day on.
+-- The numbers of a reader's faults, which stay the same in all versions.
 use Rattle.std.specs.Prelude.{ℕ}
 use Rattle.covnews.specs.declared.fault.ReaderFault.{ReaderFault}
 use Rattle.covnews.specs.declared.fault.ReaderFault.TheVariants.{NoPlace, Memory}

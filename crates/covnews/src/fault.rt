@@ -7,10 +7,10 @@ use thiserror::Error;
 /// Why no reader is made.
 #[derive(Clone, Copy, Debug, PartialEq, Eq, Error)]
 pub enum ReaderFault {
-    /// As many readers were made as there may be. It may also be answered earlier, where no free place is found.
+    /// As many readers were made as there can be. It may also come earlier, if no free place is found.
     #[error("NoPlace")]
     NoPlace = 1,
-    /// A growth was refused. No call answers it today, as a reader takes no memory.
+    /// A growth was refused. No call returns it today, as a reader takes no memory.
     #[error("out of memory")]
     Memory = 2,
 }

@@ -1,5 +1,5 @@
-//! The noted history. Its entries exist in proofs alone; in memory it is the word of its length. A token is a prefix of it
-//! that was seen.
+//! The noted history. Its entries exist in proofs alone; in memory there is only the word of its length. A token is a
+//! prefix of it that was seen.
 
 use crate::noted::NotedEntry;
 use covbook::Entry;

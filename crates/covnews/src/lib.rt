@@ -1,16 +1,16 @@
 //! What a shared book publishes to readers that wait for nobody.
 //!
-//! The one who holds the book's lock has its `Publisher`. It notes each new entry (`Publisher::note`) and then shows readers
-//! how many entries there are and the totals after them (`Publisher::publish`). A reader (`Live`) asks for these totals at any
+//! Whoever holds the book's lock has its `Publisher`. It notes each new entry (`Publisher::note`) and then shows readers how
+//! many entries there are and the totals after them (`Publisher::publish`). A reader (`Live`) asks for these totals at any
 //! time, with no lock and no wait: `left_right` keeps two copies of what is shown.
 //!
-//! `News` name a noted history; those of `note` are handed out after `publish`. A reader that learns them never tells of fewer
-//! entries again, also where it hasn't seen them itself, and after the book was closed.
+//! `News` name a noted history; those of `note` are handed out after `publish`. A reader that learns news never reports fewer
+//! entries again, even if it wasn't shown them itself, and even after the book is closed.
 //!
-//! What is published is a legal history (covbook's `IsLegal`) and never changes but by growing at its end, so any two of its
-//! states are prefixes of one history. In memory there is only its length, its last totals and a token without bytes; the
-//! entries themselves stay in the book. The contracts of `Publisher`, `News` and `Live` speak of the list of entries that they
-//! stand for. Which book a publisher, a reader or news are of, the types say, by the book's name `L: Name`.
+//! What is published is a legal history (covbook's `IsLegal`) that only grows at its end, so any two of its states are
+//! prefixes of one history. In memory there is only its length, its last totals and a token without bytes; the entries
+//! themselves stay in the book. The contracts of `Publisher`, `News` and `Live` speak of the list of entries that they stand
+//! for. The types say which book a publisher, a reader or news are of, by the book's name `L: Name`.
 //!
 //! A sketch, which no test runs:
 //!

@@ -26,7 +26,7 @@ impl<L: Name, A: Allocator> Model for Live<L, A> {
     ghost view = { λ live. live.longest };
 }
 
-/// News of what is published, where the reader is given a view.
+/// News of what is published, if the reader is given a view.
 fn look<L: Name, A: Allocator>(reader: MarkReader<L, A>) -> (MarkReader<L, A>, Option<News<L>>) {
     match reader.enter_as::<OfBook<L>>() {
         Ok(reading) => {
@@ -61,8 +61,9 @@ impl<L: Name, A: Allocator> Live<L, A> {
         self.longest = self.longest.longer(news);
     }
 
-    /// The totals of what is published, or of what this reader saw or learned, where that is longer or the reader is given no view,
-    /// as after the publisher was closed. Takes no memory, and waits for nobody.
+    /// The totals of what is published. If this reader saw or learned a longer history, or is given no view, as after
+    /// the publisher was closed, they are those of the longest history that it saw or learned. Takes no memory, and
+    /// waits for nobody.
     pub fn totals(&mut self) -> Reading
         ensures own { IsPrefix self.old self.new }
         ensures legal { IsLegal self.new }
@@ -74,12 +75,12 @@ impl<L: Name, A: Allocator> Live<L, A> {
         self.longest.reading()
     }
 
-    /// News of what is published, or of what this reader saw or learned where it is given no view.
+    /// News of what is published; of what this reader saw or learned, if it is given no view.
     fn published(&mut self) -> News<L>
         ensures { self.new ≡ self.old }
     {
-        // Who publishes waits for each reader that is within a read. One that gives its processor away before it begins is
-        // hardly ever put to sleep within it, also where there are more readers than processors.
+        // The publisher waits for each reader inside a read. A reader that yields its processor before a read is rarely put to
+        // sleep inside it, even if there are more readers than processors.
         thread::yield_now();
         match replace_with(&mut self.reader, (), |reader, _| look(reader)) {
             Some(news) => news,

@@ -23,7 +23,7 @@ pub struct Mark {
 }
 
 impl Mark {
-    /// An equal mark. Takes no memory.
+    /// An equal mark.
     pub(crate) fn copy(&self) -> Mark
         ensures { result ≡ self.now }
     {
@@ -69,8 +69,8 @@ impl<L: Name> Outcome<Mark, ()> for OfBook<L> {
     ghost then = { λ _ _ shown _. shown.seen.book ≡ L.book };
 }
 
-/// What shows marks to readers.
+/// The writer that shows marks to readers.
 pub(crate) type MarkWriter<L, A> = Writer<Mark, Mark, (), OfBook<L>, A>;
 
-/// What reads the mark that is shown.
+/// The reader of the mark that is shown.
 pub(crate) type MarkReader<L, A> = Reader<Mark, (), OfBook<L>, A>;

@@ -11,7 +11,7 @@ use std::alloc::Allocator;
 use std::marker::{Model, PhantomData};
 
 /// How many entries the noted history had when the news were made, and the totals after the last of them. Contracts see the
-/// entries. They are legal. Hand news out after their history is published.
+/// entries, which are legal. Hand news out only after their history is published.
 #[derive(Drop)]
 pub struct News<L: Name> {
     mark: Mark,
@@ -95,7 +95,7 @@ impl<L: Name> News<L> {
         &self.mark
     }
 
-    /// The longer of two. Both are prefixes of it, since both are of one book.
+    /// The longer of two histories' news. Both are prefixes of the longer, since both are of one book.
     pub(crate) fn longer(&self, other: &News<L>) -> News<L>
         ensures one { (result ≡ self.now) ⊎ (result ≡ other.now) }
         ensures this { IsPrefix self.now result }
@@ -110,8 +110,8 @@ impl<L: Name> News<L> {
         }
     }
 
-    /// Appends the entry that comes next to the noted history. `None` where that history has other entries already, which
-    /// the one holder of its word doesn't meet.
+    /// Appends the next entry to the noted history. `None` if that history has other entries already, which doesn't happen
+    /// to the only holder of its word.
     pub(crate) fn appended<A: Allocator>(
         &self,
         history: &Length,

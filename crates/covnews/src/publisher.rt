@@ -1,4 +1,4 @@
-//! The one who publishes a history.
+//! The publisher of a history.
 
 use crate::fault::ReaderFault;
 use crate::history::Length;
@@ -12,11 +12,11 @@ use std::alloc::{Allocator, Global};
 use std::marker::Model;
 use std::sync::Wait;
 
-/// The one who publishes the history of a book. Contracts see the history that is noted, the one that is published, and for how
-/// many more readers there are places.
+/// The publisher of a book's history. Contracts see the history that is noted, the one that is published, and for how many more
+/// readers there are places.
 ///
-/// A publisher that is dropped, and not closed, frees nothing of what it shares with its readers (some 17 KB for 64 readers):
-/// they go on with what was published last.
+/// A publisher that is dropped without being closed frees nothing of what it shares with its readers (some 17 KB for 64
+/// readers): they go on with what was published last.
 #[derive(Drop)]
 pub struct Publisher<L: Name, A: Allocator = Global> {
     history: Length,
@@ -40,8 +40,8 @@ impl<L: Name, A: Allocator> Model for Publisher<L, A> {
 impl<L: Name, A: Allocator + Copy> Publisher<L, A> {
     ghost use Rattle.std.specs.Prelude.{◌≡◌, ◌<◌, [], IfOk};
 
-    /// Publishes the history without an entry, for at most so many readers. It makes the room of all that is published later, so
-    /// that nothing is refused then.
+    /// Publishes the history without an entry, for at most `readers` readers. Allocates all that publishing needs later, so
+    /// nothing is refused then.
     pub fn new(alloc: A, opening: Opening, readers: u32) -> Result<Publisher<L, A>, Memory>
         requires book { opening.book ≡ L.book }
         requires readers { 0 < readers }
@@ -67,9 +67,9 @@ impl<L: Name, A: Allocator> Publisher<L, A> {
     ghost use Rattle.covbook.specs.Step.{ComesNext, most_entries};
     ghost use Rattle.covnews.specs.declared.fault.ReaderFault.TheVariants as faults;
 
-    /// Notes the entry that comes next in the history; `publish` then publishes it. The news are of the history with it, so hand
-    /// them out after that. `None` doesn't come where one publisher alone has the history, which the types say, but no
-    /// contract; it leaves all as it was. Takes no memory.
+    /// Notes the next entry of the history; `publish` then publishes it. The news are of the history with this entry, so hand
+    /// them out after that. `None` leaves all as it was. It doesn't happen if one publisher alone has the history, which the
+    /// types ensure, though no contract says so. Takes no memory.
     pub fn note(&mut self, entry: &Entry<A>) -> Option<News<L>>
         requires few { length self.old.noted < most_entries }
         requires next { ComesNext self.old.noted (entry_data entry.now) }
@@ -90,8 +90,8 @@ impl<L: Name, A: Allocator> Publisher<L, A> {
         self.showing.show(rt, &self.noted);
     }
 
-    /// One more reader, which begins with what is published. At most so many are made as there were places at first: one that
-    /// is dropped doesn't give its place back. Takes no memory, so `Memory` isn't answered.
+    /// Makes one more reader, which begins with what is published. `NoPlace` if all places that there were at first are
+    /// taken: a dropped reader doesn't give its place back. Takes no memory, so `Memory` isn't returned.
     pub fn reader(&mut self) -> Result<Live<L, A>, ReaderFault>
         ensures live { IfOk result (λ live. live ≡ self.old.published) }
         ensures place { OnOk result (self.new ≡ record self.old { places = self.old.places - 1 }) }
@@ -109,8 +109,8 @@ impl<L: Name, A: Allocator> Publisher<L, A> {
         Ok(Live::new(self.showing.news(), reader))
     }
 
-    /// Ends the publishing, and gives news of what is published. Readers then answer the longest history that they saw or learned.
-    /// Waits for readers to leave.
+    /// Ends the publishing, and returns news of what is published. Readers then report the longest history that they saw or
+    /// learned. Waits for readers that are inside a read.
     pub fn close<R: Wait>(self, rt: &R) -> News<L>
         ensures { result ≡ self.published }
     {

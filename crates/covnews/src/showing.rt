@@ -25,8 +25,8 @@ impl<L: Name, A: Allocator> Model for Showing<L, A> {
     ghost invariant = { λ showing. showing.writer.desk.shown.value.seen.book ≡ L.book };
 }
 
-/// The memory of a writer that isn't closed stays taken for good, some 17 KB for 64 readers: to free it the writer has to wait
-/// for readers to leave, and nothing that is dropped has a runtime to wait with. Its readers go on with what was shown last.
+/// The memory of a writer that isn't closed is never freed, some 17 KB for 64 readers: to free it the writer would have to wait
+/// for readers to leave, and a drop has no runtime to wait with. The readers go on with what was shown last.
 impl<L: Name, A: Allocator> Drop for Showing<L, A> {
     fn drop(self) {
         let Showing { writer } = self;
@@ -52,7 +52,7 @@ fn append<L: Name, A: Allocator, R: Wait>(rt: &R, writer: &mut MarkWriter<L, A>,
 impl<L: Name, A: Allocator + Copy> Showing<L, A> {
     ghost use Rattle.std.specs.Prelude.{◌≡◌, ◌<◌, IfOk};
 
-    /// Shows the history that the news are of, to at most so many readers at once.
+    /// Shows the history that the news are of, to at most `readers` readers at once.
     pub(crate) fn new(alloc: A, news: &News<L>, readers: u32) -> Result<Showing<L, A>, AllocError>
         requires { 0 < readers }
         ensures { IfOk result (λ showing. showing ≡ news.now) }
@@ -70,7 +70,7 @@ impl<L: Name, A: Allocator + Copy> Showing<L, A> {
 impl<L: Name, A: Allocator> Showing<L, A> {
     ghost use Rattle.std.specs.Prelude.{◌≡◌};
 
-    /// One more reader. Takes no memory: it is given a free place, or refused.
+    /// Makes one more reader: it is given a free place, or refused.
     pub(crate) fn reader(&self) -> Result<MarkReader<L, A>, AllocError> {
         self.writer.factory().reader()
     }
@@ -92,7 +92,7 @@ impl<L: Name, A: Allocator> Showing<L, A> {
         });
     }
 
-    /// Gives the writer up. Waits for readers to leave; those that come later are given no view.
+    /// Closes the writer. Waits for readers to leave; those that come later are given no view.
     pub(crate) fn close<R: Wait>(self, rt: &R) {
         let Showing { writer } = self;
         writer.take(rt);

@@ -58,12 +58,12 @@ fn step<L: Name, R: Wait + Abort>(
     news
 }
 
-/// So many entries are published.
+/// Checks how many entries are published.
 fn check_upto<L: Name, A: Allocator>(rt: &impl Abort, live: &mut Live<L, A>, upto: u64) {
     assert_eq!(rt; live.totals().upto, upto);
 }
 
-/// No reader is made.
+/// Checks that no reader is made.
 fn check_no_place<L: Name, A: Allocator>(rt: &impl Abort, publisher: &mut Publisher<L, A>)
     ensures { publisher.new.noted ≡ publisher.old.noted }
 {
@@ -101,7 +101,7 @@ fn readers_follow(rt: HostRuntime) -> Result<(), Fail> {
     Ok(())
 }
 
-/// The heap has no room left for so many bytes.
+/// Fills the heap, and returns what fills it.
 fn fill<A: Allocator + Copy, R: Abort + AllocGlobal>(rt: &R, alloc: A) -> Vec<Vec<u8, A>> {
     let mut blocks = Vec::new(rt.alloc());
     for _ in 0..10_000 {
@@ -156,7 +156,7 @@ fn step_often<L: Name, R: Wait + Abort>(
     publisher.close(rt)
 }
 
-/// Readings never tell of fewer entries than those before.
+/// Readings never have fewer entries than those before.
 fn read_often<L: Name>(rt: &impl Abort, mut live: Live<L>) -> Live<L> {
     let mut seen = 0;
     for _ in 0..1000 {
