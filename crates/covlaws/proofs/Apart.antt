@@ -60,7 +60,7 @@ found_behind : {X : Type 0} (same : X → X → Bool) → IsEquivalence same →
 found_behind same laws [] x back = ap (λ (b : Bool). b || list_any (same x) back) (laws.refl x)
 found_behind same laws (y ∷ front) x back = ap (λ (b : Bool). same x y || b) (found_behind same laws front x back) ∙ or_true (same x y)
 
--- members that come again behind are counted there alone
+-- members that come again later are counted there alone
 pub distinct_again : {X : Type 0} (same : X → X → Bool) → IsEquivalence same → (xs front : List X) (ys : List X) → ys ≡ front ++ xs → distinct same (xs ++ ys) ≡ distinct same ys
 distinct_again same laws [] front ys is = refl
 distinct_again {X} same laws (x ∷ xs) front ys is =
@@ -104,7 +104,7 @@ pub apart_unmapped : {X Y : Type 0} (f : X → Y) (same : Y → Y → Bool) (xs 
 apart_unmapped f same [] apart = tt
 apart_unmapped f same (x ∷ xs) apart = (all_unmapped f (λ y. same (f x) y ≡ false) xs apart.0, apart_unmapped f same xs apart.1)
 
--- a strictly sorted list's members are apart where what is less isn't the same
+-- a strictly sorted list's members are apart if what is less isn't the same
 pub apart_ordered : {X : Type 0} (cmp : X → X → Ordering) (same : X → X → Bool) → ((x y : X) → cmp x y ≡ Less → same x y ≡ false) → (xs : List X)
     → IsStrictlySortedBy cmp xs → AreApart same xs
 unfolding IsStrictlySortedBy

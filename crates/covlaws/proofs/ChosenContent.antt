@@ -1,4 +1,4 @@
--- What is chosen of what rows add up to: what the rows of the chosen files add up to.
+-- The chosen part of what rows add up to is what the rows of the chosen files add up to.
 use Rattle.std.proofs.Common.{◌≡◌, List, sym}
 use Rattle.std.specs.Prelude.{filter}
 use Rattle.covline.specs.Row.{Row}

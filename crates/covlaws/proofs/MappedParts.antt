@@ -38,7 +38,7 @@ kept_in {X} {Y} {A} p f g q h same one (x ∷ xs) =
     by rest true = ap (λ (l : List A). l ++ flat_map f (filter p (map g xs))) (one x) ∙ ap (λ (l : List A). h x ∷ l) rest
     by rest false = rest
 
--- those that give nothing give nothing either when only some are kept
+-- those that give nothing still give nothing if only some are kept
 pub none_kept_in : {X Y A : Type 0} (p : Y → Bool) (f : Y → List A) (g : X → Y) → ((x : X) → f (g x) ≡ []) → (xs : List X) → flat_map f (filter p (map g xs)) ≡ []
 none_kept_in p f g none [] = refl
 none_kept_in {X} {Y} {A} p f g none (x ∷ xs) = by (none_kept_in p f g none xs) (p (g x))

@@ -1,5 +1,5 @@
--- A merge of merges is the merge of all: what the reports of the parts are read as is lawful and agrees, also beside other
--- submissions, adds up to the same, and so gives the same texts.
+-- A merge of merges is the merge of all: what the parts' reports are read as is lawful. It agrees and adds up to the same,
+-- also beside other submissions, and so gives the same texts.
 use Rattle.std.proofs.Common.{◌≡◌, ℕ, ◌≤◌, List, [], ◌∷◌, ◌++◌, length, map, Result, Ok, refl, sym, ap, ◌∙◌, subst, inl, inr, ⊎_elim}
 use Rattle.std.specs.Prelude.{Contains}
 use Rattle.std.specs.List.{AllByRecursion, flat_map}
@@ -131,7 +131,7 @@ module _ (order : SameInAnyOrder) where
   swapped : (rows others : List Row) → Agree (checksums_in (rows ++ others)) → content_of (rows ++ others) ≡ content_of (others ++ rows)
   swapped rows others agree = order (rows ++ others) (others ++ rows) (IsPermutation-append_comm rows others) agree
 
-  -- what is known to add up to the same may also stand behind other rows
+  -- what is known to add up to the same may also come after other rows
   content_behind : (front rows others : List Row) → Agree (checksums_in (front ++ others)) → AreAmong rows others → content_of rows ≡ content_of others
       → content_of (front ++ rows) ≡ content_of (front ++ others)
   content_behind front rows others agree among same =
@@ -150,14 +150,14 @@ module _ (order : SameInAnyOrder) where
       (shown_among parts) (content_of_parts parts (agree_back part (all_in parts) agree))
       ∙ ap content_of (sym (rows_in_joined part (all_in parts)))
 
-  -- whatever else stands beside them
+  -- with any others beside them
   content_beside : (parts : List (List SubmissionData)) (others : List SubmissionData) → AreAgreeing (all_in parts) → content_of (rows_in (map shown_of parts ++ others)) ≡ content_of (rows_in (all_in parts ++ others))
   content_beside parts others agree =
       ap content_of (rows_in_joined (map shown_of parts) others)
       ∙ content-append (rows_shown parts) (rows_in (all_in parts)) (rows_in others) (content_of_parts parts agree)
       ∙ ap content_of (sym (rows_in_joined (all_in parts) others))
 
--- ---- a text depends on what the table adds up to alone
+-- ---- a text depends only on what the table adds up to
 
 text_told : (op : OpData) → IsText op → (some other : Table) → content_at some ≡ content_at other → answer_of some op ≡ answer_of other op
 text_told (SubmitOp submission) asks some other same = absurd asks

@@ -53,7 +53,7 @@ pub map_back : {P V : Type 0} (f : P → V) (back : V → P) (ps : List P) → (
 map_back f back [] own = refl
 map_back {P} {V} f back (p ∷ ps) own = let here : back (f p) ≡ p = own p in let others : map back (map f ps) ≡ ps = map_back f back ps own in cc
 
--- ---- the points of a section stand in order
+-- ---- the points of a section are in order
 
 pub points_in_order : (key : Key) (items : List ItemData) → HasPointsInOrder (section_with key items)
 points_in_order key items = record {
@@ -103,7 +103,7 @@ lawful_name name (FuncItem other line count) (inr none) lawful = absurd none
 lawful_name name (LineItem line count checksum) i lawful = absurd i
 lawful_name name (BranchItem line block branch taken) i lawful = absurd i
 
--- what stands in a list of one or none
+-- the members of a list of one or none
 if_there : {X : Type 0} (b : Bool) (x y : X) → In y (cond b (x ∷ []) []) → x ≡ y
 if_there true x y (inl is) = is
 if_there true x y (inr none) = absurd none

@@ -1,4 +1,4 @@
--- What lawful rows are reported by reads back, and with it each text that is answered to a report, an extract or a remove.
+-- The report of lawful rows reads back, and with it each text that answers a report, an extract or a remove.
 use Rattle.std.proofs.Common.{◌≡◌, ℕ, ◌≤◌, Bool, true, List, [], ◌∷◌, ◌++◌, length, filter, None, refl, sym, ap, ◌∙◌, subst}
 use Rattle.std.specs.Prelude.{◌↔◌, Contains}
 use Rattle.std.specs.List.{AllByRecursion, flat_map}
@@ -35,7 +35,7 @@ all_passed : {X : Type 0} (xs : List X) → filter (λ x. true) xs ≡ xs
 all_passed [] = refl
 all_passed {X} (x ∷ xs) = ap (λ (others : List X). x ∷ others) (all_passed xs)
 
--- a report speaks of all files
+-- a report includes all files
 pub text_of_all : (sections : List SectionData) → report_text AllFiles sections ≡ flat_map section_text sections
 text_of_all sections = ap (flat_map section_text) (all_passed sections)
 

@@ -1,4 +1,5 @@
--- The items of a printed section: what they say and add, part by part, and that the order of the functions is no matter.
+-- The items of a printed section: what they say and add, part by part, and that the order of the functions doesn't
+-- matter.
 use Rattle.std.proofs.Common.{◌≡◌, ℕ, ◌+◌, List, [], ◌∷◌, ◌++◌, map, ap, ap₂, ◌∙◌, arith}
 use Rattle.std.specs.declared.cmp.Ordering.{Ordering}
 use Rattle.std.specs.declared.cmp.Ordering.TheVariants.{Less, Equal, Greater}

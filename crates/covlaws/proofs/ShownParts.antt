@@ -1,4 +1,4 @@
--- What stands in a printed section between its path and its end, and the items that it gives back.
+-- What a printed section has between its path and its end, and the items that it gives back.
 use Rattle.std.proofs.Common.{◌≡◌, ℕ, Bool, true, false, cond, List, [], ◌∷◌, ◌++◌, length, map, Some, refl, ap, ◌∙◌}
 use Rattle.std.specs.Prelude.{◌==◌, if◌then◌else◌}
 use Rattle.std.specs.List.{flat_map, AllByRecursion}
@@ -27,7 +27,7 @@ branch_totals s = totals_if_any BranchFound BranchHit (length s.branches) (branc
 abbrev pub line_totals : SectionData → List LineData
 line_totals s = totals LineFound LineHit (length s.lines) (lines_hit s.lines)
 
--- what stands in a section between its path and its end
+-- what a section has between its path and its end
 abbrev pub inside_of : SectionData → List LineData
 inside_of s =
     map start_record (by_start s.functions) ++ (map call_record (by_start s.functions) ++ (function_totals s

@@ -17,7 +17,7 @@ use Rattle.covlaws.proofs.Apart.{all_mapped, always, length-sorted}
 use Rattle.covlaws.proofs.ShownParts.{inside_of, function_totals, branch_totals, line_totals}
 use Rattle.covlaws.proofs.ShownTotals.{all_if_any, all_inside}
 
--- ---- the records of a section are a test's line, a path, what stands inside, and an end
+-- ---- the records of a section are a test's line, a path, what is inside, and an end
 
 regrouped : (a b c d e f g z : List LineData) → (a ++ (b ++ (c ++ (d ++ (e ++ (f ++ g)))))) ++ z ≡ (a ++ (b ++ c)) ++ ((d ++ e) ++ ((f ++ g) ++ z))
 regrouped a b c d e f g z = simp append_assoc

@@ -71,7 +71,7 @@ names_shown s =
     (none_in func_point branch_item (λ b. refl) s.branches)
     (none_in func_point line_item (λ l. refl) s.lines)
 
--- as many functions are found as are printed, though each is told by two lines
+-- as many functions are found as are printed, though two lines are about each
 functions_found : (s : SectionData) → HasPointsApart s → own_total FuncFound (items_shown s) ≡ length s.functions
 functions_found s apart =
     ap (distinct bytes_eq) (names_shown s)
@@ -80,7 +80,7 @@ functions_found s apart =
     ∙ all_counted name_of bytes_eq (by_start s.functions) apart.functions
     ∙ length-sorted function_cmp s.functions
 
--- those that are hit are told by their counts alone
+-- those that are hit follow from their counts alone
 names_hit : (s : SectionData) → flat_map func_point (filter is_hit (items_shown s)) ≡ map name_of (filter is_called (by_start s.functions)) ++ []
 names_hit s =
     hit_by_parts func_point s [] _ [] []

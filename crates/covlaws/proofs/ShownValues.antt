@@ -214,7 +214,7 @@ module _ (key : Key) (items : List ItemData) where
   pub section_shown : section_with key shown ≡ section_with key items
   section_shown = same_section key shown items functions_shown branches_shown lines_shown
 
-  -- where there is an item, one is printed
+  -- if there is an item, one is printed
   shown_of : {P : Type 0} (point : ItemData → List P) (p : P) → In p (flat_map point shown) → (item : ItemData) × In item shown
   shown_of point p i = let found = In-unflat point shown p i in (found.0, found.1)
 

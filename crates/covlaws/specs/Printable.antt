@@ -40,7 +40,7 @@ submission_shown sections = record { sects = map sect_shown sections; odd = 0 }
 
 -- ---- what a report may print
 
--- the functions stand by their names, the branches and the lines by their numbers, each once
+-- the functions are in the order of their names, the branches and the lines in that of their numbers, each once
 pub record HasPointsInOrder (s : SectionData) : Type 0 where
   pub functions : IsStrictlySortedBy (slice_cmp nat_cmp) (map (λ f. f.name) s.functions)
   pub branches : IsStrictlySortedBy branch_cmp (map (λ b. b.point) s.branches)

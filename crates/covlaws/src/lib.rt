@@ -4,15 +4,15 @@
 //! again, byte for byte. The new names of renames must fit into a line of a tracefile (`covline::good_test`); a book takes
 //! any.
 //!
-//! So merges can be merged: what the reports of several machines are read as gives together the same texts as all that was
-//! handed in on any of them. This holds if
+//! So merges can be merged: the reports of several machines, read and submitted together, give the same texts as all that
+//! was handed in on any of them. This holds if
 //!
 //! - the checksums of all that was handed in agree,
 //! - nothing was dropped or renamed on the machines before their reports,
 //! - each report has at most 67,108,864 bytes.
 //!
-//! The laws speak of definitions. The contracts of `covread::read_trace` and `covbook::Book` carry them into the product:
-//! what `read_trace` answers is what the text is read as, and a book's answers are those of a run over lawful operations.
+//! The laws speak of definitions. The contracts of `covread::read_trace` and `covbook::Book` connect them to the code:
+//! what `read_trace` returns is what the text is read as, and a book's answers are those of a run over lawful operations.
 #![tactic(auto)]
 
 ghost use Rattle.std.specs.Prelude.{◌≡◌, ◌≤◌, ◌++◌, ◌∷◌, ℕ, List, length, map, filter};
@@ -40,9 +40,9 @@ use covline::lines_are_the_text;
 use covread::each_text_has_one_outcome;
 use covstore::laws::{order_of_rows_does_not_matter, the_first_clash_is_told};
 
-/// Each text that a run over lawful operations answers to a report, an extract or a remove reads back, if no rename has a new
-/// name that a line can't hold and the text has at most 67,108,864 bytes: it is read as a lawful submission with no odd line,
-/// an empty book accepts that, and reports the same text.
+/// Each text with which a run over lawful operations answers a report, an extract or a remove reads back, if no rename has a
+/// new name that a line can't hold and the text has at most 67,108,864 bytes: it is read as a lawful submission with no odd
+/// line, an empty book accepts that, and reports the same text.
 pub fn reports_read_back()
     ensures { (ops : List OpData) → AreLawfulOps ops → HaveGoodNames ops → (op : OpData) → IsReport op → (text : List ℕ) → answer_of (table_of ops) op ≡ TextAnswer text → length text ≤ most_bytes → ReadsBack text }
 {
@@ -62,7 +62,7 @@ pub fn each_report_of_a_history_reads_back()
 }
 
 /// A merge of merges is the merge of all. Lawful submissions are divided into parts, one for each machine. The merge of a part
-/// is what its report is read as. Other submissions may stand beside the merges, handed in as they are. This holds if
+/// is what its report is read as. Other submissions may be handed in beside the merges, as they are. This holds if
 ///
 /// - the checksums of all submissions agree,
 /// - nothing was dropped or renamed before a report: it is that of a run over the part's submissions alone,
@@ -92,7 +92,7 @@ pub fn printed_sections_read_back()
     lines_are_the_text();
 }
 
-/// What lawful rows add up to is printable, where their checksums agree. What is chosen of it is what the rows of the chosen
+/// What lawful rows add up to is printable, if their checksums agree. What is chosen of it is what the rows of the chosen
 /// files add up to, and all rows of a run over lawful operations with good new names are lawful.
 pub fn lawful_rows_are_printable()
     ensures printable { (rows : List Row) → AllByRecursion IsLawfulRow rows → Agree (checksums_in rows) → IsPrintable (content_of rows) }
@@ -100,7 +100,7 @@ pub fn lawful_rows_are_printable()
     ensures run { (ops : List OpData) → AreLawfulOps ops → HaveGoodNames ops → AllByRecursion IsLawfulRow (all_rows (table_of ops)) }
 {}
 
-/// What rows add up to may stand for them: what it is read as adds up, with whatever else, to the same.
+/// The report of rows may take their place: what it is read as adds up to the same, together with any other rows.
 pub fn a_report_stands_for_its_rows()
     ensures { (rows others : List Row) → content_of (rows_of (submission_shown (content_of rows)) ++ others) ≡ content_of (rows ++ others) }
 {}
