@@ -32,7 +32,7 @@ breaks_memory o fault text is =
     let P : SessionFault → Type 0 = λ f. Breaks o o f text in
     subst P (sym is) (breaks_unsaid o Memory text refl)
 
--- what waited and some bytes more were written in part
+-- what waited and some more bytes were written in part
 begun_known : (old new : Option (List ℕ)) (waiting text part rest : List ℕ) → waiting ++ text ≡ part ++ rest → Appends old new part
     → Appends (append_known old waiting) (append_known new rest) text
 begun_known None new waiting text part rest e h = tt
@@ -225,7 +225,7 @@ taking_line m n o fault line one h k =
     taking_after (λ bytes. bytes ≡ []) IsLinePart m n o fault line h
     (λ bytes none. (let P : List ℕ → Type 0 = λ u. IsLinePart (line ++ u) in subst P (sym none) (subst IsLinePart (sym (append-nil line)) one))) k
 
--- a line came too late behind such pieces
+-- a line came too late after such pieces
 pub taking_behind : (Such : List (List ℕ) → Type 0) (m n o : Moment) (fault : SessionFault) (pieces : List (List ℕ)) (done : List ℕ) → AreCut Feed done pieces
     → Such pieces → Moves m n done [] → FailsTaking IsLinePart n o fault → FailsTaking (IsPart Such) m o fault
 taking_behind Such m n o fault pieces done cut such h k =
@@ -313,7 +313,7 @@ fails_write m n o fault answers text same no_write quiet h k =
 
 -- ---- bytes that were written in part
 
--- so many were written before the write that failed
+-- the bytes that were written before the write that failed
 pub begun_to : (a b c : Option (List ℕ)) (bytes : List ℕ) (at : ℕ) → Appends a b (take at bytes) → Keeps b c → HasBegun a c bytes
 begun_to None b c bytes at h k = ([], tt, (bytes, refl))
 begun_to (Some xs) None c bytes at h k = absurd h
@@ -381,7 +381,7 @@ memory_unsaid o fault is =
     let P : SessionFault → Type 0 = λ f. Breaks o o f [] × (f ≢ Full) in
     subst P (sym is) (breaks_unsaid o Memory [] refl, λ e. (let no : ⊥ = cc in no))
 
--- memory ran out where an input stays as it was
+-- memory ran out, and the input stays as it was
 pub taking_same : (Such : List ℕ → Type 0) (m n : Moment) (i : InputData) (fault : SessionFault) → i ≡ n.input → FailsTaking Such m n fault
     → FailsTaking Such m (moment i n.output) fault
 taking_same Such m n i fault same h = let P : InputData → Type 0 = λ j. FailsTaking Such m (moment j n.output) fault in subst P (sym same) h

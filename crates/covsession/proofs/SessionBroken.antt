@@ -128,7 +128,7 @@ fails_in_line m n fault h = taking_first IsOpen m n fault open_line h
 abbrev pub Opens : (List ℕ → Type 0) → (List (List ℕ) → Type 0) → Type 0
 Opens Such Part = (first : List ℕ) (pieces : List (List ℕ)) → Such (line_of first) → Part pieces → IsOpen (first ∷ pieces)
 
--- a part of it behind the line
+-- a part of it after the line
 part_behind : (Such : List ℕ → Type 0) (Part : List (List ℕ) → Type 0) (line bytes : List ℕ) → before_feed line ≡ line → Such (strip line) → Opens Such Part
     → IsPart Part bytes → IsPart IsOpen ((line ++ line_feed ∷ []) ++ bytes)
 part_behind Such Part line bytes one is opens p = record {

@@ -14,7 +14,7 @@ pub not_true : (b : Bool) → (b ≡ true → ⊥) → b ≡ false
 not_true true h = absurd (h refl)
 not_true false h = refl
 
--- what stands before the first line feed
+-- the bytes before the first line feed
 pub front_of : (xs : List ℕ) (k : ℕ) → k ≤ length xs → ((j : ℕ) → j < k → eqb (get_or xs j 0) 10 ≡ true → ⊥)
     → (k < length xs → eqb (get_or xs k 0) 10 ≡ true) → before_feed xs ≡ take k xs
 front_of [] zero few none here = refl
@@ -38,7 +38,7 @@ pub line_after-append : (so_far : LineSoFar) (xs ys : List ℕ) → line_after s
 line_after-append so_far [] ys = refl
 line_after-append so_far (x ∷ xs) ys = line_after-append (line_with so_far x) xs ys
 
--- one write more
+-- one more write
 pub Appends-step : (a b c : Option (List ℕ)) (xs : List ℕ) (i n : ℕ)
     → Appends a b (take i xs) → Appends b c (take n (take (length xs - i) (drop i xs))) → Appends a c (take (i + n) xs)
 Appends-step None b c xs i n h k = tt
@@ -98,7 +98,7 @@ collected_next limit limit' kept kept' total total' begins begins' line before n
       so_far = refl;
     }
 
--- without a line feed in front, the first one is the first behind it
+-- if the front has no line feed, the first one is the first one after the front
 before_feed-cons : (x : ℕ) (xs ys : List ℕ) (b : Bool) → eqb x line_feed ≡ b → (before_feed xs ≡ xs → before_feed (xs ++ ys) ≡ xs ++ before_feed ys)
     → before_feed (x ∷ xs) ≡ x ∷ xs → before_feed (x ∷ (xs ++ ys)) ≡ x ∷ (xs ++ before_feed ys)
 before_feed-cons x xs ys true e more h = let bad : [] ≡ x ∷ xs = rw e at h in absurd (let no : ⊥ = cc in no)
@@ -107,7 +107,7 @@ before_feed-cons x xs ys false e more h =
     let rest : before_feed xs ≡ xs = cc in
     rw e (ap (λ (u : List ℕ). x ∷ u) (more rest))
 
--- without a line feed in front, the first one is the first behind it
+-- if the front has no line feed, the first one is the first one after the front
 pub before_feed-append : (xs ys : List ℕ) → before_feed xs ≡ xs → before_feed (xs ++ ys) ≡ xs ++ before_feed ys
 before_feed-append [] ys h = refl
 before_feed-append (x ∷ xs) ys h = before_feed-cons x xs ys (eqb x line_feed) refl (λ k. before_feed-append xs ys k) h

@@ -1,4 +1,4 @@
--- What a session that was cut short leaves, told of its source and its sink.
+-- What a session that was cut short leaves, as its source and its sink have it.
 use Rattle.std.proofs.Common.{◌≡◌, ◌≢◌, ℕ, ◌+◌, ◌^◌, ◌<◌, ◌≤◌, List, [], ◌∷◌, ◌++◌, length, Option, None, Some, refl, sym, ◌∙◌, ap, subst, arith, append_assoc, append-nil, length-append, inl, inr, Result, Ok, Err, IfErr, IfSome, OnOk}
 use Rattle.std.proofs.lemmas.List.{append_cancel_left}
 use Rattle.std.proofs.lemmas.List.Concat.{flat_map-append}
@@ -25,7 +25,7 @@ use Rattle.covsession.proofs.SessionSteps.{IsEnded, few_reads, ok_map, only_at, 
 beginning_trans : (xs ys zs : List ℕ) → IsBeginning xs ys → IsBeginning ys zs → IsBeginning xs zs
 beginning_trans xs ys zs (some, e) (more, f) = (some ++ more, f ∙ ap (λ (u : List ℕ). u ++ more) e ∙ append_assoc xs some more)
 
--- the text was begun, where nothing waited when it was
+-- the text was begun, if nothing waited then
 pub text_begun : (old new : Option (List ℕ)) (waiting lost text : List ℕ) → waiting ≡ [] → Appends (append_known old waiting) (append_known new lost) text
     → Grows old new → HasBegun old new text
 text_begun None new waiting lost text none says grows = ([], tt, (text, refl))
@@ -44,7 +44,7 @@ said_written (Some xs) None before after text e f h = absurd h
 said_written (Some xs) (Some ys) before after text e f h =
     sym (append-nil ys) ∙ ap (λ (u : List ℕ). ys ++ u) (sym f) ∙ h ∙ ap (λ (u : List ℕ). u ++ text) (ap (λ (u : List ℕ). xs ++ u) e ∙ append-nil xs)
 
--- what a session leaves: it was cut short, after whole answers where nothing waits
+-- what a session leaves: it was cut short, after whole answers if nothing waits
 abbrev Leaves : (fault : SessionFault) → (left left_after written written_after : Option (List ℕ)) → (waiting : List ℕ) → Type 0
 Leaves fault left left_after written written_after waiting =
     IsCutShort fault left left_after written written_after
@@ -67,7 +67,7 @@ module _ (pieces : List (List ℕ)) (commands : List Command) (rest : List (List
       let same = ap (λ (u : List (List ℕ)). pieces ++ u) (ends refl) ∙ append-nil pieces in
       record { more = []; is = only others (subst P same are) ∙ sym (append-nil commands) }
 
--- the bytes of these commands and what stands behind them, cut into pieces
+-- the bytes of these commands and what comes after them, cut into pieces
 cut_whole : (ending : LineEnd) (whole behind : List ℕ) (pieces : List (List ℕ)) → (ending ≡ Input → behind ≡ []) → AreCut ending whole pieces
     → pieces_of (whole ++ behind) ≡ pieces ++ pieces_of behind
 cut_whole Feed whole behind pieces ends cut = cut behind
@@ -98,7 +98,7 @@ module _ (ending : LineEnd) (whole behind : List ℕ) (pieces : List (List ℕ))
       let sum = length-append (ops_of commands) (ops_of m.more) in
       omega arith
 
--- where a read failed the last command was being read
+-- if a read failed, the last command was being read
 pub all_but_one : (whole more : List ℕ) (pieces : List (List ℕ)) (commands answered last : List Command) (ending : LineEnd) → ending ≡ Feed
     → AreCut ending whole pieces → IsRun ending pieces commands → commands ≡ answered ++ last → last ≡ [] → IsPart IsOpen more
     → (others : List Command) → AreCommands (pieces_of (whole ++ more)) others → length others ≤ length answered + 1
@@ -135,7 +135,7 @@ read_all (Some xs) fresh pending bytes None none h = absurd h
 read_all (Some xs) fresh pending bytes (Some ys) none h =
     ap (λ (u : List ℕ). u ++ xs) (sym none) ∙ h ∙ sym (append_assoc bytes pending ys)
 
--- where the input has ended nothing is pending, and nothing follows
+-- if the input has ended, nothing is pending and nothing follows
 none_pending : (pending ys : List ℕ) → pending ++ ys ≡ [] → (pending ≡ []) × (ys ≡ [])
 none_pending [] ys e = (refl, e)
 none_pending (x ∷ xs) ys e = absurd (let nothing : ⊥ = cc in nothing)
@@ -147,12 +147,12 @@ nothing_follows : (ys more : List ℕ) → ys ≡ [] → MayFollow (Some ys) mor
 nothing_follows ys more none (inl e) = e
 nothing_follows ys more none (inr e) = some_same ys more e ∙ none
 
--- the record of what was read: the pending bytes too, unless the source doesn't tell its bytes
+-- the record of what was read: the pending bytes too, unless the source's bytes aren't known
 module _ (fault : SessionFault) (m n : Moment) (b : IsBroken m n fault) (fresh : m.input.pending ≡ []) (empty : m.output.waiting ≡ []) where
   written : HasBegun m.output.written n.output.written (text_after [] b.commands)
   written = text_begun m.output.written n.output.written m.output.waiting b.fails.lost (text_after [] b.commands) empty b.fails.says b.fails.grows
 
-  -- these bytes stand behind the commands that were taken
+  -- these bytes come after the commands that were taken
   module _ (pending : List ℕ) (left : Option (List ℕ)) (took : Consumes m.input.left left ((b.whole ++ b.more) ++ pending))
       (drained : fault ≡ Read → pending ≡ [])
       (ends : (more : List ℕ) → MayFollow left more → b.ending ≡ Input → b.more ++ (pending ++ more) ≡ []) where
@@ -198,7 +198,7 @@ module _ (fault : SessionFault) (m n : Moment) (b : IsBroken m n fault) (fresh :
     leaves_of : Leaves fault m.input.left left m.output.written n.output.written n.output.waiting
     leaves_of = (short_of, answered_of)
 
-  -- by whether the source tells its bytes
+  -- by whether the source's bytes are known
   leaves_known : (pending : List ℕ) (left : Option (List ℕ)) → n.input.pending ≡ pending → n.input.left ≡ left
       → Leaves fault m.input.left left m.output.written n.output.written n.output.waiting
   leaves_known pending None p l =

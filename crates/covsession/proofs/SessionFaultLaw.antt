@@ -1,4 +1,5 @@
--- Which faults a session never tells: a test's name comes from one line and is good, and want of memory is no fault of a text.
+-- Which faults a session never answers: a test's name comes from one line and is good, and out of memory is no fault of a
+-- text.
 use Rattle.std.proofs.Common.{◌≡◌, ◌≢◌, ℕ, ◌+◌, Bool, true, false, List, [], ◌∷◌, ◌++◌, map, length, Option, Some, None, Err, sym, subst, inl, inr}
 use Rattle.std.specs.Prelude.{codes, if◌then◌else◌}
 use Rattle.std.specs.List.{AllByRecursion}

@@ -65,7 +65,7 @@ fit_kind : (piece pattern : List ℕ) (op : OpData) (fits : Bool) → leb (lengt
 fit_kind piece pattern op true e asks long = inl (Ask op ∷ [], ask_run Feed piece op (asks (leb-true (length pattern) most_pattern_bytes e)))
 fit_kind piece pattern op false e asks long = inl (RefusePattern ∷ [], long_run Feed piece (long (leb-false (length pattern) most_pattern_bytes e)))
 
--- the line is no word that stands alone
+-- the line isn't one of the words alone
 pub record IsNoWord (line : List ℕ) : Type 0 where
   pub some : line ≢ []
   pub trace : line ≢ codes "trace"
@@ -101,7 +101,7 @@ no_text line n g Tracefile h = n.trace h
 no_text line n g (Annotated test) (inl h) = n.gcov h.0
 no_text line n g (Annotated test) (inr h) = g (test, h)
 
--- the word stands before a space, or doesn't
+-- the word comes before a space, or doesn't
 abbrev May : List ℕ → List ℕ → Type 0
 May word line = Behind word line ⊎ (Behind word line → ⊥)
 
@@ -127,7 +127,7 @@ choice_kind piece n (inr e) (inr r) (inr g) (inr d) = inl (
 abbrev Same : List ℕ → List ℕ → Type 0
 Same line word = (line ≡ word) ⊎ (line ≢ word)
 
--- the words that stand alone with lines of their own behind them
+-- the words alone that further lines follow
 text_kind : (piece : List ℕ) → Same (line_of piece) (codes "trace") → Same (line_of piece) (codes "gcov") → Same (line_of piece) (codes "rename")
     → (line_of piece ≢ codes "trace" → line_of piece ≢ codes "gcov" → line_of piece ≢ codes "rename" → Kind piece) → Kind piece
 text_kind piece (inl h) g a more = inr (inl (Tracefile, h))

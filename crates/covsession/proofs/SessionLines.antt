@@ -37,7 +37,7 @@ line_byte line b one e =
     let alone : before_feed (b ∷ []) ≡ b ∷ [] = rw e refl in
     before_feed-append line (b ∷ []) one ∙ ap (λ (u : List ℕ). line ++ u) alone
 
--- a line that can't be the last one can't be it with one byte more
+-- a line that can't be the last one can't be it with one more byte
 still_other : (so_far : LineSoFar) (b : ℕ) → (so_far ≡ Dot → ⊥) → (so_far ≡ Nothing → eqb b 46 ≡ false) → line_with so_far b ≡ Other
 still_other Nothing b dot first = rw (first refl) refl
 still_other Dot b dot first = absurd (dot refl)
@@ -52,7 +52,7 @@ not_nothing e = cc
 none_dot : Nothing ≡ Dot → ⊥
 none_dot e = cc
 
--- the line that was begun, and lines behind it: the last byte is a line feed, and no dot stands behind a line feed
+-- the line that was begun, and lines after it: the last byte is a line feed, and no dot comes right after a line feed
 pub lines_in : (line xs : List ℕ) (m : ℕ) (so_far : LineSoFar) → before_feed line ≡ line → line_after Nothing line ≡ so_far → (so_far ≡ Dot → ⊥)
     → (so_far ≡ Nothing → eqb (get_or xs 0 0) 46 ≡ false) → m < length xs → eqb (get_or xs m 0) line_feed ≡ true
     → ((j : ℕ) → j < m → eqb (get_or xs j 0) line_feed ≡ true → eqb (get_or xs (suc j) 0) 46 ≡ false)
@@ -77,7 +77,7 @@ lines_in line (b ∷ bs) (suc m) so_far one is other first few last pairs =
         let P : List ℕ → Type 0 = AreLines in
         subst P (append_assoc line (b ∷ []) (take (suc m) bs)) (on e)
 
--- ---- lines found by the place of the last line feed, and of the first that a dot stands behind
+-- ---- lines found by the place of the last line feed, and of the first that a dot comes right after
 
 occurs : (bytes : List ℕ) (j : ℕ) → suc j < length bytes → get_or bytes j 0 ≡ line_feed → get_or bytes (suc j) 0 ≡ 46 → OccursAt bytes (line_feed ∷ 46 ∷ []) j
 occurs bytes j low feed dot = record {
@@ -111,7 +111,7 @@ lines_to_dot bytes feed b is e found =
     (lines_in [] bytes feed Nothing refl refl none_dot (λ n. first_byte bytes (sym is ∙ e)) (omega (arith, low)) is_feed
     (λ j l f. no_dot_behind bytes j feed (omega (arith, low, l)) l found.0.before f))
 
--- where none does, up to the last line feed
+-- if none does, up to the last line feed
 pub lines_to_last : (bytes : List ℕ) (last : ℕ) (b : Bool) → b ≡ starts_with_dot bytes → b ≡ false → FindsNeedle bytes (line_feed ∷ 46 ∷ []) 0 None
     → IsLastByte (is_byte line_feed) bytes (Some last) → AreLines (take (last + 1) bytes)
 lines_to_last bytes last b is e none at =

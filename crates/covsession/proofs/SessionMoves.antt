@@ -71,7 +71,7 @@ says_put o p h e f s = record {
   same_sink = s;
 }
 
--- bytes wait behind those that wait
+-- more bytes wait, after those that wait already
 pub wait_known : (written : Option (List ℕ)) (waiting new bytes : List ℕ) → new ≡ waiting ++ bytes → Appends (append_known written waiting) (append_known written new) bytes
 wait_known None waiting new bytes e = tt
 wait_known (Some xs) waiting new bytes e = ap (λ (u : List ℕ). xs ++ u) e ∙ sym (append_assoc xs waiting bytes)
@@ -185,7 +185,7 @@ line_last m n o line one h k ended =
       ended = ended;
     }
 
--- nothing is pending where the pending bytes are seen to be none
+-- nothing is pending if the pending bytes are seen to be none
 pub nothing_at : (pending bytes : List ℕ) (b : Bool) → bytes ≡ pending → b ≡ (length bytes == 0) → b ≡ true → pending ≡ []
 nothing_at pending [] b same is empty = sym same
 nothing_at pending (x ∷ xs) b same is empty = let none : length (x ∷ xs) ≡ 0 = eqb-true (length (x ∷ xs)) 0 (sym is ∙ empty) in absurd (omega (arith, none))

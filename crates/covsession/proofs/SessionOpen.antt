@@ -1,4 +1,4 @@
--- Pieces that are one command at the most, whatever piece follows: what is taken while a command isn't whole yet.
+-- Pieces that are at most one command, whatever piece follows: what is taken while a command isn't whole yet.
 use Rattle.std.proofs.Common.{◌≡◌, ℕ, ◌<◌, ◌≤◌, List, [], ◌∷◌, ◌++◌, length, refl, ◌∙◌, ap, subst, arith, append_assoc, length-append, codes}
 use Rattle.covline.specs.Lines.{line_of}
 use Rattle.covsession.specs.Broken.{IsOpen}
@@ -42,7 +42,7 @@ open_line = λ tail few commands are. let less = few_commands tail commands are 
 
 -- ---- a text
 
--- nothing stands behind a line `.` that isn't in the body
+-- nothing comes after a line `.` that isn't in the body
 nothing_behind : (body tail before after : List (List ℕ)) (last : List ℕ) → IsBody body → line_of last ≡ codes "."
     → body ++ tail ≡ before ++ last ∷ after → length tail < 2 → after ≡ []
 nothing_behind [] tail before after last no_last dot e few =

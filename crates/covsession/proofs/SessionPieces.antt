@@ -121,7 +121,7 @@ dot_pieces Feed line h = refl
 dot_pieces Input [] h = absurd (no_byte h)
 dot_pieces Input (b ∷ bs) h = refl
 
--- one line more
+-- one more line
 ends_more : (m n o : InputData) (ending : LineEnd) → turns n ≤ turns m → EndsAs ending n o → EndsAs ending m o
 ends_more m n o Feed le h = omega arith
 ends_more m n o Input le h = h

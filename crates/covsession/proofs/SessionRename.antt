@@ -1,4 +1,4 @@
--- The two lines behind a line `rename`: how they are taken, and what they are as a command.
+-- The two lines after a line `rename`: how they are taken, and what they are as a command.
 use Rattle.std.proofs.Common.{◌≡◌, ◌<◌, ◌↔◌, ℕ, Bool, true, false, length, List, [], ◌∷◌, ◌++◌, refl, sym, ◌∙◌, ap₂, subst, arith, append-nil, codes}
 use Rattle.covline.specs.Lines.{line_of, strip}
 use Rattle.covbook.specs.Op.{OpData, RenameOp}

@@ -19,7 +19,7 @@ use Rattle.covsession.specs.Text.{asked_for, AnswersAs, IsTold, IsToldAnswer}
 use Rattle.covsession.specs.Run.{IsRun}
 use Rattle.covsession.proofs.SessionWords.{IsSingle, single_unique, not_text, not_rename, text_no_rename, one_format}
 
--- what commands are answered, and then further ones
+-- the answers to commands, and then to further ones
 pub text_more : (table : Table) (commands more : List Command)
     → text_after table (commands ++ more) ≡ text_after table commands ++ text_after (table_from table (ops_of commands)) more
 text_more table [] more = refl
@@ -150,7 +150,7 @@ format_no_rename format piece rest those further h e (first, behind, is, word) =
     let same : piece ≡ first = cc in
     text_no_rename format (line_of piece) h (ap line_of same ∙ word)
 
--- the first line `.` behind a line that a text follows has one place
+-- the first line `.` after a line that a text follows has one place
 pub no_dot : (body before after : List (List ℕ)) (last : List ℕ) → IsBody body → line_of last ≡ codes "." → body ≡ before ++ last ∷ after → ⊥
 no_dot [] [] after last h dot e = cc
 no_dot [] (b ∷ before) after last h dot e = cc
@@ -430,7 +430,7 @@ not_memory fault told e = false≢true (sym told ∙ ap is_memory e)
 not_told : (fault : ReadFault) → IsTold fault → told_as fault ≡ told_as faults.Memory → ⊥
 not_told fault told e = not_memory fault told (same_fault fault faults.Memory e)
 
--- a fault that is told is what the text is read as
+-- a fault that is passed on is what the text is read as
 told_outcome : (format : Format) (text : List ℕ) (fault : ReadFault) → IsTold fault → AnswersAs format text (Err fault) → IsReadAs format text (Err fault)
 told_outcome format text fault told (inl none) = absurd (not_told fault told none)
 told_outcome format text fault told (inr h) = h
@@ -454,7 +454,7 @@ ok_only : (submission : SubmissionData) (outcome : Result SubmissionData ReadFau
 ok_only submission outcome (inl none) = absurd (ok_no_fault submission none)
 ok_only submission outcome (inr h) = h
 
--- an answer that is told is what the text is read as, and the only one
+-- an answer that is passed on is what the text is read as, and the only one
 pub answer_outcome : (format : Format) (text : List ℕ) (answer : Result SubmissionData ReadFault) → IsToldAnswer answer → AnswersAs format text answer → IsReadAs format text answer
 answer_outcome format text (Ok submission) told h = ok_outcome format text submission h
 answer_outcome format text (Err fault) told h = told_outcome format text fault told h

@@ -65,7 +65,7 @@ line_taken m n line ending h = record {
   ended = h.ended;
 }
 
--- a text behind a line
+-- a text after a line
 pub whole_run : (ending : LineEnd) (format : Format) (first : List ℕ) (body : List (List ℕ)) (last : List ℕ) (outcome : Result SubmissionData ReadFault)
     → IsWhole format first body last outcome → IsReadAs format (concat body) outcome
     → IsRun ending (first ∷ (body ++ last ∷ [])) (asked_for outcome)
@@ -172,7 +172,7 @@ choose_run ending piece picks.Remove None h = ask_run ending piece (RemoveOp [])
 choose_run ending piece picks.Remove (Some pattern) h =
     fit_run ending piece pattern (RemoveOp (pattern ∷ [])) (leb (length pattern) most_pattern_bytes) refl (λ fits. (h, fits)) (λ long. (pattern, long, inr h))
 
--- a word that a text or names follow stands at the end of the input
+-- a word that a text or names follow is at the end of the input
 pub record IsLast (ending : LineEnd) (word : Word) : Type 0 where
   pub text : (format : TextFormat) → word ≡ words.Text format → ending ≡ Input
   pub names : word ≡ words.Rename → ending ≡ Input
@@ -192,26 +192,26 @@ word_run ending piece (words.Text format) h last =
     let Q : LineEnd → Type 0 = λ u. IsRun u (piece ∷ []) (Unfinished ∷ []) in
     subst Q (sym (last.text format refl)) (run_one_input (piece ∷ []) Unfinished (inl (format_of format, piece, [], refl, h, tt)) refl (open_determined (format_of format) piece [] h tt))
 
--- what a line is asked for, and nothing behind the last line
+-- the commands of a line, which ask and answer as its word does; none after the last line
 pub record LineRun (ending : LineEnd) (pieces : List (List ℕ)) (word : Word) : Type 0 where
   pub commands : List Command
   pub run : IsRun ending pieces commands
   pub same_text : (table : Table) → text_after table commands ≡ text_after table (asked_by word)
   pub same_ops : ops_of commands ≡ ops_of (asked_by word)
 
--- nothing is no choice of files
+-- the empty line is no choice of files
 no_choice : (word : List ℕ) (pattern : Option (List ℕ)) → 0 < length word → IsWordWith [] word pattern → ⊥
 no_choice [] pattern some h = omega arith
 no_choice (b ∷ bs) None some h = cc
 no_choice (b ∷ bs) (Some pattern) some h = cc
 
--- nothing names no test
+-- the empty line names no test
 no_name : (word test : List ℕ) → 0 < length word → IsNaming word test [] → ⊥
 no_name [] test some h = omega arith
 no_name (b ∷ bs) test some (inl h) = let e = h.0 in cc
 no_name (b ∷ bs) test some (inr h) = cc
 
--- no text follows nothing
+-- no text follows the empty line
 no_text : (format : Format) → Announces format [] → ⊥
 no_text Tracefile h = cc
 no_text (Annotated test) h = no_name (codes "gcov") test (omega arith) h
@@ -438,7 +438,7 @@ answered {A} format taken other commands e h = let P : Taken A → Type 0 = λ t
 pub says_nil : (o p : OutputData) (text : List ℕ) → Says o p text → Says o p (text ++ [])
 says_nil o p text h = let P : List ℕ → Type 0 = λ u. Says o p u in subst P (sym (append-nil text)) h
 
--- what follows from what is so where a call ended well
+-- what holds if a call ended well, and what follows from it
 pub ok_map : {X E P Q : Type 0} (r : Result X E) → (P → Q) → OnOk r P → OnOk r Q
 ok_map (Ok x) f h = f h
 ok_map (Err e) f h = h

@@ -1,5 +1,5 @@
--- What a line of its own asks for: it is read as one command, by its first, third and sixth byte and what is behind the
--- word.
+-- What a line of its own asks for: it is read as one command, by its first, third and sixth byte and what comes after
+-- the word.
 use Rattle.std.proofs.Common.{◌≡◌, ◌⊎◌, ℕ, zero, suc, ◌<◌, ◌≤◌, Bool, true, false, cond, eqb, leb, length, codes, get_or, take, drop, List, [], ◌∷◌, Option, None, Some, refl, sym, ◌∙◌, ap, subst, arith, inl, inr}
 use Rattle.std.proofs.lemmas.Bool.{le-leb, lt-leb, false≢true}
 use Rattle.std.proofs.lemmas.List.{take_all}
@@ -11,7 +11,7 @@ use Rattle.covsession.proofs.SessionBytes.{not_true}
 
 -- ---- cut at the first space
 
--- what stands before the first space
+-- the bytes before the first space
 front_of : (xs : List ℕ) (k : ℕ) → k ≤ length xs → ((j : ℕ) → j < k → eqb (get_or xs j 0) 32 ≡ true → ⊥)
     → (k < length xs → eqb (get_or xs k 0) 32 ≡ true) → before_space xs ≡ take k xs
 front_of [] zero few none here = refl
@@ -30,7 +30,7 @@ front_none xs h =
 
 -- ---- a line is at most one command
 
--- a pattern stands behind a space
+-- a pattern comes after a space
 abbrev behind_space : List ℕ → Option (List ℕ)
 behind_space [] = None
 behind_space (b ∷ pattern) = Some pattern
@@ -149,7 +149,7 @@ text_third (Annotated test) line (inr h) = ap third_read h
 pub text_no_rename : (format : Format) (line : List ℕ) → Announces format line → line ≡ codes "rename" → ⊥
 text_no_rename format line a is = false≢true (sym (text_third format line a) ∙ ap third_read is)
 
--- a line announces one format: by its first byte and what stands behind the fifth
+-- a line announces one format: by its first byte and what comes after the fifth
 abbrev format_read : List ℕ → Format
 format_read line = cond (eqb (get_or line 0 0) 103) (Annotated (drop 5 line)) Tracefile
 

@@ -1,4 +1,4 @@
--- What stands after a fault in the middle of a session.
+-- What holds after a fault in the middle of a session.
 use Rattle.std.specs.Io.KnownBytes.{Consumes, Appends, IsAtEnd, append_known}
 use Rattle.std.specs.Prelude.{◌≡◌, ◌≢◌, ◌⊎◌, ◌<◌, ◌≤◌, ℕ, ◌+◌, List, [], ◌∷◌, ◌++◌, length}
 use Rattle.covbook.specs.Op.{OpData}
@@ -16,7 +16,7 @@ use Rattle.covsession.specs.declared.session.text.LineEnd.{LineEnd}
 use Rattle.covsession.specs.declared.session.text.LineEnd.TheVariants.{Feed, Input}
 use Rattle.covsession.specs.declared.session.text.Taken.{Taken}
 
--- how many writes have failed after an output stopped so
+-- the number of failed writes after an output stopped with this fault
 abbrev pub CountsWrites : SessionFault → (before after : ℕ) → Type 0
 CountsWrites Read before after = ⊥
 CountsWrites Write before after = after ≡ before + 1
@@ -93,19 +93,19 @@ pub record IsPart (Such : List (List ℕ) → Type 0) (bytes : List ℕ) : Type 
   pub one_line : IsLinePart line
   pub such : Such pieces
 
--- with a further piece or none they are one command at the most
+-- with one more piece, or none, they are at most one command
 abbrev pub IsOpen : List (List ℕ) → Type 0
 IsOpen pieces =
     (tail : List (List ℕ)) → length tail < 2 → (commands : List Command) → AreCommands (pieces ++ tail) commands → length commands ≤ 1
 
--- a fault came before a command was wholly taken, or before it was known what it asks. Where a read failed these are the bytes
+-- a fault came before a command was wholly taken, or before it was known what it asks. If a read failed, these are the bytes
 -- that were taken of it
 pub record FailsTaking (Such : List ℕ → Type 0) (m n : Moment) (fault : SessionFault) : Type 0 where
   pub fails : Fails m n fault [] []
   pub not_full : fault ≢ Full
   pub part : fault ≡ Read → Such fails.bytes
 
--- the answer to these commands was cut short; the history is full only where they ask the book something
+-- the answer to these commands was cut short; the history is full only if they ask the book something
 pub record FailsSaying (o p : OutputData) (before : List OpData) (commands : List Command) (fault : SessionFault) : Type 0 where
   pub breaks : Breaks o p fault (text_after (table_of before) commands)
   pub full : fault ≡ Full → 0 < length (ops_of commands)
@@ -139,7 +139,7 @@ pub record FailsAnswering (m n : Moment) (before : List OpData) (fault : Session
   pub run : IsRun ending pieces commands
 
 -- all that was taken are these commands, and perhaps a part of a further one. The answers to all of them but the one that the
--- fault came in were said, or were written in part where a write failed
+-- fault came in were said, or were written in part if a write failed
 pub record IsBroken (m n : Moment) (fault : SessionFault) : Type 0 where
   pub pieces : List (List ℕ)
   pub commands : List Command

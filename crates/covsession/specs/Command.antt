@@ -1,4 +1,4 @@
--- What a command line asks for, what the text behind a line is, and what the book is asked.
+-- What a command line asks for, what the text after a line is, and what the book is asked.
 use Rattle.std.specs.List.{concat, flat_map, AllByRecursion}
 use Rattle.std.specs.Prelude.{◌≡◌, ◌≢◌, ◌⊎◌, ◌<◌, ◌≤◌, ℕ, length, List, [], ◌∷◌, ◌++◌, codes, Ok, Err, ◌==◌, if◌then◌else◌, Result, Option, Some, None, option_map, nat_le}
 use Rattle.covbook.specs.Op.{OpData, SubmitOp, DropTestOp, RenameOp, ReportOp, ExtractOp, RemoveOp, SummaryOp}
@@ -33,13 +33,13 @@ pub data Command : Type 0 where
 abbrev pub IsLine : List (List ℕ) → List ℕ → Type 0
 IsLine pieces line = (piece : List ℕ) × (pieces ≡ piece ∷ []) × (line_of piece ≡ line)
 
--- a word, and behind a space one pattern, which may be empty; or the word alone and no pattern
+-- a word, and after a space one pattern, which may be empty; or the word alone and no pattern
 abbrev pub IsChoice : List ℕ → List (List ℕ) → List ℕ → Type 0
 IsChoice word [] line = line ≡ word
 IsChoice word (pattern ∷ []) line = (line ≡ word ++ space ∷ pattern) × (length pattern ≤ most_pattern_bytes)
 IsChoice word (pattern ∷ other ∷ more) line = ⊥
 
--- a word, and behind a space the name of a test, which may be empty; or the word alone and the empty name
+-- a word, and after a space the name of a test, which may be empty; or the word alone and the empty name
 abbrev pub IsNaming : List ℕ → List ℕ → List ℕ → Type 0
 IsNaming word test line = ((line ≡ word) × (test ≡ [])) ⊎ (line ≡ word ++ space ∷ test)
 
@@ -59,7 +59,7 @@ IsTooLong line =
     (pattern : List ℕ) × (most_pattern_bytes < length pattern)
     × ((line ≡ codes "extract" ++ space ∷ pattern) ⊎ (line ≡ codes "remove" ++ space ∷ pattern))
 
--- a line `rename`, and two lines behind it: whatever they hold, they are the old name and the new one
+-- a line `rename`, and two lines after it: whatever they hold, they are the old name and the new one
 abbrev pub IsRename : List (List ℕ) → List ℕ → List ℕ → Type 0
 IsRename pieces old new =
     (first : List ℕ) × (second : List ℕ) × (third : List ℕ) × (pieces ≡ first ∷ second ∷ third ∷ [])
@@ -118,7 +118,7 @@ IsOpenText pieces =
     (format : Format) × (first : List ℕ) × (body : List (List ℕ)) × (pieces ≡ first ∷ body)
     × Announces format (line_of first) × IsBody body
 
--- a line `rename`, and fewer than two lines behind it
+-- a line `rename`, and fewer than two lines after it
 abbrev pub IsOpenRename : List (List ℕ) → Type 0
 IsOpenRename pieces =
     (first : List ℕ) × (rest : List (List ℕ)) × (pieces ≡ first ∷ rest) × (line_of first ≡ codes "rename") × (length rest < 2)
@@ -178,12 +178,12 @@ abbrev pub pick_op : Pick → List (List ℕ) → OpData
 pick_op picks.Extract patterns = ExtractOp patterns
 pick_op picks.Remove patterns = RemoveOp patterns
 
--- what stands before the first space
+-- the bytes before the first space
 abbrev pub before_space : List ℕ → List ℕ
 before_space [] = []
 before_space (b ∷ bs) = if b == space then [] else b ∷ before_space bs
 
--- a command's word, and its pattern where there is one
+-- a command's word, and its pattern if there is one
 abbrev pub IsWordWith : List ℕ → List ℕ → Option (List ℕ) → Type 0
 IsWordWith line word None = line ≡ word
 IsWordWith line word (Some pattern) = line ≡ word ++ space ∷ pattern
@@ -204,19 +204,19 @@ IsWord line words.Rename = line ≡ codes "rename"
 IsWord line (words.Text format) = Announces (format_of format) line
 IsWord line words.Other = IsUnknown line
 
--- the command that a choice of files by a pattern is, or by none
+-- the command that chooses files by a pattern, or by none
 abbrev pub chosen_by : (List (List ℕ) → OpData) → Option (List ℕ) → List Command
 chosen_by op None = Ask (op []) ∷ []
 chosen_by op (Some pattern) = if nat_le (length pattern) most_pattern_bytes then Ask (op (pattern ∷ [])) ∷ [] else RefusePattern ∷ []
 
--- the list of a pattern, or of none; none is made where the pattern is too long
+-- the list of a pattern, or of none; there is no list if the pattern is too long
 abbrev pub IsListOf : Option (List ℕ) → Option (List (List ℕ)) → Type 0
 IsListOf None (Some patterns) = patterns ≡ []
 IsListOf None None = ⊥
 IsListOf (Some pattern) (Some patterns) = (patterns ≡ pattern ∷ []) × (length pattern ≤ most_pattern_bytes)
 IsListOf (Some pattern) None = most_pattern_bytes < length pattern
 
--- the command that a line of its own is; one that a text or names follow is such where the input ends behind it
+-- the command of a line by itself; a line that a text or names follow is one if the input ends after it
 abbrev pub asked_by : Word → List Command
 asked_by words.Blank = Blank ∷ []
 asked_by words.Report = Ask ReportOp ∷ []

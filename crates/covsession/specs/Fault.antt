@@ -16,12 +16,12 @@ IsBeginning part whole = (rest : List ℕ) × (whole ≡ part ++ rest)
 abbrev pub HasBegun : (written written_after : Option (List ℕ)) → (text : List ℕ) → Type 0
 HasBegun written written_after text = (part : List ℕ) × Appends written written_after part × IsBeginning part text
 
--- what follows the bytes that were read: nothing, where the input is taken to end with them; or what the source still has
+-- what follows the bytes that were read: nothing, if the input is taken to end with them; or what the source still has
 abbrev pub MayFollow : Option (List ℕ) → List ℕ → Type 0
 MayFollow left more = (more ≡ []) ⊎ (left ≡ Some more)
 
 -- a session that ended in this fault: what it has written is a beginning of the session text of what it has read, and of the
--- whole input. `Full` comes only where both inputs ask the book more than its history has room for
+-- whole input. `Full` comes only if both inputs ask the book more than its history has room for
 pub record IsCutShort (fault : SessionFault) (left left_after written written_after : Option (List ℕ)) : Type 0 where
   pub read : List ℕ
   pub output : List ℕ

@@ -1,4 +1,4 @@
--- What the program tells of a session's end: an exit status, and words where it ended in a fault.
+-- What the program reports at a session's end: an exit status, and words if it ended in a fault.
 use Rattle.std.specs.Io.KnownBytes.{Appends}
 use Rattle.std.specs.Prelude.{◌≡◌, ◌≢◌, ◌≤◌, ℕ, ◌+◌, ◌^◌, List, [], Option, Result, Ok, Err, IfErr, OnOk, codes}
 use Rattle.covsession.specs.Fault.{CallsData, HasAnswered, HasCause, IsCutShort}
@@ -6,7 +6,7 @@ use Rattle.covsession.specs.Session.{said, IsWholeSession}
 use Rattle.covsession.specs.declared.session.fault.SessionFault.{SessionFault}
 use Rattle.covsession.specs.declared.session.fault.SessionFault.TheVariants.{Read, Write, Memory, Full}
 
--- the exit status of a fault: 1 where a stream failed, 3 where there was no room
+-- the exit status of a fault: 1 if a stream failed, 3 if there was no room
 abbrev pub fault_status : SessionFault → ℕ
 fault_status Read = 1
 fault_status Write = 1
@@ -19,12 +19,12 @@ words_of_fault Write = codes "write fault"
 words_of_fault Memory = codes "out of memory"
 words_of_fault Full = codes "book full"
 
--- the exit status of a session that ended so
+-- the exit status of a session with this end
 abbrev pub end_status : Result (Unit {0}) SessionFault → ℕ
 end_status (Ok done) = 0
 end_status (Err fault) = fault_status fault
 
--- what is said of it: nothing where it ended well, and a line on its fault
+-- what is said of it: nothing if it ended well, and a line on its fault
 abbrev pub end_words : Result (Unit {0}) SessionFault → List ℕ
 end_words (Ok done) = []
 end_words (Err fault) = said (words_of_fault fault)
@@ -34,8 +34,8 @@ abbrev pub HasNoFault : CallsData → CallsData → Type 0
 HasNoFault old new =
     (new.failed_reads ≡ old.failed_reads) × (new.failed_writes ≡ old.failed_writes) × (new.reads ≤ old.reads + 2 ^ 32)
 
--- a status of 0 tells that a session ran over an input and an output and ended well. Another one tells a fault, for whose cause
--- the session was cut short, after whole answers unless that is a write; its words are on the stream for faults, unless a write
+-- a status of 0 means that a session ran over an input and an output and ended well. Another one means a fault: the session was
+-- cut short for its cause, after whole answers unless that is a write; its words are on the stream for faults, unless a write
 -- there failed
 abbrev pub TellsSession : (status : ℕ) → (left left_after written written_after told told_after : Option (List ℕ))
     → (before after : CallsData) → (failures failures_after : ℕ) → Type 0

@@ -1,4 +1,4 @@
--- The two lines behind a line `rename`, while they are taken.
+-- The two lines after a line `rename`, while they are taken.
 use Rattle.std.specs.Prelude.{◌≡◌, ◌<◌, ℕ, Bool, true, false, length, List, [], ◌∷◌, Option, Some, None}
 use Rattle.covline.specs.Lines.{line_of}
 use Rattle.covsession.specs.Streams.{Moment, TakesPieces, line_bytes, line_pieces}
@@ -6,7 +6,7 @@ use Rattle.covsession.specs.declared.session.rename.Names.{Names}
 use Rattle.covsession.specs.declared.session.text.LineEnd.{LineEnd}
 use Rattle.covsession.specs.declared.session.text.LineEnd.TheVariants.{Input}
 
--- a line that ended so is there, or isn't, since the input ended before its first byte
+-- there is a line with this ending; or there is none, since the input ended before its first byte
 abbrev pub IsThere : Bool → LineEnd → List ℕ → Type 0
 IsThere true ending line = line_pieces ending line ≡ line_bytes ending line ∷ []
 IsThere false ending line = (line ≡ []) × (ending ≡ Input)
@@ -23,6 +23,6 @@ TakesNames m n (Some names) =
     × (line_of second ≡ names.old) × (line_of third ≡ names.new)
 TakesNames m n None = (pieces : List (List ℕ)) × TakesPieces m n pieces Input [] × (length pieces < 2)
 
--- the first name at the most
+-- at most the first name
 abbrev pub HasNames : List (List ℕ) → Type 0
 HasNames pieces = length pieces < 2

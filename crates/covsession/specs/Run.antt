@@ -10,7 +10,7 @@ use Rattle.covsession.specs.Streams.{Moment, unread, turns, Says, Moves, AreCut,
 use Rattle.covsession.specs.declared.session.text.LineEnd.{LineEnd}
 use Rattle.covsession.specs.declared.session.text.LineEnd.TheVariants.{Feed, Input}
 
--- the pieces are these commands and no others, whatever follows behind a line feed, and nothing behind the end
+-- the pieces are these commands and no others, whatever follows after a line feed, and nothing after the end
 abbrev pub GoOn : LineEnd → List (List ℕ) → List Command → Type 0
 GoOn Feed pieces commands = (rest : List (List ℕ)) (more : List Command) → AreCommands rest more → AreCommands (pieces ++ rest) (commands ++ more)
 GoOn Input pieces commands = AreCommands pieces commands
@@ -33,7 +33,7 @@ pub record TakesBehind (IsSuch : List ℕ → Type 0) (m n : Moment) (before aft
   pub asks : Asks commands before after
   pub run : (first : List ℕ) → IsSuch (line_of first) → IsRun ending (first ∷ pieces) commands
 
--- a command was taken and answered; none behind the last line
+-- a command was taken and answered; none after the last line
 pub record TakesCommand (m n : Moment) (before after : List OpData) (ending : LineEnd) : Type 0 where
   pub pieces : List (List ℕ)
   pub commands : List Command

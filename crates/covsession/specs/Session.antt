@@ -25,7 +25,7 @@ answer_text (RenamedAnswer sections) = said (codes "renamed " ++ decimal section
 answer_text NoSuchTestAnswer = said (codes "no such test")
 answer_text (TextAnswer text) = text ++ said (codes ".")
 
--- the line of an answer where it is a clash
+-- the line of an answer if it is a clash
 abbrev pub clash_text : AnswerData → List ℕ
 clash_text (AcceptedAnswer number items odd) = []
 clash_text (ClashAnswer clash) = answer_text (ClashAnswer clash)
@@ -39,7 +39,7 @@ line_fault_name BadLine = codes "BadLine"
 line_fault_name NumberTooLarge = codes "NumberTooLarge"
 line_fault_name EmptyPath = codes "EmptyPath"
 
--- a fault's name, and its line where it has one
+-- a fault's name, and its line if it has one
 abbrev pub fault_text : ReadFault → List ℕ
 fault_text faults.TooLong = codes "TooLong"
 fault_text (faults.Line at fault) = line_fault_name fault ++ codes " at " ++ decimal at
@@ -88,10 +88,10 @@ IsWholeSession left left_after written written_after =
     (input : List ℕ) × (output : List ℕ) × Consumes left left_after input × IsAtEnd left_after
     × IsSession input output × Appends written written_after output
 
--- what commands are answered at a table
+-- the answers to commands at a table
 abbrev pub text_after : Table → List Command → List ℕ
 text_after table commands = output_of commands (answers_from table (ops_of commands))
 
--- the history has these commands' operations more
+-- the history grows by these commands' operations
 abbrev pub Asks : List Command → List OpData → List OpData → Type 0
 Asks commands before after = after ≡ before ++ ops_of commands

@@ -37,7 +37,7 @@ moment input output = record { input = input; output = output }
 abbrev pub unread : InputData → Option (List ℕ)
 unread input = prepend_known input.pending input.left
 
--- how many bytes and reads are left at the most, a read for more bytes than a block has
+-- a bound for the bytes and reads that are left; a read counts more than all bytes of a block
 abbrev pub turns : InputData → ℕ
 turns input = 65537 * input.reads_left + length input.pending
 
@@ -45,12 +45,12 @@ turns input = 65537 * input.reads_left + length input.pending
 abbrev pub said_so_far : OutputData → Option (List ℕ)
 said_so_far output = append_known output.written output.waiting
 
--- no call of the source can be counted too far
+-- the count of the source's calls can't overflow
 pub record CanRead (i : InputData) : Type 0 where
   pub few_reads : i.reads + i.reads_left < 2 ^ 63
   pub few_failed_reads : i.failed_reads < 2 ^ 63
 
--- no call can be counted too far
+-- no count of calls can overflow
 pub record CanCall (m : Moment) : Type 0 where
   pub read : CanRead m.input
   pub few_failed_writes : m.output.failed_writes < 2 ^ 63
@@ -62,7 +62,7 @@ pub record Takes (i j : InputData) (bytes : List ℕ) : Type 0 where
   pub failed : j.failed_reads ≡ i.failed_reads
   pub same_source : j.source ≡ i.source
 
--- a sink took some bytes more, or none
+-- a sink took some more bytes, or none
 abbrev pub Grows : Option (List ℕ) → Option (List ℕ) → Type 0
 Grows old new = (part : List ℕ) × Appends old new part
 
@@ -88,18 +88,18 @@ abbrev pub line_bytes : LineEnd → List ℕ → List ℕ
 line_bytes Feed line = line ++ line_feed ∷ []
 line_bytes Input line = line
 
--- the pieces that a line with its end is: none is behind the last line feed where nothing is
+-- the pieces that a line with its end is: none after the last line feed, if nothing follows
 abbrev pub line_pieces : LineEnd → List ℕ → List (List ℕ)
 line_pieces Feed line = (line ++ line_feed ∷ []) ∷ []
 line_pieces Input [] = []
 line_pieces Input (b ∷ bs) = (b ∷ bs) ∷ []
 
--- where a line feed was taken, fewer turns are left; after the end of the input nothing is
+-- after a line feed fewer turns are left; after the end of the input nothing is left
 abbrev pub EndsAs : LineEnd → InputData → InputData → Type 0
 EndsAs Feed i j = turns j < turns i
 EndsAs Input i j = IsAtEnd (unread j)
 
--- these bytes are cut into these pieces: whatever follows behind a line feed, and nothing behind the end
+-- these bytes are cut into these pieces: whatever follows after a line feed, and nothing after the end
 abbrev pub AreCut : LineEnd → List ℕ → List (List ℕ) → Type 0
 AreCut Feed bytes pieces = (more : List ℕ) → pieces_of (bytes ++ more) ≡ pieces ++ pieces_of more
 AreCut Input bytes pieces = pieces_of bytes ≡ pieces

@@ -1,4 +1,4 @@
--- A text behind a line `trace` or `gcov`: how it is collected, taken, read and answered.
+-- A text after a line `trace` or `gcov`: how it is collected, taken, read and answered.
 use Rattle.std.specs.List.{concat}
 use Rattle.std.specs.Prelude.{◌≡◌, ◌⊎◌, ◌<◌, ◌≤◌, ℕ, Bool, false, length, List, [], ◌∷◌, ◌++◌, codes, Ok, Err, ◌-◌, ◌^◌, ◌==◌, min, if◌then◌else◌, take, Result}
 use Rattle.covline.specs.Lines.{line_of, carriage_return}
@@ -18,25 +18,25 @@ use Rattle.covsession.specs.declared.session.text.Taken.TheVariants as taken
 use Rattle.covsession.specs.declared.session.text.Taken.TheVariants.{Whole, TooLong}
 use Rattle.covsession.specs.declared.session.text.Text.{Text}
 
--- a line that was begun, after one byte more: it may still be the line that ends a text
+-- a line that was begun, after one more byte: it may still be the line that ends a text
 abbrev pub line_with : LineSoFar → ℕ → LineSoFar
 line_with Nothing b = if b == 46 then Dot else Other
 line_with Dot b = if b == carriage_return then Dot else Other
 line_with Other b = Other
 
--- the same after some bytes more
+-- the same after some more bytes
 abbrev pub line_after : LineSoFar → List ℕ → LineSoFar
 line_after so_far [] = so_far
 line_after so_far (b ∷ bs) = line_after (line_with so_far b) bs
 
--- so much was collected of a text whose whole lines are those before: at most the limit is kept
+-- what was collected of a text, whose whole lines come before the line that was begun: at most the limit is kept
 pub record IsCollected (limit : ℕ) (kept : List ℕ) (total begins : ℕ) (line : LineSoFar) (before now : List ℕ) : Type 0 where
   pub keeps : kept ≡ take limit (before ++ now)
   pub all : total ≡ min (length (before ++ now)) (2 ^ 64 - 1)
   pub start : begins ≡ min (length before) (2 ^ 64 - 1)
   pub so_far : line ≡ line_after Nothing now
 
--- so much is collected of it
+-- this is collected of it
 abbrev pub HasCollected : {A : Type 0} → Text A → List ℕ → List ℕ → Type 0
 HasCollected text before now = IsCollected text.limit text.kept.items text.total text.begins text.line before now
 
@@ -58,7 +58,7 @@ IsTextOf text (Whole kept) = (kept.items ≡ text) × (length text ≤ most_byte
 IsTextOf text TooLong = most_bytes < length text
 IsTextOf text taken.Unfinished = ⊥
 
--- the pieces behind a line: a text and its last line
+-- the pieces after a line: a text and its last line
 abbrev pub IsTextTaken : {A : Type 0} → List (List ℕ) → Taken A → Type 0
 IsTextTaken pieces taken =
     (body : List (List ℕ)) × (last : List ℕ) × (pieces ≡ body ++ last ∷ []) × IsBody body × (line_of last ≡ codes ".")
@@ -76,7 +76,7 @@ abbrev pub asked_for : Result SubmissionData ReadFault → List Command
 asked_for (Ok submission) = Submit submission ∷ []
 asked_for (Err fault) = Refuse fault ∷ []
 
--- a fault that is told of a text: memory that ran out isn't one
+-- a fault that is answered for a text: memory that ran out isn't one
 abbrev pub IsTold : ReadFault → Type 0
 IsTold fault = is_memory fault ≡ false
 
@@ -84,7 +84,7 @@ IsTold fault = is_memory fault ≡ false
 abbrev pub AnswersAs : Format → List ℕ → Result SubmissionData ReadFault → Type 0
 AnswersAs format text answer = (answer ≡ Err faults.Memory) ⊎ IsReadAs format text answer
 
--- a reader's answer is told: not that memory ran out
+-- a reader's answer that is passed on: not that memory ran out
 abbrev pub IsToldAnswer : Result SubmissionData ReadFault → Type 0
 IsToldAnswer (Ok submission) = Unit {0}
 IsToldAnswer (Err fault) = IsTold fault

@@ -28,8 +28,8 @@ pub fn each_input_has_one_session_text()
     each_gcov_text_has_one_outcome();
 }
 
-/// No text is refused for the name of its test, which comes from one line and so is always good, and none for want of
-/// memory, which ends a session instead.
+/// No text is refused for the name of its test, which comes from one line and so is always good, and none because
+/// memory ran out, which ends a session instead.
 pub fn no_session_refuses_a_test()
     ensures { (input : List ℕ) (commands : List Command) → AreCommands (pieces_of input) commands
         → AllByRecursion (λ command. (command ≢ Refuse read_faults.BadTest) × (command ≢ Refuse read_faults.Memory)) commands }

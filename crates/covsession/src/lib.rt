@@ -1,8 +1,8 @@
 //! A session of the coverage collector: commands come in, a line each, and the answers of one book go out.
 //!
 //! `stream` is where bytes come from and go to, `session` answers the commands of a source to a sink, `program` is a session
-//! with its exit status and the words of its fault, and `laws` says what holds of every session. What another program says in
-//! a session's words it takes from here: the lines of a refused text and of a clash, and a fault's line and exit status.
+//! with its exit status and the words of its fault, and `laws` says what holds of every session. Other programs take from
+//! here what they say as a session does: the lines of a refused text and of a clash, and a fault's line and exit status.
 //!
 //! A sketch: a session over a slice and a vector.
 //!

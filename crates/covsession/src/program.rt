@@ -1,4 +1,4 @@
-//! The program over streams: a session, the exit status that tells how it ended, and the words of its fault.
+//! The program over streams: a session, the exit status for how it ended, and the words of its fault.
 
 ghost use Rattle.std.specs.Prelude.{◌≡◌, ◌^◌, ◌<◌};
 ghost use Rattle.covsession.specs.Fault.{calls};
@@ -10,7 +10,7 @@ use crate::session::{SessionFault, session};
 use crate::stream::{Sink, Source};
 use std::alloc::Allocator;
 
-/// The exit status of a program that ended in this fault: 1 where a stream failed, 3 where there was no room.
+/// The exit status of a program that ended in this fault: 1 if a stream failed, 3 if there was no room.
 pub fn status_of(fault: SessionFault) -> u8
     ensures { result ≡ fault_status fault }
 {
@@ -32,9 +32,9 @@ pub fn line_of(fault: SessionFault) -> &'static [u8]
     }
 }
 
-/// Runs a session from a source to a sink, and answers the exit status: 0 where it ended well, 1 where a stream
-/// failed, 3 where there was no room. The line of its fault goes to the sink of faults; where that write fails too,
-/// the status alone tells of it.
+/// Runs a session from a source to a sink, and returns the exit status: 0 if it ended well, 1 if a stream failed, 3 if
+/// there was no room. The line of its fault goes to the sink of faults; if that write fails too, only the status
+/// reports the fault.
 pub fn run_session<I: Source, O: Sink, E: Sink, A: Allocator + Copy>(
     alloc: A,
     source: &mut I,
@@ -54,7 +54,7 @@ pub fn run_session<I: Source, O: Sink, E: Sink, A: Allocator + Copy>(
     match session(alloc, source, sink) {
         Ok(()) => 0,
         Err(fault) => {
-            // There is nobody left to tell that this write failed.
+            // Nobody is left to whom the failure of this write could be reported.
             let _ = put_bytes(line_of(fault), faults);
             status_of(fault)
         }

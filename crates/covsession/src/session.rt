@@ -35,7 +35,7 @@ pub use output::put_bytes;
 use std::alloc::Allocator;
 use std::mem;
 
-// The format of the text that follows a line, where one does.
+// The format of the text that follows a line, if one does.
 fn text_behind(word: Word<'_>, ending: LineEnd) -> Option<Format<'_>>
     ensures text { IfSome result (λ format. (word.entry ≡ Word.Text format) × (ending ≡ LineEnd.Feed)) }
     ensures no_text { IfNone result ((format : TextFormat) → word.entry ≡ Word.Text format → ending ≡ LineEnd.Input) }
@@ -74,7 +74,7 @@ fn names_behind(word: Word<'_>, ending: LineEnd) -> bool
     }
 }
 
-// Answers the next command. A text stands in this room, where it has any.
+// Answers the next command. A text is collected in this room, if it has any.
 fn answer_command<I: Source, O: Sink, A: Allocator + Copy>(
     alloc: A,
     book: &mut Book<A>,
@@ -150,11 +150,11 @@ fn answer_to_the_end<I: Source, O: Sink, A: Allocator + Copy>(
 ///
 /// # Errors
 ///
-/// `Read` where a read failed, or 4,294,967,296 reads were made. `Write` where a write or flush failed. `Memory` where a growth
-/// was refused. `Full` where the commands ask the book more than its history has room for. What the sink took till then is a
-/// beginning of the session text of the bytes that were read, and of the whole input. Unless the fault is `Write` it is all
-/// the answers to the commands before the fault, and they were sent on. A write that fails after another fault is told in its
-/// place.
+/// `Read` if a read failed, or 4,294,967,296 reads were made. `Write` if a write or flush failed. `Memory` if a growth was
+/// refused. `Full` if the commands ask the book more than its history has room for. What the sink took until then is a
+/// beginning of the session text of the bytes that were read, and of the whole input. Unless the fault is `Write` it is all the
+/// answers to the commands before the fault, and they were sent on. If a write fails after another fault, `Write` is returned
+/// in its place.
 pub fn session<I: Source, O: Sink, A: Allocator + Copy>(
     alloc: A,
     source: &mut I,

@@ -9,9 +9,9 @@ use std::io;
 #[derive(Clone, Copy, Debug, PartialEq, Eq)]
 pub struct Failed;
 
-/// Gives bytes in order. It counts its calls, and those of them that failed.
+/// A source of bytes in order. It counts its calls, and those of them that failed.
 pub trait Source {
-    // The bytes that it still has, where it tells them.
+    // The bytes that it still has, if they are known.
     ghost left: { Self → Option (List ℕ) };
 
     // How many calls were made, and how many of them failed.
@@ -19,8 +19,8 @@ pub trait Source {
 
     ghost failed_reads: { Self → ℕ };
 
-    /// Reads bytes into the buffer from its beginning, and answers how many. 0 bytes are read only at the end or
-    /// into an empty buffer. A read that fails leaves the bytes.
+    /// Reads bytes into the front of the buffer, and returns how many. 0 bytes are read only at the end or into an
+    /// empty buffer. A read that fails takes no bytes.
     fn read(&mut self, buffer: &mut [u8]) -> Result<usize, Failed>
         requires few { reads self.old < 2 ^ 63 }
         requires few_failed { failed_reads self.old < 2 ^ 63 }
@@ -31,9 +31,9 @@ pub trait Source {
         ensures failed { OnErr result (failed_reads self.new ≡ failed_reads self.old + 1) };
 }
 
-/// Takes bytes in order. It counts its calls that failed.
+/// A sink that takes bytes in order. It counts its calls that failed.
 pub trait Sink {
-    // The bytes that it has taken, where it tells them.
+    // The bytes that it has taken, if they are known.
     ghost written: { Self → Option (List ℕ) };
 
     // How many of them it may still hold back.
@@ -42,8 +42,8 @@ pub trait Sink {
     // How many calls failed.
     ghost failed_writes: { Self → ℕ };
 
-    /// Takes bytes from the beginning of these, and answers how many. To take none of some bytes is a failure, and
-    /// a write that fails has taken none.
+    /// Takes bytes from the front of these, and returns how many. To take none of some bytes is a failure, and a write
+    /// that fails has taken none.
     fn write(&mut self, bytes: &[u8]) -> Result<usize, Failed>
         requires { failed_writes self.old < 2 ^ 63 }
         ensures bound { IfOk result (λ n. n ≤ length bytes.now) }
@@ -52,7 +52,7 @@ pub trait Sink {
         ensures good { OnOk result (failed_writes self.new ≡ failed_writes self.old) }
         ensures failed { OnErr result (failed_writes self.new ≡ failed_writes self.old + 1) };
 
-    /// Sends on what it holds back. Its bytes stay.
+    /// Sends on what it holds back. It takes no further bytes.
     fn flush(&mut self) -> Result<(), Failed>
         requires { failed_writes self.old < 2 ^ 63 }
         ensures bytes { Keeps (written self.old) (written self.new) }
@@ -70,7 +70,7 @@ pub struct FromRead<R> {
 }
 
 impl<R: io::Read> FromRead<R> {
-    /// The reader's bytes, with no calls counted.
+    /// The reader as a source, with no calls counted yet.
     pub fn new(reader: R) -> FromRead<R>
         ensures bytes { ⟦<FromRead<R> as Source>⟧.left result ≡ R.remaining reader }
         ensures calls { ⟦<FromRead<R> as Source>⟧.reads result ≡ 0 }
@@ -103,7 +103,7 @@ impl<R: io::Read> Source for FromRead<R> {
     }
 }
 
-/// A writer of std as a sink. What was written since the writer was last flushed it may hold back.
+/// A writer of std as a sink. It may hold back what was written since the writer was last flushed.
 #[derive(Drop)]
 pub struct FromWrite<W> {
     writer: W,
@@ -112,7 +112,7 @@ pub struct FromWrite<W> {
 }
 
 impl<W: io::Write> FromWrite<W> {
-    /// The writer's bytes, with no failures counted.
+    /// The writer as a sink, with no failures counted yet.
     pub fn new(writer: W) -> FromWrite<W>
         ensures bytes { ⟦<FromWrite<W> as Sink>⟧.written result ≡ W.contents writer }
         ensures held { ⟦<FromWrite<W> as Sink>⟧.held result ≡ 0 }

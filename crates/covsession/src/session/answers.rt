@@ -1,4 +1,4 @@
-//! The lines that a session answers.
+//! The lines with which a session answers.
 
 ghost use Rattle.std.specs.Prelude.{◌≡◌, ◌≢◌, ◌^◌, ◌<◌, codes, decimal, IfOk, IfErr, OnOk, ◌++◌};
 ghost use Rattle.covbook.specs.Op.{AcceptedAnswer, DroppedAnswer, RenamedAnswer};
@@ -17,7 +17,7 @@ use covread::ReadFault;
 use itoa::Buffer;
 use std::alloc::Allocator;
 
-// Appends words and a number behind them.
+// Appends words and a number after them.
 fn add_number<A: Allocator>(
     line: &mut Vec<u8, A>,
     words: &[u8],
@@ -59,7 +59,7 @@ fn accepted_line<A: Allocator>(
     Ok(line)
 }
 
-/// The line that says that a submission clashes; nothing where the answer says something else.
+/// The line that says that a submission clashes; empty for any other answer.
 pub fn clash_line<A: Allocator>(alloc: A, answer: &Answer<A>) -> Result<Vec<u8, A>, SessionFault>
     ensures line { IfOk result (λ text. text.items ≡ clash_text (answer_data answer.now)) }
     ensures fault { IfErr result (λ f. f ≡ session_faults.Memory) }
@@ -120,7 +120,7 @@ fn line_fault_text(fault: LineFault) -> &'static [u8]
     }
 }
 
-// A name, and the number of the line.
+// A fault's name, and the number of its line.
 fn text_at<A: Allocator>(alloc: A, name: &[u8], at: u64) -> Result<Vec<u8, A>, SessionFault>
     ensures words { IfOk result (λ text. text.items ≡ name.now ++ codes " at " ++ decimal at) }
     ensures fault { IfErr result (λ f. f ≡ session_faults.Memory) }
@@ -130,7 +130,7 @@ fn text_at<A: Allocator>(alloc: A, name: &[u8], at: u64) -> Result<Vec<u8, A>, S
     Ok(text)
 }
 
-// A name alone.
+// A fault's name alone.
 fn text_alone<A: Allocator>(alloc: A, name: &[u8]) -> Result<Vec<u8, A>, SessionFault>
     ensures words { IfOk result (λ text. text.items ≡ name.now) }
     ensures fault { IfErr result (λ f. f ≡ session_faults.Memory) }
@@ -138,7 +138,7 @@ fn text_alone<A: Allocator>(alloc: A, name: &[u8]) -> Result<Vec<u8, A>, Session
     Ok(Vec::from_slice(alloc, name)?)
 }
 
-// What a fault is called, with its line where it has one.
+// The name of a fault, with its line if it has one.
 fn fault_words<A: Allocator>(alloc: A, fault: ReadFault) -> Result<Vec<u8, A>, SessionFault>
     ensures words { IfOk result (λ text. text.items ≡ fault_text fault) }
     ensures fault { IfErr result (λ f. f ≡ session_faults.Memory) }

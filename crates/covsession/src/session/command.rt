@@ -44,14 +44,14 @@ pub fn step<O: Sink, A: Allocator + Copy>(
     say_answer(alloc, &receipt.answer, output)
 }
 
-// The list of a command's pattern, or of none; and none where the pattern is too long.
+// The list of a command's pattern, or the empty list without one; `None` if the pattern is too long.
 fn patterns_of<A: Allocator + Copy>(
     alloc: A,
     pattern: Option<&[u8]>,
 ) -> Result<Option<Patterns<A>>, SessionFault>
     ensures list { IfOk result (λ r. IsListOf (option_map (λ p. p.now) pattern.entry) r) }
     ensures fault { IfErr result (λ f. f ≡ session_faults.Memory) }
-    // Memory runs out only where a pattern is copied, and so behind the test of its length.
+    // Memory runs out only while a pattern is copied, and so after the test of its length.
     ensures short { OnErr result (IfSome pattern.entry (λ p. length p.now ≤ most_pattern_bytes)) }
 {
     let mut patterns = Patterns::new(alloc);
@@ -65,7 +65,7 @@ fn patterns_of<A: Allocator + Copy>(
     }
 }
 
-// What a choice of files asks the book.
+// The operation that a choice of files asks for.
 fn op_of<A: Allocator>(pick: Pick, patterns: Patterns<A>) -> Op<A>
     ensures { op_data result ≡ pick_op pick patterns }
 {
@@ -75,7 +75,7 @@ fn op_of<A: Allocator>(pick: Pick, patterns: Patterns<A>) -> Op<A>
     }
 }
 
-// What drops a test.
+// The operation that drops a test.
 fn drop_op<A: Allocator>(alloc: A, test: &[u8]) -> Result<Op<A>, SessionFault>
     ensures op { IfOk result (λ op. op_data op ≡ DropTestOp test.now) }
     ensures fault { IfErr result (λ f. f ≡ session_faults.Memory) }

@@ -20,10 +20,10 @@ use std::marker::Model;
 /// How many bytes one read asks for.
 const BLOCK_BYTES: usize = 65_536;
 
-/// How many reads a session makes at the most.
+/// The most reads that a session makes.
 const MOST_READS: u64 = 4_294_967_296;
 
-/// The room of a block that is read.
+/// Room for a block to read into.
 pub fn block<A: Allocator>(alloc: A) -> Result<Vec<u8, A>, SessionFault>
     ensures room { IfOk result (λ block. length block.items ≡ 65536) }
     ensures fault { IfErr result (λ f. f ≡ session_faults.Memory) }
@@ -61,7 +61,7 @@ impl<'s, I: Source, A: Allocator> Model for SessionInput<'s, I, A> {
 }
 
 impl<'s, I: Source, A: Allocator> SessionInput<'s, I, A> {
-    /// The input from this source, before the first read, which is into this block.
+    /// The input from this source, before the first read. Reads go into this block.
     pub fn new(block: Vec<u8, A>, source: &'s mut I) -> SessionInput<'s, I, A>
         requires { length block.items ≡ 65536 }
         ensures empty { result.pending ≡ [] }
@@ -99,7 +99,7 @@ impl<'s, I: Source, A: Allocator> SessionInput<'s, I, A> {
         &self.bytes[self.from..self.to]
     }
 
-    // How many bytes stand before the first line feed: all, where there is none.
+    // How many bytes come before the first line feed; all, if there is none.
     fn feed_at(&self) -> usize
         ensures front { before_feed self.now.pending ≡ take result self.now.pending }
         ensures bound { result ≤ length self.now.pending }
@@ -112,7 +112,7 @@ impl<'s, I: Source, A: Allocator> SessionInput<'s, I, A> {
         }
     }
 
-    // Takes so many bytes.
+    // Takes `count` bytes.
     fn take(&mut self, count: usize)
         requires { count ≤ length self.old.pending }
         ensures { self.new ≡ record self.old { pending = drop count self.old.pending } }
@@ -120,8 +120,8 @@ impl<'s, I: Source, A: Allocator> SessionInput<'s, I, A> {
         self.from += count;
     }
 
-    // Reads the next block, after the last one was taken and all that was said was written and sent on: the read may have
-    // to wait for the one who is answered.
+    // Reads the next block, once the last one is taken and all that was said is written and sent on: the source may give
+    // nothing before it sees the answers.
     fn read<O: Sink>(&mut self, output: &Output<'_, O, A>) -> Result<(), SessionFault>
         requires taken { self.old.pending ≡ [] }
         requires answered { output.now.waiting ≡ [] }
@@ -131,7 +131,7 @@ impl<'s, I: Source, A: Allocator> SessionInput<'s, I, A> {
         ensures ended { OnOk result (self.new.pending ≡ [] → IsAtEnd self.new.left) }
         ensures fewer { OnOk result (turns self.new < turns self.old) }
         ensures fault { IfErr result (λ f. f ≡ session_faults.Read) }
-        // It fails only where no read is left, or one failed, and takes nothing then.
+        // It fails only if no read is left, or one failed, and takes nothing then.
         ensures stalls { OnErr result (Stalls self.old self.new) }
     {
         if self.reads_left == 0 {
@@ -147,8 +147,8 @@ impl<'s, I: Source, A: Allocator> SessionInput<'s, I, A> {
         Ok(())
     }
 
-    // Sees to it that some byte is there to be taken, unless the source is at its end. What waits is written and sent on
-    // before a read.
+    // Makes a byte available to be taken, unless the source is at its end. What waits is written and sent on before a
+    // read.
     fn fill<O: Sink>(&mut self, output: &mut Output<'_, O, A>) -> Result<(), SessionFault>
         requires { CanCall (moment self.old output.old) }
         ensures moves { OnOk result (Moves (moment self.old output.old) (moment self.new output.new) [] []) }
@@ -165,7 +165,7 @@ impl<'s, I: Source, A: Allocator> SessionInput<'s, I, A> {
         self.read(output)
     }
 
-    // Takes what is there of a line, and answers whether that is all of it, the line feed too.
+    // Takes the pending part of a line. Returns whether that includes the line feed.
     fn take_part(&mut self, text: &mut Text<A>) -> Result<bool, SessionFault>
         ensures taken { IfOk result (λ whole. (part : List ℕ) × (before_feed part ≡ part)
             × TakesPart whole self.old.pending part self.new.pending
@@ -187,7 +187,7 @@ impl<'s, I: Source, A: Allocator> SessionInput<'s, I, A> {
         Ok(false)
     }
 
-    /// Takes the whole lines of a text that are there, up to one that begins with a dot. No line was begun.
+    /// Takes the pending whole lines of a text, up to one that begins with a dot. No line was begun.
     pub fn take_lines(&mut self, text: &mut Text<A>) -> Result<(), SessionFault>
         ensures taken { OnOk result ((lines : List ℕ) × AreLines lines × (self.old.pending ≡ lines ++ self.new.pending)
             × ((before : List ℕ) → HasCollected text.old before [] → HasCollected text.new (before ++ lines) [])) }
@@ -204,7 +204,7 @@ impl<'s, I: Source, A: Allocator> SessionInput<'s, I, A> {
         Ok(())
     }
 
-    /// Takes a line, and answers how it ended.
+    /// Takes a line, and returns how it ended.
     pub fn take_line<O: Sink>(
         &mut self,
         text: &mut Text<A>,

@@ -12,7 +12,8 @@ fn begins_with_dot(bytes: &[u8]) -> bool
     matches!(bytes, [b'.', ..])
 }
 
-/// How many bytes in front are whole lines, up to the first line that begins with a dot: none of them ends a text.
+/// How many bytes at the front are whole lines, before the first line that begins with a dot: none of these lines ends
+/// a text.
 pub fn whole_lines(bytes: &[u8]) -> usize
     ensures bound { result ≤ length bytes.now }
     ensures lines { AreLines (take result bytes.now) }

@@ -12,7 +12,7 @@ use crate::stream::Sink;
 use std::alloc::Allocator;
 use std::marker::Model;
 
-/// How many bytes wait at the most before they are written.
+/// The most bytes that wait before they are written.
 const MOST_WAITING: usize = 65_536;
 
 /// Bytes that wait to be written, and the sink that they are written to. Contracts see both, how many bytes the sink
@@ -99,8 +99,8 @@ impl<'s, O: Sink, A: Allocator> Output<'s, O, A> {
         put_bytes(bytes, self.sink)
     }
 
-    /// Says the bytes: they wait, or are written with all that waits. At most 65,536 bytes wait then. Where there is no
-    /// memory for them to wait in they are written at once, so that no answer is lost in the middle.
+    /// Says the bytes: they wait, or are written with all that waits. At most 65,536 bytes wait then. Without memory
+    /// for them to wait in they are written at once, so no answer is lost in the middle.
     pub fn say(&mut self, bytes: &[u8]) -> Result<(), SessionFault>
         requires { self.old.failed_writes < 2 ^ 63 }
         ensures says { OnOk result (Says self.old self.new bytes.now) }
@@ -142,8 +142,9 @@ impl<'s, O: Sink, A: Allocator> Output<'s, O, A> {
         }
     }
 
-    /// Sends on what was said before this fault, and answers the fault that the session ends with: a write that fails
-    /// now is told in its place. Before a read all was sent on, and a write that failed isn't made again.
+    /// Sends on what was said before this fault, and returns the fault that the session ends with: `Write`, if a write
+    /// fails now. After `Read` nothing is left to be sent, since all was sent on before the read; after `Write` no
+    /// write is tried again.
     pub fn stop(&mut self, fault: SessionFault) -> SessionFault
         requires { self.old.failed_writes < 2 ^ 63 }
         ensures { StopsAs self.old self.new fault result }

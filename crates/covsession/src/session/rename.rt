@@ -1,4 +1,4 @@
-//! A rename: the two lines behind a line `rename` are taken as the old and the new name, and answered.
+//! A rename: the two lines after a line `rename` are taken as the old and the new name, and answered.
 
 ghost use Rattle.std.specs.Prelude.{◌≡◌, ◌≢◌, ◌⊎◌, [], codes, length, Err, IfOk, IfErr};
 ghost use Rattle.covbook.specs.Op.{RenameOp};
@@ -31,7 +31,7 @@ pub struct Names<A: Allocator> {
     pub ending: LineEnd,
 }
 
-// Whether a line that ended so is there: where the input ends before its first byte it isn't.
+// Whether there is a line with this ending: there is none if the input ends before its first byte.
 fn is_there(line: &[u8], ending: LineEnd) -> bool
     ensures { IsThere result ending line.now }
 {
@@ -41,7 +41,8 @@ fn is_there(line: &[u8], ending: LineEnd) -> bool
     }
 }
 
-// Takes the next line as a name, whatever it holds, and answers how it ended; none where the input ends before it.
+// Takes the next line as a name, whatever it holds, and returns it with how it ended; `None` if the input ends before
+// it.
 fn take_name<I: Source, O: Sink, A: Allocator + Copy>(
     alloc: A,
     input: &mut SessionInput<'_, I, A>,
@@ -61,7 +62,7 @@ fn take_name<I: Source, O: Sink, A: Allocator + Copy>(
     Ok(Some((name, ending)))
 }
 
-// Takes two lines as the old and the new name; none where the input ends before both are there.
+// Takes two lines as the old and the new name; `None` if the input ends before both are there.
 fn take_names<I: Source, O: Sink, A: Allocator + Copy>(
     alloc: A,
     input: &mut SessionInput<'_, I, A>,
@@ -84,14 +85,14 @@ fn take_names<I: Source, O: Sink, A: Allocator + Copy>(
     Ok(Some(Names { old, new, ending }))
 }
 
-// What renames a test.
+// The operation that renames a test.
 fn rename_op<A: Allocator>(old: Bytes<A>, new: Bytes<A>) -> Op<A>
     ensures { op_data result ≡ RenameOp old new }
 {
     Op::Rename { old, new }
 }
 
-/// Takes the names behind a line `rename`, and answers the rename.
+/// Takes the names after a line `rename`, and answers the rename.
 pub fn answer_rename<I: Source, O: Sink, A: Allocator + Copy>(
     alloc: A,
     book: &mut Book<A>,

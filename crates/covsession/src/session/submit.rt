@@ -1,4 +1,4 @@
-//! A text behind a line `trace` or `gcov`: it is taken, read and submitted, or refused.
+//! A text after a line `trace` or `gcov`: it is taken, read and submitted, or refused.
 
 ghost use Rattle.std.specs.Prelude.{◌≡◌, ◌≢◌, ◌⊎◌, ℕ, ◌^◌, ◌<◌, length, List, [], Result, Err, IfOk, IfErr, OnOk};
 ghost use Rattle.covline.specs.Row.{SubmissionData};
@@ -28,7 +28,7 @@ use std::alloc::Allocator;
 /// The longest text whose room is kept for the next one.
 const MOST_KEPT_BYTES: usize = 8_388_608;
 
-/// Takes the lines of a text, up to a line `.`, into this room, and answers what they are and how the last line ended.
+/// Takes the lines of a text, up to a line `.`, into this room. Returns what they are and how the last line ended.
 pub fn take_text<I: Source, O: Sink, A: Allocator>(
     room: Vec<u8, A>,
     input: &mut SessionInput<'_, I, A>,
@@ -55,7 +55,7 @@ pub fn take_text<I: Source, O: Sink, A: Allocator>(
     }
 }
 
-// A fault that isn't told of a text ends the session: memory that ran out.
+// Out of memory ends the session; other faults of a text are answered.
 fn told(fault: ReadFault) -> Result<(), SessionFault>
     ensures told { OnOk result (IsTold fault) }
     ensures fault { IfErr result (λ f. (fault ≡ read_faults.Memory) × (f ≡ session_faults.Memory)) }
@@ -123,7 +123,7 @@ fn submit<O: Sink, A: Allocator + Copy>(
     }
 }
 
-/// What was taken behind a line that a text of this format follows.
+/// What was taken after a line that a text of this format follows.
 #[derive(Drop)]
 pub struct Given<'a, A: Allocator> {
     /// The text's format.
@@ -132,15 +132,15 @@ pub struct Given<'a, A: Allocator> {
     pub taken: Taken<A>,
 }
 
-/// Keeps the room of a text that was read, unless it is large: a page that is touched for the first time costs more than
-/// reading what stands on it.
+/// Keeps the room of a text that was read, unless it is large: to touch a page for the first time costs more than to
+/// read what is on it.
 fn keep_room<A: Allocator>(room: &mut Vec<u8, A>, text: Vec<u8, A>) {
     if text.len() <= MOST_KEPT_BYTES {
         *room = text;
     }
 }
 
-/// Answers what was taken of a text. As soon as a whole one is read, its room is kept for the next one, or let go.
+/// Answers what was taken of a text. As soon as a whole one is read, its room is kept for the next one, or freed.
 pub fn answer_given<O: Sink, A: Allocator + Copy>(
     alloc: A,
     book: &mut Book<A>,

@@ -14,7 +14,7 @@ use std::alloc::Allocator;
 pub enum LineEnd {
     /// With a line feed.
     Feed,
-    /// With the input.
+    /// With the end of the input.
     Input,
 }
 
@@ -29,7 +29,7 @@ pub enum LineSoFar {
     Other,
 }
 
-/// What a line is after one byte more.
+/// What a line is after one more byte.
 pub fn with_byte(so_far: LineSoFar, byte: u8) -> LineSoFar
     ensures { result ≡ line_with so_far byte }
 {
@@ -52,7 +52,7 @@ pub fn with_byte(so_far: LineSoFar, byte: u8) -> LineSoFar
     }
 }
 
-/// What a line is after some bytes more.
+/// What a line is after some more bytes.
 pub fn with_bytes(so_far: LineSoFar, bytes: &[u8]) -> LineSoFar
     ensures { result ≡ line_after so_far bytes.now }
 {
@@ -80,20 +80,20 @@ pub enum Taken<A: Allocator> {
 /// Bytes that are collected, and kept up to a limit.
 #[derive(Drop)]
 pub struct Text<A: Allocator> {
-    /// The first bytes, at most as many as the limit.
+    /// The first bytes, up to the limit.
     pub kept: Vec<u8, A>,
-    /// How many bytes are kept at the most.
+    /// The most bytes that are kept.
     pub limit: usize,
     /// How many bytes there were, kept or not.
     pub total: u64,
-    /// How many of them stand before the line that was begun.
+    /// How many of them come before the line that was begun.
     pub begins: u64,
     /// What the line that was begun is so far.
     pub line: LineSoFar,
 }
 
 impl<A: Allocator> Text<A> {
-    /// No bytes yet.
+    /// A text without bytes yet.
     pub fn new(alloc: A, limit: usize) -> Text<A>
         ensures empty { HasCollected result [] [] }
         ensures limit { result.limit ≡ limit }
@@ -101,7 +101,7 @@ impl<A: Allocator> Text<A> {
         Text::in_room(Vec::new(alloc), limit)
     }
 
-    /// No bytes yet, and this room for those to come. What stands in it is given up.
+    /// A text without bytes yet, and this room for those to come. What the room holds is dropped.
     pub fn in_room(room: Vec<u8, A>, limit: usize) -> Text<A>
         ensures empty { HasCollected result [] [] }
         ensures limit { result.limit ≡ limit }
@@ -174,7 +174,7 @@ impl<A: Allocator> Text<A> {
         Ok(())
     }
 
-    /// All bytes, where there is no limit to keep.
+    /// All bytes, if no limit cuts them off.
     pub fn whole(&self) -> &[u8]
         ensures { (before : List ℕ) → (now : List ℕ) → self.now.limit ≡ usize.MAX → HasCollected self.now before now
             → result.now ≡ before ++ now }
@@ -192,7 +192,7 @@ impl<A: Allocator> Text<A> {
         }
     }
 
-    /// The text is all that stands before the line that was begun.
+    /// The text: all that comes before the line that was begun.
     pub fn body(self) -> Taken<A>
         requires { self.limit ≡ most_bytes }
         ensures { (before : List ℕ) → (now : List ℕ) → HasCollected self before now → IsTextOf before result }

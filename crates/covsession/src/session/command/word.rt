@@ -34,7 +34,7 @@ pub enum Word<'a> {
     Report,
     /// `summary`, how much is hit.
     Summary,
-    /// A choice of files, by the pattern behind the first space where there is one.
+    /// A choice of files, by the pattern after the first space if there is one.
     Choose(Pick, Option<&'a [u8]>),
     /// `drop`, the test with this name is dropped.
     Drop(&'a [u8]),
@@ -66,7 +66,7 @@ pub fn word_of(line: &[u8]) -> Word<'_>
     }
 }
 
-/// What a line asks for that isn't one of the words which stand alone.
+/// What a line asks for that isn't one of the words without an argument.
 fn word_with_argument(words: &[u8]) -> Word<'_>
     requires some { words.now ≢ [] }
     requires no_report { words.now ≢ codes "report" }
@@ -89,7 +89,7 @@ fn word_with_argument(words: &[u8]) -> Word<'_>
     }
 }
 
-/// The test that is named behind a word, where a space stands there; else the one with the empty name.
+/// The test that is named after a word and a space; without a space, the one with the empty name.
 fn test_named(argument: Option<&[u8]>) -> &[u8]
     ensures { (line word : List ℕ) → IsWordWith line word (option_map (λ p. p.now) argument.entry) → IsNaming word result.now line }
 {
@@ -99,7 +99,7 @@ fn test_named(argument: Option<&[u8]>) -> &[u8]
     }
 }
 
-/// What stands before the first space, and what behind it, where there is one.
+/// What comes before the first space, and what comes after it, if there is one.
 fn split_at_space(words: &[u8]) -> (&[u8], Option<&[u8]>)
     ensures name { result.0.now ≡ before_space words.now }
     ensures whole { IsWordWith words.now result.0.now (option_map (λ p. p.now) result.1) }
