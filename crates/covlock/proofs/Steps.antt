@@ -1,4 +1,4 @@
--- A step under the lock, told by the history that lay there before it.
+-- A step under the lock, seen from the history that was there before it.
 use Rattle.std.proofs.Common.{◌≡◌, ◌∙◌, ◌⊎◌, inl, inr, ℕ, ◌<◌, ◌≤◌, List, [], ◌∷◌, ◌++◌, length, Result, Ok, Err, refl, sym, ap, arith, subst}
 use Rattle.std.proofs.lemmas.List.{length_push}
 use Rattle.covbook.specs.declared.book.BookFault.{BookFault}
@@ -7,7 +7,7 @@ use Rattle.covbook.specs.Op.{OpData, EntryData, ReceiptData}
 use Rattle.covbook.specs.Step.{ComesNext, IsLegal, answer_of, next_entry, receipt_of, table_of, ops_in, most_entries}
 use Rattle.covlock.specs.Call.{IsNewsOf}
 
--- what grew behind the history as it was made ready grew behind the history as it lay there
+-- what follows the history as it was made ready follows the history that was there before
 pub entry_behind : (history ready after : List EntryData) (job asker : ℕ) (op asked : OpData) → ready ≡ history → job ≡ asker → op ≡ asked
     → after ≡ ready ++ next_entry ready job op ∷ [] → after ≡ history ++ next_entry history asker asked ∷ []
 entry_behind history ready after job asker op asked same is_job is_op grown =
@@ -15,7 +15,7 @@ entry_behind history ready after job asker op asked same is_job is_op grown =
     (subst (λ (j : ℕ). after ≡ ready ++ next_entry ready j asked ∷ []) is_job
     (subst (λ (o : OpData). after ≡ ready ++ next_entry ready job o ∷ []) is_op grown))
 
--- what is told of the history as it was made ready is told of the history as it lay there
+-- what holds of the history as it was made ready holds of the history that was there before
 pub told_behind : (history ready : List EntryData) (job : ℕ) (op asked : OpData) (told : ReceiptData) → ready ≡ history → op ≡ asked
     → told ≡ receipt_of (length ready) (next_entry ready job op) → told ≡ record { place = length history; op = asked; answer = answer_of (table_of (ops_in history)) asked }
 told_behind history ready job op asked told same is_op is_told =

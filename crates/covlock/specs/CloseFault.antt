@@ -1,4 +1,4 @@
--- The fault of a close: its number, and the job that it tells.
+-- The fault of a close: its number, and the job that it names.
 use Rattle.std.specs.Prelude.{ℕ}
 use Rattle.covlock.specs.declared.shared.CloseFault.{CloseFault}
 use Rattle.covlock.specs.declared.shared.CloseFault.TheVariants.{Missing}

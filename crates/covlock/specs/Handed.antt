@@ -7,7 +7,7 @@ use Rattle.covlock.specs.Seat.{SeatData}
 abbrev pub is_seated : List SeatData → ℕ → Bool
 is_seated seats job = list_any (λ s. job == s.job) seats
 
--- so is one of each job
+-- there is a seat of each job
 abbrev pub AllAreSeated : ℕ → List SeatData → Type 0
 AllAreSeated jobs seats = (job : ℕ) → job < jobs → is_seated seats job ≡ true
 

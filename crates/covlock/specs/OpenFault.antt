@@ -1,4 +1,4 @@
--- The numbers of the faults of a start, the same from the first day on.
+-- The numbers of the faults of a start, which stay the same in all versions.
 use Rattle.std.specs.Prelude.{ℕ}
 use Rattle.covlock.specs.declared.name.OpenFault.{OpenFault}
 use Rattle.covlock.specs.declared.name.OpenFault.TheVariants.{BadJobs, Memory}

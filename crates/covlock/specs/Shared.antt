@@ -1,4 +1,4 @@
--- What a shared book shows to its callers. Of its history none of them knows more than its own calls until it is closed.
+-- What a shared book shows to its callers. Until it is closed, each of them knows of its history only their own calls.
 use Rattle.std.specs.Prelude.{ℕ}
 
 -- how many jobs share it

@@ -3,18 +3,19 @@ use Rattle.std.specs.Prelude.{◌≡◌, ℕ, ◌≤◌, List, []}
 use Rattle.logbook.specs.Pages.{Book}
 use Rattle.covbook.specs.Op.{EntryData}
 
--- the name of the count of a book to come, how many jobs share the book, and the book's name
+-- the name of the count of the book's calls, how many jobs share the book, and the book's name
 pub record StartData : Type 0 where
   pub name : ℕ
   pub jobs : ℕ
   pub book : Book
 
--- so many jobs may share a book
+-- this number of jobs may share a book
 pub record AreJobs (jobs : ℕ) : Type 0 where
   pub some : 1 ≤ jobs
   pub few : jobs ≤ 64
 
--- there may be so many jobs, the count of the calls has a part for each of them, and nothing is in the book yet
+-- this number of jobs may share a book, the count of the calls has a part for each of them, and nothing is in the book
+-- yet
 pub record IsStart (jobs parts : ℕ) (entries : List EntryData) : Type 0 where
   pub bounds : AreJobs jobs
   pub parts_are : parts ≡ jobs

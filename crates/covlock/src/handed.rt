@@ -50,7 +50,7 @@ impl<L: Name, A: Allocator> Seats<L, A> {
         self.seats
     }
 
-    /// Appends a seat. A refusal gives it up and leaves the list as it was.
+    /// Appends a seat. On `Memory` the seat is dropped and the list stays as it was.
     pub fn push(&mut self, seat: Seat<L>) -> Result<(), Memory>
         ensures ok { OnOk result (self.new ≡ self.old ++ seat ∷ []) }
         ensures err { OnErr result (self.new ≡ self.old) }
@@ -73,7 +73,7 @@ impl<L: Name, A: Allocator> Seats<L, A> {
         self.get().iter().any(|seat| job == seat.job())
     }
 
-    /// The least of so many jobs without a seat among them. Takes no memory.
+    /// The least job below `jobs` that has no seat among them.
     pub(crate) fn missing(&self, jobs: u32) -> Option<u32>
         ensures { MatchOption result (AllAreSeated jobs self.now) (λ job. IsLeastMissing jobs self.now job) }
     {
@@ -85,7 +85,7 @@ impl<L: Name, A: Allocator> Seats<L, A> {
         None
     }
 
-    /// The shares of all of them go to this one.
+    /// Adds the shares of all seats to this one.
     pub(crate) fn give_shares(self, to: &mut Share<L>)
         requires few { to.old.parts ≤ L.parts }
         ensures parts { to.new.parts ≡ to.old.parts + length self }
@@ -101,7 +101,7 @@ impl<L: Name, A: Allocator> Seats<L, A> {
 ghost use Rattle.std.specs.Prelude.{◌≡◌, IfOk};
 ghost use Rattle.covlock.specs.Seat.{first_seats};
 
-/// The seats of so many jobs, none of which has made a call. Each takes a part of the share.
+/// The seats of the jobs below `jobs`, none of which has made a call. Each takes a part of the share.
 pub(crate) fn seats_for<L: Name, A: Allocator>(
     alloc: A,
     jobs: u32,

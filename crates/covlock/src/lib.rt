@@ -1,18 +1,19 @@
 //! One book that many threads share under a lock.
 //!
 //! A `Start` is what a shared book is made of. `open_book` makes the book, and a `Seat` for each job. Any thread that has a
-//! seat performs steps on the book by it (`Shared::perform`); each is one step of the book's table, taken while its lock is
-//! held. `Shared::close` takes all seats back and gives the history, which has exactly one entry for each call that succeeded.
+//! seat performs steps on the book with it (`Shared::perform`); each is one step of the book's table, taken while its lock is
+//! held. `Shared::close` takes all seats back and returns the history, which has exactly one entry for each call that
+//! succeeded.
 //!
-//! A reader of the totals (`Shared::reader`, `Live`) waits for nobody: it takes no lock. Each call's news, and those that `close`
-//! gives, tell a reader of at least so many entries, whatever it was shown (`Live::learn`).
+//! A reader of the totals (`Shared::reader`, `Live`) waits for nobody: it takes no lock. Each call returns news, and so does
+//! `close`; a reader that learns them (`Live::learn`) has at least their entries, whatever it was shown.
 //!
 //! A function that uses a book is generic in the book's name `L: Name`, and its caller calls it at `Brand` and says in its
-//! `Invariants.antt` that this names the start (`docs/ARCHITECTURE.md` has the lines). So a seat, news or a reader of another
-//! book have another type where the two books are opened in two such functions. Two books that one function opens at `Brand`
-//! have one type: there the compiler alone takes the seat of one for the other's, and the prover refuses it.
+//! `Invariants.antt` that this names the start (`docs/ARCHITECTURE.md` has the lines). So the seats, news and readers of two
+//! books have different types if the books are opened in two such functions. Two books that one function opens at `Brand` have
+//! one type: the compiler then takes a seat of one for the other, and only the prover refuses it.
 //!
-//! `covjobs` passes on all of this: who uses it lists that crate alone. Its page has a sketch.
+//! `covjobs` re-exports all of this: a user of it lists that crate alone. Its page has a sketch.
 #![tactic(auto)]
 
 mod handed;

@@ -9,13 +9,12 @@ use std::marker::Model;
 use std::sync::Wait;
 use std::sync::ledger::{Book as Count, Share};
 
-/// The book, the count of its calls, whose shares the seats have, and the one who shows readers how far it is. Contracts see the
-/// history.
+/// The book, the count of its calls, whose shares the seats have, and the publisher of its history. Contracts see the history.
 #[derive(Drop)]
 pub(crate) struct Locked<L: Name, A: Allocator> {
     book: Book<A>,
     count: Count<L>,
-    /// A share without a part. At the end those of the seats go to it.
+    /// A share without a part. `close` adds those of the seats to it.
     rest: Share<L>,
     publisher: Publisher<L, A>,
 }
@@ -41,7 +40,7 @@ impl<L: Name, A: Allocator + Copy> Locked<L, A> {
     ghost use Rattle.covlock.specs.Call.{IsToldBehind, IsNewsOf};
     ghost use Rattle.covlock.specs.Seat.{after_call};
 
-    /// An empty book, whose calls nobody has counted yet, and of which nothing is published.
+    /// An empty book: no call is counted yet, and nothing is published.
     pub(crate) fn new(
         book: Book<A>,
         count: Count<L>,
@@ -64,9 +63,9 @@ impl<L: Name, A: Allocator + Copy> Locked<L, A> {
         }
     }
 
-    /// One step of the book by the seat's job, with all that belongs to it: the history is published with its entry. All that can
-    /// be refused comes first, so a refusal leaves the history, what is published of it, and the seat as they were. Waits for
-    /// readers that still read what was published two steps ago.
+    /// Takes one step of the book for the seat's job, and publishes the history with its entry. All that can be refused comes
+    /// first, so after a refusal the history, what is published of it, and the seat are as they were. Waits for readers that
+    /// still read what was published two steps ago.
     pub(crate) fn step<R: Wait>(
         &mut self,
         rt: &R,
@@ -87,8 +86,8 @@ impl<L: Name, A: Allocator + Copy> Locked<L, A> {
             return Err(BookFault::Full);
         }
         let ready = self.book.ready(alloc, seat.job(), op)?;
-        // `None` isn't met, since no other publisher has this history; no contract says so. Nothing is changed yet, so the step
-        // is refused. It isn't refused as `Full`, which has a cause that can be seen.
+        // `None` doesn't happen, since no other publisher has this history; no contract says so. Nothing is changed yet, so the
+        // step is refused. It isn't refused as `Full`, which has a cause that callers can see.
         let Some(news) = self.publisher.note(ready.entry()) else {
             return Err(BookFault::Memory);
         };
@@ -106,7 +105,7 @@ impl<L: Name, A: Allocator> Locked<L, A> {
     ghost use Rattle.covlock.specs.Seat.{calls_in};
     ghost use Rattle.covnews.specs.declared.fault.ReaderFault.TheVariants as reader_faults;
 
-    /// One more reader of what is published, which is the history. Takes no memory.
+    /// Makes one more reader of what is published, which is the history.
     pub(crate) fn reader(&mut self) -> Result<Live<L, A>, ReaderFault>
         ensures live { IfOk result (λ live. live ≡ self.old) }
         ensures fault { IfErr result (λ fault. fault ≡ reader_faults.NoPlace) }
@@ -116,7 +115,7 @@ impl<L: Name, A: Allocator> Locked<L, A> {
         self.publisher.reader()
     }
 
-    /// The history, given up for all seats, and news of it. Takes no memory. Waits for readers to leave.
+    /// Takes all seats, and returns the history with news of it. Waits for readers to leave.
     pub(crate) fn close<R: Wait>(self, rt: &R, seats: Seats<L, A>) -> (Entries<A>, News<L>)
         requires { L.parts ≤ length seats }
         ensures history { result.0 ≡ self }

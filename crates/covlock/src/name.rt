@@ -8,7 +8,7 @@ use std::marker::Model;
 use std::sync::ledger::Blank;
 use thiserror::Error;
 
-/// How many jobs share one book at the most.
+/// The most jobs that can share one book.
 pub const MOST_JOBS: u32 = 64;
 
 /// Why no book is opened.
@@ -70,8 +70,8 @@ impl<A: Allocator + Copy> Start<A> {
     ghost use Rattle.covlock.specs.declared.name.OpenFault.TheVariants as faults;
     ghost use Rattle.covlock.specs.Start.{AreJobs};
 
-    /// What a book for so many jobs is made of. `BadJobs` where the jobs aren't 1 to 64. Nothing of it takes memory yet, so `Memory`
-    /// isn't answered.
+    /// What a book for `jobs` jobs is made of. `BadJobs` if they aren't 1 to 64. Takes no memory yet, so `Memory` isn't
+    /// returned.
     pub fn new(alloc: A, jobs: u32) -> Result<Start<A>, OpenFault>
         ensures jobs { IfOk result (λ s. s.jobs ≡ jobs) }
         ensures bad { (result ≡ Err faults.BadJobs) ↔ (AreJobs jobs → ⊥) }

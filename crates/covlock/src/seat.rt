@@ -1,4 +1,4 @@
-//! The seat of a job: by it the job performs its steps.
+//! The seat of a job, with which it performs its steps.
 
 use covnews::Name;
 use std::marker::Model;
@@ -44,7 +44,7 @@ impl<L: Name> Seat<L> {
         }
     }
 
-    /// The job. Takes no memory, as the other two questions.
+    /// The number of the job. Takes no memory, nor do `calls` and `seen`.
     pub fn job(&self) -> u32
         ensures { result ≡ self.now.job }
     {
@@ -58,7 +58,7 @@ impl<L: Name> Seat<L> {
         self.calls
     }
 
-    /// The place after that of the last call that succeeded, and 0 before the first.
+    /// The place after that of the last call that succeeded, or 0 before the first.
     pub fn seen(&self) -> u64
         ensures { result ≡ self.now.seen }
     {
@@ -78,7 +78,7 @@ impl<L: Name> Seat<L> {
         self.seen = place + 1;
     }
 
-    /// The share of the count, which is given up with the seat.
+    /// Consumes the seat, and returns its share of the count.
     pub(crate) fn into_share(self) -> Share<L>
         ensures part { result.parts ≡ 1 }
         ensures calls { result.amount ≡ self.calls }

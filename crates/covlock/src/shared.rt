@@ -12,11 +12,11 @@ use std::marker::Model;
 use std::sync::{Mutex, Wait};
 use thiserror::Error;
 
-/// How many readers are made of one book at the most.
+/// The most readers that can be made of one book.
 pub const MOST_READERS: u32 = 64;
 
-/// A book under a lock, which threads share by reference. Contracts see how many jobs it is for. A book that is dropped, and not
-/// closed, keeps the memory that it shares with its readers (some 17 KB).
+/// A book under a lock, which threads share by reference. Contracts see how many jobs it is for. A book that is dropped
+/// without being closed never frees the memory that it shares with its readers (some 17 KB).
 #[derive(Drop)]
 pub struct Shared<L: Name, A: Allocator = Global> {
     jobs: u32,
@@ -34,7 +34,7 @@ impl<L: Name, A: Allocator> Model for Shared<L, A> {
     ghost invariant = { λ a. a.jobs ≡ L.parts };
 }
 
-/// What a call that succeeded is answered: its receipt, and news of the history that ends with its entry.
+/// What a successful call returns: its receipt, and news of the history that ends with its entry.
 #[derive(Drop)]
 pub struct Done<L: Name, A: Allocator = Global> {
     pub receipt: Receipt<A>,
@@ -44,7 +44,7 @@ pub struct Done<L: Name, A: Allocator = Global> {
 /// Why a book isn't closed.
 #[derive(Clone, Copy, Debug, PartialEq, Eq, Error)]
 pub enum CloseFault {
-    /// Fault 1: the seat of this job isn't handed in, and those of all lower ones are.
+    /// Fault 1: the seat of this job isn't handed in; those of all lower jobs are.
     #[error("Missing {job}")]
     Missing { job: u32 },
 }
@@ -66,7 +66,7 @@ impl CloseFault {
 ghost use Rattle.std.specs.Prelude.{◌≡◌, IfOk};
 ghost use Rattle.covlock.specs.Seat.{first_seats};
 
-/// Opens an empty book, with a seat for each job from 0 on. A refusal gives the start up.
+/// Opens an empty book, with a seat for each job from 0 on. On `Memory` the start is dropped.
 pub fn open_book<L: Name, A: Allocator + Copy>(
     alloc: A,
     start: Start<A>,
@@ -92,11 +92,11 @@ impl<L: Name, A: Allocator + Copy> Shared<L, A> {
     ghost use Rattle.covlock.specs.Call.{IsTold, IsNewsOf};
     ghost use Rattle.covlock.specs.Seat.{after_call};
 
-    /// One step of the book by the seat's job, answered as the table answers it behind a legal history. The news are of the history
-    /// that ends with the call's entry, which readers are shown from then on. Waits for the lock, and holds it for the step alone;
-    /// waits for readers that still read what was shown two steps ago. `Full` is answered where the history is full, and where it
-    /// is shorter than what the seat has seen, which no seat of this book meets. After a refusal the book's history and content,
-    /// what readers are shown, and the seat are as they were.
+    /// Takes one step of the book for the seat's job, answered as the table answers it after a legal history. The news
+    /// are of the history that ends with the call's entry, which readers are shown from then on. Waits for the lock,
+    /// and holds it for the step alone; waits for readers that still read what was shown two steps ago. `Full` if the
+    /// history is full, or if it is shorter than what the seat has seen, which no seat of this book meets. After a
+    /// refusal the book's history and content, what readers are shown, and the seat are as they were.
     pub fn perform<R: Wait>(
         &self,
         rt: &R,
@@ -124,8 +124,8 @@ impl<L: Name, A: Allocator> Shared<L, A> {
     ghost use Rattle.covlock.specs.Handed.{AllAreSeated, IsLeastMissing};
     ghost use Rattle.covlock.specs.CloseFault.{told_job};
 
-    /// A reader of the totals, which waits for nobody once it is made. `NoPlace` if 64 readers were made, dropped ones among them,
-    /// or earlier if no free place is found. Takes no memory, so `Memory` isn't answered. Waits for the lock.
+    /// Makes a reader of the totals, which waits for nobody once it is made. `NoPlace` if 64 readers were made, dropped ones
+    /// among them, or earlier if no free place is found. Takes no memory, so `Memory` isn't returned. Waits for the lock.
     pub fn reader<R: Wait>(&self, rt: &R) -> Result<Live<L, A>, ReaderFault>
         ensures legal { IfOk result (λ live. IsLegal live) }
         ensures fault { IfErr result (λ fault. fault ≡ reader_faults.NoPlace) }
@@ -133,9 +133,10 @@ impl<L: Name, A: Allocator> Shared<L, A> {
         self.locked.lock(rt).reader()
     }
 
-    /// Closes the book, where the seat of each job is handed in, and gives its history, whose submissions are lawful, with news of it. Else all is handed back,
-    /// with the least job whose seat is missing. Takes no memory. May wait for a reader to leave. Readers are then shown nothing
-    /// new: they answer the longest history that they saw or learned.
+    /// Closes the book if the seat of each job is handed in, and returns its history, whose submissions are lawful, with news
+    /// of it. Otherwise returns the book and the seats, with the least job whose seat is missing. Takes no memory. May wait for
+    /// a reader that is inside a read. Readers are then shown nothing new: they report the longest history that they saw or
+    /// learned.
     pub fn close<R: Wait>(
         self,
         rt: &R,

@@ -3,7 +3,7 @@ use Rattle.std.proofs.lemmas.List.FromFn.{map-range_with_len_more}
 use Rattle.covlock.specs.Seat.{SeatData, fresh_seat, first_seats}
 use Rattle.covlock.proofs.handed.seats_for.Goals as goal
 
--- the seat of the next job comes behind those of the jobs before it
+-- the seat of the next job comes after those of the jobs before it
 pub loop-job-preserved : goal.loop-job-preserved
 loop-job-preserved g c =
     let job = c.loop-job.job in
