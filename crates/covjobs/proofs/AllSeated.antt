@@ -1,4 +1,4 @@
--- The seats that workers hand in are those of all jobs, and there is a worker as there is a job.
+-- The seats that workers hand in are those of all jobs, and there is a worker, since there is a job.
 use Rattle.std.proofs.Common.{◌≡◌, ◌∙◌, inl, inr, ℕ, zero, suc, ◌+◌, ◌<◌, ◌≤◌, ◌||◌, true, List, [], ◌∷◌, length, ap, sym, arith}
 use Rattle.std.proofs.Math.Dec.{eqb}
 use Rattle.std.proofs.lemmas.Bool.{cases_lt, eq-eqb, false≢true, or_left, or_right}
@@ -39,7 +39,7 @@ pub none_missing : (inputs : List InputData) (jobs end : ℕ) (last : OpData) (w
 none_missing inputs jobs end last workers after done asks job missing =
     false≢true (sym missing.missing ∙ sym (same_seated workers after end last asks job) ∙ seated_from inputs jobs 0 jobs workers done job (omega arith) (omega (arith, missing.is_job)))
 
--- where there is a job there is a worker
+-- if there is a job, there is a worker
 pub some_worker : (inputs : List InputData) (jobs : ℕ) (workers : List WorkerData) → 0 < jobs → HaveDone (works_from inputs jobs 0 jobs) workers → 0 < length workers
 some_worker inputs zero workers some done = absurd (omega (arith, some))
 some_worker inputs (suc more) [] some done = absurd done

@@ -1,4 +1,4 @@
--- What is refused, in the order of the places, is one list.
+-- There is only one list of what is refused, in the order of the places.
 use Rattle.std.proofs.Common.{◌≡◌, ◌∙◌, inl, inr, ℕ, suc, ◌<◌, ◌≤◌, Bool, cond, List, [], ◌∷◌, ◌++◌, length, map, ap, sym, refl, arith, slice_index_or}
 use Rattle.std.proofs.Math.Dec.{eqb}
 use Rattle.std.proofs.lemmas.Bool.Decides.{eqb_tells}
@@ -33,7 +33,7 @@ comes_first x xs = elim (eqb_tells x x) [
   | inr (no_is, differs) ↦ absurd (differs refl)
 ]
 
--- two such lists are one, if each number comes as often in both
+-- two such lists are the same if each number comes as often in both
 pub one_order : (xs ys : List ℕ) → Up xs → Up ys → ((k : ℕ) → times k xs ≡ times k ys) → xs ≡ ys
 one_order [] [] up ups same = refl
 one_order [] (y ∷ ys) up ups same = absurd (omega (arith, same y, comes_first y ys))
@@ -65,7 +65,7 @@ one_refused fate (a ∷ some) [] all alls same = absurd cc
 one_refused fate (a ∷ some) (b ∷ others) all alls same =
     ap (λ (r : RefusedInput). r ∷ some) (same_refusal fate a b all.0 alls.0 cc) ∙ ap (λ (rs : List RefusedInput). b ∷ rs) (one_refused fate some others all.1 alls.1 cc)
 
--- ---- what is sorted goes up
+-- ---- what is sorted ascends
 
 all_from_places : (least : ℕ) (inputs : List RefusedInput) → ((j : ℕ) (d : RefusedInput) → j < length inputs → least ≤ (slice_index_or inputs j d).index) → AllByRecursion (λ (y : ℕ). least ≤ y) (places_of inputs)
 all_from_places least [] above = tt
@@ -76,7 +76,7 @@ up_from_sorted [] sorted = tt
 up_from_sorted (r ∷ inputs) sorted =
     (all_from_places r.index inputs (λ j d less. sorted 0 (suc j) d (omega arith) (omega (arith, less))), up_from_sorted inputs (λ i j d le less. sorted (suc i) (suc j) d (omega (arith, le)) (omega (arith, less))))
 
--- ---- what all places bring goes up
+-- ---- what all places bring ascends
 
 pub up_behind : (xs : List ℕ) (n : ℕ) → Up xs → AllByRecursion (λ (x : ℕ). x < n) xs → Up (xs ++ n ∷ [])
 up_behind [] n up below = (tt, tt)

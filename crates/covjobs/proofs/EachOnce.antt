@@ -1,4 +1,5 @@
--- Logs of different jobs tell no place twice, and those of a merge tell each place of the history once.
+-- Receipts in logs of different jobs have different places, and the logs of a merge have each place of the history
+-- once.
 use Rattle.std.proofs.Common.{◌≡◌, ℕ, zero, suc, ◌+◌, ◌<◌, ◌≤◌, Bool, true, false, cond, eqb, List, [], ◌∷◌, ◌++◌, length, map, Option, Some, None, sym, refl, ap, ◌∙◌, inl, inr, subst, ⊎_elim, arith}
 use Rattle.std.specs.Prelude.{◌⊎◌, ◌≢◌, slice_get, IsSomeAnd}
 use Rattle.std.specs.List.{AllByRecursion, Contains}
@@ -81,7 +82,7 @@ pub times_append : (m : ℕ) (xs ys : List ℕ) → times m (xs ++ ys) ≡ times
 times_append m [] ys = omega arith
 times_append m (x ∷ xs) ys = sum_more (cond (eqb m x) 1 0) (times m (xs ++ ys)) (times m xs) (times m ys) (times_append m xs ys)
 
--- at a place that a log tells stands an entry of its job
+-- at the place of a log's receipt there is an entry of the log's job
 owned : (entries : List EntryData) (job : ℕ) (receipts : List ReceiptData) (place : ℕ) → AllByRecursion (IsOfJob entries job) receipts → In place (map (λ (r : ReceiptData). r.place) receipts)
     → IsSomeAnd (slice_get entries place) (λ (e : EntryData). e.job ≡ job)
 owned entries job [] place own h = absurd h
@@ -92,7 +93,7 @@ one_job : (o : Option EntryData) (job other : ℕ) → IsSomeAnd o (λ (e : Entr
 one_job None job other a b = absurd a
 one_job (Some e) job other a b = sym a ∙ b
 
--- no log of another job tells it
+-- no log of another job has it
 not_others : (entries : List EntryData) (job place : ℕ) (logs : List LogData) → IsSomeAnd (slice_get entries place) (λ (e : EntryData). e.job ≡ job)
     → AllByRecursion (λ (other : ℕ). job ≢ other) (jobs_of logs) → AllByRecursion (IsLogOf entries) logs → In place (places_in logs) → ⊥
 not_others entries job place [] at differ of h = h

@@ -1,4 +1,4 @@
--- What workers have done when they are waited for, and what follows where all ended well.
+-- What workers have done when they are waited for, and what follows if all ended well.
 use Rattle.std.proofs.Common.{◌≡◌, ◌∙◌, Bool, true, false, IsTrue, refl, List, [], ◌∷◌, ◌++◌, map, Result, Ok, Err, sym, ap, subst}
 use Rattle.std.specs.Prelude.{IfOk}
 use Rattle.std.proofs.lemmas.List.{append-nil}
@@ -8,7 +8,7 @@ use Rattle.covjobs.specs.Work.{WorkerData, WorkData, HaveDone, AreDone, AreDoneI
 abbrev pub End : Type 0
 End = Result WorkerData BookFault
 
--- when none is left, what is told is what all have done
+-- when none is left, what is returned is what all have done
 pub done_at_end : {H : Type 0} (work : H → WorkData) (handles left : List H) (ended : List End)
     → ((rest : List End) → AreDone (map work left) rest → AreDone (map work handles) (ended ++ rest)) → left ≡ [] → AreDone (map work handles) ended
 done_at_end {H} work handles left ended so_far none =
@@ -33,7 +33,7 @@ have_done (work ∷ works) (worker ∷ workers) done = (done.0, have_done works 
 pub done_if_well : (works : List WorkData) (ended : List End) → AreDone works ended → AreDoneIfWell works ended
 done_if_well works ended done workers is = have_done works workers (subst (λ (ends : List End). AreDone works ends) (sym is) done)
 
--- where a worker was started for each seat, all is done if they ended well; else one end is a fault
+-- if a worker was started for each seat, all is done if they ended well; else one end is a fault
 pub ends_well : (works handled left : List WorkData) (started : Bool) (ended : List End) → (IsTrue started → handled ++ left ≡ works) → left ≡ [] → (IsTrue started → AreDone handled ended)
     → (started ≡ false → (workers : List WorkerData) → map Ok workers ≡ ended → ⊥) → AreDoneIfWell works ended
 ends_well works handled left true ended all none done short =

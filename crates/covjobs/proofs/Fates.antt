@@ -22,7 +22,7 @@ answered submission = Ok submission
 no_fault : (submission : SubmissionData) → answered submission ≡ Err faults.Memory → ⊥
 no_fault submission is = cc
 
--- behind what is read memory may run out
+-- memory may run out for an input that can be read
 pub late_fate : (input : InputData) (submission : SubmissionData) → IsFate input (Ok submission) → IsFate input (Err faults.Memory)
 late_fate (TraceInput text) submission (inl (few, reads)) = inr (few, refl)
 late_fate (GcovInput test text) submission (inl (few, good, reads)) = inr ((few, good), refl)

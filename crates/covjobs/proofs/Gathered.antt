@@ -1,4 +1,4 @@
--- All that the workers refused, and all that they submitted, from one telling of what became of each input.
+-- All that the workers refused, and all that they submitted, from one account of what became of each input.
 use Rattle.std.proofs.Common.{◌≡◌, ◌∙◌, ℕ, zero, suc, ◌+◌, ◌<◌, cond, List, [], ◌∷◌, ◌++◌, map, Ok, Err, ap, sym, refl, subst, arith}
 use Rattle.std.proofs.Math.Dec.{eqb}
 use Rattle.std.proofs.lemmas.List.{append-nil, map-append}
@@ -19,7 +19,7 @@ use Rattle.covjobs.proofs.Taken.{Fate}
 use Rattle.covjobs.proofs.Together.{all_together}
 use Rattle.covjobs.proofs.Whole.{HasTold, HaveTold}
 
--- what numbers from 0 on bring, one behind the other
+-- what numbers from 0 on bring, one after the other
 range_behind : (from count : ℕ) → range_with_len from (suc count) ≡ range_with_len from count ++ (from + count) ∷ []
 range_behind from zero = ap (λ (n : ℕ). n ∷ []) (none_more from)
   where
@@ -41,7 +41,7 @@ brought_by_range {X} f (suc count) =
     none_before : (count : ℕ) → 0 + count ≡ count
     none_before count = omega arith
 
--- what workers refused is told by their jobs
+-- what workers refused, by their jobs
 refused_by_jobs : (jobs count : ℕ) (fate : ℕ → Fate) (workers : List WorkerData) → AllByRecursion (HasTold jobs count fate) workers
     → refused_in workers ≡ flat_map (λ job. refusals_of (places_of_job jobs job) fate count) (map (λ (w : WorkerData). w.seat.job) workers)
 refused_by_jobs jobs count fate [] told = refl

@@ -59,7 +59,7 @@ entries_in_order (e ∷ entries) =
     first : 0 + 1 ≡ suc 0
     first = omega arith
 
--- where the logs tell each place once, the entries submit what the logs do, in another order
+-- if the logs have each place once, the entries submit what the logs do, in another order
 pub same_submitted : (entries : List EntryData) (logs : List LogData) → AllByRecursion (IsLogOf entries) logs → AreBelow (length entries) (places_in logs)
     → IsPermutation (flat_map (λ (log : LogData). submissions_in (ops_in log.receipts)) logs) (submissions_in (map (λ (e : EntryData). e.op) entries))
 same_submitted entries logs are once =

@@ -1,4 +1,4 @@
--- The last entry of a history is that of job 0's last receipt, and its answer hangs on what is submitted alone.
+-- The last entry of a history is that of job 0's last receipt, and its answer depends on what is submitted alone.
 use Rattle.std.proofs.Common.{◌≡◌, ◌∙◌, inl, inr, ℕ, zero, suc, ◌+◌, ◌<◌, Bool, true, false, if◌then◌else◌, List, [], ◌∷◌, ◌++◌, length, map, Option, Some, None, slice_get, ap, sym, refl, subst, arith}
 use Rattle.std.specs.Prelude.{IsSomeAnd}
 use Rattle.std.proofs.Math.Dec.{eqb}
@@ -21,7 +21,7 @@ use Rattle.covjobs.proofs.Gathered.{all_joined, all_submitted}
 use Rattle.covjobs.proofs.Histories.{same_submitted}
 use Rattle.covjobs.proofs.Taken.{Fate}
 
--- two laws of the book: a run goes on where it stood, and the order of submissions doesn't matter to texts
+-- two laws of the book: a run goes on where it ended, and the order of submissions doesn't matter to texts
 abbrev pub GoesOn : Type 0
 GoesOn = (ops : List OpData) (op : OpData) → answers_to (ops ++ op ∷ []) ≡ answers_to ops ++ answer_of (table_of ops) op ∷ []
 
@@ -239,7 +239,7 @@ text_is fate count jobs last entries logs before entry some legal merge asked pl
     (subst (λ (ss : List SubmissionData). IsPermutation ss (submissions_in (ops_of before))) (sym (submitted_all all)) moved)
     (subst (λ (ss : List SubmissionData). AreAgreeing ss) (sym (submitted_all all)) agree) last is)
 
--- a history that is as long as job 0 saw behind its last call ends with that call
+-- a history that is as long as job 0 saw after its last call ends with that call
 pub ends_with : (fate : ℕ → Fate) (count jobs end : ℕ) (last : OpData) (workers after : List WorkerData) (entries : List EntryData) → 0 < jobs → FirstAsks workers after end last
     → IsLegal entries → IsMerge entries (logs_in after) → AreJobLogs fate count jobs last (logs_in after) → length entries ≡ end → GoesOn → SameTexts
     → EndsWith (submissions_of all_places fate count) last entries

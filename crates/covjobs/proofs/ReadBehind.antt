@@ -1,4 +1,4 @@
--- What a job reads behind its receipts.
+-- What a job reads after its receipts.
 use Rattle.std.proofs.Common.{◌≡◌, ◌∙◌, ℕ, ◌<◌, Bool, true, false, List, [], ◌∷◌, ◌++◌, sym, subst, arith}
 use Rattle.covbook.specs.declared.reading.Reading.{Reading}
 use Rattle.covbook.specs.Op.{OpData, ReceiptData}
@@ -18,7 +18,7 @@ one_behind [] (r ∷ readings) receipt reading so_far later = absurd so_far
 one_behind (r ∷ receipts) [] receipt reading so_far later = absurd so_far
 one_behind (x ∷ receipts) (y ∷ readings) receipt reading so_far later = (so_far.0, one_behind receipts readings receipt reading so_far.1 later)
 
--- one more operation is asked, and where there is a reader the history behind it is read
+-- one more operation is asked, and if there is a reader the history after it is read
 pub read_more : (has_reader : Bool) (receipts after : List ReceiptData) (readings behind : List Reading) (seen least : ℕ) (op : OpData) → Asks receipts after seen op → least ≡ seen
     → ReadsOn has_reader least readings behind → HasRead has_reader receipts readings → HasRead has_reader after behind
 read_more true receipts after readings behind seen least op asks same reads so_far =
@@ -27,7 +27,7 @@ read_more true receipts after readings behind seen least op asks same reads so_f
     (subst (λ (rs : List Reading). AreReadBehind (receipts ++ asks.receipt ∷ []) rs) (sym reads.1) (one_behind receipts readings asks.receipt reads.0 so_far later))
 read_more false receipts after readings behind seen least op asks same reads so_far = reads ∙ so_far
 
--- a job submits, and reads behind it
+-- a job submits, and reads after it
 pub submitted_read : (old asked read : WorkerData) {least : ℕ} {op : OpData} → Asks old.receipts asked.receipts asked.seat.seen op → least ≡ asked.seat.seen
     → asked.has_reader ≡ old.has_reader → asked.readings ≡ old.readings → ReadsOn asked.has_reader least asked.readings read.readings
     → read.has_reader ≡ asked.has_reader → read.receipts ≡ asked.receipts

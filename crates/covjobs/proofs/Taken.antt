@@ -25,7 +25,7 @@ put_here at new old = ap (λ (b : Bool). if b then new else old at) (eq-eqb at a
 pub put_apart : {X : Type 0} (at : ℕ) (new : X) (old : ℕ → X) (index : ℕ) → (index ≡ at → ⊥) → put at new old index ≡ old index
 put_apart at new old index apart = ap (λ (b : Bool). if b then new else old index) (ne_eqb index at apart)
 
--- what the first places bring hangs on these alone
+-- what the first places bring depends on these alone
 pub brought_same : {X : Type 0} (meant : ℕ → Bool) (bring brings : ℕ → List X) (count : ℕ) → ((index : ℕ) → index < count → brings index ≡ bring index)
     → brought meant brings count ≡ brought meant bring count
 brought_same meant bring brings zero same = refl

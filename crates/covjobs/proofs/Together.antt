@@ -7,7 +7,7 @@ use Rattle.std.proofs.lemmas.List.Sorted.{IsPermutation-refl, IsPermutation-tran
 use Rattle.std.specs.List.Sorted.{IsPermutation}
 use Rattle.covjobs.specs.Collect.{brought, all_places, places_of_job}
 
--- what the first so many jobs bring, one behind the other
+-- what the first jobs bring, one after the other
 abbrev pub joined : {X : Type 0} → (ℕ → List X) → ℕ → List X
 joined bring jobs = brought all_places bring jobs
 
@@ -67,7 +67,7 @@ all_together {X} jobs bring (suc count) within =
     (IsPermutation-append (joined before jobs) (brought all_places bring count) (joined here jobs) (bring count) (all_together jobs bring count within)
     (subst (λ (xs : List X). IsPermutation (joined here jobs) xs) (one_owner (count % jobs) (bring count) jobs (within count)) (IsPermutation-refl (joined here jobs))))
 
--- ---- a place of a job hangs on what the job brings alone
+-- ---- what a place of a job brings depends on that job alone
 
 pub brought_own : {X : Type 0} (meant : ℕ → Bool) (bring brings : ℕ → List X) (count : ℕ) → ((index : ℕ) → index < count → meant index ≡ true → brings index ≡ bring index)
     → brought meant brings count ≡ brought meant bring count

@@ -1,4 +1,4 @@
--- What all workers have done, by one telling of what became of each input.
+-- What all workers have done, by one account of what became of each input.
 use Rattle.std.proofs.Common.{◌≡◌, ◌∙◌, inl, inr, ℕ, zero, suc, ◌+◌, ◌<◌, ◌%◌, Bool, true, IsTrue, List, [], ◌∷◌, length, map, Err, slice_get, ap, sym, refl, subst, arith}
 use Rattle.std.specs.Prelude.{IsSomeAnd}
 use Rattle.std.specs.List.{AllByRecursion, range_with_len}
@@ -15,7 +15,7 @@ use Rattle.covjobs.specs.Work.{WorkerData, WorkData, HasDone, HaveDone, work_of}
 use Rattle.covjobs.proofs.Taken.{Fate}
 use Rattle.covjobs.proofs.Together.{brought_own}
 
--- the work of so many jobs from a number on
+-- the work of the jobs from a number on
 abbrev pub works_from : List InputData → (jobs from count : ℕ) → List WorkData
 works_from inputs jobs from count = map (work_of inputs jobs) (map fresh_seat (range_with_len from count))
 
@@ -27,7 +27,7 @@ fates_at (work ∷ works) [] done k = absurd done
 fates_at (work ∷ works) (worker ∷ workers) done zero = done.0.taken.fate
 fates_at (work ∷ works) (worker ∷ workers) done (suc k) = fates_at works workers done.1 k
 
--- a worker has asked and refused what one telling of all inputs says, and has read behind what it asked
+-- a worker has asked and refused what one account of all inputs says, and has read after what it asked
 pub record HasTold (jobs count : ℕ) (fate : ℕ → Fate) (worker : WorkerData) : Type 0 where
   pub asked : ops_in worker.receipts ≡ map SubmitOp (submissions_of (places_of_job jobs worker.seat.job) fate count)
   pub are_refused : worker.refused ≡ refusals_of (places_of_job jobs worker.seat.job) fate count
@@ -54,7 +54,7 @@ told inputs jobs job worker done whole same =
       | inr (no_is, differs) ↦ absurd (false≢true (sym no_is ∙ meant))
     ]
 
--- all workers have told so, and they are of the jobs in order
+-- this holds of all workers, and they are of the jobs in order
 pub record HaveTold (jobs from some count : ℕ) (fate : ℕ → Fate) (workers : List WorkerData) : Type 0 where
   pub are : map (λ (w : WorkerData). w.seat.job) workers ≡ range_with_len from some
   pub each : AllByRecursion (HasTold jobs count fate) workers
@@ -93,7 +93,7 @@ holds_at inputs jobs from (suc some) (worker ∷ workers) done (suc k) index bel
     one_more : (from k : ℕ) → from + suc k ≡ from + 1 + k
     one_more from k = omega arith
 
--- all that became of the inputs, told as one
+-- one account of all that became of the inputs
 pub record IsWhole (inputs : List InputData) (jobs : ℕ) (workers : List WorkerData) : Type 0 where
   pub fate : ℕ → Fate
   pub fates : AreFates inputs fate

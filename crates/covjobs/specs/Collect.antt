@@ -1,5 +1,5 @@
--- What workers collect: of each input what it is read as, of each job the submissions of its inputs, and behind all of them one
--- last operation (lcov(1), --add-tracefile, for many files at once).
+-- What workers collect: of each input what it is read as, of each job the submissions of its inputs, and after all of
+-- them one last operation (lcov(1), --add-tracefile, for many files at once).
 use Rattle.std.specs.Prelude.{◌≡◌, ◌⊎◌, ◌==◌, ℕ, zero, suc, ◌<◌, ◌≤◌, ◌%◌, if◌then◌else◌, Bool, true, false, IsTrue, List, [], ◌∷◌, ◌++◌, length, map, slice_get, IsSomeAnd, Result, Ok, Err}
 use Rattle.std.specs.List.{AllByRecursion, range_with_len}
 use Rattle.covline.specs.Lawful.{IsGoodTest}
@@ -48,7 +48,7 @@ abbrev pub refusal : ℕ → Result SubmissionData ReadFault → List RefusedInp
 refusal index (Ok submission) = []
 refusal index (Err fault) = record { index = index; fault = fault } ∷ []
 
--- what those of the first `count` places bring that are meant, in their order
+-- what the meant ones among the first `count` places bring, in their order
 abbrev pub brought : {X : Type 0} → (meant : ℕ → Bool) → (bring : ℕ → List X) → (count : ℕ) → List X
 brought meant bring zero = []
 brought meant bring (suc count) = brought meant bring count ++ (if meant count then bring count else [])
@@ -67,7 +67,7 @@ submissions_of meant fate count = brought meant (λ index. submitted (fate index
 abbrev pub refusals_of : (meant : ℕ → Bool) → (ℕ → Result SubmissionData ReadFault) → (count : ℕ) → List RefusedInput
 refusals_of meant fate count = brought meant (λ index. refusal index (fate index)) count
 
--- what a job asks: the submissions of its inputs, and job 0 the last operation behind them
+-- what a job asks: the submissions of its inputs, and job 0 the last operation after them
 abbrev pub last_of : (last : OpData) → (job : ℕ) → List OpData
 last_of last job = if job == 0 then last ∷ [] else []
 
@@ -90,7 +90,7 @@ AreReadBehind [] [] = Unit {0}
 AreReadBehind (receipt ∷ receipts) (reading ∷ readings) = (receipt.place < reading.upto) × AreReadBehind receipts readings
 AreReadBehind receipts readings = ⊥
 
--- what a job has read behind these receipts: one reading behind each, or none at all where it has no reader
+-- what a job has read after these receipts: one reading after each, or none at all if it has no reader
 abbrev pub HasRead : (has_reader : Bool) → List ReceiptData → List Reading → Type 0
 HasRead true receipts readings = AreReadBehind receipts readings
 HasRead false receipts readings = readings ≡ []
@@ -104,8 +104,8 @@ pub record HasReadings (last : OpData) (log : LogData) : Type 0 where
   pub asked : ops_in others ≡ last_of last log.job
   pub read : HasRead has_reader submits log.readings
 
--- the last entry is that of the last operation. A text is the one that a run over the submissions alone ends with, in the order
--- of the inputs and whatever the number of jobs, where the submissions agree
+-- the last entry is that of the last operation. If the submissions agree, a text is the one that a run over the
+-- submissions alone ends with, in the order of the inputs and whatever the number of jobs
 pub record EndsWith (submissions : List SubmissionData) (last : OpData) (entries : List EntryData) : Type 0 where
   pub before : List EntryData
   pub entry : EntryData
@@ -114,8 +114,9 @@ pub record EndsWith (submissions : List SubmissionData) (last : OpData) (entries
   pub asker : entry.job ≡ 0
   pub text : IsText last → AreAgreeing submissions → entry.answer ≡ answer_of (table_of (map SubmitOp submissions)) last
 
--- what is collected of inputs by so many jobs: what became of each input decides what the jobs ask. The order of their turns, and
--- how many entries their readings count, stay open. The submissions are lawful, and each reading has the totals after its number of entries
+-- what this number of jobs collects of inputs: what became of each input decides what the jobs ask. The order of their
+-- turns, and how many entries their readings count, stay open. The submissions are lawful, and each reading has the
+-- totals after its number of entries
 pub record IsCollected (inputs : List InputData) (jobs : ℕ) (last : OpData) (entries : List EntryData) (logs : List LogData) (refused : List RefusedInput) : Type 0 where
   pub fate : ℕ → Result SubmissionData ReadFault
   pub fates : AreFates inputs fate

@@ -11,21 +11,21 @@ use Rattle.covjobs.specs.declared.refused.RefusedInput.{RefusedInput}
 use Rattle.covjobs.specs.Collect.{InputData, IsFate, submitted, refusal, HasRead, HasTaken}
 use Rattle.covlock.specs.Seat.{SeatData}
 
--- an input is taken: what becomes of it stands behind what was submitted and what was refused before
+-- an input is taken: what becomes of it comes after what was submitted and what was refused before
 pub record Takes (input : InputData) (index : ℕ) (asked asks : List OpData) (refused refuses : List RefusedInput) : Type 0 where
   pub fate : Result SubmissionData ReadFault
   pub is_fate : IsFate input fate
   pub submits : asks ≡ asked ++ map SubmitOp (submitted fate)
   pub tells : refuses ≡ refused ++ refusal index fate
 
--- an operation is asked: its receipt stands behind those before, and the job has now seen the place after the receipt's
+-- an operation is asked: its receipt comes after those before, and the job has now seen the place after the receipt's
 pub record Asks (receipts after : List ReceiptData) (seen : ℕ) (op : OpData) : Type 0 where
   pub receipt : ReceiptData
   pub behind : after ≡ receipts ++ receipt ∷ []
   pub asked : receipt.op ≡ op
   pub place : receipt.place + 1 ≡ seen
 
--- a reading stands behind those before, of a history of at least so many entries; where there is no reader, nothing does
+-- a reading comes after those before, of a history of at least `least` entries; without a reader none does
 abbrev pub ReadsOn : (has_reader : Bool) → (least : ℕ) → (readings after : List Reading) → Type 0
 ReadsOn true least readings after = (reading : Reading) × (after ≡ readings ++ reading ∷ []) × (least ≤ reading.upto)
 ReadsOn false least readings after = after ≡ readings
@@ -39,7 +39,7 @@ pub record WorkerData : Type 0 where
   pub readings : List Reading
   pub refused : List RefusedInput
 
--- the work of a job of so many: its share of the inputs
+-- the work of one of `jobs` jobs: its share of the inputs
 pub record WorkData : Type 0 where
   pub inputs : List InputData
   pub jobs : ℕ
@@ -60,13 +60,13 @@ HaveDone [] [] = Unit {0}
 HaveDone (work ∷ works) (worker ∷ workers) = HasDone work worker × HaveDone works workers
 HaveDone works workers = ⊥
 
--- a worker that ended well has done the work at its place
+-- each worker that ended well has done the work at its place
 abbrev pub AreDone : List WorkData → List (Result WorkerData BookFault) → Type 0
 AreDone [] [] = Unit {0}
 AreDone (work ∷ works) (end ∷ ended) = IfOk end (HasDone work) × AreDone works ended
 AreDone works ended = ⊥
 
--- where all workers ended well, all is done
+-- if all workers ended well, all is done
 abbrev pub AreDoneIfWell : List WorkData → List (Result WorkerData BookFault) → Type 0
 AreDoneIfWell works ended = (workers : List WorkerData) → map Ok workers ≡ ended → HaveDone works workers
 
@@ -87,8 +87,8 @@ logs_in workers = map log_of workers
 abbrev pub refused_in : List WorkerData → List RefusedInput
 refused_in workers = flat_map (λ (w : WorkerData). w.refused) workers
 
--- the first worker asks an operation and reads nothing, and the others stay as they were. The history up to that operation's entry
--- has so many entries
+-- the first worker asks an operation and reads nothing, and the others stay as they were. `end` is the number of entries up to
+-- that operation's
 pub record FirstAsks (workers after : List WorkerData) (end : ℕ) (op : OpData) : Type 0 where
   pub first : WorkerData
   pub next : WorkerData

@@ -6,7 +6,7 @@ use covlock::OpenFault;
 use thiserror::Error;
 
 /// Why inputs aren't collected. A job stops at its first `Full` or `Memory`, the others go on to their end, and the fault of
-/// the least job is told.
+/// the least job is returned.
 #[derive(Clone, Copy, Debug, PartialEq, Eq, Error)]
 pub enum CollectFault {
     /// Fault 1: there are no jobs, or more than 64. This is tested first.
@@ -21,7 +21,7 @@ pub enum CollectFault {
     /// Fault 4: the history isn't gathered from the jobs' logs: it is no merge of them, or a reading is wrong.
     #[error("gather: {0}")]
     Gather(GatherFault),
-    /// Fault 5: an entry stands after that of the last operation. This is tested last.
+    /// Fault 5: there is an entry after that of the last operation. This is tested last.
     #[error("NotLast")]
     NotLast,
 }

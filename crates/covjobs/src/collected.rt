@@ -15,12 +15,12 @@ use std::marker::Brand;
 use std::sync::Wait;
 use std::thread::Threads;
 
-/// What is collected.
+/// What `collect` returns.
 #[derive(Drop)]
 pub struct Collected {
     /// The history. Its last entry is that of the last operation.
     pub entries: Entries,
-    /// What each job was told, from job 0 on, and what it read of the totals.
+    /// What each job was answered, from job 0 on, and what it read of the totals.
     pub logs: Logs,
     /// The inputs that aren't in the history, in their order.
     pub refused: Refused,
@@ -33,13 +33,13 @@ ghost use Rattle.covjobs.specs.Collect.{IsCollected};
 ghost use Rattle.covjobs.specs.InputView.{input_data};
 ghost use Rattle.covlock.specs.Start.{AreJobs};
 
-/// Collects inputs by so many jobs, which work at once, each in a thread of its own. Job j takes the inputs j, j + jobs,
-/// j + 2 * jobs and so on, in order: it reads the text, outside the book's lock, and submits what was read. A text that isn't
-/// read is refused, and the job goes on. Behind each submit the job reads the totals once, without the lock; where there is no
-/// place for its reader it has no readings. When all have ended, job 0 performs the last operation. Waits for the workers.
+/// Collects inputs by jobs that work at once, each in a thread of its own. Job j of n takes the inputs j, j + n, j + 2n and so
+/// on, in order: it reads the text, outside the book's lock, and submits what was read. A text that isn't read is refused, and
+/// the job goes on. After each submit the job reads the totals once, without the lock; if there is no place for its reader, it
+/// has no readings. When all have ended, job 0 performs the last operation. Waits for the workers.
 ///
-/// Counts add up as by lcov(1), --add-tracefile. Faults: `BadJobs` exactly where the jobs aren't 1 to 64, `Full`, `Memory`;
-/// `Gather` and `NotLast` where history and logs don't fit, which no run meets. `Memory` also where a worker can't be started.
+/// Counts add up as with lcov(1), --add-tracefile. Faults: `BadJobs` exactly if `jobs` isn't 1 to 64; `Full`; `Memory`, also
+/// if a worker can't be started; `Gather` and `NotLast` if history and logs don't fit, which no run meets.
 pub fn collect<R: Threads + Wait + Sync, G: Gate + Sync>(
     rt: &R,
     alloc: Global,
@@ -103,7 +103,8 @@ ghost use Rattle.covjobs.specs.Work.{FirstAsks, IsFirstFault, seats_in, logs_in,
 ghost use Rattle.std.specs.List.Sorted.{IsPermutation, IsNonDecreasingBy};
 ghost use Rattle.covjobs.specs.declared.refused.RefusedInput.{RefusedInput};
 
-/// The workers, where all of them ended well. Else the fault of the first that didn't, or there is no room for the list.
+/// The workers, if all of them ended well. Otherwise the fault of the first that didn't, or `Memory` if there is no room for
+/// the list.
 fn all_well<L: Name>(
     alloc: Global,
     ended: Vec<Result<Worker<L>, BookFault>>,
@@ -118,7 +119,7 @@ fn all_well<L: Name>(
     Ok(workers)
 }
 
-/// Job 0 performs the last operation. Answers how many entries there are up to it.
+/// Has job 0 perform the last operation, and returns the number of entries up to its own.
 fn ask_last<R: Wait, L: Name>(
     rt: &R,
     alloc: Global,

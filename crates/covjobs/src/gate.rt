@@ -2,8 +2,8 @@
 
 use std::sync::Wait;
 
-/// What a worker calls right before and right after each submit, outside the book's lock. By it a test sees that the workers
-/// run at once. `call` counts the job's submits from 0. A submit that is refused has its `after` too.
+/// What a worker calls right before and right after each submit, outside the book's lock. With it a test sees that the
+/// workers run at once. `call` counts the job's submits from 0. `after` is called for a submit that is refused, too.
 pub trait Gate {
     /// The job is about to submit.
     fn before<R: Wait>(&self, rt: &R, job: u32, call: u64);

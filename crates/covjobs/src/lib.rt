@@ -1,14 +1,14 @@
 //! Many jobs at one book: the book that threads share, and workers that collect inputs into it.
 //!
-//! The shared book is `covlock`'s, which this crate passes on: a `Start` is what it is made of, `open_book` makes it and a `Seat`
-//! for each job, `Shared::perform` is one step by a seat under the book's lock, `Shared::reader` makes a reader of the totals that
-//! takes no lock (`Live`), and `Shared::close` takes all seats back and gives the history.
+//! The shared book is `covlock`'s, which this crate re-exports: a `Start` is what it is made of, `open_book` makes it
+//! and a `Seat` for each job, `Shared::perform` is one step with a seat under the book's lock, `Shared::reader` makes a
+//! reader of the totals that takes no lock (`Live`), and `Shared::close` takes all seats back and returns the history.
 //!
 //! `collect` does all of this for texts that are there already: it opens a book, has one thread for each job read and submit its
-//! share of the inputs, performs a last operation, closes the book, and gathers what the jobs were told.
+//! share of the inputs, performs a last operation, closes the book, and gathers what the jobs were answered.
 //!
-//! What a thread asks (`Op`) and keeps (`Receipt`, `Reading`, in a `JobLog`), and `gather`, which says whether the logs are those of
-//! the closed history (`Entries`), are covbook's and passed on too, so a user lists this crate alone.
+//! What a thread asks (`Op`) and keeps (`Receipt`, `Reading`, in a `JobLog`), and `gather`, which checks that the logs
+//! are those of the closed history (`Entries`), are covbook's and re-exported too, so a user lists this crate alone.
 //!
 //! A sketch, which no test runs:
 //!

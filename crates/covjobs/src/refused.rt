@@ -41,7 +41,7 @@ impl<A: Allocator> Refused<A> {
         }
     }
 
-    /// Appends an input. A refusal gives it up and leaves the list as it was.
+    /// Appends an input. On `Memory` the input is dropped and the list stays as it was.
     pub fn push(&mut self, input: RefusedInput) -> Result<(), Memory>
         ensures ok { OnOk result (self.new ≡ self.old ++ input ∷ []) }
         ensures err { OnErr result (self.new ≡ self.old) }
@@ -57,7 +57,7 @@ impl<A: Allocator> Refused<A> {
         self.inputs.as_slice()
     }
 
-    /// Appends all inputs of another list. A refusal gives up those that aren't appended yet.
+    /// Appends all inputs of another list. On `Memory` those that aren't appended yet are dropped.
     pub(crate) fn append(&mut self, others: Refused<A>) -> Result<(), Memory>
         ensures { OnOk result (self.new ≡ self.old ++ others) }
     {

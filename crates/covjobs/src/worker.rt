@@ -55,7 +55,7 @@ impl<L: Name, A: Allocator + Copy> Worker<L, A> {
         }
     }
 
-    /// Takes the input at this place: what it is read as is submitted, and one that isn't read is refused.
+    /// Takes the input at this place: submits what it is read as, or refuses it if it isn't read.
     fn take<R: Wait, G: Gate>(
         &mut self,
         rt: &R,
@@ -76,7 +76,7 @@ impl<L: Name, A: Allocator + Copy> Worker<L, A> {
         }
     }
 
-    /// Submits, between the two calls of the gate, and keeps the receipt and then a reading, where the job has a reader.
+    /// Submits, between the two calls of the gate, and keeps the receipt and then a reading, if the job has a reader.
     fn submit<R: Wait, G: Gate>(
         &mut self,
         rt: &R,
@@ -99,8 +99,8 @@ impl<L: Name, A: Allocator + Copy> Worker<L, A> {
         Ok(())
     }
 
-    /// Performs the operation, and keeps the receipt; the job has then seen the place after the receipt's. Answers news of a history
-    /// of so many entries.
+    /// Performs the operation, and keeps the receipt; the job has then seen the place after the receipt's. Returns news
+    /// of the history up to that place.
     pub(crate) fn ask<R: Wait>(
         &mut self,
         rt: &R,
@@ -120,7 +120,7 @@ impl<L: Name, A: Allocator + Copy> Worker<L, A> {
         Ok(done.news)
     }
 
-    /// Keeps one reading that is at least as late as the news, where the job has a reader.
+    /// Keeps one reading that is at least as late as the news, if the job has a reader.
     fn read(&mut self, news: &News<L>) -> Result<(), Memory>
         ensures read { IfOk result (λ _. ReadsOn self.old.has_reader (length news.now) self.old.readings self.new.readings) }
         ensures reader { self.new.has_reader ≡ self.old.has_reader }
@@ -139,14 +139,14 @@ impl<L: Name, A: Allocator + Copy> Worker<L, A> {
 impl<L: Name, A: Allocator> Worker<L, A> {
     ghost use Rattle.std.specs.Prelude.{◌≡◌};
 
-    /// The place behind that of the job's last call.
+    /// The place after that of the job's last call.
     pub(crate) fn seen(&self) -> u64
         ensures { result ≡ self.now.seat.seen }
     {
         self.seat.seen()
     }
 
-    /// The job's seat, its log, and which of its inputs are refused. Takes no memory.
+    /// The job's seat, its log, and which of its inputs are refused.
     pub(crate) fn into_parts(self) -> (Seat<L>, JobLog<A>, Refused<A>)
         ensures seat { result.0 ≡ self.seat }
         ensures job { result.1.job ≡ self.seat.job }
@@ -175,8 +175,8 @@ ghost use Rattle.std.specs.Prelude.{◌≡◌, ◌<◌, IfOk, length, map};
 ghost use Rattle.covjobs.specs.Collect.{HasRead, HasTaken, places_of_job};
 ghost use Rattle.covjobs.specs.InputView.{input_data};
 
-/// Does the work of a job of so many: takes its inputs in order. Ends at the first fault. Where there is no place for one more
-/// reader the job has no readings.
+/// Does the work of one of `jobs` jobs: takes its inputs in order. Ends at the first fault. If there is no place for one more
+/// reader, the job has no readings.
 pub(crate) fn work<R: Wait, G: Gate, L: Name, A: Allocator + Copy>(
     rt: &R,
     alloc: A,
@@ -202,7 +202,7 @@ pub(crate) fn work<R: Wait, G: Gate, L: Name, A: Allocator + Copy>(
     Ok(worker)
 }
 
-/// A reader of the book, where there is a place for one.
+/// A reader of the book, if there is a place for one.
 fn reader_of<R: Wait, L: Name, A: Allocator>(
     rt: &R,
     book: &Shared<L, A>,
@@ -210,12 +210,12 @@ fn reader_of<R: Wait, L: Name, A: Allocator>(
     match book.reader(rt) {
         Ok(live) => Ok(Some(live)),
         Err(ReaderFault::NoPlace) => Ok(None),
-        // A reader takes no memory, so this isn't met.
+        // A reader takes no memory, so this doesn't happen.
         Err(ReaderFault::Memory) => Err(BookFault::Memory),
     }
 }
 
-/// Whether the input at this place is one of the job's, of so many.
+/// Whether the input at this place belongs to this job of `jobs` jobs.
 fn is_of_job(index: usize, jobs: u32, job: u32) -> bool
     requires { 0 < jobs }
     ensures { result ≡ places_of_job jobs job index }

@@ -39,7 +39,7 @@ impl<'a, L: Name> Promise<Result<Worker<L>, BookFault>> for WorkOf<'a> {
     ghost kept_by = { λ p r. IfOk r (λ w. HasDone p w) };
 }
 
-/// Starts a worker for each seat, waits until all have ended, and tells what each has done, in the order of the seats. Where a
+/// Starts a worker for each seat, waits until all have ended, and returns what each has done, in the order of the seats. If a
 /// worker can't be started, memory ran out for it, and no further one is started.
 pub(crate) fn work_at_once<R: Threads + Wait + Sync, G: Gate + Sync, L: Name + Send + Sync>(
     rt: &R,
@@ -87,7 +87,7 @@ pub(crate) fn work_at_once<R: Threads + Wait + Sync, G: Gate + Sync, L: Name + S
     )
 }
 
-/// Waits until all workers have ended, and tells how each did. Where not all were started, memory ran out for the next one.
+/// Waits until all workers have ended, and returns how each did. If not all were started, memory ran out for the next one.
 fn end_all<'a, R: Threads, L: Name>(
     rt: &R,
     alloc: Global,
@@ -105,7 +105,7 @@ fn end_all<'a, R: Threads, L: Name>(
     Ok(ended)
 }
 
-/// Waits until all workers have ended, and tells how each did.
+/// Waits until all workers have ended, and returns how each did.
 fn join_all<'a, R: Threads, L: Name>(
     rt: &R,
     alloc: Global,

@@ -33,7 +33,7 @@ returns-clause-collected g c =
     c.in_ok-end.ensures c.in_ok-seats.ensures.logs c.in_ok-seats.ensures.refused c.in_ok-seats.ensures.ascending c.in-Ok.ensures.history c.in-Ok.ensures.lawful gathered long
     c.a_run_goes_on.ensures.answers c.order_does_not_matter.ensures.texts
 
--- there is a worker, as there is a job
+-- there is a worker, since there is a job
 pub ask_last-requires : goal.ask_last-requires
 ask_last-requires g c =
     let inputs = map (input_data {A = Global}) c.args.inputs.now in

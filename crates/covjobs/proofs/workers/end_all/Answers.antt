@@ -5,7 +5,7 @@ use Rattle.covjobs.proofs.Ended.{End, not_all_well}
 use Rattle.covjobs.proofs.workers.end_all.Goals.{then-not-all_started+in_ok-push, else-not-all_started}
 use Rattle.covjobs.proofs.workers.end_all.Goals as goal
 
--- where not all were started, the last end is a fault
+-- if not all were started, the last end is a fault
 pub returns-clause-short : goal.returns-clause-short
 returns-clause-short g c = elim c.if-not-all_started.branch [
   | then-not-all_started+in_ok-push w ↦ λ short workers is.

@@ -5,7 +5,7 @@ use Rattle.covjobs.specs.Collect.{ops_in}
 use Rattle.covjobs.specs.Work.{WorkerData}
 use Rattle.covjobs.proofs.worker.Worker.take.Goals as goal
 
--- an input that isn't read is told with its place and its fault, and nothing is submitted for it
+-- an input that isn't read is refused with its place and its fault, and nothing is submitted for it
 pub returns-in_ok-push-in-Err-clause-taken : goal.returns-in_ok-push-in-Err-clause-taken
 returns-in_ok-push-in-Err-clause-taken g c =
     let told : RefusedInput = record { index = c.args.index; fault = c.in-Err.fault } in
