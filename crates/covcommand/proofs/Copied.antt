@@ -1,4 +1,4 @@
--- A list with the copy of one element more at its end.
+-- A list with a copy of one more element at its end.
 use Rattle.std.proofs.Common.{◌≡◌, ℕ, ◌+◌, ◌<◌, List, [], ◌∷◌, ◌++◌, length, get_or, take, map, sym, ap, ◌∙◌}
 use Rattle.std.proofs.lemmas.List.{take_more, map-append, append_assoc}
 

@@ -1,4 +1,4 @@
--- Where clap has no fault for the words, the arguments of the subcommand have what they have to.
+-- If clap has no fault for the words, the arguments of the subcommand have what they have to.
 use Rattle.std.proofs.Common.{◌≡◌, ◌∙◌, ◌||◌, not, ℕ, Bool, true, false, List, [], ◌∷◌, length, Option, Some, None, cond, refl, sym, ap, subst, option_map, codes, arith, eqb-true}
 use Rattle.std.specs.Prelude.{fold}
 use Rattle.std.specs.Option.{option_map_or}

@@ -1,4 +1,4 @@
--- What clap's getters answer: a number, words, a flag.
+-- What clap's getters return: a number, words, a flag.
 use Rattle.std.proofs.Common.{◌≡◌, ◌∙◌, ◌≤◌, ◌⊎◌, inl, inr, ℕ, Bool, true, false, true≢false, codes, List, [], Some, None, Option, IsSome, refl, sym, ap, subst, unwrap_or, option_map, arith}
 
 pub is_some_number : (r : Option ℕ) (n : ℕ) → r ≡ Some n → IsSome r

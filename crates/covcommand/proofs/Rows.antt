@@ -168,7 +168,7 @@ has_flag rows row =
 
 -- ---- defaults
 
--- an option or a flag, as it is read, and the word that stands for it where it isn't given
+-- an option or a flag, as it is read, and the word that it has by default
 module _ (id : Text) (how : Reading) (word : Text) where
   at_row_has_step : (b : Bool) (x y : Row) (rows later : List Row) → bytes_eq y.id id ≡ b → bytes_eq x.id id ≡ b
       → has_row id later ≡ true → has_row id (cond b (x ∷ rows) (y ∷ later)) ≡ true

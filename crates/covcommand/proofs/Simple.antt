@@ -1,4 +1,4 @@
--- The program's command is one of which clap says the matches and the faults.
+-- The program's command is one whose matches and faults clap defines.
 use Rattle.std.proofs.Common.{◌≡◌, true, refl}
 use Rattle.clap.proofs.OnLiterals.{clap_on_literals}
 use Rattle.clap.specs.Simple.{is_simple}

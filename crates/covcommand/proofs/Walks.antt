@@ -215,7 +215,7 @@ module _ (P : List Row → Type 0) where
       let parts = no_faults (turn_fault s names w word) (walk_fault s names (walked s.rules names w word) words) none in
       walk_keeps s names (walked s.rules names w word) words each parts.1 (turn_keeps s names w word each parts.0 p)
 
-  -- where a subcommand has no fault, they keep it, and what the last checks want is there
+  -- if a subcommand has no fault, they keep it, and what the last checks want is there
   pub level_keeps : (s : Shape) (words : List Text) → EachKeeps s.rules → P [] → level_fault s [] nothing_held words false [] ≡ []
       → P (settled_after s words) × (check_fault s (fold with_default (settled_after s words) s.rules) false ≡ [])
   level_keeps s words each p none =

@@ -11,7 +11,7 @@ use Rattle.covcommand.specs.declared.asked.TextFormat.TheVariants as format
 abbrev pub values_of : Text → List Row → List Text
 values_of id rows = unwrap_or (all_of id rows) []
 
--- the number is what the digits say, in decimal, that clap gives of the option; a plus may stand before them
+-- the number that clap gives of the option, in decimal digits; a plus may come before them
 abbrev pub IsNumberOf : List Row → ℕ → Type 0
 IsNumberOf rows jobs = (text : Text) × (one_of (codes "jobs") rows ≡ Some text)
     × (jobs ≡ digits_value 10 (without_leading_plus text))
@@ -20,12 +20,12 @@ IsNumberOf rows jobs = (text : Text) × (one_of (codes "jobs") rows ≡ Some tex
 abbrev pub tracefile_and_patterns : List Row → List Text
 tracefile_and_patterns rows = values_of (codes "TRACEFILE") rows ++ values_of (codes "PATTERN") rows
 
--- the files are gcov's where clap sets the flag `--gcov`, and tracefiles where it doesn't
+-- the files are gcov's if clap sets the flag `--gcov`, and tracefiles if it doesn't
 abbrev pub IsFormatOf : List Row → TextFormat → Type 0
 IsFormatOf rows format.Tracefile = one_of (codes "gcov") rows ≡ Some (codes "false")
 IsFormatOf rows format.Gcov = one_of (codes "gcov") rows ≡ Some (codes "true")
 
--- the call whose words name this subcommand, and give its arguments these words, asks for this command
+-- the words name this subcommand, and give its arguments these words: such a call asks for this command
 abbrev pub AsksFor : Option (Text × List Row) → Command → Type 0
 AsksFor met Session = met ≡ None
 AsksFor met (Merge jobs names) = (rows : List Row) × (met ≡ Some (codes "merge", rows))

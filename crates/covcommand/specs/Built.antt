@@ -1,4 +1,4 @@
--- Private steps: an argument and a command as they are told to clap.
+-- Private steps: an argument and a command as they are described to clap.
 use Rattle.std.specs.Prelude.{◌≡◌, false}
 use Rattle.clap.specs.Walk.{Rule, rule_of}
 use Rattle.clap.specs.Simple.{App, app_of}

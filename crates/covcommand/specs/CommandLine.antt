@@ -1,5 +1,5 @@
--- The program's command line, as clap is told of it: a command with one level of subcommands. What clap reads of words for
--- such a command is clap's own definition (`subcommand_of`, `takes`, `fault_of` of `Rattle.clap.specs`).
+-- The program's command line, as it is described to clap: a command with one level of subcommands. What clap reads of
+-- words for such a command is clap's own definition (`subcommand_of`, `takes`, `fault_of` of `Rattle.clap.specs`).
 use Rattle.std.specs.Prelude.{[], ◌∷◌, Some, true, codes, pos}
 use Rattle.clap.specs.Lexer.{usize_max}
 use Rattle.clap.specs.Walk.{Rule, Text}
@@ -19,7 +19,7 @@ several id = record (new_rule id) {
 abbrev pub single : Text → Rule
 single id = record (new_rule id) { required = true; action = Some Set }
 
--- `--jobs N`, a number from 1 to 64, and 1 where it isn't given
+-- `--jobs N`, a number from 1 to 64, and 1 if it isn't given
 abbrev pub jobs : Rule
 jobs = record (new_rule (codes "jobs")) {
   long = Some (codes "jobs");
@@ -48,7 +48,7 @@ merge = with_rule (with_rule (new_app (codes "merge")) (several (codes "FILE")))
 abbrev pub summary : App
 summary = with_rule (new_app (codes "summary")) (several (codes "FILE"))
 
--- a subcommand that takes the files of a tracefile which match patterns, or don't
+-- a subcommand that keeps the files of a tracefile which match patterns, or which don't
 abbrev pub filtering : Text → App
 filtering name = with_rule (with_rule (new_app name) (single (codes "TRACEFILE"))) (several (codes "PATTERN"))
 

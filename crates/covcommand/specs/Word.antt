@@ -1,4 +1,4 @@
--- A word of a call that isn't text, and what is told of it.
+-- A word of a call that isn't text, and what is said of it.
 use Rattle.std.specs.Prelude.{◌≡◌, ◌&&◌, ◌++◌, ℕ, List, codes, decimal, if◌then◌else◌, map, nat_le}
 use Rattle.std.specs.Str.{IsUtf8}
 use Rattle.std.specs.String.{string_bytes}
@@ -9,11 +9,11 @@ use Rattle.covcommand.specs.declared.fault.CommandFault.TheVariants.{Help, Line,
 abbrev pub shown : ℕ → ℕ
 shown byte = if nat_le 32 byte && nat_le byte 126 then byte else 63
 
--- the line that tells of the word at a place
+-- the line about the word at a place
 abbrev pub not_text : (place : ℕ) → (word : List ℕ) → List ℕ
 not_text place word = codes "error: word " ++ decimal place ++ codes " isn't UTF-8: " ++ map shown word ++ codes "\n"
 
--- the word isn't UTF-8, and that is told; or memory ran out
+-- the word isn't UTF-8, and that is the fault; or memory ran out
 abbrev pub IsWordFault : (place : ℕ) → (word : List ℕ) → CommandFault → Type 0
 IsWordFault place word (Help text) = ⊥
 IsWordFault place word (Line text) = (IsUtf8 word → ⊥) × (string_bytes text ≡ not_text place word)

@@ -22,12 +22,12 @@ pub enum Command {
     },
     /// `extract`: the sections of the tracefile whose file matches a pattern.
     Extract {
-        /// The tracefile's path, and behind it the patterns, at least one.
+        /// The tracefile's path, followed by the patterns, at least one.
         names: Names,
     },
     /// `remove`: the sections of the tracefile whose file matches no pattern.
     Remove {
-        /// The tracefile's path, and behind it the patterns, at least one.
+        /// The tracefile's path, followed by the patterns, at least one.
         names: Names,
     },
     /// `gcov`: the tracefile of gcov's annotated sources.

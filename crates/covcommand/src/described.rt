@@ -1,4 +1,4 @@
-//! What clap is told of the command line.
+//! The command line, as it is described to clap.
 
 ghost use Rattle.std.specs.Prelude.{◌≡◌, IfOk, codes};
 ghost use Rattle.clap.specs.Words.{app_of};

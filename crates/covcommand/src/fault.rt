@@ -5,7 +5,7 @@ use covline::Memory;
 use std::alloc::{AllocError, AllocFailed, Global};
 use thiserror::Error;
 
-/// Why the words of a call give no command, with what is to be told.
+/// Why the words of a call give no command, with the text to be printed.
 #[derive(Debug, Drop, Error)]
 pub enum CommandFault {
     /// Fault 1: help was asked for. This is its text, for standard output.
@@ -50,7 +50,7 @@ impl CommandFault {
         }
     }
 
-    /// What is told of what clap answered: its text, or want of memory for that.
+    /// The fault for an error of clap's, with its text; `Memory` if that can't be made.
     pub(crate) fn of(alloc: Global, error: &LineError) -> CommandFault
         ensures { Tells (kind_of error.now) result }
     {

@@ -1,6 +1,7 @@
 //! What help says to the user. Lines have at most 80 columns, since clap doesn't wrap them.
 
-/// The program's version, which `--version` prints. It stands here alone: the package and the manual page take it from this line.
+/// The program's version, which `--version` prints. It is written here alone: the package and the manual page take it from this
+/// line.
 pub const VERSION: &str = "0.9.0";
 
 /// What the program is for.
@@ -102,26 +103,26 @@ and of what gcov wrote
   covcollect check --gcov main.c.gcov
 The status is 4 where a file is refused, and else 5 where one has no items.";
 
-/// What stands for tracefiles.
+/// The help of an argument for tracefiles.
 pub(crate) const TRACEFILES: &str = "Tracefiles, read in this order";
 
-/// What stands for the tracefile that is filtered.
+/// The help of the argument for the tracefile that is filtered.
 pub(crate) const TRACEFILE: &str = "The tracefile";
 
-/// What stands for patterns.
+/// The help of the argument for patterns.
 pub(crate) const PATTERNS: &str = "Patterns of whole paths, in quotes";
 
-/// What stands for annotated source.
+/// The help of the argument for annotated source.
 pub(crate) const SOURCES: &str = "Files that gcov wrote, read in this order";
 
-/// What stands for files that are looked at.
+/// The help of the argument for files to be checked.
 pub(crate) const CHECKED: &str = "Tracefiles, looked at in this order";
 
-/// What `--jobs` says.
+/// The help of `--jobs`.
 pub(crate) const JOBS: &str = "How many files are parsed at once, 1 to 64";
 
-/// What `--test` says.
+/// The help of `--test`.
 pub(crate) const TEST: &str = "The test that the counts are of; --test= is the empty name";
 
-/// What `--gcov` says.
+/// The help of `--gcov`.
 pub(crate) const ANNOTATED: &str = "The files are what gcov wrote, and not tracefiles";

@@ -20,8 +20,8 @@ pub fn calls_are_taken()
     ensures check { takes covcollect (codes "covcollect" ∷ codes "check" ∷ codes "--gcov" ∷ codes "a.c.gcov" ∷ []) ≡ true }
 {}
 
-/// What calls of `check` ask for: gcov's text where the flag stands among the words, before or after the files, and tracefiles
-/// where it doesn't. After `--` it is a file's name.
+/// What calls of `check` ask for: gcov's text if the flag is among the words, before or after the files, and tracefiles if it
+/// isn't. After `--` it is a file's name.
 pub fn checks_by_their_words()
     ensures tracefile { AsksFor (subcommand_of covcollect (codes "covcollect" ∷ codes "check" ∷ codes "a.info" ∷ []))
         (Check format.Tracefile (codes "a.info" ∷ [])) }
@@ -33,7 +33,7 @@ pub fn checks_by_their_words()
         (Check format.Tracefile (codes "--gcov" ∷ [])) }
 {}
 
-/// Calls that are refused, and by which kind of clap's. The program has a version, a subcommand has none.
+/// Calls that are refused, and with which of clap's kinds of error. The program has a version, a subcommand has none.
 pub fn calls_are_refused()
     ensures jobs { fault_of covcollect (codes "covcollect" ∷ codes "merge" ∷ codes "--jobs" ∷ codes "65" ∷ codes "a.info" ∷ [])
         ≡ kind.ValueValidation ∷ [] }

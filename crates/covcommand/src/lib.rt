@@ -1,7 +1,7 @@
 //! The command line of the coverage collector: which words ask for what, and what its help says.
 //!
-//! `word_at` takes a word of a call as text, `described` tells clap of the command, `command` reads the words, and `help` has the
-//! texts for the user.
+//! `word_at` takes a word of a call as text, `described` describes the command to clap, `command` reads the words, and `help`
+//! has the texts for the user.
 //!
 //! A sketch: the words of a merge.
 //!

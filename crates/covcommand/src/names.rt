@@ -32,7 +32,7 @@ impl Names {
         }
     }
 
-    /// Appends a name. A refusal gives it up and leaves the list as it was.
+    /// Appends a name. On `Memory` the name is dropped and the list stays as it was.
     pub fn push(&mut self, name: String) -> Result<(), Memory>
         ensures ok { OnOk result (self.new ≡ self.old ++ string_bytes name ∷ []) }
         ensures err { OnErr result (self.new ≡ self.old) }

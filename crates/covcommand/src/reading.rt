@@ -19,8 +19,8 @@ use std::alloc::Global;
 
 /// What the words of a call ask for. The first word is the program's name.
 ///
-/// Faults: `Help` where help is asked for, `Line` where the words don't fit, each with its text, and `Memory`. Where clap takes
-/// the words, `Memory` alone.
+/// Faults: `Help` or `Version` if that is asked for, `Line` if the words don't fit, each with its text; and `Memory`. If clap
+/// takes the words, `Memory` alone.
 pub fn command(alloc: Global, words: &[String]) -> Result<Command, CommandFault>
     ensures asks { IfOk result (AsksFor (subcommand_of covcollect (map string_bytes words.now))) }
     ensures bounds { IfOk result IsInBounds }

@@ -11,10 +11,10 @@ use covline::Memory;
 use itoa::Buffer;
 use std::alloc::Global;
 
-/// The word of a call at this place, as text. The program's name is at the place 1.
+/// The word of a call at this place, as text. The program's name is at place 1.
 ///
-/// Faults: `Line` where the word isn't UTF-8, whose text says its place and shows it, with `?` for each byte that isn't printable
-/// ASCII; and `Memory`.
+/// Faults: `Line` if the word isn't UTF-8: its text has the word's place and shows the word, with `?` for each byte that isn't
+/// printable ASCII. And `Memory`.
 pub fn word_at(alloc: Global, place: usize, word: &[u8]) -> Result<String, CommandFault>
     ensures text { IfOk result (λ text. string_bytes text ≡ word.now) }
     ensures takes { IsUtf8 word.now → IfErr result (λ fault. fault ≡ faults.Memory) }
