@@ -1,6 +1,6 @@
 //! covcollect, a coverage collector for lcov tracefiles. Without a subcommand it reads commands from standard input, a line
-//! each, answers them on standard output, and tells a fault that ends it on standard error and by its exit status. A subcommand
-//! reads the files that it names and prints one text.
+//! each, and answers them on standard output; it reports a fault that ends it on standard error and by its exit status. A
+//! subcommand reads the files that its words name and prints one text.
 //!
 //! `main` only takes the words and makes the streams; the program is covrun's `run`. What `merge`, `extract`, `remove` and `gcov`
 //! print reads back: the laws that say so are covlaws'.
@@ -56,7 +56,7 @@ fn words_of_call<R: Env + AllocGlobal>(rt: &R) -> Result<Vec<String>, CommandFau
     Ok(words)
 }
 
-/// The bytes of a word of the call, or none where it has no more. The program's name has the index 0.
+/// The bytes of a word of the call; `None` past the last word. The program's name has the index 0.
 fn bytes_of_word<R: Env + AllocGlobal>(
     rt: &R,
     index: usize,
