@@ -5,8 +5,8 @@ use covread::read_trace;
 use covstore::Totals;
 use std::alloc::Global;
 
-/// One thread that takes the steps of the history in order is answered the same, and prints the report that job 0 was told last.
-/// Read back, this report gives the totals and the report.
+/// Checks that one thread that takes the steps of the history in order is answered the same, and prints the report that job 0
+/// got last. Read back, this report gives the totals and the report.
 pub(crate) fn check_alone(alloc: Global, entries: &[Entry], logs: &[JobLog]) -> anyhow::Result<()> {
     let mut book = Book::new(alloc);
     for entry in entries {
@@ -18,7 +18,7 @@ pub(crate) fn check_alone(alloc: Global, entries: &[Entry], logs: &[JobLog]) -> 
     }
 }
 
-/// The book is answered what the entry says, with its totals.
+/// Checks that the book answers what the entry says, with its totals.
 fn check_step(alloc: Global, book: &mut Book, entry: &Entry) -> anyhow::Result<()> {
     let receipt = book.step(alloc, entry.job, &entry.op)?;
     let place = receipt.place;
@@ -31,7 +31,7 @@ fn check_step(alloc: Global, book: &mut Book, entry: &Entry) -> anyhow::Result<(
     Ok(())
 }
 
-/// The text that the first job was told last.
+/// The text that the first job got last.
 fn last_text(logs: &[JobLog]) -> Option<&[u8]> {
     let receipt = logs.first()?.receipts.get().last()?;
     text_of(&receipt.answer)
@@ -45,7 +45,8 @@ fn text_of(answer: &Answer) -> Option<&[u8]> {
     }
 }
 
-/// The book prints this report, and so does an empty book that it is submitted to, which has the same totals.
+/// Checks that the book prints this report, and so does an empty book that it is submitted to, which has the same
+/// totals.
 fn check_report(alloc: Global, book: &mut Book, report: &[u8]) -> anyhow::Result<()> {
     let totals = book.totals();
     check_printed(alloc, book, report, totals)?;
@@ -55,7 +56,7 @@ fn check_report(alloc: Global, book: &mut Book, report: &[u8]) -> anyhow::Result
     check_printed(alloc, &mut back, report, totals)
 }
 
-/// The book prints this report and has these totals.
+/// Checks that the book prints this report and has these totals.
 fn check_printed(
     alloc: Global,
     book: &mut Book,

@@ -1,4 +1,5 @@
-//! Calls of the crates below without what they promise: a measure only makes them, and its proof is quicker that knows nothing of them.
+//! Calls of the crates below, without their contracts: a measure only makes them, and its proof is quicker if it knows nothing
+//! of them.
 
 ghost use Rattle.std.specs.Prelude.{◌≡◌};
 

@@ -38,12 +38,12 @@ impl<L: Name> Job<L> {
         }
     }
 
-    /// Makes so many random calls, or ends at the first fault.
+    /// Makes `calls` random calls, or ends at the first fault.
     pub(crate) fn work<R: Wait>(&mut self, rt: &R, alloc: Global, book: &Shared<L>, calls: u64) {
         self.ended = self.call_often(rt, alloc, book, calls);
     }
 
-    /// Makes so many random calls, and keeps the receipts. Behind a call it may learn the news and may read.
+    /// Makes `calls` random calls, and keeps the receipts. After a call it may learn the news and may read.
     fn call_often<R: Wait>(
         &mut self,
         rt: &R,
@@ -83,7 +83,7 @@ impl<L: Name> Job<L> {
         self.known = self.known.max(news.reading().upto);
     }
 
-    /// Keeps a reading, which may not be behind what was read or learned.
+    /// Keeps a reading, which may not have fewer entries than were read or learned of.
     fn read(&mut self) -> anyhow::Result<()> {
         let reading = self.live.totals();
         if reading.upto < self.known {
@@ -94,7 +94,7 @@ impl<L: Name> Job<L> {
         Ok(())
     }
 
-    /// Its seat, what it keeps, and its reader, where its work ended well.
+    /// Its seat, what it keeps, and its reader, if its work ended well.
     pub(crate) fn into_parts(self) -> anyhow::Result<(Seat<L>, JobLog, Live<L>)> {
         let Job {
             seat,

@@ -5,13 +5,13 @@
 //! covbench pace SUBMITTERS READERS SUBMITS
 //! ```
 //!
-//! `soak`: in each round so many threads (1 to 64) make so many random calls each of one shared book, and read its totals in
+//! `soak`: in each round THREADS threads (1 to 64) make CALLS random calls each on one shared book, and read its totals in
 //! between. The book is then closed. Its history has to be gathered from what the threads kept, and one thread alone that takes
 //! the same steps in the same order has to be answered the same. Each round has the next seed. A difference ends the program
-//! with its seed and status 1; else it prints one line.
+//! with its seed and status 1; otherwise it prints one line.
 //!
-//! `pace`: so many threads (1 to 64) submit one small tracefile to one shared book, each so many times, while so many others (0
-//! to 64) ask for the totals without a pause. It prints one line: submits a second, the slowest submit in microseconds, and
+//! `pace`: SUBMITTERS threads (1 to 64) submit one small tracefile to one shared book, SUBMITS times each, while READERS others
+//! (0 to 64) ask for the totals without a pause. It prints one line: submits a second, the slowest submit in microseconds, and
 //! readings a second.
 //!
 //! Other words are answered by these two lines.
@@ -60,7 +60,7 @@ fn main(rt: HostRuntime) -> anyhow::Result<()> {
     Ok(())
 }
 
-/// The plan that the words tell; the first word is the program's name.
+/// The plan that the words give; the first word is the program's name.
 fn plan_of(words: &[String]) -> Option<Plan> {
     match words.get(1)?.as_str() {
         "soak" => Some(Plan::Soak(soak_of(words)?)),
@@ -69,7 +69,7 @@ fn plan_of(words: &[String]) -> Option<Plan> {
     }
 }
 
-/// The soak that the words tell.
+/// The soak that the words give.
 fn soak_of(words: &[String]) -> Option<SoakPlan> {
     let [_name, _soak, threads, rounds, calls, seed] = words else {
         return None;
@@ -82,7 +82,7 @@ fn soak_of(words: &[String]) -> Option<SoakPlan> {
     })
 }
 
-/// The measure that the words tell.
+/// The measure that the words give.
 fn pace_of(words: &[String]) -> Option<PacePlan> {
     let [_name, _pace, submitters, readers, submits] = words else {
         return None;

@@ -62,7 +62,7 @@ fn submit(alloc: Global) -> anyhow::Result<Op> {
     Ok(Op::Submit(shared(alloc, given)?))
 }
 
-/// Makes the measure of a new book. Answers its line: submits a second, the slowest submit in microseconds, and readings a second.
+/// Measures a new book. Returns its line: submits a second, the slowest submit in microseconds, and readings a second.
 pub(crate) fn started<R: Threads + Wait + Clock + Sync>(
     rt: &R,
     alloc: Global,
@@ -72,7 +72,7 @@ pub(crate) fn started<R: Threads + Wait + Clock + Sync>(
     measured::<Brand, _>(rt, alloc, start, plan)
 }
 
-/// Makes the measure, and answers its line.
+/// Measures the book, and returns its line.
 fn measured<L: Name + Send + Sync, R: Threads + Wait + Clock + Sync>(
     rt: &R,
     alloc: Global,
@@ -100,7 +100,7 @@ fn submitters_of<L: Name>(alloc: Global, seats: Seats<L>) -> anyhow::Result<Vec<
     Ok(submitters)
 }
 
-/// So many threads that read.
+/// The threads that read.
 fn watchers_of<L: Name, R: Wait>(
     rt: &R,
     alloc: Global,
@@ -115,7 +115,7 @@ fn watchers_of<L: Name, R: Wait>(
     Ok(watchers)
 }
 
-/// Runs all threads, and answers how many nanoseconds that took.
+/// Runs all threads, and returns how many nanoseconds that took.
 fn timed<L: Name + Send + Sync, R: Threads + Wait + Clock + Sync>(
     rt: &R,
     alloc: Global,
@@ -172,7 +172,7 @@ fn readings_of<L: Name>(watchers: &[Watcher<L>]) -> u64 {
     readings
 }
 
-/// How often a second, where it was so often in so many nanoseconds.
+/// How often a second something happens that happens `times` times in `nanos` nanoseconds.
 fn a_second(times: u64, nanos: u128) -> u128 {
     u128::from(times).saturating_mul(1_000_000_000) / nanos.max(1)
 }
@@ -216,7 +216,8 @@ fn watch<L: Name>(watcher: &mut Watcher<L>, running: &AtomicU64) {
     }
 }
 
-/// Submits so often, and keeps how long the slowest submit took. A refusal ends it: the seat's calls tell how many succeeded.
+/// Submits `submits` times, and keeps how long the slowest submit took. A refusal ends it; the seat counts the submits that
+/// succeeded.
 fn submit_often<L: Name, R: Wait + Clock>(
     rt: &R,
     alloc: Global,
@@ -233,7 +234,7 @@ fn submit_often<L: Name, R: Wait + Clock>(
     }
 }
 
-/// Submits once, and answers how many nanoseconds it took.
+/// Submits once, and returns how many nanoseconds it took.
 fn submit_once<L: Name, R: Wait + Clock>(
     rt: &R,
     alloc: Global,

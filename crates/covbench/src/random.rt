@@ -24,7 +24,7 @@ impl Random {
         bits ^ (bits >> 31)
     }
 
-    /// A number below a limit, and 0 where the limit is 0.
+    /// A number below a limit, and 0 if the limit is 0.
     pub(crate) fn below(&mut self, limit: u64) -> u64 {
         self.next().checked_rem(limit).unwrap_or(0)
     }

@@ -19,7 +19,7 @@ struct HandedIn<L: Name> {
     lives: Vec<Live<L>>,
 }
 
-/// Makes a round of a seed, in which each job makes so many random calls and the first job then asks for the report. Answers how
+/// Makes a round with this seed: each job makes `calls` random calls, and the first job then asks for the report. Returns how
 /// many calls there were.
 pub(crate) fn soaked<L: Name + Send + Sync, R: Threads + Wait + Sync>(
     rt: &R,
@@ -87,7 +87,7 @@ fn work_at_once<L: Name + Send + Sync, R: Threads + Wait + Sync>(
     });
 }
 
-/// What the jobs have, where all of them ended well.
+/// What the jobs have, if all of them ended well.
 fn hand_in<L: Name>(alloc: Global, jobs: Vec<Job<L>>) -> anyhow::Result<HandedIn<L>> {
     let mut seats = Seats::new(alloc);
     let mut logs = Logs::new(alloc);
@@ -122,7 +122,8 @@ fn closed<L: Name, R: Wait>(
     }
 }
 
-/// There is an entry for each call, the news tell of them, and each reader that learns these answers them.
+/// Checks that there is an entry for each call, that the news count them all, and that each reader reports them once it
+/// learns the news.
 fn check_news<L: Name>(
     entries: &Entries,
     news: &News<L>,

@@ -16,7 +16,8 @@ pub(crate) struct SoakPlan {
     pub(crate) seed: u64,
 }
 
-/// Makes all rounds, and answers how many calls they made together. The first difference ends them, and is told with its seed.
+/// Makes all rounds, and returns how many calls they made together. The first difference ends them, and is reported with its
+/// seed.
 pub(crate) fn all_rounds<R: Threads + Wait + Sync>(
     rt: &R,
     alloc: Global,
@@ -33,7 +34,7 @@ pub(crate) fn all_rounds<R: Threads + Wait + Sync>(
     Ok(made)
 }
 
-/// Makes the round of this seed, and answers how many calls it made.
+/// Makes the round of this seed, and returns how many calls it made.
 fn one_round<R: Threads + Wait + Sync>(
     rt: &R,
     alloc: Global,
