@@ -26,7 +26,7 @@ mod streams;
 mod summaries;
 mod texts;
 
-/// How a session ends, without what it promises: a test looks at what it does, and its proof is quicker so.
+/// How a session ends, without its contracts: a test looks at what it does, and its proof is quicker that way.
 fn session_end<I: Source, O: Sink>(
     alloc: Global,
     source: &mut I,
@@ -50,7 +50,7 @@ fn run(alloc: Global, input: &[u8]) -> (Result<(), SessionFault>, Vec<u8>) {
     (ended, output)
 }
 
-/// A session on these bytes ends well, and writes just what is wanted.
+/// Checks that a session on these bytes ends well, and writes just what is wanted.
 fn check(rt: &(impl Abort + AllocGlobal), name: &[u8], input: &[u8], wanted: &[u8]) {
     let (ended, output) = run(rt.alloc(), input);
     if ended.is_err() || output.as_slice() != wanted {
@@ -60,13 +60,13 @@ fn check(rt: &(impl Abort + AllocGlobal), name: &[u8], input: &[u8], wanted: &[u
     }
 }
 
-/// Checks sessions, one behind the other: the lines of each are its input, but those that begin with `> ` are what it has
-/// to write, and one that begins with `= ` ends it and is its name.
+/// Checks sessions, one after the other. A line that begins with `> ` is one that the session has to write, one that
+/// begins with `= ` ends the session and is its name, and the others are its input.
 fn check_all(rt: &(impl Abort + AllocGlobal), examples: &[u8]) -> Result<(), Fail> {
     check_around(rt, b"", examples, b"")
 }
 
-/// Checks sessions whose input stands between these lines.
+/// Checks sessions whose input comes between these lines.
 fn check_around(
     rt: &(impl Abort + AllocGlobal),
     before: &[u8],

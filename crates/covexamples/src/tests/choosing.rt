@@ -4,7 +4,7 @@ use super::{check, check_all, check_around};
 use std::process::Abort;
 use std::test::*;
 
-/// Of `/a.c` and `/a.h`.
+/// Sessions that choose of `/a.c` and `/a.h`.
 #[test]
 fn chosen_files(rt: HostRuntime) -> Result<(), Fail> {
     check_around(
@@ -204,8 +204,8 @@ report
     )
 }
 
-/// Of each line, what stands before the space is a pattern, and what stands behind it a path. A session that
-/// extracts by the pattern prints a section of the path if `is_taken`, and else nothing.
+/// Each line has a pattern, a space and a path. A session that extracts by the pattern prints a section of the path if
+/// `is_taken`, and otherwise nothing.
 fn check_patterns(
     rt: &(impl Abort + AllocGlobal),
     lines: &[u8],

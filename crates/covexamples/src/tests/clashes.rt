@@ -112,7 +112,7 @@ end_of_record
     )
 }
 
-/// The first clashing line of a text is told; its earlier lines count as held.
+/// The first clashing line of a text is reported; its earlier lines count as held.
 #[test]
 fn the_clash_that_is_told(rt: HostRuntime) -> Result<(), Fail> {
     check_all(

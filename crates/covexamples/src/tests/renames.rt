@@ -1,4 +1,5 @@
-//! Renamed tests: their counts stand under the new name, with those that stood there before, and nothing else changes.
+//! Renamed tests: their counts are under the new name, together with those that were there before, and nothing else
+//! changes.
 
 use super::{check, check_all, check_around};
 use std::test::*;

@@ -284,7 +284,7 @@ LF:2
     )
 }
 
-/// Two functions, three branches and four lines: of each kind one is hit. Some stand there twice, and they don't ascend.
+/// Two functions, three branches and four lines: of each kind one is hit. Some come twice, and they don't ascend.
 #[test]
 fn totals_behind(rt: HostRuntime) -> Result<(), Fail> {
     check_around(

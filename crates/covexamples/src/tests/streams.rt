@@ -34,7 +34,7 @@ report
 summary
 ";
 
-/// What it is answered: 222 bytes. The answers end at the bytes 25, 50, 103 and 222.
+/// The answers to `INPUT`: 222 bytes. They end at the bytes 25, 50, 103 and 222.
 const ANSWER: &[u8] = b"\
 accepted 1 items 2 odd 0
 accepted 2 items 2 odd 0
@@ -53,7 +53,7 @@ Summary coverage rate:
 .
 ";
 
-/// A reader that gives one byte at each call. The call after so many good ones fails, and those behind it don't.
+/// A reader that gives one byte at each call. After `good_reads` good calls one fails, and the later ones don't.
 #[derive(Drop)]
 struct Slow<'a> {
     input: &'a [u8],
@@ -91,8 +91,8 @@ impl<'a> Source for Slow<'a> {
     }
 }
 
-/// A writer that takes so many bytes at each call, or all that there are. The call after so many good ones fails, and those
-/// behind it don't.
+/// A writer that takes `width` bytes at each call, or all that there are. After its good calls one fails, and the later
+/// ones don't.
 #[derive(Drop)]
 struct Narrow {
     output: Vec<u8>,
@@ -130,8 +130,8 @@ impl Sink for Narrow {
     }
 }
 
-/// How a session that is given a byte at each read ends after so many good reads, and so many good writes of at most this many
-/// bytes, and how much it wrote of its answer.
+/// How a session that is given a byte at each read ends, after `good_reads` good reads and `good_writes` good writes of at
+/// most `width` bytes, and how much it wrote of its answer.
 fn by_pieces(
     alloc: Global,
     good_reads: usize,
@@ -164,7 +164,7 @@ fn one_byte_at_a_time(rt: HostRuntime) {
     }
 }
 
-/// How many bytes are answered to the first bytes of the input, so many of them, before the next read.
+/// How many bytes are answered to the input's first `bytes` bytes before the next read.
 fn answered_to(bytes: usize) -> usize {
     match bytes {
         0..=58 => 0,
@@ -316,7 +316,8 @@ impl<'a> Source for Waiting<'a> {
     }
 }
 
-/// A writer that holds all bytes back until they are sent on. The flush after so many good ones fails, and those behind it don't.
+/// A writer that holds all bytes back until they are sent on. After its good flushes one fails, and the later ones
+/// don't.
 #[derive(Drop)]
 struct Buffered<'a> {
     wire: &'a Wire,
@@ -353,8 +354,8 @@ impl<'a> Sink for Buffered<'a> {
     }
 }
 
-/// How a session ends over a wire whose flush after so many good ones fails, how many bytes it wrote and how often it sent them
-/// on, and whether a read came before all was sent on.
+/// How a session ends over a wire on which one flush fails after `good_flushes` good ones, how many bytes it wrote and how
+/// often it sent them on, and whether a read came before all was sent on.
 fn over_a_wire(
     alloc: Global,
     good_flushes: usize,
@@ -381,7 +382,7 @@ fn over_a_wire(
 }
 
 /// Each answer is sent on before the next read: five flushes, one before the first read and one after each of four answers, and
-/// none where nothing was written.
+/// none if nothing was written.
 #[test]
 fn answers_are_sent_on_before_a_read(rt: HostRuntime) {
     let ended = over_a_wire(rt.alloc(), 1_000);
@@ -471,7 +472,7 @@ fn a_failed_call_is_not_made_again(rt: HostRuntime) {
     );
 }
 
-/// A reader of a text that is made as it is read: first bytes, so many others, and what follows.
+/// A reader of a text that is made as it is read: first bytes, `filling` equal ones, and what follows.
 #[derive(Drop)]
 struct Long<'a> {
     before: &'a [u8],
@@ -512,8 +513,8 @@ impl<'a> Source for Long<'a> {
     }
 }
 
-/// How a session ends on these bytes, so many others behind them in the same line, and `after`; and whether it wrote
-/// just this.
+/// How a session ends on the bytes `before`, then `bytes` others in the same line, and `after`; and whether it wrote just what
+/// is wanted.
 fn long_line(
     alloc: Global,
     before: &[u8],
@@ -589,7 +590,7 @@ fn long_lines(rt: HostRuntime) {
     }
 }
 
-/// How a session ends over a writer of std with room for so many bytes, and whether it wrote the answer's first bytes into
+/// How a session ends over a writer of std with room for `bytes` bytes, and whether it wrote the answer's first bytes into
 /// all of it.
 fn into_room(alloc: Global, bytes: usize) -> Result<(Result<(), SessionFault>, bool), Fail> {
     let mut room = vec![in alloc; b'?'; bytes]?;
@@ -666,7 +667,8 @@ impl Sink for Counting {
     }
 }
 
-/// The exit status of a session of so many summaries of nothing, how many bytes it writes, and how many on its fault.
+/// The exit status of a session of `commands` summaries of nothing, how many bytes it writes, and how many on its
+/// fault.
 fn summaries(alloc: Global, commands: u64) -> (u8, u64, u64) {
     let mut source = Repeated { commands, reads: 0 };
     let mut sink = Counting { bytes: 0 };
@@ -675,8 +677,8 @@ fn summaries(alloc: Global, commands: u64) -> (u8, u64, u64) {
     (status, sink.bytes, faults.bytes)
 }
 
-/// A session fills its book with 1,048,576 entries. Each summary of nothing has 112 bytes with the dot behind it; `book full`
-/// is a line of 10 bytes.
+/// A session fills its book with 1,048,576 entries. Each summary of nothing has 112 bytes with the dot after it; `book
+/// full` is a line of 10 bytes.
 #[test]
 fn a_full_book(rt: HostRuntime) {
     let most = 1_048_576;
@@ -728,7 +730,8 @@ fn a_full_book_loses_no_answer(rt: HostRuntime) {
     assert_eq!(rt; source.reads, 43_691);
 }
 
-/// The exit status of the program after so many good reads and writes, and whether it says these words of its fault.
+/// The exit status of the program after these numbers of good reads and writes, and whether it says these words of its
+/// fault.
 fn end_of(alloc: Global, good_reads: usize, good_writes: usize, words: &[u8]) -> (u8, bool) {
     let mut source = Slow {
         input: INPUT,

@@ -1,4 +1,4 @@
-//! Summaries: a point is found once for each file, over all tests, and hit where some test has it above 0.
+//! Summaries: a point is found once for each file, over all tests, and hit if some test has it above 0.
 
 use super::{check_all, check_around};
 use std::test::*;

@@ -209,7 +209,7 @@ DA:x
     )
 }
 
-/// The first bytes of a text, so many of them.
+/// A text that is cut off after each of its bytes.
 #[test]
 fn cut_texts(rt: HostRuntime) -> Result<(), Fail> {
     let text = b"TN:t\nSF:/a.c\nDA:1,2\nDA:2,0\nLF:2\nLH:1\nend_of_record\n";

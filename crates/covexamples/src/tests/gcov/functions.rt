@@ -160,7 +160,7 @@ function f called 2
     )
 }
 
-/// A name stands before the last ` called `, the one that begins last.
+/// A name ends before the last ` called `, the one that begins last.
 #[test]
 fn names(rt: HostRuntime) -> Result<(), Fail> {
     check_around(

@@ -1,4 +1,4 @@
-//! What stands above a line of gcov's text: the faults of places, and which fault of several is told.
+//! What comes above a line of gcov's text: the faults of places, and which of several faults is reported.
 
 use crate::tests::check_around;
 use std::test::*;
