@@ -1,5 +1,5 @@
-//! Calls of the crates below without what they promise: a test looks at values, and its proof is quicker that knows nothing
-//! of them.
+//! Calls of the crates below, without their contracts: a test looks at values, and its proof is quicker if it knows nothing
+//! else.
 
 use covbook::{Answer, Book, BookFault, Entry, GatherFault, JobLog, Op, Receipt, SubRef};
 use covline::{Bytes, Memory};
@@ -22,13 +22,13 @@ pub(super) fn step(
     book.step(alloc, job, op)
 }
 
-/// A step by its two halves.
+/// A step in its two halves.
 fn step_in_halves(alloc: Global, book: &mut Book, job: u32, op: &Op) -> Result<Receipt, BookFault> {
     let ready = book.ready(alloc, job, op)?;
     Ok(book.finish(ready))
 }
 
-/// A step, which the jobs 8 and 9 take by its two halves.
+/// A step, which the jobs 8 and 9 take in its two halves.
 pub(super) fn take(
     alloc: Global,
     book: &mut Book,
@@ -88,7 +88,7 @@ pub(super) fn is_same_answer(one: &Answer, other: &Answer) -> bool {
     one.is_same(other)
 }
 
-/// The list of the patterns, which stand between bars.
+/// The list of the patterns, which have bars between them.
 pub(super) fn list_of(alloc: Global, patterns: &[u8]) -> Result<Patterns, PatternFault> {
     let mut list = Patterns::new(alloc);
     for pattern in patterns.split(|byte| *byte == b'|') {

@@ -1,4 +1,4 @@
-//! A history of six calls, and what is told of it and of what two jobs kept.
+//! A history of six calls, and what `gather` returns for it and for what two jobs kept.
 
 use super::calls::{
     bytes_of, copied_answer, copied_op, entries, gathered, is_same_answer, is_same_op,
@@ -28,7 +28,7 @@ fn number_of(digit: u8) -> u8 {
     digit.wrapping_sub(b'0')
 }
 
-/// The entry at the place that the digit tells.
+/// The entry at the place that the digit says.
 fn entry_at<'e>(rt: &impl Abort, entries: &'e [Entry], digit: u8) -> &'e Entry {
     match entries.get(usize::from(number_of(digit))) {
         Some(entry) => entry,
@@ -46,7 +46,7 @@ fn other_text(alloc: Global, answer: &Answer) -> Result<Answer, Fail> {
     text_of(alloc, &text)
 }
 
-/// The answer of the entry at the place that the digit tells; where `!` is in its place, this entry's with another text.
+/// The answer of the entry at the place that the digit says; for `!` instead, this entry's answer with another text.
 fn answer_of(
     rt: &(impl Abort + AllocGlobal),
     entries: &[Entry],
@@ -60,7 +60,7 @@ fn answer_of(
     Ok(copied_answer(rt.alloc(), &answered.answer)?)
 }
 
-/// The place that a sign tells: a digit, or `^` for the largest number.
+/// The place that a sign says: a digit, or `^` for the largest number.
 fn place_of(sign: u8) -> u64 {
     match sign {
         b'^' => u64::MAX,
@@ -68,8 +68,8 @@ fn place_of(sign: u8) -> u64 {
     }
 }
 
-/// The receipt that a word of three signs tells: its place, the entry whose operation it has, and that whose answer it has. In
-/// the place of the last, `!` is the operation's entry with another text.
+/// The receipt that a word of three signs describes: its place, the entry whose operation it has, and the entry whose answer
+/// it has. If the last sign is `!`, the answer is that of the operation's entry with another text.
 fn receipt_of(
     rt: &(impl Abort + AllocGlobal),
     entries: &[Entry],
@@ -87,7 +87,7 @@ fn receipt_of(
     })
 }
 
-/// The reading of so many entries, with so many lines found and hit and nothing else; each is a digit.
+/// The reading with these numbers of entries, of lines found and of lines hit, and nothing else; each is a digit.
 fn reading_of(upto: u8, lines_found: u8, lines_hit: u8) -> Reading {
     let mut totals = Totals::default();
     totals.lf = u64::from(number_of(lines_found));
@@ -98,8 +98,8 @@ fn reading_of(upto: u8, lines_found: u8, lines_hit: u8) -> Reading {
     }
 }
 
-/// The log that a line tells: its job, and after it the words of its receipts and readings. A reading has `=` after its number
-/// of entries.
+/// The log that a line describes: its job, and after it the words of its receipts and readings. A reading has `=` after its
+/// number of entries.
 fn log_of(
     rt: &(impl Abort + AllocGlobal),
     entries: &[Entry],
@@ -144,7 +144,7 @@ fn fault_in_words(alloc: Global, fault: &GatherFault) -> Result<String, Fail> {
     }
 }
 
-/// What is told of entries and logs, in words.
+/// What `gather` returns for entries and logs, in words.
 fn told(alloc: Global, entries: &[Entry], logs: &[JobLog]) -> Result<String, Fail> {
     match gathered(entries, logs) {
         Ok(()) => Ok(String::from_str(alloc, "yes")?),
@@ -152,7 +152,7 @@ fn told(alloc: Global, entries: &[Entry], logs: &[JobLog]) -> Result<String, Fai
     }
 }
 
-/// The entries and these logs are told of as wanted.
+/// Checks what `gather` returns for the entries and these logs.
 fn check_told(
     rt: &(impl Abort + AllocGlobal),
     entries: &[Entry],
@@ -174,8 +174,9 @@ fn check_all(
     check_history(rt, entries, entries, examples)
 }
 
-/// Checks examples, one behind the other: a line for each log, then what is to be told of the history and these logs, in a line
-/// that begins with `> `, and one that begins with `= ` ends it and is its name. Receipts are those of the entries.
+/// Checks examples, one after the other. Each has a line for each log; a line that begins with `> ` is what `gather` has to
+/// return for the history and these logs, and one that begins with `= ` ends the example and is its name. Receipts are those
+/// of the entries.
 fn check_history(
     rt: &(impl Abort + AllocGlobal),
     entries: &[Entry],
@@ -197,7 +198,7 @@ fn check_history(
     Ok(())
 }
 
-/// What two jobs kept of the six calls, and what is told of it.
+/// What two jobs kept of the six calls, and what `gather` returns for it.
 const EXAMPLES: &[u8] = b"0 000 222 444
 1 111 333 555
 > yes
@@ -314,7 +315,7 @@ const EXAMPLES: &[u8] = b"0 000 222 444
 > BadReading 0 0
 = a reading comes before a receipt of the next log";
 
-/// The same six calls, but that job 1 renames the test that both submit, and what is told of them.
+/// The same six calls, but that job 1 renames the test that both submit, and what `gather` returns for them.
 const A_RENAME: &[u8] = b"0 submit DA:1,2;DA:2,0
 1 submit DA:1,2;DA:2,0
 0 summary
@@ -407,21 +408,21 @@ fn a_shorter_history(rt: HostRuntime) -> Result<(), Fail> {
     )
 }
 
-/// Whether the operations that the words ask are the same.
+/// Whether the operations that the words ask for are the same.
 fn are_same_ops(rt: &(impl Abort + AllocGlobal), one: &[u8], other: &[u8]) -> Result<bool, Fail> {
     let one = op_of(rt, one)?;
     let other = op_of(rt, other)?;
     Ok(is_same_op(&one, &other))
 }
 
-/// Whether the answers that the words tell are the same.
+/// Whether the answers that the words describe are the same.
 fn are_same_answers(alloc: Global, one: &[u8], other: &[u8]) -> Result<bool, Fail> {
     let one = told_answer(alloc, one)?;
     let other = told_answer(alloc, other)?;
     Ok(is_same_answer(&one, &other))
 }
 
-/// The answer that words tell: a text, or a clash at line 1 of `/a.c`, where `k` was held.
+/// The answer that words describe: a text, or a clash at line 1 of `/a.c`, where `k` was held.
 fn told_answer(alloc: Global, words: &[u8]) -> Result<Answer, Fail> {
     match words.strip_prefix(b"clash ") {
         Some(given) => clash_of(alloc, bytes_of(alloc, given)?),
@@ -448,7 +449,7 @@ fn clash_in(file: Bytes, held: Bytes, given: Bytes) -> Answer {
     }
 }
 
-/// The answer to a rename tells of so many sections, which a drop of as many isn't.
+/// The answer to a rename has its number of sections, and isn't the same as the answer to a drop.
 #[test]
 fn a_number_of_an_answer_differs(rt: HostRuntime) {
     let renamed = |sections| Answer::Renamed { sections };

@@ -144,7 +144,7 @@ fn is_full(alloc: Global, book: &mut Book) -> bool {
     }
 }
 
-/// Whether so many steps have the first places.
+/// Whether the first `steps` steps have the first places.
 fn is_filled(alloc: Global, book: &mut Book, steps: u64) -> bool {
     for place in 0..steps {
         if !is_next(alloc, book, place) {

@@ -55,7 +55,7 @@ enum Record {
     Line,
 }
 
-/// The first point of a kind, and the one behind its last.
+/// The first point of a kind, and the one after its last.
 fn points_of(record: Record) -> (u64, u64) {
     match record {
         Record::Start | Record::Calls => (0, 3),
@@ -64,7 +64,7 @@ fn points_of(record: Record) -> (u64, u64) {
     }
 }
 
-/// The line that tells a point and its count.
+/// The line that says a point and its count.
 fn line_of(alloc: Global, record: Record, point: u64, count: Option<u64>) -> Result<String, Fail> {
     let number = count.unwrap_or(0);
     match record {
@@ -76,7 +76,7 @@ fn line_of(alloc: Global, record: Record, point: u64, count: Option<u64>) -> Res
     }
 }
 
-/// Two counts together, where `-` is no number.
+/// The sum of two counts, of which `None` is no number.
 fn both(one: Option<u64>, other: Option<u64>) -> Option<u64> {
     match one {
         Some(count) => Some(count.saturating_add(other.unwrap_or(0))),
@@ -84,7 +84,7 @@ fn both(one: Option<u64>, other: Option<u64>) -> Option<u64> {
     }
 }
 
-/// What the rows of a section count at a point together, where one of them has it.
+/// What the rows of a section count at a point together, if one of them has it.
 fn sum_of(rows: &[Row], section: usize, point: u64) -> Option<Option<u64>> {
     let mut sum = None;
     for row in rows {
@@ -130,7 +130,7 @@ fn put_totals(
     Ok(())
 }
 
-/// Appends the points of a kind and how many there are, where there are any.
+/// Appends the points of a kind and how many there are, if there are any.
 fn put_kind(
     alloc: Global,
     rows: &[Row],
@@ -324,7 +324,7 @@ fn dropping(test: usize) -> &'static [u8] {
     }
 }
 
-/// How many sections a dropped test had, and more than any where the answer is another.
+/// How many sections a dropped test had, and more than any if the answer is another.
 fn dropped(answer: &Answer) -> u64 {
     match answer {
         Answer::Dropped { sections } => *sections,
@@ -357,7 +357,7 @@ fn take_random(
     hand_in(alloc, book, &text)
 }
 
-/// Hands a random submission in; behind it the book says what the list does.
+/// Hands in a random submission, after which the book says what the list does.
 fn check_random(
     rt: &(impl Abort + AllocGlobal),
     random: &mut Random,

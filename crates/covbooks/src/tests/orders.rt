@@ -8,7 +8,7 @@ use std::alloc::Global;
 use std::process::Abort;
 use std::test::*;
 
-/// Hands the texts in, from one on every so many of them.
+/// Hands the texts in, from one on in strides.
 fn hand_in_all(
     alloc: Global,
     book: &mut Book,
@@ -54,7 +54,7 @@ fn check_books(
     Ok(())
 }
 
-/// A book of the texts, from one on every so many of them.
+/// A book of the texts, handed in from one on in strides.
 fn book_of(alloc: Global, texts: &[Vec<u8>], first: usize, stride: usize) -> Result<Book, Fail> {
     let mut book = Book::new(alloc);
     hand_in_all(alloc, &mut book, texts, first, stride)?;

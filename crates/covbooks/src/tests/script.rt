@@ -1,4 +1,4 @@
-//! Histories as text: what each job asks, a line each, and what is told of each step.
+//! Histories as text: what each job asks, a line each, and the words on each step.
 
 use super::calls::{bytes_of, copied_answer, copied_op, entries, list_of, submit, take, totals};
 use super::push_line;
@@ -9,7 +9,8 @@ use std::alloc::Global;
 use std::process::Abort;
 use std::test::*;
 
-/// The operation that these words ask: a submission has the lines of a section of `/a.c`, where a semicolon ends each.
+/// The operation that these words ask for: a submission has the lines of a section of `/a.c`, where a semicolon ends
+/// each.
 pub(super) fn op_of(rt: &(impl Abort + AllocGlobal), words: &[u8]) -> Result<Op, Fail> {
     if let Some(lines) = words.strip_prefix(b"submit ") {
         submit_lines(rt.alloc(), lines)
@@ -72,7 +73,7 @@ fn job_of(line: &[u8]) -> u32 {
     }
 }
 
-/// What a line asks, behind its job and a space.
+/// What a line asks, after its job and a space.
 fn asked(line: &[u8]) -> &[u8] {
     match line.get(2..) {
         Some(words) => words,
@@ -120,7 +121,7 @@ pub(super) fn check_printed(
     Ok(())
 }
 
-/// What is asked and answered is told by these words.
+/// Checks the words on what is asked and answered.
 pub(super) fn check_words(
     rt: &(impl Abort + AllocGlobal),
     op: &Op,
@@ -132,7 +133,7 @@ pub(super) fn check_words(
     Ok(())
 }
 
-/// Copies of what the receipt holds tell the same.
+/// Checks that copies of what the receipt holds have the same words.
 fn check_copies(
     rt: &(impl Abort + AllocGlobal),
     receipt: &Receipt,
@@ -143,7 +144,7 @@ fn check_copies(
     check_words(rt, &op, &answer, words)
 }
 
-/// The last entry is this one, by this job, and tells the same as its receipt.
+/// Checks that the last entry is this one, by this job, and has the same words as its receipt.
 fn check_entry(
     rt: &(impl Abort + AllocGlobal),
     entries: &[Entry],
@@ -166,12 +167,12 @@ fn is_last(entries: &[Entry], totals: &Totals) -> bool {
     }
 }
 
-/// So many lines are found and hit.
+/// Checks how many lines are found and hit.
 pub(super) fn check_lines(rt: &impl Abort, totals: &Totals, found: u64, hit: u64) {
     assert!(rt; totals.lf == found && totals.lh == hit);
 }
 
-/// The receipt's copy and the last entry, by this job, tell these words too.
+/// Checks that the receipt's copy and the last entry, by this job, have these words too.
 fn check_kept(
     rt: &(impl Abort + AllocGlobal),
     entries: &[Entry],
@@ -183,7 +184,7 @@ fn check_kept(
     check_entry(rt, entries, receipt.place, job, words)
 }
 
-/// Appends what is told of the step that this job took last.
+/// Appends the words on the step that this job took last.
 fn put_receipt(
     rt: &(impl Abort + AllocGlobal),
     book: &Book,
@@ -196,7 +197,7 @@ fn put_receipt(
     put_step(rt, book, receipt.place, &words, text)
 }
 
-/// Takes the step that a line asks, and appends what is told of it.
+/// Takes the step that a line asks, and appends the words on it.
 fn take_step(
     rt: &(impl Abort + AllocGlobal),
     book: &mut Book,
@@ -207,8 +208,8 @@ fn take_step(
     put_receipt(rt, book, job_of(line), &receipt, text)
 }
 
-/// Appends a step's place, what is asked and answered, and how many lines are found and hit behind it, which its entry and the
-/// book tell alike.
+/// Appends a step's place, what is asked and answered, and how many lines are found and hit after it, by its entry and by the
+/// book alike.
 fn put_step(
     rt: &(impl Abort + AllocGlobal),
     book: &Book,
@@ -230,7 +231,7 @@ fn put_lines(alloc: Global, totals: &Totals, text: &mut Vec<u8>) -> Result<(), F
     Ok(())
 }
 
-/// What is told of the steps that the lines ask of the book.
+/// The words on the steps that the lines ask of the book.
 pub(super) fn run(
     rt: &(impl Abort + AllocGlobal),
     book: &mut Book,
@@ -243,7 +244,7 @@ pub(super) fn run(
     Ok(text)
 }
 
-/// Of the steps that the lines ask of the book, this is told.
+/// Checks the words on the steps that the lines ask of the book.
 pub(super) fn check_run(
     rt: &(impl Abort + AllocGlobal),
     book: &mut Book,
@@ -255,7 +256,7 @@ pub(super) fn check_run(
     Ok(())
 }
 
-/// Of the steps that the lines ask of a new book, in which nothing is found, this is told.
+/// Checks the words on the steps that the lines ask of a new book, in which nothing is found.
 pub(super) fn check_new(
     rt: &(impl Abort + AllocGlobal),
     lines: &[u8],

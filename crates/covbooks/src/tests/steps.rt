@@ -8,7 +8,7 @@ use std::alloc::Global;
 use std::process::Abort;
 use std::test::*;
 
-/// So many lines are found and hit behind the text's submission, which is made ready and dropped.
+/// Checks how many lines are found and hit after the text's submission, which is made ready and dropped.
 fn check_dropped(
     rt: &(impl Abort + AllocGlobal),
     book: &mut Book,
@@ -21,7 +21,7 @@ fn check_dropped(
     Ok(())
 }
 
-/// A step is its two halves, and one whose second half never comes is none.
+/// A step is its two halves, and one whose second half never comes isn't taken.
 #[test]
 fn halves_of_a_step(rt: HostRuntime) -> Result<(), Fail> {
     let mut book = Book::new(rt.alloc());
@@ -35,7 +35,7 @@ fn halves_of_a_step(rt: HostRuntime) -> Result<(), Fail> {
     check_run(&rt, &mut book, b"0 report", report)
 }
 
-/// The entry of a step that is made ready is the asking job's, with the totals that stand after it.
+/// The entry of a step that is made ready is the asking job's, with the totals after it.
 #[test]
 fn the_entry_of_a_step(rt: HostRuntime) -> Result<(), Fail> {
     let mut book = Book::new(rt.alloc());
@@ -82,14 +82,15 @@ fn six_numbers(alloc: Global, totals: &Totals) -> Result<String, Fail> {
     Ok(format!(in alloc; "{lf} {lh} {ff} {fh} {bf} {bh}")?)
 }
 
-/// So many lines, functions and branches are found and hit.
+/// Checks how many lines, functions and branches are found and hit.
 fn check_totals(rt: &(impl Abort + AllocGlobal), book: &Book, wanted: &[u8]) -> Result<(), Fail> {
     let numbers = six_numbers(rt.alloc(), &totals(book))?;
     assert_eq!(rt; numbers.as_bytes(), wanted);
     Ok(())
 }
 
-/// Of the step that a line asks, this is told, and so many lines, functions and branches are found and hit behind it.
+/// Checks the words on the step that a line asks, and how many lines, functions and branches are found and hit after
+/// it.
 fn check_drop(
     rt: &(impl Abort + AllocGlobal),
     book: &mut Book,
@@ -101,7 +102,7 @@ fn check_drop(
     check_totals(rt, book, wanted)
 }
 
-/// The three tests are dropped, the last one first. Each stood in five sections.
+/// The three tests are dropped, the last one first. Each was in five sections.
 fn check_drops(rt: &(impl Abort + AllocGlobal), book: &mut Book) -> Result<(), Fail> {
     let without_t2 = b"105 drop t2 > dropped 5 ; 45 30 \n";
     check_drop(rt, book, b"0 drop t2", without_t2, b"45 30 25 15 15 10")?;
