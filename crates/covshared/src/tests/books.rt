@@ -1,5 +1,5 @@
-//! A shared book from its opening to its history. What is refused here ends the test at once: a function of the tests that may
-//! return early lets its book and its seats go on each way out, and each of these is proved.
+//! A shared book from its opening to its history. A refusal here ends the test at once: a function of the tests that may
+//! return early drops its book and its seats on each way out, and each of these ways is proved.
 
 ghost use Rattle.std.specs.Prelude.{◌≡◌};
 
@@ -48,7 +48,7 @@ pub(super) fn history_of<L: Name, A: Allocator, R: Wait + Abort>(
     closed(rt, book, seats).0
 }
 
-/// The operation of this name, of one that submits the small tracefile.
+/// The operation of this name; a submission is of the small tracefile.
 fn made(alloc: Global, name: &[u8]) -> Option<Op> {
     match name {
         b"submit" => submit(alloc, SMALL),

@@ -1,4 +1,4 @@
-//! Calls without what they promise: a test looks at values, and its proof is quicker that knows nothing of them.
+//! Calls without their contracts: a test looks at values, and its proof is quicker if it knows nothing else.
 
 ghost use Rattle.std.specs.Prelude.{◌≡◌};
 
@@ -29,7 +29,7 @@ pub(super) fn open<L: Name, A: Allocator + Copy>(
     open_book::<L, A>(alloc, start)
 }
 
-/// The call as the book answers it.
+/// What the book answers to the call.
 pub(super) fn done<L: Name, A: Allocator + Copy, R: Wait>(
     rt: &R,
     alloc: A,
@@ -92,7 +92,7 @@ pub(super) fn submit(alloc: Global, text: &[u8]) -> Option<Op> {
     Some(Op::Submit(SubRef::of(alloc, trace).ok()?))
 }
 
-/// The operation that gives the one test the name of the other.
+/// The operation that renames the one test to the other name.
 pub(super) fn rename_of(alloc: Global, old: &[u8], new: &[u8]) -> Option<Op> {
     Some(Op::Rename {
         old: Bytes::of(alloc, old).ok()?,

@@ -11,7 +11,7 @@ use std::process::Abort;
 use std::sync::Wait;
 use std::test::*;
 
-/// Job 0's submission and its summary, asked before and behind the first refusal.
+/// Job 0's submission and its summary, asked before and after the first refusal.
 const ENTRIES: &[u8] = b"\
 0 submit: accepted 1 2 0 
 0 summary: Summary coverage rate:
@@ -21,7 +21,7 @@ const ENTRIES: &[u8] = b"\
 
 ";
 
-/// The book isn't closed, since the seat of this job is missing, and is handed back with the seats.
+/// Checks that the book isn't closed, since the seat of this job is missing, and is handed back with the seats.
 fn close_without<L: Name, R: Wait + Abort>(
     rt: &R,
     book: Shared<L>,
@@ -37,7 +37,7 @@ fn close_without<L: Name, R: Wait + Abort>(
     }
 }
 
-/// The first of the seats is job 0's, and asks this by its next call of so many.
+/// Checks that the first of the seats is job 0's and asks this, which is the job's call number `calls`.
 fn check_usable<L: Name, R: Wait + Abort + AllocGlobal>(
     rt: &R,
     book: &Shared<L>,
@@ -55,7 +55,7 @@ fn check_usable<L: Name, R: Wait + Abort + AllocGlobal>(
     }
 }
 
-/// The seat is job 0's, and so many of its calls succeeded.
+/// Checks that the seat is job 0's, and how many of its calls succeeded.
 fn check_calls<L: Name>(rt: &impl Abort, seat: &Seat<L>, calls: u64) {
     assert_eq!(rt; (seat.job(), seat.calls()), (0, calls));
 }
@@ -71,7 +71,7 @@ fn with_last<L: Name>(rt: &impl Abort, seats: Vec<Seat<L>>, last: Option<Seat<L>
     }
 }
 
-/// The book is refused for want of the second seat, and the first one can be used before and behind that.
+/// The book isn't closed without the second seat, and the first one can be used before and after that.
 fn refused_once<L: Name, R: Wait + Abort + AllocGlobal>(
     rt: &R,
     book: Shared<L>,
@@ -84,7 +84,7 @@ fn refused_once<L: Name, R: Wait + Abort + AllocGlobal>(
 }
 
 /// Of two seats the second is kept back, then both are, and then both are handed in: what was asked before a refusal and
-/// behind it is in the history.
+/// after it is in the history.
 fn kept_back<L: Name, R: Wait + Abort + AllocGlobal>(rt: &R, start: Start)
     requires name { start.name ≡ L.name }
     requires jobs { start.jobs ≡ L.parts }

@@ -39,7 +39,7 @@ pub(super) fn traces(alloc: Global, texts: &[&[u8]]) -> Result<Vec<Input>, Fail>
     Ok(inputs)
 }
 
-/// What so many jobs collect of the inputs, with this last operation.
+/// What `jobs` jobs collect of the inputs, with this last operation.
 fn answered<R: Threads + Wait + Sync + AllocGlobal, G: Gate + Sync>(
     rt: &R,
     inputs: &[Input],
@@ -50,7 +50,7 @@ fn answered<R: Threads + Wait + Sync + AllocGlobal, G: Gate + Sync>(
     collect(rt, rt.alloc(), inputs, last, jobs, gate)
 }
 
-/// What so many jobs do collect of the inputs, with this last operation.
+/// What `jobs` jobs do collect of the inputs, with this last operation.
 fn collected_behind<R: Threads + Wait + Sync + AllocGlobal + Abort, G: Gate + Sync>(
     rt: &R,
     inputs: &[Input],
@@ -64,7 +64,7 @@ fn collected_behind<R: Threads + Wait + Sync + AllocGlobal + Abort, G: Gate + Sy
     }
 }
 
-/// What so many jobs do collect of the inputs, with the report as the last operation.
+/// What `jobs` jobs do collect of the inputs, with the report as the last operation.
 pub(super) fn collected_of<R: Threads + Wait + Sync + AllocGlobal + Abort, G: Gate + Sync>(
     rt: &R,
     inputs: &[Input],
@@ -114,7 +114,7 @@ fn a_refused_input(rt: HostRuntime) -> Result<(), Fail> {
     one_refused(&rt)
 }
 
-/// The log has so many receipts and readings.
+/// Checks how many receipts and readings the log has.
 fn check_log(rt: &impl Abort, log: Option<&JobLog>, receipts: usize, readings: usize) {
     match log {
         Some(log) => {
@@ -142,7 +142,7 @@ fn a_reading_for_each_submit(rt: HostRuntime) -> Result<(), Fail> {
     read_by_two(&rt)
 }
 
-/// Whether nothing is collected by so many jobs, as there can't be so many.
+/// Whether nothing is collected, since this number of jobs isn't allowed.
 fn are_bad<R: Threads + Wait + Sync + AllocGlobal>(rt: &R, jobs: u32) -> bool {
     match answered(rt, &[], &Op::Report, jobs, &NoGate) {
         Ok(_collected) => false,

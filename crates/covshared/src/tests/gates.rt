@@ -204,7 +204,7 @@ fn both_at_once(rt: HostRuntime) -> Result<(), Fail> {
     Ok(())
 }
 
-/// The log has one reading, after so many entries.
+/// Checks that the log has one reading, and after how many entries.
 fn check_reading(rt: &impl Abort, log: &JobLog, upto: u64) {
     match log.readings.get().split_first() {
         Some((reading, [])) => assert_eq!(rt; reading.upto, upto),
@@ -234,7 +234,7 @@ fn a_reading_sees_other_jobs(rt: HostRuntime) -> Result<(), Fail> {
     read_when_both_are_done(&rt)
 }
 
-/// The job submits behind the other one.
+/// The job submits after the other one.
 fn is_second<R: Threads + Wait + Sync + AllocGlobal + Abort>(rt: &R, job: u32) -> Result<(), Fail> {
     let gate = Order {
         second: job,
@@ -278,7 +278,7 @@ fn first_is_held<R: Threads + Wait + Sync + AllocGlobal + Abort>(rt: &R) -> Resu
     Ok(())
 }
 
-/// What is called after a submit is called after it: job 1 begins when job 0 is there, and still job 0's entry is the first one.
+/// A gate's `after` is called after the submit: job 1 begins when job 0 is there, and still job 0's entry is the first one.
 #[test]
 fn after_is_after_the_submit(rt: HostRuntime) -> Result<(), Fail> {
     first_is_held(&rt)
@@ -295,8 +295,8 @@ fn one_job<R: Threads + Wait + Sync + AllocGlobal + Abort, G: Gate + Sync>(
     Ok(())
 }
 
-/// What is submitted has a call before it and one after it, by its number. A text that isn't read has none, nor the last
-/// operation.
+/// Each submit has a call before it and one after it, with its number. A text that isn't read has none, and nor has the
+/// last operation.
 #[test]
 fn around_each_submit(rt: HostRuntime) -> Result<(), Fail> {
     let gate = Steps {

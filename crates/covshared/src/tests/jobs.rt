@@ -5,7 +5,7 @@ use covjobs::{CloseFault, OpenFault};
 use std::alloc::Global;
 use std::test::*;
 
-/// Whether a book can't be for so many jobs.
+/// Whether no book can be made for this number of jobs.
 fn is_bad(alloc: Global, jobs: u32) -> bool {
     match start(alloc, jobs) {
         Ok(_start) => false,

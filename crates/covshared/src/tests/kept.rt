@@ -155,7 +155,7 @@ fn put_first(logs: &mut [JobLog], first: JobLog) {
     }
 }
 
-/// The report behind two submissions is answered as if only the first had come.
+/// The report after two submissions is answered as if only the first had come.
 #[test]
 fn answer_from_an_old_copy(rt: HostRuntime) -> Result<(), Fail> {
     let first = report_log(&rt, rt.alloc(), old_report(&rt)?);

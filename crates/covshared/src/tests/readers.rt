@@ -21,7 +21,7 @@ fn reader_of<L: Name, R: Wait + Abort>(rt: &R, book: &Shared<L>) -> Live<L> {
     }
 }
 
-/// The reading is of so many entries, and finds so many lines and hits so many of them, and nothing else.
+/// Checks how many entries the reading is of, and how many lines it finds and hits; nothing else is found.
 fn check_reading(rt: &impl Abort, reading: Reading, upto: u64, found: u64, hit: u64) {
     let totals = reading.totals;
     assert_eq!(rt; reading.upto, upto);
@@ -29,17 +29,17 @@ fn check_reading(rt: &impl Abort, reading: Reading, upto: u64, found: u64, hit: 
     assert_eq!(rt; (totals.ff, totals.fh, totals.bf, totals.bh), (0, 0, 0, 0));
 }
 
-/// The reader gives no entries.
+/// Checks that the reader reports no entries.
 fn check_none<L: Name>(rt: &impl Abort, live: &mut Live<L>) {
     check_reading(rt, totals(live), 0, 0, 0);
 }
 
-/// The reader gives the totals of the small tracefile, after so many entries.
+/// Checks that the reader reports the totals of the small tracefile, after `upto` entries.
 fn check_small<L: Name>(rt: &impl Abort, live: &mut Live<L>, upto: u64) {
     check_reading(rt, totals(live), upto, 2, 1);
 }
 
-/// The news are of so many entries, after which the totals are those of the small tracefile.
+/// Checks that the news are of `upto` entries, after which the totals are those of the small tracefile.
 fn check_news<L: Name>(rt: &impl Abort, news: &News<L>, upto: u64) {
     check_reading(rt, reading(news), upto, 2, 1);
 }
@@ -108,7 +108,7 @@ fn readers_of_a_closed_book(rt: HostRuntime) -> Result<(), Fail> {
     Ok(())
 }
 
-/// So many readers of the book.
+/// Readers of the book, of this number.
 fn readers_of<L: Name, R: Wait + Abort>(
     rt: &R,
     alloc: Global,
@@ -132,7 +132,7 @@ fn has_no_place<L: Name, R: Wait>(rt: &R, book: &Shared<L>) -> bool {
     }
 }
 
-/// There are places for 64 readers, also after a call, and they are let go before the book is closed.
+/// There are places for 64 readers, also after a call, and they are dropped before the book is closed.
 fn all_places<L: Name, R: Wait + Abort + AllocGlobal>(rt: &R, start: Start)
     requires name { start.name ≡ L.name }
     requires jobs { start.jobs ≡ L.parts }
@@ -217,7 +217,7 @@ struct Watched<L: Name> {
     readings: Readings,
 }
 
-/// Reads as often. The number of entries never falls.
+/// Reads the totals as often as they are submitted. The number of entries never falls.
 fn watch<L: Name>(rt: &impl Abort, alloc: Global, mut live: Live<L>) -> Watched<L> {
     let mut readings = Readings::new(alloc);
     let mut seen = 0;

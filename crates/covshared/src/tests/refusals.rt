@@ -1,4 +1,4 @@
-//! Steps that are refused: for want of memory, and since the history is full.
+//! Steps that are refused: because memory ran out, and because the history is full.
 
 ghost use Rattle.std.specs.Prelude.{◌≡◌};
 
@@ -13,7 +13,7 @@ use std::process::Abort;
 use std::sync::Wait;
 use std::test::*;
 
-/// How many summaries the seat gets before one is refused, at most so many, and the fault.
+/// How many summaries the seat gets before one is refused, at most `most`, and the fault.
 fn summaries<L: Name, A: Allocator + Copy, R: Wait>(
     rt: &R,
     alloc: A,
@@ -29,7 +29,7 @@ fn summaries<L: Name, A: Allocator + Copy, R: Wait>(
     (most, None)
 }
 
-/// So many of the seat's calls succeeded, and no other seat's.
+/// Checks how many of the seat's calls succeeded, and that no other seat's did.
 fn check_seat<L: Name>(rt: &impl Abort, seat: &Seat<L>, calls: u64) {
     assert_eq!(rt; (seat.calls(), seat.seen()), (calls, calls));
 }
@@ -107,7 +107,7 @@ fn a_heap_without_room(rt: HostRuntime) -> Result<(), Fail> {
     Ok(())
 }
 
-/// The history takes 1,048,576 entries, and a call behind them is refused and leaves the seat as it was.
+/// The history takes 1,048,576 entries, and a call after them is refused and leaves the seat as it was.
 fn full<L: Name, R: Wait + Abort + AllocGlobal>(rt: &R, start: Start)
     requires name { start.name ≡ L.name }
     requires jobs { start.jobs ≡ L.parts }

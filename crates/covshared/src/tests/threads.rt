@@ -81,7 +81,7 @@ fn accepted_first(entries: &[Entry]) -> usize {
     entries.len()
 }
 
-/// Behind the threads the first job asks for the report twice.
+/// Once the threads have ended, the first job asks for the report twice.
 fn check_reports<L: Name, R: Wait + Abort + AllocGlobal>(
     rt: &R,
     book: &Shared<L>,

@@ -92,7 +92,7 @@ fn put(rt: &impl Abort, text: &mut Vec<u8>, receipt: &Receipt) {
     }
 }
 
-/// The entries say this.
+/// Checks what the entries say.
 pub(super) fn check_entries(rt: &(impl Abort + AllocGlobal), entries: &[Entry], wanted: &[u8]) {
     let mut text = Vec::new(rt.alloc());
     if put_entries(&mut text, entries).is_err() {
@@ -111,7 +111,7 @@ fn put_seats<L: Name>(numbers: &mut Vec<u64>, seats: &[Seat<L>]) -> Result<(), A
     Ok(())
 }
 
-/// The seats show these numbers.
+/// Checks what the seats show.
 fn check_seats<L: Name>(rt: &(impl Abort + AllocGlobal), seats: &[Seat<L>], wanted: &[u64]) {
     let mut numbers = Vec::new(rt.alloc());
     if put_seats(&mut numbers, seats).is_err() {
