@@ -1,5 +1,5 @@
-//! Calls of the crates below without what they promise: a test looks at values, and its proof is quicker that knows nothing
-//! of them.
+//! Calls of the crates below, without their contracts: a test looks at values, and its proof is quicker if it knows nothing
+//! else.
 
 use covline::{Bytes, Memory, Submission, TraceLine};
 use covread::{ReadFault, read_trace};
@@ -35,7 +35,7 @@ pub(super) fn any_matches(patterns: &Patterns, path: &[u8]) -> bool {
     patterns.any_matches(path)
 }
 
-/// The list of the patterns, which stand between bars.
+/// The list of the patterns, which have bars between them.
 pub(super) fn list_of(alloc: Global, patterns: &[u8]) -> Result<Patterns, PatternFault> {
     let mut list = Patterns::new(alloc);
     for pattern in patterns.split(|byte| *byte == b'|') {
@@ -44,7 +44,7 @@ pub(super) fn list_of(alloc: Global, patterns: &[u8]) -> Result<Patterns, Patter
     Ok(list)
 }
 
-/// The bytes so many times.
+/// The bytes, `times` times.
 pub(super) fn repeated(alloc: Global, bytes: &[u8], times: usize) -> Result<Vec<u8>, Fail> {
     let mut all = Vec::new(alloc);
     for _time in 0..times {

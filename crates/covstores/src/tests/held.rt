@@ -32,7 +32,7 @@ const OF_ALL: Totals = Totals {
     bh: 1,
 };
 
-/// The totals are as wanted.
+/// Checks that the totals are as wanted.
 fn check_totals(rt: &impl Abort, given: Totals, wanted: Totals) {
     assert_eq!(rt; given, wanted);
 }
@@ -52,7 +52,7 @@ fn has_test(store: &Store, test: &[u8]) -> bool {
     store.has_test(test)
 }
 
-/// A store that holds nothing, behind its plan to hold the submission.
+/// A store that holds nothing, after its plan to hold the submission.
 fn prepared(rt: &(impl Abort + AllocGlobal), given: &Submission) -> (Store, Result<Plan, Refuse>) {
     let mut store = Store::new(rt.alloc());
     check_totals(rt, totals_of(&store), NOTHING);
@@ -143,7 +143,7 @@ fn put_section(section: &Section<'_>, text: &mut Bytes) -> Result<(), Memory> {
     put_lines(section, text)
 }
 
-/// What the store has.
+/// What the store holds, as text.
 pub(super) fn held(alloc: Global, store: &Store) -> Result<Bytes, Memory> {
     let mut text = Bytes::new(alloc);
     for section in store.sections() {
@@ -188,7 +188,7 @@ fn put_refusal(alloc: Global, refuse: &Refuse, text: &mut Vec<u8>) -> Result<(),
     }
 }
 
-/// What a store that holds nothing answers to the submission: a refusal, and whether it is still empty.
+/// What a store that holds nothing says to the submission: a refusal, and whether the store is still empty.
 pub(super) fn refused(
     rt: &(impl Abort + AllocGlobal),
     given: &Submission,
@@ -205,7 +205,7 @@ pub(super) fn refused(
     Ok(text)
 }
 
-/// A clash is told as it is, and never as want of memory.
+/// A clash is reported as it is, and never as out of memory.
 #[test]
 fn a_clash(rt: HostRuntime) -> Result<(), Fail> {
     let given = read(

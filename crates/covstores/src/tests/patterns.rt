@@ -28,8 +28,8 @@ fn is_refused(alloc: Global, patterns: &mut Patterns, pattern: &[u8], fault: Pat
     add(alloc, patterns, pattern) == Err(fault)
 }
 
-/// The list has so many patterns, and takes the paths, which stand between bars and with a minus before those that it
-/// doesn't take.
+/// Checks how many patterns the list has, and which paths it takes: the paths have bars between them, and those that it
+/// doesn't take begin with a minus.
 fn check_list(rt: &impl Abort, patterns: &Patterns, count: usize, paths: &[u8]) {
     assert_eq!(rt; patterns.get().len(), count);
     for path in paths.split(|byte| *byte == b'|') {
@@ -55,7 +55,7 @@ fn a_list(rt: HostRuntime) -> Result<(), Fail> {
     Ok(())
 }
 
-/// A list of 64 times the pattern.
+/// A list that has the pattern 64 times.
 fn full_list(alloc: Global, pattern: &[u8]) -> Result<Patterns, PatternFault> {
     let mut patterns = Patterns::new(alloc);
     for _time in 0..64 {
@@ -64,7 +64,7 @@ fn full_list(alloc: Global, pattern: &[u8]) -> Result<Patterns, PatternFault> {
     Ok(patterns)
 }
 
-/// A list takes 64 patterns of 1,024 bytes; that it is full is told before that a pattern is too long.
+/// A list takes 64 patterns of 1,024 bytes; that it is full is reported before that a pattern is too long.
 #[test]
 fn a_full_list(rt: HostRuntime) -> Result<(), Fail> {
     let most = repeated(rt.alloc(), b"a", 1_024)?;
@@ -84,7 +84,7 @@ fn numbers_of_pattern_faults(rt: HostRuntime) {
     assert_eq!(rt; PatternFault::Memory.number(), 3);
 }
 
-/// These come to their answers in time: a matcher that tries every split wouldn't end.
+/// These patterns get their answers in time: a matcher that tries every split wouldn't end.
 #[test]
 fn many_stars(rt: HostRuntime) -> Result<(), Fail> {
     let stars = repeated(rt.alloc(), b"*", 1_024)?;

@@ -8,7 +8,7 @@ use std::test::*;
 
 const SMALL: &[u8] = b"TN:t\nSF:/a.c\nDA:1,2\nDA:2,0\nend_of_record\n";
 
-/// What a plan that is dropped leaves behind is seen by nobody, and the submission can be planned again.
+/// Nobody sees what a dropped plan leaves, and the submission can be planned again.
 #[test]
 fn a_plan_that_is_made_again(rt: HostRuntime) -> Result<(), Fail> {
     let given = read(rt.alloc(), SMALL)?;

@@ -32,7 +32,7 @@ fn prepared(alloc: Global, store: &mut Store, old: &[u8], new: &[u8]) -> Result<
     store.prepare_rename(alloc, old, new)
 }
 
-/// Renames a test, which stands in so many sections.
+/// Renames a test, and checks in how many sections it is.
 fn rename(
     rt: &(impl Abort + AllocGlobal),
     store: &mut Store,
@@ -69,7 +69,7 @@ fn a_test_is_renamed(rt: HostRuntime) -> Result<(), Fail> {
     check_held(&rt, &store, JOINED)
 }
 
-/// What is made ready and dropped is seen by nobody, and another rename isn't disturbed by it.
+/// Nobody sees what is made ready and dropped, and another rename isn't disturbed by it.
 #[test]
 fn a_rename_that_is_dropped(rt: HostRuntime) -> Result<(), Fail> {
     let mut store = store_of(&rt, SHARED)?;

@@ -28,7 +28,7 @@ impl Addend<u64> for Flags {
     }
 }
 
-/// A key that had no flags tells those that it has now.
+/// A key that had no flags notes those that it has now.
 impl Telling<u64, u64> for Flags {
     ghost use Rattle.std.specs.Prelude.{is_some, if◌then◌else◌, Some, None};
 
@@ -52,7 +52,7 @@ fn stage(
     map.stage_run(alloc, run, told)
 }
 
-/// A run: so many keys, each this much behind the one before, with the same flags.
+/// A run of `count` keys, each `step` above the one before, with the same flags.
 fn run_of(
     alloc: Global,
     count: u64,
@@ -88,7 +88,7 @@ fn committed(
     Ok(pairs)
 }
 
-/// A run that falls and repeats a key: sums are staged beside what is committed, and notes come behind those before.
+/// A run that falls and repeats a key: sums are staged beside what is committed, and notes come after those before.
 #[test]
 fn a_run_in_any_order(rt: HostRuntime) -> Result<(), Fail> {
     let alloc = rt.alloc();
@@ -121,8 +121,8 @@ fn a_run_in_any_order(rt: HostRuntime) -> Result<(), Fail> {
     Ok(())
 }
 
-/// Whether the committed keys are 0, 1, 2 and so on, so many, the even ones with the first value and the odd ones with the
-/// second.
+/// Whether the committed keys are the `count` numbers from 0 on, the even ones with the first value and the odd ones with
+/// the second.
 fn alternate(map: &StagedMap<u64, u64, Global>, count: u64, even: u64, odd: u64) -> bool {
     let mut next = 0;
     for (key, value) in map.entries() {
@@ -135,7 +135,7 @@ fn alternate(map: &StagedMap<u64, u64, Global>, count: u64, even: u64, odd: u64)
     next == count
 }
 
-/// Runs of more keys than fit on a page: new ones behind all others, new ones between those that are there, and keys that
+/// Runs of more keys than fit on a page: new ones after all others, new ones between those that are there, and keys that
 /// are all there.
 #[test]
 fn runs_over_pages(rt: HostRuntime) -> Result<(), Fail> {

@@ -64,7 +64,7 @@ fn clashing(rt: &impl AllocGlobal) -> Result<Vec<u8>, Fail> {
     Ok(text)
 }
 
-/// Where checksums clash, the items aren't sorted: the first clash of the text is told.
+/// If checksums clash, the items aren't sorted: the first clash of the text is reported.
 #[test]
 fn a_clash_in_a_shuffled_section(rt: HostRuntime) -> Result<(), Fail> {
     let given = read(rt.alloc(), &clashing(&rt)?)?;

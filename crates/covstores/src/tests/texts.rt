@@ -63,7 +63,7 @@ fn choices(rt: HostRuntime) -> Result<(), Fail> {
     Ok(())
 }
 
-/// The rate of so many points hit of those found, where there can be one.
+/// The rate of `hit` points of `found`, if there can be one.
 fn rate(rt: &impl Abort, hit: u64, found: u64) -> u32 {
     assert!(rt; found > 0);
     assert!(rt; hit <= found);
@@ -76,7 +76,7 @@ fn rates(rt: HostRuntime) {
     assert_eq!(rt; rate(&rt, u64::MAX, u64::MAX), 1_000);
 }
 
-/// The summary of so many lines hit of those found, and of no functions and branches.
+/// The summary of `hit` lines hit of those found, and of no functions and branches.
 fn summary(rt: &(impl Abort + AllocGlobal), hit: u64, found: u64) -> Result<Bytes, Memory> {
     assert!(rt; hit <= found);
     let totals = Totals {
