@@ -19,12 +19,13 @@ mod stores;
 mod texts;
 mod values;
 
-/// The bytes are as wanted. The tests compare here, since each comparison in a test's own body is proved there.
+/// Checks that the bytes are as wanted. The tests compare here, since each comparison in a test's own body is proved
+/// there.
 fn check_bytes(rt: &impl Abort, given: &[u8], wanted: &[u8]) {
     assert_eq!(rt; given, wanted);
 }
 
-/// What a call gives that has ample memory.
+/// What a call with ample memory returns.
 fn made<T, E: Drop>(rt: &impl Abort, given: Result<T, E>) -> T {
     match given {
         Ok(value) => value,

@@ -1,4 +1,5 @@
-//! Calls of the crates below without what they promise: a test looks at values, and its proof is quicker that knows nothing of them.
+//! Calls of the crates below, without their contracts: a test looks at values, and its proof is quicker if it knows nothing
+//! else.
 
 use super::made;
 use super::texts::{CHECKED, CLASHING, SMALL};
@@ -79,7 +80,7 @@ pub(super) fn step<A: Allocator + Copy>(
     book.step(alloc, job, op)
 }
 
-/// A step by its two halves.
+/// A step in its two halves.
 pub(super) fn step_in_halves<A: Allocator + Copy>(
     alloc: A,
     book: &mut Book<A>,
@@ -90,7 +91,7 @@ pub(super) fn step_in_halves<A: Allocator + Copy>(
     Ok(book.finish(ready))
 }
 
-/// The list of the patterns, which stand between bars.
+/// The list of the patterns, which have bars between them.
 pub(super) fn list_of<A: Allocator + Copy>(
     rt: &impl Abort,
     alloc: A,
@@ -109,7 +110,7 @@ fn submit<A: Allocator + Copy>(rt: &impl Abort, alloc: A, text: &[u8]) -> Op<A> 
     Op::Submit(made(rt, shared(alloc, given)))
 }
 
-/// The operation that these words ask, whose names are behind its own, with a space before each.
+/// The operation that these words ask for: its name, and then the names that it takes, with a space before each.
 pub(super) fn op_of<A: Allocator + Copy>(rt: &impl Abort, alloc: A, words: &[u8]) -> Op<A> {
     let mut words = words.split(|byte| *byte == b' ');
     let Some(name) = words.next() else {

@@ -59,7 +59,7 @@ fn texts_and_lists(rt: HostRuntime) {
     check_rising(&rt, |heap, room| copies_submission(&rt, heap, room));
 }
 
-/// An operation that these words ask.
+/// The operation that these words ask for.
 fn copies_op(rt: &impl Abort, heap: &Bump, room: usize, words: &[u8]) -> bool {
     let op = op_of(rt, heap, words);
     narrow(rt, heap, room);

@@ -1,4 +1,4 @@
-//! Heaps of which it is known how much room is left, to the byte.
+//! Heaps whose room is known to the byte.
 
 ghost use Rattle.std.specs.Prelude.{◌≡◌};
 
@@ -10,8 +10,8 @@ use std::test::*;
 /// How much room a heap has beside what a call is known to ask for at first.
 const AMPLE: usize = 60_000;
 
-/// A heap that has at least this much room. It has several blocks, so it takes nothing again that is given back to it: each growth
-/// needs room of its own, and none can live on what was there for another.
+/// A heap that has at least this much room. It has several blocks, so it never uses again what is given back to it: each growth
+/// needs room of its own, and none can use what was there for another.
 fn new_heap(rt: &(impl Abort + AllocGlobal), room: usize) -> Bump {
     let heap = Bump::new(rt.alloc());
     take(rt, &heap, 1);
@@ -20,7 +20,7 @@ fn new_heap(rt: &(impl Abort + AllocGlobal), room: usize) -> Bump {
     heap
 }
 
-/// Takes so many bytes for good.
+/// Takes `bytes` bytes for good.
 fn take(rt: &impl Abort, heap: &Bump, bytes: usize) {
     let taken: Result<Vec<u8, &Bump>, AllocError> = Vec::with_capacity(heap, bytes);
     if taken.is_err() {
@@ -42,8 +42,8 @@ pub(super) fn widen(heap: &Bump) {
     heap.set_allocation_limit(None);
 }
 
-/// Tries a call in one heap after the other, each with a byte more of room, until it meets no refusal. The call answers whether it met
-/// one. Without room it meets one.
+/// Tries a call in one heap after another, each with one more byte of room, until it meets no refusal. The call returns whether
+/// it met one. Without room it meets one.
 pub(super) fn check_rising<R: Abort + AllocGlobal, F: Fn(&Bump, usize) -> bool>(
     rt: &R,
     is_refused: F,
@@ -53,8 +53,8 @@ pub(super) fn check_rising<R: Abort + AllocGlobal, F: Fn(&Bump, usize) -> bool>(
     check_rising_by(rt, 1, 1, is_refused);
 }
 
-/// The same, with so many bytes more of room each time, for a call that takes many. Its first growth is known to be refused below the
-/// first room.
+/// The same, with `more` bytes more of room each time, for a call that takes many. Its first growth is known to be refused
+/// below the first room.
 pub(super) fn check_rising_by<R: Abort + AllocGlobal, F: Fn(&Bump, usize) -> bool>(
     rt: &R,
     first: usize,

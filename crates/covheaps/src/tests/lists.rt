@@ -1,4 +1,4 @@
-//! Lists that get members at their end. A refusal gives the member up, and leaves the list as it was.
+//! Lists that get members at their end. On a refusal the member is dropped, and the list stays as it was.
 
 use super::heap::{check_rising, narrow, widen};
 use super::made;

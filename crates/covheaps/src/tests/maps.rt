@@ -9,7 +9,7 @@ use std::alloc::{AllocError, Allocator};
 use std::process::Abort;
 use std::test::*;
 
-/// A value that takes the place of any before it, and tells so.
+/// A value that takes the place of any before it, and notes so.
 #[derive(Clone, Copy)]
 struct Newest {
     value: u64,

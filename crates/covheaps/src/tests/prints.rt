@@ -14,7 +14,7 @@ use std::alloc::Allocator;
 use std::process::Abort;
 use std::test::*;
 
-/// A line that is printed behind another. The text that is lent keeps what it has, and no more.
+/// A line that is printed after another. The text that is lent keeps what it has, and no more.
 fn puts_line(rt: &impl Abort, heap: &Bump, room: usize, line: &[u8]) -> bool {
     let mut text = made(rt, bytes(heap, b"TN:t\n"));
     let record = made(rt, read_line(line));
@@ -64,7 +64,7 @@ fn lines_of_all_kinds(rt: HostRuntime) {
     }
 }
 
-/// A pattern is added to a list of so many. A refusal leaves the list as it was.
+/// A pattern is added to a list of `held` patterns. A refusal leaves the list as it was.
 fn adds_pattern(rt: &impl Abort, heap: &Bump, room: usize, held: usize) -> bool {
     let mut list = Patterns::new(heap);
     for _pattern in 0..held {
@@ -89,7 +89,7 @@ fn patterns(rt: HostRuntime) {
     }
 }
 
-/// What is held is printed, as it was given.
+/// A store prints what it holds as it was given.
 fn prints_all(rt: &impl Abort, heap: &Bump, room: usize, text: &[u8]) -> bool {
     let store = holding(rt, heap, text);
     narrow(rt, heap, room);

@@ -12,7 +12,7 @@ use covreport::Choice;
 use std::process::Abort;
 use std::test::*;
 
-/// The submission has so many items, and is printed like this.
+/// Checks how many items the submission has, and what is printed of it.
 fn check_read<'h>(
     rt: &impl Abort,
     heap: &'h Bump,

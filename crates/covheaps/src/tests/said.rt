@@ -106,7 +106,7 @@ fn told<A: Allocator>(
     Ok(text)
 }
 
-/// What was asked and answered, and how many lines are found and hit then, is told like this.
+/// Checks the words on what was asked and answered, and how many lines are found and hit then.
 pub(super) fn check_told<A: Allocator>(
     rt: &(impl Abort + AllocGlobal),
     op: &Op<A>,
@@ -121,7 +121,7 @@ pub(super) fn check_told<A: Allocator>(
     );
 }
 
-/// The entry is this job's, and is told like this.
+/// Checks that the entry is this job's, and the words on it.
 pub(super) fn check_entry<A: Allocator>(
     rt: &(impl Abort + AllocGlobal),
     entry: Option<&Entry<A>>,
@@ -135,7 +135,7 @@ pub(super) fn check_entry<A: Allocator>(
     check_told(rt, &entry.op, &entry.answer, &entry.after, wanted);
 }
 
-/// An answer that is told alone.
+/// Checks the words on an answer alone.
 pub(super) fn check_answer<A: Allocator>(
     rt: &(impl Abort + AllocGlobal),
     answer: &Answer<A>,
@@ -149,7 +149,7 @@ pub(super) fn check_answer<A: Allocator>(
 /// What a book was asked and answered before a call is tried in it: a text was submitted, two lines of which are found and one is hit.
 pub(super) const BEGUN: &[u8] = b"submit accepted 1 2 0 | 2 1";
 
-/// What is asked of it then, and behind the sign, what is told of that.
+/// What is asked of it then, and after the sign the words on that.
 pub(super) const STEPS: &[u8] = b"\
 submit>submit accepted 2 2 0 | 2 1
 clash>submit clash /a.c 1 abc abd | 2 1
@@ -162,7 +162,7 @@ extract *.c>extract TN:t;SF:/a.c;DA:1,2,abc;DA:2,0;LF:2;LH:1;end_of_record; | 2 
 remove *.c>remove  | 2 1
 summary>summary Summary coverage rate:;  lines......: 50.0% (1 of 2 lines);  functions..: no data found;  branches...: no data found; | 2 1";
 
-/// A row of what is asked and told.
+/// A row of what is asked and the words on it.
 #[derive(Clone, Copy)]
 pub(super) struct Step<'a> {
     pub(super) asked: &'a [u8],

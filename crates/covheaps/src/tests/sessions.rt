@@ -44,7 +44,7 @@ impl<'a> Source for Slow<'a> {
     }
 }
 
-/// How a session ends, without what it promises.
+/// How a session ends, without its contracts.
 fn session_end<I: Source, O: Sink, A: Allocator + Copy>(
     alloc: A,
     source: &mut I,
@@ -125,7 +125,7 @@ fn push_line(text: &mut Vec<u8>, line: &[u8]) -> Result<(), AllocError> {
 /// What a session reads at first asks for this much room.
 const BLOCK: usize = 65_536;
 
-/// The session of this example.
+/// Checks the session of this example.
 fn check(rt: &(impl Abort + AllocGlobal), streams: &Streams) {
     let input = streams.input.as_slice();
     let wanted = streams.wanted.as_slice();
@@ -134,7 +134,7 @@ fn check(rt: &(impl Abort + AllocGlobal), streams: &Streams) {
     });
 }
 
-/// The session of this example.
+/// Checks the session of this example.
 fn check_example(rt: &(impl Abort + AllocGlobal), example: &[u8]) {
     check(rt, &made(rt, cut(rt.alloc(), example)));
 }
@@ -249,7 +249,7 @@ drop u
 /// A tracefile, and a summary of it.
 const SMALL: &[u8] = b"trace\nTN:t\nSF:/a.c\nDA:1,2\nend_of_record\n.\nsummary\n";
 
-/// What it is answered: two answers of 25 and 119 bytes.
+/// The answers to `SMALL`: two, of 25 and 119 bytes.
 const SMALL_ANSWER: &[u8] = b"\
 accepted 1 items 1 odd 0
 Summary coverage rate:
@@ -259,8 +259,8 @@ Summary coverage rate:
 .
 ";
 
-/// A session that reads all commands at once, as all its answers wait: whether it was refused memory. It has written whole
-/// answers then, and so many bytes are noted.
+/// Whether a session that reads all commands at once, so that all its answers wait, was refused memory. It has then
+/// written whole answers, and their number of bytes is noted.
 fn is_refused_at_once(
     rt: &(impl Abort + AllocGlobal),
     heap: &Bump,
@@ -286,7 +286,7 @@ fn is_refused_at_once(
     true
 }
 
-/// The first answer is written where there is no memory for the second.
+/// The first answer is written even if there is no memory for the second.
 #[test]
 fn answers_before_a_refusal(rt: HostRuntime) {
     let noted = Cell::new(0);

@@ -61,7 +61,7 @@ fn history_of<L: Name, A: Allocator, R: Wait + Abort>(
     }
 }
 
-/// The reader tells of so many entries, and of these totals.
+/// Checks how many entries the reader reports, and their totals.
 fn check_live<L: Name, A: Allocator>(
     rt: &impl Abort,
     live: &mut Live<L, A>,
@@ -73,12 +73,12 @@ fn check_live<L: Name, A: Allocator>(
     assert_eq!(rt; reading.totals, totals);
 }
 
-/// So many of the seat's calls succeeded, and no other seat's.
+/// Checks how many of the seat's calls succeeded, and that no other seat's did.
 fn check_seat<L: Name>(rt: &impl Abort, seat: &Seat<L>, calls: u64) {
     assert_eq!(rt; (seat.calls(), seat.seen()), (calls, calls));
 }
 
-/// Whether a book is opened. It has three seats, no entry, and a reader that tells of none.
+/// Whether a book is opened. It has three seats, no entry, and a reader that reports none.
 fn opens<L: Name, A: Allocator + Copy, R: Wait + Abort>(rt: &R, alloc: A, start: Start<A>) -> bool
     requires name { start.name ≡ L.name }
     requires jobs { start.jobs ≡ L.parts }
@@ -99,7 +99,7 @@ fn opens_anew<A: Allocator + Copy>(rt: &(impl Wait + Abort), alloc: A) -> bool {
     opens::<Brand, A, _>(rt, alloc, made(rt, start(alloc, 3)))
 }
 
-/// A book is opened. A refusal gives up what it is made of.
+/// A book is opened. On a refusal what it is made of is dropped.
 fn is_not_opened(rt: &(impl Wait + Abort), heap: &Bump, room: usize) -> bool {
     narrow(rt, heap, room);
     let is_opened = opens_anew(rt, heap);
@@ -125,7 +125,7 @@ fn starts_take_no_memory(rt: HostRuntime) {
     check_none(&rt, |heap, room| starts(&rt, heap, room));
 }
 
-/// The operation in a book of which a text is held and a reader was made.
+/// The operation in a book that holds a text and has a reader.
 fn performs<L: Name, A: Allocator + Copy, R: Wait + Abort + AllocGlobal>(
     rt: &R,
     alloc: A,
@@ -189,7 +189,7 @@ fn asks<L: Name, A: Allocator + Copy, R: Wait + Abort + AllocGlobal>(
     is_refused
 }
 
-/// The second call's receipt is told like this, and its totals are published.
+/// Checks the words on the second call's receipt, and that its totals are published.
 fn check_done<L: Name, A: Allocator + Copy>(
     rt: &(impl Abort + AllocGlobal),
     done: &Done<L, A>,
@@ -290,7 +290,7 @@ fn hands_in<L: Name, A: Allocator + Copy, R: Wait + Abort>(
     refused.is_some()
 }
 
-/// The seats are those of nine jobs, but for the one that is given up.
+/// Checks that the seats are those of nine jobs, but for the one that is given up.
 fn check_jobs<L: Name>(rt: &impl Abort, seats: &[Seat<L>], given_up: Option<u32>) {
     let mut jobs = (0..9u32).filter(|job| given_up != Some(*job));
     for seat in seats {

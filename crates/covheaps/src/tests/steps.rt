@@ -18,7 +18,7 @@ fn begun<A: Allocator + Copy>(rt: &impl Abort, alloc: A) -> Book<A> {
     book
 }
 
-/// The book has so many entries, the last of which is this job's and told like this.
+/// Checks how many entries the book has, and that the last one is this job's, with these words.
 fn check_book<A: Allocator + Copy>(
     rt: &(impl Abort + AllocGlobal),
     book: &Book<A>,

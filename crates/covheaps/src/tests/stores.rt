@@ -55,7 +55,7 @@ pub(super) fn holding<A: Allocator + Copy>(rt: &impl Abort, alloc: A, text: &[u8
     stored(rt, alloc, &given)
 }
 
-/// The store prints this text, and has these totals.
+/// Checks that the store prints this text, and has these totals.
 fn check_store<A: Allocator + Copy>(
     rt: &impl Abort,
     alloc: A,
@@ -153,7 +153,7 @@ const OF_ONE: Totals = Totals {
     bh: 0,
 };
 
-/// The test gets a new name, in so many sections, or is refused it. Between the two halves nothing is refused.
+/// Renames the test, and returns in how many sections, or the refusal. Between the two halves nothing is refused.
 fn rename<A: Allocator + Copy>(
     alloc: A,
     store: &mut Store<A>,

@@ -21,7 +21,7 @@ fn text_of(rt: &impl Abort, heap: &Bump, room: usize) -> bool {
     is_refused
 }
 
-/// A text that is shared. A refusal gives it up.
+/// A text that is shared. On a refusal it is dropped.
 fn text_shared(rt: &impl Abort, heap: &Bump, room: usize) -> bool {
     let text = made(rt, bytes(heap, SMALL));
     let again = made(rt, bytes(heap, SMALL));
@@ -36,7 +36,7 @@ fn text_shared(rt: &impl Abort, heap: &Bump, room: usize) -> bool {
     is_refused
 }
 
-/// A submission that is shared. A refusal gives it up.
+/// A submission that is shared. On a refusal it is dropped.
 fn submission_shared(rt: &impl Abort, heap: &Bump, room: usize) -> bool {
     let given = made(rt, read(heap, SMALL));
     let again = made(rt, read(heap, SMALL));
