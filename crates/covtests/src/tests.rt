@@ -11,7 +11,8 @@ mod hostile;
 mod limits;
 mod records;
 
-/// The bytes are as wanted. The tests compare here, since each comparison in a test's own body is proved there.
+/// Checks that the bytes are as wanted. The tests compare here, since each comparison in a test's own body is proved
+/// there.
 fn check_bytes(rt: &impl Abort, given: &[u8], wanted: &[u8]) {
     assert_eq!(rt; given, wanted);
 }

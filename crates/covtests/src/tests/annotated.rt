@@ -1,4 +1,4 @@
-//! The reader of gcov's annotated source: what it answers, item by item, and what no session hands it.
+//! The reader of gcov's annotated source: what it returns, item by item, and what no session hands it.
 
 use super::calls::annotated;
 use super::{check_bytes, push_line};
@@ -21,7 +21,7 @@ fn counted(alloc: Global, test: &[u8], text: &[u8]) -> Result<String, Fail> {
     })
 }
 
-/// A text gives so many sections and items, or its fault is as wanted.
+/// Checks how many sections and items a text gives, or its fault.
 fn check_counted(
     rt: &(impl Abort + AllocGlobal),
     test: &[u8],
@@ -33,7 +33,7 @@ fn check_counted(
     Ok(())
 }
 
-/// What the lines down to here give, behind each line of one text.
+/// What the first lines of one text give, for each line that they may end with.
 #[test]
 fn first_lines(rt: HostRuntime) -> Result<(), Fail> {
     let lines = b"> sections 0 items 0
@@ -84,7 +84,7 @@ fn unlawful_names(rt: HostRuntime) -> Result<(), Fail> {
     Ok(())
 }
 
-/// A text of 67,108,864 bytes is read. That one is longer is told before an unlawful name.
+/// A text of 67,108,864 bytes is read. A longer one is refused for its length, even if the test's name is unlawful.
 #[test]
 fn longest_text(rt: HostRuntime) -> Result<(), Fail> {
     let text = vec![in rt.alloc(); b'#'; 67_108_865]?;
@@ -92,7 +92,7 @@ fn longest_text(rt: HostRuntime) -> Result<(), Fail> {
     check_counted(&rt, b"t", &text[1..], b"sections 0 items 0")
 }
 
-/// So many line feeds are as many blank lines.
+/// A text of line feeds alone has as many blank lines.
 #[test]
 fn most_line_feeds(rt: HostRuntime) -> Result<(), Fail> {
     let text = vec![in rt.alloc(); b'\n'; 67_108_865]?;

@@ -1,5 +1,5 @@
-//! Calls of the crates below without what they promise: a test looks at values, and its proof is quicker that knows nothing
-//! of them.
+//! Calls of the crates below, without their contracts: a test looks at values, and its proof is quicker if it knows nothing
+//! else.
 
 use covcheck::{Holding, check_gcov, check_trace, holding_line};
 use covline::{
@@ -25,20 +25,20 @@ pub(super) fn put_line(record: &TraceLine<'_>, text: &mut Bytes) -> Result<(), M
     covline::put_line(record, text)
 }
 
-/// The numbers of a first line that counts, its checksum, empty where there is none, and how many bytes are behind it.
+/// The numbers of a first line that counts, its checksum (empty if there is none), and how many bytes follow it.
 pub(super) fn counted_first(text: &[u8]) -> Option<(u64, u64, &[u8], usize)> {
     let first = covline::first_counted(text)?;
     let checksum = first.checksum.unwrap_or(b"");
     Some((first.line, first.count, checksum, first.rest.len()))
 }
 
-/// What a first line says of a branch, and how many bytes are behind it.
+/// What a first line says of a branch, and how many bytes follow it.
 pub(super) fn branch_first(text: &[u8]) -> Option<(BranchPoint, Option<u64>, usize)> {
     let first = covline::first_branch(text)?;
     Some((first.point, first.taken, first.rest.len()))
 }
 
-/// How long the first line of a text is, and what is behind it.
+/// How long the first line of a text is, and how many bytes follow it.
 pub(super) fn cut_first(text: &[u8]) -> (usize, usize) {
     if text.is_empty() {
         return (0, 0);

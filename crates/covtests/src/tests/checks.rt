@@ -1,4 +1,4 @@
-//! What a check tells of a text, with ample memory.
+//! What a check reports of a text, with ample memory.
 
 use super::calls::{checked, checked_gcov, told, without_shape};
 use super::{check_bytes, push_line};
@@ -8,7 +8,7 @@ use std::alloc::Global;
 use std::process::Abort;
 use std::test::*;
 
-/// As what a text is checked.
+/// How a text is checked.
 #[derive(Clone, Copy)]
 enum Kind {
     Trace,
@@ -22,7 +22,7 @@ fn check(alloc: Global, kind: Kind, text: &[u8]) -> Result<Holding<'_>, ReadFaul
     }
 }
 
-/// The line that is told of a text, or its fault.
+/// The line that a check reports of a text, or its fault.
 fn line_of(alloc: Global, kind: Kind, text: &[u8]) -> Result<Vec<u8>, Fail> {
     match check(alloc, kind, text) {
         Ok(holding) => Ok(told(alloc, &holding)?),
@@ -33,7 +33,7 @@ fn line_of(alloc: Global, kind: Kind, text: &[u8]) -> Result<Vec<u8>, Fail> {
     }
 }
 
-/// The text is told so.
+/// Checks the line that is reported of the text.
 fn check_told(
     rt: &(impl Abort + AllocGlobal),
     kind: Kind,
@@ -46,7 +46,7 @@ fn check_told(
     Ok(())
 }
 
-/// Texts are lines of one literal; after each stands what is told of it.
+/// Texts are lines of one literal; after each comes what is reported of it.
 fn check_all(rt: &(impl Abort + AllocGlobal), kind: Kind, lines: &[u8]) -> Result<(), Fail> {
     let mut text: Vec<u8> = Vec::new(rt.alloc());
     for line in lines.split(|byte| *byte == b'\n') {
@@ -61,8 +61,8 @@ fn check_all(rt: &(impl Abort + AllocGlobal), kind: Kind, lines: &[u8]) -> Resul
     Ok(())
 }
 
-/// The second text has an empty line, the fifth begins with a line of spaces and a tab, and the seventh with a byte order mark. Where
-/// a beginning ends: at a colon, a space and a tab, and neither at a comma nor at `<`. What is shown: bytes from 33 to 126. A record
+/// The second text has an empty line, the fifth begins with a line of spaces and a tab, and the seventh with a byte order mark.
+/// A beginning ends at a colon, a space or a tab, and neither at a comma nor at `<`. Bytes from 33 to 126 are shown. A record
 /// without the colon of its key isn't read.
 #[test]
 fn checked_tracefiles(rt: HostRuntime) -> Result<(), Fail> {

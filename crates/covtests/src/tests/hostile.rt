@@ -20,7 +20,7 @@ fn counted(alloc: Global, text: &[u8]) -> Result<String, Fail> {
     })
 }
 
-/// What the first bytes of the text below give, so many of them.
+/// What the first `n` bytes of the text below give.
 fn wanted_of(n: usize) -> &'static [u8] {
     match n {
         0..=7 => b"items 0 odd 0",
@@ -80,7 +80,7 @@ fn told(alloc: Global, given: Result<Submission, ReadFault>) -> Result<Vec<u8>, 
     Ok(told)
 }
 
-/// What is told of the text of this name is as wanted, both filled.
+/// Checks what is read of the text of this name, both filled.
 fn check_filled(
     rt: &(impl Abort + AllocGlobal),
     name: &[u8],
@@ -94,8 +94,8 @@ fn check_filled(
     Ok(())
 }
 
-/// Checks what texts are read as, one behind the other: the lines of each come first, then what is wanted, in lines that begin
-/// with `> `, and one that begins with `= ` ends it and is its name.
+/// Checks what texts are read as, one after the other. A line that begins with `> ` is wanted, one that begins with `= ` ends
+/// the example and is its name, and the others are the text.
 fn check_all(rt: &(impl Abort + AllocGlobal), examples: &[u8]) -> Result<(), Fail> {
     let mut text = Vec::new(rt.alloc());
     let mut wanted = Vec::new(rt.alloc());

@@ -12,7 +12,7 @@ fn counted(alloc: Global, text: &[u8]) -> Result<(u64, u64), ReadFault> {
     Ok((submission.items(), submission.odd()))
 }
 
-/// A text has so many items and odd lines, or this fault.
+/// Checks how many items and odd lines a text has, or its fault.
 fn check_counted(
     rt: &(impl Abort + AllocGlobal),
     text: &[u8],
@@ -21,7 +21,7 @@ fn check_counted(
     assert_eq!(rt; counted(rt.alloc(), text), wanted);
 }
 
-/// A text of 67,108,864 bytes is read, one of a byte more isn't.
+/// A text of 67,108,864 bytes is read, and one with one more byte isn't.
 #[test]
 fn longest_text(rt: HostRuntime) -> Result<(), Fail> {
     let text = vec![in rt.alloc(); b'#'; 67_108_865]?;
@@ -30,7 +30,7 @@ fn longest_text(rt: HostRuntime) -> Result<(), Fail> {
     Ok(())
 }
 
-/// So many line feeds are as many blank lines.
+/// A text of line feeds alone has as many blank lines.
 #[test]
 fn most_line_feeds(rt: HostRuntime) -> Result<(), Fail> {
     let text = vec![in rt.alloc(); b'\n'; 67_108_865]?;
@@ -39,7 +39,7 @@ fn most_line_feeds(rt: HostRuntime) -> Result<(), Fail> {
     Ok(())
 }
 
-/// Appends the records of a line, a function and a branch with this number, all counted so often.
+/// Appends the records of a line, a function and a branch with this number, which is also their count.
 fn push_point(alloc: Global, n: u64, text: &mut Vec<u8>) -> Result<(), Fail> {
     let function: String = format!(in alloc; "FNDA:{n},f{n}\nFN:{n},f{n}\n")?;
     let others: String = format!(in alloc; "BRDA:{n},0,0,{n}\nDA:{n},{n}\n")?;
@@ -48,8 +48,8 @@ fn push_point(alloc: Global, n: u64, text: &mut Vec<u8>) -> Result<(), Fail> {
     Ok(())
 }
 
-/// 300,000 lines, functions and branches each that don't ascend. Reading them in time takes more than passing over all of
-/// them for each.
+/// 300,000 lines, functions and branches each that don't ascend. A reader that passes over all of them for each wouldn't
+/// end in time.
 #[test]
 fn long_section(rt: HostRuntime) -> Result<(), Fail> {
     let mut text = Vec::from_slice(rt.alloc(), b"SF:a\n")?;

@@ -34,7 +34,7 @@ fn bytes(rt: HostRuntime) -> Result<(), Fail> {
     Ok(())
 }
 
-/// Records are printed behind what is there, with larger numbers than are read.
+/// Records are printed after what is there, with larger numbers than are read.
 #[test]
 fn printed_records(rt: HostRuntime) -> Result<(), Fail> {
     let records = [
@@ -60,17 +60,17 @@ fn printed_records(rt: HostRuntime) -> Result<(), Fail> {
     Ok(())
 }
 
-/// What the first line of a text counts, with its checksum.
+/// Checks what the first line of a text counts, with its checksum.
 fn check_first(rt: &impl Abort, text: &[u8], wanted: Option<(u64, u64, &[u8], usize)>) {
     assert_eq!(rt; counted_first(text), wanted);
 }
 
-/// What the first line of a text says of a branch, if it only tells how often it was taken.
+/// Checks what the first line of a text says of a branch, if it says how often it was taken.
 fn check_branch(rt: &impl Abort, text: &[u8], wanted: Option<(BranchPoint, Option<u64>, usize)>) {
     assert_eq!(rt; branch_first(text), wanted);
 }
 
-/// How the first line of a text is cut.
+/// Checks how the first line of a text is cut.
 fn check_cut(rt: &impl Abort, text: &[u8], wanted: (usize, usize)) {
     assert_eq!(rt; cut_first(text), wanted);
 }
@@ -104,7 +104,7 @@ fn counts_before_a_cut(rt: HostRuntime) {
     check_cut(&rt, b"rest", (4, 0));
 }
 
-/// So is a first line that tells of a branch.
+/// So is a first line that says how often a branch was taken.
 #[test]
 fn branch_before_a_cut(rt: HostRuntime) {
     let point = BranchPoint {
@@ -202,7 +202,7 @@ LH:6
     Ok(())
 }
 
-/// Appends the lines of a text, with a bar behind each.
+/// Appends the lines of a text, with a bar after each.
 fn put_lines(text: &[u8], joined: &mut Bytes) -> Result<(), Memory> {
     for line in lines(text) {
         append(joined, line)?;
@@ -211,7 +211,7 @@ fn put_lines(text: &[u8], joined: &mut Bytes) -> Result<(), Memory> {
     append(joined, b";")
 }
 
-/// The texts stand between semicolons, and so do their lines.
+/// A semicolon comes between texts, and between the lists of their lines.
 #[test]
 fn lines_of_texts(rt: HostRuntime) -> Result<(), Fail> {
     let texts = b";a\n;a\nb;\n\na\n;\r\n;a\r\r\nb\n;a\rb\n;a\n\r;a\n\rb\r";
@@ -269,7 +269,7 @@ fn items_of(alloc: Global, function: &[u8], checksum: &[u8]) -> Result<Items, Me
     Ok(items)
 }
 
-/// Appends the line and the branch that an item speaks of, and whether it is hit.
+/// Appends the line and the branch that an item counts, and whether it is hit.
 fn put_points(alloc: Global, item: &Item, text: &mut Vec<u8>) -> Result<(), Fail> {
     let line = item.line_point();
     let branch = item.branch_point();
@@ -334,7 +334,7 @@ fn two_sects(alloc: Global) -> Result<Sects, Memory> {
     Ok(sects)
 }
 
-/// The sections are those of a text.
+/// Checks that the sections are those of a text.
 fn check_sects(rt: &(impl Abort + AllocGlobal), sects: &[Sect], wanted: &[u8]) -> Result<(), Fail> {
     let text = text_of(rt.alloc(), sects)?;
     check_bytes(rt, text.get(), wanted);
@@ -367,7 +367,7 @@ fn of_two(alloc: Global) -> Result<Submission, Fail> {
     }
 }
 
-/// The submission is that of `TWO`, with 14 odd lines.
+/// Checks that the submission is that of `TWO`, with 14 odd lines.
 fn check_two(rt: &(impl Abort + AllocGlobal), submission: &Submission) -> Result<(), Fail> {
     assert_eq!(rt; submission.items(), 6);
     assert_eq!(rt; submission.odd(), 14);
@@ -433,7 +433,7 @@ fn told(alloc: Global, row: &[u8]) -> Result<(usize, usize), Memory> {
     }
 }
 
-/// The test, the file, the function and the checksum stand with a bar behind each.
+/// Each row has a test, a file, a function and a checksum, with a bar after each.
 #[test]
 fn unlawful_texts(rt: HostRuntime) -> Result<(), Fail> {
     let rows =
@@ -478,14 +478,14 @@ fn numbers_of_faults(rt: HostRuntime) {
     );
 }
 
-/// A text is read as these sections, with no odd line.
+/// Checks that a text is read as these sections, with no odd line.
 fn check_read(rt: &(impl Abort + AllocGlobal), text: &[u8], wanted: &[u8]) -> Result<(), Fail> {
     let submission = read(rt.alloc(), text)?;
     assert_eq!(rt; submission.odd(), 0);
     check_sects(rt, submission.sects(), wanted)
 }
 
-/// Items stand in the order of their lines; a function's start line is the least of its name in the section.
+/// Items come in the order of their lines; a function's start line is the least of its name in the section.
 #[test]
 fn items_of_texts(rt: HostRuntime) -> Result<(), Fail> {
     check_read(

@@ -68,7 +68,7 @@ fn given(alloc: Global, text: &[u8]) -> Result<Vec<u8>, Fail> {
     Ok(given)
 }
 
-/// The text of this name gives what is wanted.
+/// Checks what the text of this name gives.
 fn check_given(
     rt: &(impl Abort + AllocGlobal),
     name: &[u8],
@@ -84,8 +84,8 @@ fn check_given(
     Ok(())
 }
 
-/// Checks what texts give, one behind the other: the lines of each come first, then what is wanted, in lines that begin with
-/// `> `, and one that begins with `= ` ends it and is its name.
+/// Checks what texts give, one after the other. A line that begins with `> ` is wanted, one that begins with `= ` ends the
+/// example and is its name, and the others are the text.
 pub(super) fn check_all(rt: &(impl Abort + AllocGlobal), examples: &[u8]) -> Result<(), Fail> {
     let mut text = Vec::new(rt.alloc());
     let mut wanted = Vec::new(rt.alloc());

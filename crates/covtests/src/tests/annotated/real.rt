@@ -1,5 +1,5 @@
 //! Texts as gcov 12 wrote them, byte by byte, of four small programs. What is wanted was worked out by hand from each text,
-//! line by line. The programs were compiled with `--coverage` and run once; their sources stand in the texts.
+//! line by line. The programs were compiled with `--coverage` and run once; their sources are in the texts.
 
 use super::items::check_all;
 use std::test::*;
