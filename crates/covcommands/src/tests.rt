@@ -1,7 +1,7 @@
 //! Calls of the program, as their words. What is wanted was worked out by hand from what a call means; the words of a refusal
 //! are clap's.
 //!
-//! Examples are text, so that they cost the proof of these tests nothing: a line has a call and, behind ` => `, its answer.
+//! Examples are text, so that they cost the proof of these tests nothing: a line has a call and, after ` => `, its answer.
 
 use covcommand::{Command, CommandFault, Names, TextFormat, command};
 use std::alloc::Global;
@@ -12,12 +12,12 @@ mod calls;
 mod help;
 mod words;
 
-/// What the words ask for, without what is promised of it: a test looks at what it does, and its proof is quicker so.
+/// What the words ask for, without its contracts: a test looks at what it does, and its proof is quicker that way.
 fn asked(alloc: Global, words: &[String]) -> Result<Command, CommandFault> {
     command(alloc, words)
 }
 
-/// The words of a call: what stands between spaces, and patterns without their quotes.
+/// The words of a call: what comes between spaces, and patterns without their quotes.
 fn words_of(alloc: Global, call: &str) -> Result<Vec<String>, Fail> {
     let mut words = Vec::new(alloc);
     for word in call.split_whitespace() {
@@ -67,7 +67,7 @@ fn told(alloc: Global, command: &Command) -> Result<String, Fail> {
     }
 }
 
-/// The text with each name behind it, in brackets.
+/// The text with each name after it, in brackets.
 fn with_names(mut text: String, names: &Names) -> Result<String, Fail> {
     for name in names.get() {
         text.push_str(" [")?;

@@ -172,7 +172,7 @@ fn check_text(rt: &impl Abort, given: &str, wanted: &str) -> Result<(), Fail> {
     Ok(())
 }
 
-/// Each call of the program in a help's examples is one that it takes, with the subcommand that stands there.
+/// Each call of the program in a help's examples is one that it takes, with the subcommand that is named there.
 #[test]
 fn examples_are_taken(rt: HostRuntime) -> Result<(), Fail> {
     check_examples(&rt, "covcollect --help", 4)?;
@@ -184,7 +184,7 @@ fn examples_are_taken(rt: HostRuntime) -> Result<(), Fail> {
     check_examples(&rt, "covcollect check --help", 2)
 }
 
-/// The help has so many calls of the program as examples, and takes each.
+/// Checks how many calls of the program the help has as examples, and that each is taken.
 fn check_examples(rt: &(impl Abort + AllocGlobal), call: &str, wanted: usize) -> Result<(), Fail> {
     let help = help_of(rt.alloc(), call)?;
     let mut examples: usize = 0;
@@ -198,8 +198,8 @@ fn check_examples(rt: &(impl Abort + AllocGlobal), call: &str, wanted: usize) ->
     Ok(())
 }
 
-/// The call of the program that a line has as an example, without where its output goes: it is indented, or stands beside a
-/// call of lcov.
+/// The call of the program that a line has as an example, without where its output goes: it is indented, or beside a call
+/// of lcov.
 fn example_in(line: &str) -> Option<&str> {
     let (before, call) = line.strip_prefix("  ")?.split_once("covcollect ")?;
     if !before.is_empty() && !before.starts_with("lcov ") {
@@ -211,7 +211,7 @@ fn example_in(line: &str) -> Option<&str> {
     )
 }
 
-/// The program takes the call, and it asks for the subcommand that is its first word.
+/// Checks that the program takes the call, which asks for the subcommand that is its first word.
 fn check_example(rt: &(impl Abort + AllocGlobal), call: &str) -> Result<(), Fail> {
     let given = told_behind_name(rt.alloc(), call)?;
     let wanted = call.split_whitespace().next().unwrap_or("");

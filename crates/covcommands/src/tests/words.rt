@@ -6,7 +6,7 @@ use std::alloc::Global;
 use std::process::Abort;
 use std::test::*;
 
-/// A word that is UTF-8 is taken as it is, another one is told with its place and its printable bytes.
+/// A word that is UTF-8 is taken as it is, another one is reported with its place and its printable bytes.
 #[test]
 fn words_as_text(rt: HostRuntime) -> Result<(), Fail> {
     check_word(&rt, 2, b"my files/a.info", "my files/a.info")?;
@@ -38,7 +38,7 @@ fn check_word(
     Ok(())
 }
 
-/// The word as text, without what is promised of it.
+/// The word as text, without its contracts.
 fn taken(alloc: Global, place: usize, word: &[u8]) -> Result<String, CommandFault> {
     word_at(alloc, place, word)
 }
