@@ -1,7 +1,7 @@
 //! Calls of the program. What is wanted was worked out by hand from the formats (geninfo(1), section FILES; gcov(1)) and from what
 //! a call means, never taken from an output; the words of a refused command line are clap's.
 //!
-//! Most calls stand in scripts, which `play` plays and explains: text costs the proof of these tests nothing.
+//! Most calls are in scripts, which `play` plays and explains: text costs the proof of these tests nothing.
 
 ghost use Rattle.std.specs.Prelude.{◌<◌, ◌^◌};
 
@@ -21,7 +21,7 @@ mod faults;
 mod files;
 mod limits;
 
-/// What a call does, without what is promised of it: a test looks at what it does, and its proof is quicker so.
+/// What a call does, without its contracts: a test looks at what it does, and its proof is quicker that way.
 fn called<R: Files + AllocGlobal + Threads + Wait + Sync, I: Source, O: Sink, E: Sink>(
     rt: &R,
     words: &[String],
@@ -76,10 +76,11 @@ struct Said {
 
 /// Plays a script in a folder of its own, line by line.
 ///
-/// A line `@ NAME` makes a file of the text before it. A line `$ STATUS WORDS` is a call, with the text before it as its input:
-/// it ends with this status, and leaves the lines said behind `> ` on its output and those behind `! ` on the stream for faults;
-/// where the last of them is `...`, what follows there doesn't matter. A line `% HEX` stands for these bytes of a text, with no
-/// line feed after them. Every other line is one of a text. In words, outputs and faults `~` is the folder.
+/// A line `@ NAME` makes a file of the text before it. A line `$ STATUS WORDS` is a call, with the text before it as
+/// its input: it has to end with this status, and to leave the lines after `> ` on its output and those after `! ` on
+/// the stream for faults; if the last of these is `...`, what follows there doesn't matter. A line `% HEX` gives these
+/// bytes of a text, with no line feed after them. Every other line is a line of a text. In words, outputs and faults
+/// `~` is the folder.
 fn play<R: Files + AllocGlobal + Threads + Wait + Abort + Sync>(
     rt: &R,
     process: u32,

@@ -1,4 +1,4 @@
-//! What `check` tells of files.
+//! What `check` reports of files.
 
 use super::play;
 use std::process;

@@ -204,7 +204,7 @@ $ 0 covcollect gcov --test= ~/g3.txt ~/g3.txt
     )
 }
 
-/// Without a subcommand a session is answered; help and the version are printed where they are asked for.
+/// Without a subcommand a session is answered; help and the version are printed if they are asked for.
 #[test]
 fn session_help_and_version(rt: HostRuntime) -> Result<(), Fail> {
     play(

@@ -1,4 +1,4 @@
-//! Calls that fail: in which order their tests stand, and that nothing is printed then.
+//! Calls that fail: in which order things are tested, and that nothing is printed then.
 
 ghost use Rattle.std.specs.Prelude.{None};
 
@@ -38,7 +38,7 @@ $ 2 covcollect bogus
     )
 }
 
-/// A file that isn't there, and a folder: the first is told, before any text is looked into.
+/// A file that isn't there, and a folder: the first is reported, before any text is looked into.
 #[test]
 fn files_that_cannot_be_read(rt: HostRuntime) -> Result<(), Fail> {
     play(
@@ -159,7 +159,7 @@ fn call_closed<R: Files + AllocGlobal + Threads + Wait + Sync>(
     Ok((status, faults))
 }
 
-/// A call whose output is closed so tells that a write failed, after what it complains of.
+/// Checks that a call whose output is closed so reports that a write failed, after what it complains of.
 fn check_closed<R: Files + AllocGlobal + Threads + Wait + Abort + Sync>(
     rt: &R,
     asked: &str,
@@ -187,7 +187,7 @@ fn a_closed_output(rt: HostRuntime) -> Result<(), Fail> {
     )
 }
 
-/// A check whose line can't be written tells what it complains of up to this file, and looks at none after it.
+/// A check whose line can't be written reports what it complains of up to this file, and looks at none after it.
 #[test]
 fn a_check_with_a_closed_output(rt: HostRuntime) -> Result<(), Fail> {
     for takes in [false, true] {
@@ -201,7 +201,7 @@ fn a_check_with_a_closed_output(rt: HostRuntime) -> Result<(), Fail> {
     Ok(())
 }
 
-/// An output that takes so many writes, each whole, and fails after them. It has the bytes that it took.
+/// An output that takes a number of writes, each whole, and fails after them. It has the bytes that it took.
 #[derive(Drop)]
 struct Closing {
     left: u64,
@@ -306,7 +306,7 @@ fn call_broken<R: Files + AllocGlobal + Threads + Wait + Sync>(
     Ok((status, source.reads))
 }
 
-/// A call whose input is broken ends with this status, and has read it so often.
+/// Checks how a call whose input is broken ends, and how often it has read it.
 fn check_broken<R: Files + AllocGlobal + Threads + Wait + Abort + Sync>(
     rt: &R,
     asked: &str,

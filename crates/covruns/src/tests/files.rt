@@ -11,7 +11,7 @@ use std::sync::Wait;
 use std::test::*;
 use std::thread::Threads;
 
-/// The words of a call that merges the file so many times.
+/// The words of a call that merges the file `times` times.
 fn merged(alloc: Global, path: &str, times: usize) -> Result<Vec<String>, Fail> {
     let mut words = Vec::new(alloc);
     words.push(String::from_str(alloc, "covcollect")?)?;
@@ -23,7 +23,7 @@ fn merged(alloc: Global, path: &str, times: usize) -> Result<Vec<String>, Fail> 
     Ok(words)
 }
 
-/// The call that merges a file of these bytes so many times ends so.
+/// Checks how a call ends that merges a file of these bytes `times` times.
 fn check<R: Files + AllocGlobal + Threads + Wait + Abort + Sync>(
     rt: &R,
     path: &str,
@@ -38,7 +38,7 @@ fn check<R: Files + AllocGlobal + Threads + Wait + Abort + Sync>(
     check_told(rt, path, &told, wanted)
 }
 
-/// A call ended so: with this status, this output and these faults.
+/// Checks how a call ended: with this status, this output and these faults.
 fn check_told(
     rt: &(impl Abort + AllocGlobal),
     asked: &str,
@@ -69,7 +69,7 @@ fn two_thousand_files(rt: HostRuntime) -> Result<(), Fail> {
     )
 }
 
-/// One line of a comment's signs: one of them, doubled so many times.
+/// A line of a comment: one sign, doubled `times` times.
 fn long_comment(alloc: Global, times: usize) -> Result<Vec<u8>, Fail> {
     let mut text = Vec::from_slice(alloc, b"#")?;
     for _time in 0..times {
@@ -79,7 +79,7 @@ fn long_comment(alloc: Global, times: usize) -> Result<Vec<u8>, Fail> {
     Ok(text)
 }
 
-/// A text has at most 67,108,864 bytes, and of a longer one no more is read than shows that.
+/// A text has at most 67,108,864 bytes; of a longer one, only as much is read as shows that.
 #[test]
 fn the_largest_text(rt: HostRuntime) -> Result<(), Fail> {
     let path = format!(in rt.alloc(); "/tmp/covruns-{}.info", process::id(rt.process()))?;
@@ -96,7 +96,7 @@ fn the_largest_text(rt: HostRuntime) -> Result<(), Fail> {
     )
 }
 
-/// A file that doesn't end, and tells no size, is read as far as shows that it is too long.
+/// A file that doesn't end, and has no size, is read as far as shows that it is too long.
 #[test]
 fn a_file_without_end(rt: HostRuntime) -> Result<(), Fail> {
     play(
@@ -109,8 +109,8 @@ $ 4 covcollect merge /dev/zero
     )
 }
 
-/// Makes so many files in a folder, the first of which counts 0 for a line, the next 1, and so on, and gives the words of a call
-/// that merges them.
+/// Makes `times` files in a folder, the first of which counts 0 for a line, the next 1, and so on, and returns the words of a
+/// call that merges them.
 fn make_files<R: Files + AllocGlobal>(
     rt: &R,
     folder: &str,
@@ -146,7 +146,7 @@ fn a_thousand_files(rt: HostRuntime) -> Result<(), Fail> {
     )
 }
 
-/// A pipe can be read as a file: what stands in it, as far as its writer's end.
+/// A pipe can be read as a file: all that is written to it until its writer's end.
 #[test]
 fn a_pipe(rt: HostRuntime) -> Result<(), Fail> {
     let (reader, mut writer) = io::pipe(&rt)?;

@@ -11,7 +11,7 @@ use std::thread::Threads;
 /// A file that isn't there.
 const NONE: &str = "/tmp/covruns-none/none.info";
 
-/// So many bytes.
+/// A word of `bytes` bytes.
 fn long_word(alloc: Global, bytes: usize) -> Result<String, Fail> {
     let mut word = String::new(alloc);
     for _byte in 0..bytes {
@@ -20,7 +20,7 @@ fn long_word(alloc: Global, bytes: usize) -> Result<String, Fail> {
     Ok(word)
 }
 
-/// The words of a call that chooses from the missing file, by so many patterns of so many bytes.
+/// The words of a call that chooses from the missing file, by `patterns` patterns of `bytes` bytes.
 fn chosen_by(alloc: Global, patterns: usize, bytes: usize) -> Result<Vec<String>, Fail> {
     let mut words = Vec::new(alloc);
     words.push(String::from_str(alloc, "covcollect")?)?;
@@ -32,7 +32,7 @@ fn chosen_by(alloc: Global, patterns: usize, bytes: usize) -> Result<Vec<String>
     Ok(words)
 }
 
-/// A call of these words ends so, and prints nothing.
+/// Checks how a call of these words ends; it prints nothing.
 fn check<R: Files + AllocGlobal + Threads + Wait + Abort + Sync>(
     rt: &R,
     words: &[String],
@@ -46,7 +46,7 @@ fn check<R: Files + AllocGlobal + Threads + Wait + Abort + Sync>(
     Ok(())
 }
 
-/// At most 64 patterns of at most 1,024 bytes: the first that isn't taken tells why.
+/// At most 64 patterns of at most 1,024 bytes: the first that isn't taken gives the fault.
 #[test]
 fn patterns(rt: HostRuntime) -> Result<(), Fail> {
     let alloc = rt.alloc();
