@@ -16,7 +16,8 @@
 //!
 //! ```text
 //! fn run<L: Name>(rt: &impl Wait, alloc: Global, opening: Opening, mut book: Book) -> Result<(), Fail>
-//!     requires { opening.book ≡ L.book }
+//!     requires book { opening.book ≡ L.book }
+//!     requires empty { book.entries ≡ [] }
 //! {
 //!     let mut publisher = Publisher::<L>::new(alloc, opening, 64)?;
 //!     let mut live = publisher.reader()?; // may go to another thread
