@@ -10,14 +10,14 @@
 //! Several jobs that share a book keep their receipts and the totals that they read, each in a `JobLog`. `gather` checks that
 //! the history is a merge of these logs and that each reading has its totals, and returns the first fault otherwise.
 //!
-//! A sketch, which no test runs:
+//! A sketch, which no test runs, where `submission` is a `covline::Submission`:
 //!
 //! ```text
 //! let mut book = Book::new(alloc);
-//! let submission = SubRef::of(alloc, read_trace(alloc, bytes)?)?;
-//! book.step(alloc, 1, &Op::Submit(submission))?; // Answer::Accepted, or Answer::Clash
-//! let receipt = book.step(alloc, 2, &Op::Report)?; // Answer::Text, of all that is held
-//! assert_eq!(receipt.place, 1);
+//! let op = Op::Submit(SubRef::of(alloc, submission)?);
+//! let first = book.step(alloc, 1, &op)?; // first.answer is Answer::Accepted, or Answer::Clash
+//! let second = book.step(alloc, 2, &Op::Report)?; // second.answer is Answer::Text, of all that is held
+//! assert_eq!(second.place, 1);
 //! assert_eq!(book.entries().len(), 2);
 //! ```
 #![tactic(auto)]

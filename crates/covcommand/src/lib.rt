@@ -3,12 +3,14 @@
 //! `word_at` takes a word of a call as text, `described` describes the command to clap, `command` reads the words, and `help`
 //! has the texts for the user.
 //!
-//! A sketch: the words of a merge.
+//! A sketch: what some words ask for. Summary, extract, remove and gcov have variants of their own too.
 //!
 //! ```text
 //! match command(alloc, words)? {
 //!     Command::Session => ..,
 //!     Command::Merge { jobs, names } => ..,
+//!     Command::Check { format, names } => ..,
+//!     ..
 //! }
 //! ```
 #![tactic(auto)]

@@ -16,16 +16,21 @@
 //!
 //! ```text
 //! fn run<L: Name>(rt: &impl Wait, alloc: Global, opening: Opening, mut book: Book) -> Result<(), Fail>
-//!     requires { opening.book ≡ L.book }
+//!     requires book { opening.book ≡ L.book }
+//!     requires empty { book.entries ≡ [] }
 //! {
 //!     let mut publisher = Publisher::<L>::new(alloc, opening, 64)?;
 //!     let mut live = publisher.reader()?; // may go to another thread
 //!     let ready = book.ready(alloc, 0, &Op::Summary)?;
-//!     let news = publisher.note(ready.entry()); // where it is None, give the step up
+//!     let Some(news) = publisher.note(ready.entry()) else {
+//!         return Err(..); // nothing has changed, and dropping `ready` cancels the step
+//!     };
 //!     book.finish(ready);
 //!     publisher.publish(rt);
+//!     live.learn(&news);
 //!     assert_eq!(live.totals().upto, 1);
 //!     live.learn(&publisher.close(rt));
+//!     Ok(())
 //! }
 //! run::<Brand>(&rt, alloc, Opening::new(), Book::new(alloc))
 //! ```

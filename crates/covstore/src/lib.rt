@@ -17,7 +17,7 @@
 //! let mut store = Store::new(alloc);
 //! match store.prepare(alloc, &submission) {
 //!     Ok(plan) => store.commit(plan),
-//!     Err(Refuse::Clash { file, line, .. }) => return Ok(Answer::TwoVersions(file, line)),
+//!     Err(Refuse::Clash { file, line, held, given }) => .., // another checksum of this line is held
 //!     Err(Refuse::Memory) => return Err(Memory),
 //! }
 //! for section in store.sections() {
