@@ -7,7 +7,7 @@ PROGRAM = crates/covcollect
 
 .PHONY: all run rows test check fmt install uninstall package package-check clean help toolchain
 
-## make: proves every crate and builds the program, build/covcollect
+## make: proves the crates of the program and builds it, build/covcollect
 all: build/covcollect
 
 # One line says what is missing, and no target goes on without it.
