@@ -97,9 +97,9 @@ fn other_shape(line: &[u8]) -> Option<Shape<'_>>
 fn function_shape(text: &[u8]) -> Option<Shape<'_>>
     ensures { option_map shape_data result ≡ function_shape text.now }
 {
-    let behind = behind_last_called(text)?;
-    let (count, rest) = split_some(behind, Class::Digit)?;
-    let name = &text[..text.len().saturating_sub(behind.len() + b" called ".len())];
+    let found = behind_last_called(text)?;
+    let (count, rest) = split_some(found, Class::Digit)?;
+    let name = &text[..text.len().saturating_sub(found.len() + b" called ".len())];
     if is_name(name) && ends_word(rest) {
         Some(Shape::Function { name, count })
     } else {
