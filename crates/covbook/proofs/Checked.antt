@@ -17,7 +17,7 @@ use Rattle.covbook.specs.Gather.{LogData, AllHold, IsReadingOf, FirstFails, clai
 use Rattle.covbook.specs.GatherSteps.{Tells}
 use Rattle.covbook.specs.LogView.{log_data}
 use Rattle.covbook.specs.Step.{last_totals, receipt_of}
-use Rattle.covbook.proofs.Claims.{first_left, rest_at, rest_is, tells_behind}
+use Rattle.covbook.proofs.Claims.{first_left, rest_at, rest_is, tells_after}
 use Rattle.covbook.proofs.PlaceCounts.{all_mapped, all_unmapped}
 
 pub found_at : {X : Type 0} (xs : List X) (i : ℕ) (x : X) → i < length xs → x ≡ get_or xs i x → slice_get xs i ≡ Some x
@@ -56,7 +56,7 @@ job_on {A} logs i log within is news r told =
     let other : ℕ → Type 0 = λ job. job ≢ log.job in
     let all : AllByRecursion other before = all_mapped other (λ (l : JobLog A). l.job) (take i logs) (recursion_from_All (λ (l : JobLog A). l.job ≢ log.job) (take i logs) news) in
     subst (λ (ls : List (JobLog A)). Tells r (job_claims i before (map log_data ls))) (sym (rest_is logs i log within is))
-    (tells_behind r (claim (AllByRecursion other before) (SameJob i) ∷ []) (job_claims (i + 1) (before ++ log.job ∷ []) rest) (all, tt) later)
+    (tells_after r (claim (AllByRecursion other before) (SameJob i) ∷ []) (job_claims (i + 1) (before ++ log.job ∷ []) rest) (all, tt) later)
 
 pub job_stops : {A : Type 0} (logs : List (JobLog A)) (i : ℕ) (log : JobLog A) → i < length logs → log ≡ get_or logs i log → (All (λ (l : JobLog A). l.job ≢ log.job) (take i logs) → ⊥)
     → FirstFails (job_claims i (map (λ (l : JobLog A). l.job) (take i logs)) (map log_data (drop i logs))) (SameJob i)
@@ -72,7 +72,7 @@ pub log_on : {A : Type 0} (entries : List EntryData) (logs : List (JobLog A)) (i
     → Tells r (log_claims entries (i + 1) (map log_data (drop (i + 1) logs))) → Tells r (log_claims entries i (map log_data (drop i logs)))
 log_on {A} entries logs i log within is all r told =
     subst (λ (ls : List (JobLog A)). Tells r (log_claims entries i (map log_data ls))) (sym (rest_is logs i log within is))
-    (tells_behind r (claims_of_log entries i (log_data log)) (log_claims entries (i + 1) (map log_data (drop (i + 1) logs))) all told)
+    (tells_after r (claims_of_log entries i (log_data log)) (log_claims entries (i + 1) (map log_data (drop (i + 1) logs))) all told)
 
 pub log_stops : {A : Type 0} (entries : List EntryData) (logs : List (JobLog A)) (i : ℕ) (log : JobLog A) (f : GatherFault) → i < length logs → log ≡ get_or logs i log
     → FirstFails (claims_of_log entries i (log_data log)) f → FirstFails (log_claims entries i (map log_data (drop i logs))) f
@@ -125,7 +125,7 @@ pub receipt_on : {A : Type 0} (entries : List EntryData) (job log least next : �
 receipt_on {A} entries job log least next receipts i receipt within is all above r told =
     let rest : List ReceiptData = map receipt_data (drop (i + 1) receipts) in
     subst (λ (rs : List (Receipt A)). Tells r (receipt_claims entries job log i least (map receipt_data rs))) (sym (rest_is receipts i receipt within is))
-    (tells_behind r (claims_of entries job log i least (receipt_data receipt)) (receipt_claims entries job log (i + 1) (receipt.place + 1) rest) all
+    (tells_after r (claims_of entries job log i least (receipt_data receipt)) (receipt_claims entries job log (i + 1) (receipt.place + 1) rest) all
     (subst (λ (n : ℕ). Tells r (receipt_claims entries job log (i + 1) n rest)) above told))
 
 pub receipt_stops : {A : Type 0} (entries : List EntryData) (job log least : ℕ) (receipts : List (Receipt A)) (i : ℕ) (receipt : Receipt A) (f : GatherFault) → i < length receipts → receipt ≡ get_or receipts i receipt
@@ -141,7 +141,7 @@ pub reading_on : (entries : List EntryData) (log : ℕ) (readings : List Reading
 reading_on entries log readings i d within right r told =
     let reading = get_or readings i d in
     subst (λ (rs : List Reading). Tells r (reading_claims entries log i rs)) (sym (rest_at readings i d reading within refl))
-    (tells_behind r (claim (IsReadingOf entries reading) (BadReading log i) ∷ []) (reading_claims entries log (i + 1) (drop (i + 1) readings)) (right, tt) told)
+    (tells_after r (claim (IsReadingOf entries reading) (BadReading log i) ∷ []) (reading_claims entries log (i + 1) (drop (i + 1) readings)) (right, tt) told)
 
 pub reading_stops : (entries : List EntryData) (log : ℕ) (readings : List Reading) (i : ℕ) (d : Reading) → i < length readings → (IsReadingOf entries (get_or readings i d) → ⊥)
     → FirstFails (reading_claims entries log i (drop i readings)) (BadReading log i)

@@ -39,9 +39,9 @@ one_fails (c ∷ xs) f g (inr h) (inl k) = absurd (k.0 h.0)
 one_fails (c ∷ xs) f g (inr h) (inr k) = one_fails xs f g h.1 k.1
 
 -- the answer for the claims after some that hold is the answer for all
-pub tells_behind : {T : Type 0} (r : Result T GatherFault) (xs ys : List {1} Claim) → AllHold xs → Tells r ys → Tells r (xs ++ ys)
-tells_behind (Ok x) xs ys a t = all_join xs ys a t
-tells_behind (Err f) xs ys a t = first_right xs ys f a t
+pub tells_after : {T : Type 0} (r : Result T GatherFault) (xs ys : List {1} Claim) → AllHold xs → Tells r ys → Tells r (xs ++ ys)
+tells_after (Ok x) xs ys a t = all_join xs ys a t
+tells_after (Err f) xs ys a t = first_right xs ys f a t
 
 -- what is left of a list, with its first element
 pub rest_at : {X : Type 0} (xs : List X) (i : ℕ) (d x : X) → i < length xs → x ≡ get_or xs i d → drop i xs ≡ x ∷ drop (i + 1) xs

@@ -9,7 +9,7 @@ use Rattle.covbook.specs.Op.{EntryData, ReceiptData}
 use Rattle.covbook.specs.Cause.{IsRightLog}
 use Rattle.covbook.specs.Gather.{LogData, jobs_of, places_in, Rise, Differ, IsOfJob, IsReceiptOf, IsLogOf, IsReadingOf, AreReadingsOf, IsGathered, AllHold, FirstFails, job_claims, receipt_claims, reading_claims, claims_of_log, log_claims, entry_claims, gather_claims}
 use Rattle.covbook.proofs.Claims.{all_join, all_left, all_right}
-use Rattle.covbook.proofs.PlaceCounts.{all_weaker, all_both, all_any, all_joined, all_before, all_behind}
+use Rattle.covbook.proofs.PlaceCounts.{all_weaker, all_both, all_any, all_joined, all_before, all_after}
 
 -- ---- jobs
 
@@ -21,7 +21,7 @@ jobs_hold number before [] h = (all_any (DiffersFrom []) (λ (job : ℕ). tt) be
 jobs_hold number before (log ∷ logs) h =
     let w = jobs_hold (number + 1) (before ++ log.job ∷ []) logs h.1 in (
       all_both (λ (job : ℕ). job ≢ log.job) (DiffersFrom logs) before h.0 (all_before (DiffersFrom logs) before (log.job ∷ []) w.0),
-      ((all_behind (DiffersFrom logs) before (log.job ∷ []) w.0).0, w.1),
+      ((all_after (DiffersFrom logs) before (log.job ∷ []) w.0).0, w.1),
     )
 
 jobs_differ : (number : ℕ) (before : List ℕ) (logs : List LogData) → AllByRecursion (DiffersFrom logs) before → Differ (jobs_of logs) → AllHold (job_claims number before logs)

@@ -29,9 +29,9 @@ pub all_before : {X : Type 0} (P : X → Type 0) (xs ys : List X) → AllByRecur
 all_before P [] ys a = tt
 all_before P (x ∷ xs) ys a = (a.0, all_before P xs ys a.1)
 
-pub all_behind : {X : Type 0} (P : X → Type 0) (xs ys : List X) → AllByRecursion P (xs ++ ys) → AllByRecursion P ys
-all_behind P [] ys a = a
-all_behind P (x ∷ xs) ys a = all_behind P xs ys a.1
+pub all_after : {X : Type 0} (P : X → Type 0) (xs ys : List X) → AllByRecursion P (xs ++ ys) → AllByRecursion P ys
+all_after P [] ys a = a
+all_after P (x ∷ xs) ys a = all_after P xs ys a.1
 
 pub all_mapped : {X Y : Type 0} (P : Y → Type 0) (f : X → Y) (xs : List X) → AllByRecursion (λ (x : X). P (f x)) xs → AllByRecursion P (map f xs)
 all_mapped P f [] a = tt

@@ -13,7 +13,7 @@ use Rattle.covbook.specs.Held.{BookData, IsBook}
 use Rattle.covbook.specs.Op.{OpData, AreLawfulOps, IsLawfulOp, SubmitOp, AnswerData, AcceptedAnswer, EntryData}
 use Rattle.covbook.specs.Ready.{HasRoom, IsNextOf, IsPlanned, HoldChange, DropChange, RenameChange}
 use Rattle.covbook.specs.Texts.{IsText}
-use Rattle.covbook.specs.Step.{answer_to_submit, table_after_submit, answer_of, table_after, totals_at, answers_from, totals_from, table_from, answers_to, totals_to, table_of, ops_in, next_entry, totals_in, IsLegal, no_totals, last_totals, most_entries}
+use Rattle.covbook.specs.Step.{answer_to_submit, table_after_submit, answer_of, table_after, totals_at, answers_from, totals_from, table_from, answers_to, totals_to, table_of, ops_in, next_entry, totals_in, IsLegal, no_totals, last_totals, max_entries}
 
 pub answers_from-push : (table : Table) (ops : List OpData) (op : OpData) → answers_from table (ops ++ op ∷ []) ≡ answers_from table ops ++ answer_of (table_from table ops) op ∷ []
 answers_from-push table [] op = refl
@@ -68,7 +68,7 @@ shown store room entries = record { entries = entries; room = room; store = stor
 
 -- the store stands for the table that the operation leaves, and this is the number of submissions that are then
 -- accepted
-next_book : (store : StoreData) (accepted : ℕ) (entries : List EntryData) (job : ℕ) (op : OpData) → IsLegal entries → AreLawfulOps (ops_in entries) → IsLawfulOp op → length entries < most_entries
+next_book : (store : StoreData) (accepted : ℕ) (entries : List EntryData) (job : ℕ) (op : OpData) → IsLegal entries → AreLawfulOps (ops_in entries) → IsLawfulOp op → length entries < max_entries
     → StandsFor store (table_after (table_of (ops_in entries)) op) → accepted ≡ length (table_after (table_of (ops_in entries)) op) → accepted ≤ length entries + 1
     → IsBook store accepted (entries ++ next_entry entries job op ∷ [])
 next_book store accepted entries job op legal all lawful room stands number fewer =
@@ -84,7 +84,7 @@ next_book store accepted entries job op legal all lawful room stands number fewe
     }
 
 -- an operation that leaves the table as it is
-book_noted : (store : StoreData) (accepted : ℕ) (entries new : List EntryData) (e : EntryData) → IsBook store accepted entries → IsLawfulOp e.op → length entries < most_entries → new ≡ entries ++ e ∷ []
+book_noted : (store : StoreData) (accepted : ℕ) (entries new : List EntryData) (e : EntryData) → IsBook store accepted entries → IsLawfulOp e.op → length entries < max_entries → new ≡ entries ++ e ∷ []
     → e ≡ next_entry entries e.job e.op → table_after (table_of (ops_in entries)) e.op ≡ table_of (ops_in entries) → IsBook store accepted new
 book_noted store accepted entries new e b lawful room is next still =
     let fewer : accepted ≤ length entries + 1 = omega (arith, b.fewer) in

@@ -2,7 +2,7 @@
 use Rattle.std.specs.Prelude.{◌≡◌, ℕ, ◌≤◌, List, length}
 use Rattle.covstore.specs.Store.{StoreData, StandsFor, SameContent}
 use Rattle.covbook.specs.Op.{EntryData, AreLawfulOps}
-use Rattle.covbook.specs.Step.{IsLegal, table_of, ops_in, most_entries}
+use Rattle.covbook.specs.Step.{IsLegal, table_of, ops_in, max_entries}
 
 -- entries, and for how many of them there is room without a growth
 pub record HistoryData : Type 0 where
@@ -27,5 +27,5 @@ pub record IsBook (store : StoreData) (accepted : ℕ) (entries : List EntryData
   pub lawful : AreLawfulOps (ops_in entries)
   pub stands : StandsFor store (table_of (ops_in entries))
   pub number : accepted ≡ length (table_of (ops_in entries))
-  pub few : length entries ≤ most_entries
+  pub few : length entries ≤ max_entries
   pub fewer : accepted ≤ length entries

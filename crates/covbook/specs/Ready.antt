@@ -9,7 +9,7 @@ use Rattle.covstore.specs.Table.{Table}
 use Rattle.covstore.specs.Without.{without_test}
 use Rattle.covbook.specs.Held.{BookData}
 use Rattle.covbook.specs.Op.{OpData, EntryData}
-use Rattle.covbook.specs.Step.{table_after, table_of, totals_at, ops_in, ComesNext, most_entries}
+use Rattle.covbook.specs.Step.{table_after, table_of, totals_at, ops_in, ComesNext, max_entries}
 
 -- what a step does to the store: nothing, or it holds what is planned, or drops a test, or renames one
 pub data ChangeData : Type 0 where
@@ -27,7 +27,7 @@ pub record ReadyData : Type 0 where
 
 -- the history takes one more entry, and there is room for it
 pub record HasRoom (book : BookData) : Type 0 where
-  pub few : length book.entries < most_entries
+  pub few : length book.entries < max_entries
   pub room : length book.entries < book.room
 
 -- the entry comes next in the book's history

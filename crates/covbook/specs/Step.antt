@@ -132,5 +132,5 @@ abbrev pub receipt_of : ℕ → EntryData → ReceiptData
 receipt_of place entry = record { place = place; op = entry.op; answer = entry.answer }
 
 -- the most entries in one history
-abbrev pub most_entries : ℕ
-most_entries = 1048576
+abbrev pub max_entries : ℕ
+max_entries = 1048576

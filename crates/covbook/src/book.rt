@@ -73,7 +73,7 @@ impl<A: Allocator + Copy> Book<A> {
     ghost use Rattle.covstore.specs.Without.{sections_of_test, without_test};
     ghost use Rattle.covbook.specs.ChangeView.{change_data};
     ghost use Rattle.covbook.specs.Op.{SubmitOp, DropTestOp, RenameOp, AcceptedAnswer, DroppedAnswer, RenamedAnswer, TextAnswer, AreLawfulOps, IsLawfulOp};
-    ghost use Rattle.covbook.specs.Step.{IsLegal, answer_of, last_totals, next_entry, receipt_of, table_after, table_of, totals_at, ops_in, most_entries};
+    ghost use Rattle.covbook.specs.Step.{IsLegal, answer_of, last_totals, next_entry, receipt_of, table_after, table_of, totals_at, ops_in, max_entries};
     ghost use Rattle.covbook.specs.Texts.{IsText};
     ghost use Rattle.covbook.specs.View.{op_data, answer_data};
     ghost use Rattle.covbook.specs.EntryView.{entry_data, receipt_data};
@@ -119,7 +119,7 @@ impl<A: Allocator + Copy> Book<A> {
         ensures entry { OnOk result (self.new.entries ≡ self.old.entries ++ next_entry self.old.entries job (op_data op.now) ∷ []) }
         ensures legal { IsLegal self.new.entries }
         ensures refused { OnErr result (SameBook self.old self.new) }
-        ensures full { (result ≡ Err BookFault.Full) ↔ (length self.old.entries ≡ most_entries) }
+        ensures full { (result ≡ Err BookFault.Full) ↔ (length self.old.entries ≡ max_entries) }
     {
         let ready = self.ready(alloc, job, op)?;
         Ok(self.finish(ready))
@@ -134,7 +134,7 @@ impl<A: Allocator + Copy> Book<A> {
         ensures ready { IfOk result (λ r. IsReadyFor self.new job (op_data op.now) r) }
         ensures after { IfOk result (λ r. IsAfter self.old (op_data op.now) r.after) }
         ensures legal { IsLegal self.new.entries }
-        ensures full { (result ≡ Err BookFault.Full) ↔ (length self.old.entries ≡ most_entries) }
+        ensures full { (result ≡ Err BookFault.Full) ↔ (length self.old.entries ≡ max_entries) }
     {
         if self.history.is_full() {
             return Err(BookFault::Full);
@@ -161,7 +161,7 @@ impl<A: Allocator + Copy> Book<A> {
 
     /// Makes a step ready in a history that isn't full: first room for its entry, then the rest.
     fn made_ready(&mut self, alloc: A, job: u32, op: &Op<A>) -> Result<Ready<A>, Memory>
-        requires { length self.old.entries < most_entries }
+        requires { length self.old.entries < max_entries }
         ensures same { SameBook self.old self.new }
         ensures ready { IfOk result (λ r. IsReadyFor self.new job (op_data op.now) r) }
     {
@@ -178,7 +178,7 @@ impl<A: Allocator + Copy> Book<A> {
 
     /// Makes room for one more entry.
     fn make_room(&mut self) -> Result<(), Memory>
-        requires { length self.old.entries < most_entries }
+        requires { length self.old.entries < max_entries }
         ensures same { SameBook self.old self.new }
         ensures room { OnOk result (HasRoom self.new) }
     {
@@ -202,7 +202,7 @@ impl<A: Allocator + Copy> Book<A> {
         let items = given.items();
         match self.store.prepare(alloc, given) {
             Ok(plan) => {
-                let answer = self.accepting(items, given.odd());
+                let answer = self.accepted_answer(items, given.odd());
                 let after = plan.after();
                 let entry = Entry {
                     job,
@@ -210,17 +210,17 @@ impl<A: Allocator + Copy> Book<A> {
                     answer,
                     after,
                 };
-                self.changing(alloc, entry, Change::Hold(plan))
+                self.ready_to_change(alloc, entry, Change::Hold(plan))
             }
             Err(refuse) => {
                 let answer = clash_of(refuse)?;
-                self.noting(alloc, job, op, answer)
+                self.ready_to_note(alloc, job, op, answer)
             }
         }
     }
 
     /// The answer that accepts a submission with these numbers of items and odd lines, and the next number.
-    fn accepting(&self, items: u64, odd: u64) -> Answer<A>
+    fn accepted_answer(&self, items: u64, odd: u64) -> Answer<A>
         ensures { answer_data result ≡ AcceptedAnswer (length (table_of (ops_in self.now.entries)) + 1) items odd }
     {
         Answer::Accepted {
@@ -237,21 +237,21 @@ impl<A: Allocator + Copy> Book<A> {
     {
         let op = Op::DropTest(test.copy(alloc)?);
         if !self.store.has_test(test.get()) {
-            return self.noting(alloc, job, op, Answer::NoSuchTest);
+            return self.ready_to_note(alloc, job, op, Answer::NoSuchTest);
         }
         let change = Change::Drop(test.copy(alloc)?);
-        let (answer, after) = self.dropping(test.get());
+        let (answer, after) = self.drop_answer(test.get());
         let entry = Entry {
             job,
             op,
             answer,
             after,
         };
-        self.changing(alloc, entry, change)
+        self.ready_to_change(alloc, entry, change)
     }
 
     /// The answer that drops a test, and the totals without it.
-    fn dropping(&self, test: &[u8]) -> (Answer<A>, Totals)
+    fn drop_answer(&self, test: &[u8]) -> (Answer<A>, Totals)
         ensures answer { answer_data result.0 ≡ DroppedAnswer (sections_of_test test.now (table_of (ops_in self.now.entries))) }
         ensures totals { result.1 ≡ totals_at (without_test test.now (table_of (ops_in self.now.entries))) }
         ensures bounds { AreTotals result.1 }
@@ -277,7 +277,7 @@ impl<A: Allocator + Copy> Book<A> {
             new: new.copy(alloc)?,
         };
         if !self.store.has_test(old.get()) {
-            return self.noting(alloc, job, op, Answer::NoSuchTest);
+            return self.ready_to_note(alloc, job, op, Answer::NoSuchTest);
         }
         let renaming = self.store.prepare_rename(alloc, old.get(), new.get())?;
         // Proof only: the totals stay.
@@ -290,7 +290,7 @@ impl<A: Allocator + Copy> Book<A> {
             },
             after: self.store.totals(),
         };
-        self.changing(alloc, entry, Change::Rename(renaming))
+        self.ready_to_change(alloc, entry, Change::Rename(renaming))
     }
 
     /// Makes a text ready: it is printed, and shared between the entry and the receipt.
@@ -301,11 +301,11 @@ impl<A: Allocator + Copy> Book<A> {
     {
         let text = TextRef::of(alloc, self.text_of(alloc, op)?)?;
         let op = op.copy(alloc)?;
-        self.noting(alloc, job, op, Answer::Text(text))
+        self.ready_to_note(alloc, job, op, Answer::Text(text))
     }
 
     /// The step that appends this entry and does this to the store.
-    fn changing(&self, alloc: A, entry: Entry<A>, change: Change<A>) -> Result<Ready<A>, Memory>
+    fn ready_to_change(&self, alloc: A, entry: Entry<A>, change: Change<A>) -> Result<Ready<A>, Memory>
         requires room { HasRoom self.now }
         requires next { IsNextOf self.now (entry_data entry) }
         requires planned { IsPlanned self.now.store (table_of (ops_in self.now.entries)) (op_data entry.op) (change_data change) }
@@ -318,7 +318,7 @@ impl<A: Allocator + Copy> Book<A> {
     }
 
     /// The step that appends the entry of this answer and leaves the table as it is.
-    fn noting(&self, alloc: A, job: u32, op: Op<A>, answer: Answer<A>) -> Result<Ready<A>, Memory>
+    fn ready_to_note(&self, alloc: A, job: u32, op: Op<A>, answer: Answer<A>) -> Result<Ready<A>, Memory>
         requires room { HasRoom self.now }
         requires answer { answer_data answer ≡ answer_of (table_of (ops_in self.now.entries)) (op_data op) }
         requires still { table_after (table_of (ops_in self.now.entries)) (op_data op) ≡ table_of (ops_in self.now.entries) }
@@ -332,7 +332,7 @@ impl<A: Allocator + Copy> Book<A> {
             answer,
             after,
         };
-        self.changing(alloc, entry, Change::Nothing)
+        self.ready_to_change(alloc, entry, Change::Nothing)
     }
 
     /// Holds what is planned, and appends its entry.

@@ -7,7 +7,7 @@ use std::alloc::{Allocator, Global};
 use std::marker::Model;
 
 /// The most entries in one history.
-pub const MOST_ENTRIES: u64 = 1_048_576;
+pub const MAX_ENTRIES: u64 = 1_048_576;
 
 /// One operation of a job on a book, the answer to it, and the totals after it.
 #[derive(Drop)]

@@ -1,6 +1,6 @@
 //! The history of a book, and the room that it has.
 
-use crate::entry::{Entries, Entry, MOST_ENTRIES, Receipt};
+use crate::entry::{Entries, Entry, MAX_ENTRIES, Receipt};
 use covline::Memory;
 use std::alloc::Allocator;
 use std::marker::Model;
@@ -24,7 +24,7 @@ impl<A: Allocator> Model for History<A> {
 impl<A: Allocator> History<A> {
     ghost use Rattle.std.specs.Prelude.{◌≡◌, ◌↔◌, ◌<◌, ◌++◌, [], ◌∷◌, length, IsTrue, OnOk, map};
     ghost use Rattle.covbook.specs.EntryView.{entry_data};
-    ghost use Rattle.covbook.specs.Step.{most_entries};
+    ghost use Rattle.covbook.specs.Step.{max_entries};
 
     /// A history without entries.
     pub(crate) fn new(alloc: A) -> History<A>
@@ -51,9 +51,9 @@ impl<A: Allocator> History<A> {
 
     /// Whether the history takes no more entries.
     pub(crate) fn is_full(&self) -> bool
-        ensures { IsTrue result ↔ (length self.now.entries ≡ most_entries) }
+        ensures { IsTrue result ↔ (length self.now.entries ≡ max_entries) }
     {
-        self.place() == MOST_ENTRIES
+        self.place() == MAX_ENTRIES
     }
 
     /// Makes room for one more entry.

@@ -36,7 +36,7 @@ mod ready;
 mod shared;
 
 pub use book::{Book, BookFault};
-pub use entry::{Entries, Entry, MOST_ENTRIES, Receipt, Receipts};
+pub use entry::{Entries, Entry, MAX_ENTRIES, Receipt, Receipts};
 pub use gather_fault::GatherFault;
 pub use log::{JobLog, Logs};
 pub use merge::gather;

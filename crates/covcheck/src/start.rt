@@ -5,14 +5,14 @@ ghost use Rattle.covcheck.specs.Skipped.{is_cut, start_of};
 ghost use Rattle.covcheck.specs.CheckSteps.{after_cuts, after_word};
 
 /// The most bytes that the beginning of a line can have.
-const MOST_SHOWN: usize = 16;
+const MAX_SHOWN: usize = 16;
 
 /// The beginning of a line, within its first 16 bytes: colons, spaces and tabs at its front, and what follows them up
 /// to the next one.
 pub(crate) fn start_of(line: &[u8]) -> &[u8]
     ensures { result.now ≡ start_of line.now }
 {
-    let front = &line[..MOST_SHOWN.min(line.len())];
+    let front = &line[..MAX_SHOWN.min(line.len())];
     let rest = after_word(after_cuts(front));
     &front[..front.len() - rest.len()]
 }

@@ -7,7 +7,7 @@ use Rattle.std.specs.List.Sorted.{IsNonDecreasingBy}
 use Rattle.covjobs.specs.declared.refused.RefusedInput.{RefusedInput}
 use Rattle.covjobs.specs.Collect.{refusal}
 use Rattle.covjobs.proofs.Places.{times}
-use Rattle.covjobs.proofs.Taken.{Fate}
+use Rattle.covjobs.proofs.Taken.{Outcome}
 
 -- no number is above a later one
 abbrev pub Up : List ℕ → Type 0
@@ -49,21 +49,21 @@ abbrev pub places_of : List RefusedInput → List ℕ
 places_of inputs = map (λ (r : RefusedInput). r.index) inputs
 
 -- an input that is refused is what became of the input at its place
-abbrev pub IsRefusal : (ℕ → Fate) → RefusedInput → Type 0
-IsRefusal fate r = refusal r.index (fate r.index) ≡ r ∷ []
+abbrev pub IsRefusal : (ℕ → Outcome) → RefusedInput → Type 0
+IsRefusal outcome r = refusal r.index (outcome r.index) ≡ r ∷ []
 
-same_refusal : (fate : ℕ → Fate) (a b : RefusedInput) → IsRefusal fate a → IsRefusal fate b → a.index ≡ b.index → a ≡ b
-same_refusal fate a b of_a of_b same = head_is a b (sym of_a ∙ ap (λ (i : ℕ). refusal i (fate i)) same ∙ of_b)
+same_refusal : (outcome : ℕ → Outcome) (a b : RefusedInput) → IsRefusal outcome a → IsRefusal outcome b → a.index ≡ b.index → a ≡ b
+same_refusal outcome a b of_a of_b same = head_is a b (sym of_a ∙ ap (λ (i : ℕ). refusal i (outcome i)) same ∙ of_b)
   where
     head_is : (a b : RefusedInput) → ◌≡◌ {A = List RefusedInput} (a ∷ []) (b ∷ []) → a ≡ b
     head_is a b is = cc
 
-pub one_refused : (fate : ℕ → Fate) (some others : List RefusedInput) → AllByRecursion (IsRefusal fate) some → AllByRecursion (IsRefusal fate) others → places_of some ≡ places_of others → some ≡ others
-one_refused fate [] [] all alls same = refl
-one_refused fate [] (b ∷ others) all alls same = absurd cc
-one_refused fate (a ∷ some) [] all alls same = absurd cc
-one_refused fate (a ∷ some) (b ∷ others) all alls same =
-    ap (λ (r : RefusedInput). r ∷ some) (same_refusal fate a b all.0 alls.0 cc) ∙ ap (λ (rs : List RefusedInput). b ∷ rs) (one_refused fate some others all.1 alls.1 cc)
+pub one_refused : (outcome : ℕ → Outcome) (some others : List RefusedInput) → AllByRecursion (IsRefusal outcome) some → AllByRecursion (IsRefusal outcome) others → places_of some ≡ places_of others → some ≡ others
+one_refused outcome [] [] all alls same = refl
+one_refused outcome [] (b ∷ others) all alls same = absurd cc
+one_refused outcome (a ∷ some) [] all alls same = absurd cc
+one_refused outcome (a ∷ some) (b ∷ others) all alls same =
+    ap (λ (r : RefusedInput). r ∷ some) (same_refusal outcome a b all.0 alls.0 cc) ∙ ap (λ (rs : List RefusedInput). b ∷ rs) (one_refused outcome some others all.1 alls.1 cc)
 
 -- ---- what is sorted ascends
 
@@ -78,10 +78,10 @@ up_from_sorted (r ∷ inputs) sorted =
 
 -- ---- what all places bring ascends
 
-pub up_behind : (xs : List ℕ) (n : ℕ) → Up xs → AllByRecursion (λ (x : ℕ). x < n) xs → Up (xs ++ n ∷ [])
-up_behind [] n up below = (tt, tt)
-up_behind (x ∷ xs) n up below = (all_behind x xs n up.0 below.0, up_behind xs n up.1 below.1)
+pub up_after : (xs : List ℕ) (n : ℕ) → Up xs → AllByRecursion (λ (x : ℕ). x < n) xs → Up (xs ++ n ∷ [])
+up_after [] n up below = (tt, tt)
+up_after (x ∷ xs) n up below = (all_after x xs n up.0 below.0, up_after xs n up.1 below.1)
   where
-    all_behind : (x : ℕ) (xs : List ℕ) (n : ℕ) → AllByRecursion (λ (y : ℕ). x ≤ y) xs → x < n → AllByRecursion (λ (y : ℕ). x ≤ y) (xs ++ n ∷ [])
-    all_behind x [] n above less = (omega (arith, less), tt)
-    all_behind x (y ∷ xs) n above less = (above.0, all_behind x xs n above.1 less)
+    all_after : (x : ℕ) (xs : List ℕ) (n : ℕ) → AllByRecursion (λ (y : ℕ). x ≤ y) xs → x < n → AllByRecursion (λ (y : ℕ). x ≤ y) (xs ++ n ∷ [])
+    all_after x [] n above less = (omega (arith, less), tt)
+    all_after x (y ∷ xs) n above less = (above.0, all_after x xs n above.1 less)

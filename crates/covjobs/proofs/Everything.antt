@@ -26,19 +26,19 @@ all_collected_in : (inputs : List InputData) (jobs end : ℕ) (last : OpData) (w
 all_collected_in inputs jobs end last workers after entries refused some done asks same sorted legal lawful gathered long goes texts =
     let whole = whole_of inputs jobs workers some done in
     let count = length inputs in
-    let asked = logs_asked whole.fate count jobs end last workers after some whole.tell asks in
+    let asked = logs_asked whole.outcome count jobs end last workers after some whole.tell asks in
     let own : IsPermutation (refused_in workers) refused = subst (λ (rs : List RefusedInput). IsPermutation rs refused) (sym (same_refused workers after end last asks)) same in
     record {
-      fate = whole.fate;
-      fates = whole.fates;
+      outcome = whole.outcome;
+      outcomes = whole.outcomes;
       legal = legal;
       lawful = lawful;
       merge = gathered.merge;
       gathered = gathered;
       asked = asked;
-      read = logs_read whole.fate count jobs end last workers after some whole.tell asks;
-      are_refused = refused_is jobs count whole.fate workers refused some whole.tell own sorted;
-      ends = ends_with whole.fate count jobs end last workers after entries some asks legal gathered.merge asked long goes texts;
+      read = logs_read whole.outcome count jobs end last workers after some whole.tell asks;
+      are_refused = refused_is jobs count whole.outcome workers refused some whole.tell own sorted;
+      ends = ends_with whole.outcome count jobs end last workers after entries some asks legal gathered.merge asked long goes texts;
     }
 
 pub all_collected : (inputs : List InputData) (jobs end : ℕ) (last : OpData) (workers after : List WorkerData) (entries : List EntryData) (logs : List LogData) (refused : List RefusedInput) → 0 < jobs

@@ -13,19 +13,19 @@ use Rattle.covline.specs.Row.{SubmissionData}
 use Rattle.covjobs.specs.declared.refused.RefusedInput.{RefusedInput}
 use Rattle.covjobs.specs.Collect.{submitted, refusal, brought, all_places, places_of_job, submissions_of, refusals_of}
 use Rattle.covjobs.specs.Work.{WorkerData, refused_in}
-use Rattle.covjobs.proofs.Ascending.{Up, places_of, IsRefusal, one_order, one_refused, up_from_sorted, up_behind}
+use Rattle.covjobs.proofs.Ascending.{Up, places_of, IsRefusal, one_order, one_refused, up_from_sorted, up_after}
 use Rattle.covjobs.proofs.Places.{times}
-use Rattle.covjobs.proofs.Taken.{Fate}
+use Rattle.covjobs.proofs.Taken.{Outcome}
 use Rattle.covjobs.proofs.Together.{all_together}
 use Rattle.covjobs.proofs.Whole.{HasTold, HaveTold}
 
 -- what numbers from 0 on bring, one after the other
-range_behind : (from count : ℕ) → range_with_len from (suc count) ≡ range_with_len from count ++ (from + count) ∷ []
-range_behind from zero = ap (λ (n : ℕ). n ∷ []) (none_more from)
+range_after : (from count : ℕ) → range_with_len from (suc count) ≡ range_with_len from count ++ (from + count) ∷ []
+range_after from zero = ap (λ (n : ℕ). n ∷ []) (none_more from)
   where
     none_more : (from : ℕ) → from ≡ from + 0
     none_more from = omega arith
-range_behind from (suc count) = ap (λ (ns : List ℕ). from ∷ ns) (range_behind (from + 1) count ∙ ap (λ (n : ℕ). range_with_len (from + 1) count ++ n ∷ []) (one_more from count))
+range_after from (suc count) = ap (λ (ns : List ℕ). from ∷ ns) (range_after (from + 1) count ∙ ap (λ (n : ℕ). range_with_len (from + 1) count ++ n ∷ []) (one_more from count))
   where
     one_more : (from count : ℕ) → from + 1 + count ≡ from + suc count
     one_more from count = omega arith
@@ -33,7 +33,7 @@ range_behind from (suc count) = ap (λ (ns : List ℕ). from ∷ ns) (range_behi
 pub brought_by_range : {X : Type 0} (f : ℕ → List X) (count : ℕ) → flat_map f (range_with_len 0 count) ≡ brought all_places f count
 brought_by_range f zero = refl
 brought_by_range {X} f (suc count) =
-    ap (λ (ns : List ℕ). flat_map f ns) (range_behind 0 count ∙ ap (λ (n : ℕ). range_with_len 0 count ++ n ∷ []) (none_before count))
+    ap (λ (ns : List ℕ). flat_map f ns) (range_after 0 count ∙ ap (λ (n : ℕ). range_with_len 0 count ++ n ∷ []) (none_before count))
     ∙ flat_map-append f (range_with_len 0 count) (count ∷ [])
     ∙ ap (λ (xs : List X). xs ++ (f count ++ [])) (brought_by_range f count)
     ∙ ap (λ (xs : List X). brought all_places f count ++ xs) (append-nil (f count))
@@ -42,19 +42,19 @@ brought_by_range {X} f (suc count) =
     none_before count = omega arith
 
 -- what workers refused, by their jobs
-refused_by_jobs : (jobs count : ℕ) (fate : ℕ → Fate) (workers : List WorkerData) → AllByRecursion (HasTold jobs count fate) workers
-    → refused_in workers ≡ flat_map (λ job. refusals_of (places_of_job jobs job) fate count) (map (λ (w : WorkerData). w.seat.job) workers)
-refused_by_jobs jobs count fate [] told = refl
-refused_by_jobs jobs count fate (worker ∷ workers) told =
+refused_by_jobs : (jobs count : ℕ) (outcome : ℕ → Outcome) (workers : List WorkerData) → AllByRecursion (HasTold jobs count outcome) workers
+    → refused_in workers ≡ flat_map (λ job. refusals_of (places_of_job jobs job) outcome count) (map (λ (w : WorkerData). w.seat.job) workers)
+refused_by_jobs jobs count outcome [] told = refl
+refused_by_jobs jobs count outcome (worker ∷ workers) told =
     ap (λ (rs : List RefusedInput). rs ++ refused_in workers) told.0.are_refused
-    ∙ ap (λ (rs : List RefusedInput). refusals_of (places_of_job jobs worker.seat.job) fate count ++ rs) (refused_by_jobs jobs count fate workers told.1)
+    ∙ ap (λ (rs : List RefusedInput). refusals_of (places_of_job jobs worker.seat.job) outcome count ++ rs) (refused_by_jobs jobs count outcome workers told.1)
 
-all_refused : (jobs count : ℕ) (fate : ℕ → Fate) (workers : List WorkerData) → 0 < jobs → HaveTold jobs 0 jobs count fate workers → IsPermutation (refused_in workers) (refusals_of all_places fate count)
-all_refused jobs count fate workers some told =
-    let by_job : ℕ → List RefusedInput = λ job. refusals_of (places_of_job jobs job) fate count in
-    subst (λ (rs : List RefusedInput). IsPermutation rs (refusals_of all_places fate count))
-    (sym (refused_by_jobs jobs count fate workers told.each ∙ ap (λ (js : List ℕ). flat_map by_job js) told.are ∙ brought_by_range by_job jobs))
-    (all_together jobs (λ index. refusal index (fate index)) count (λ place. mod_below place jobs some))
+all_refused : (jobs count : ℕ) (outcome : ℕ → Outcome) (workers : List WorkerData) → 0 < jobs → HaveTold jobs 0 jobs count outcome workers → IsPermutation (refused_in workers) (refusals_of all_places outcome count)
+all_refused jobs count outcome workers some told =
+    let by_job : ℕ → List RefusedInput = λ job. refusals_of (places_of_job jobs job) outcome count in
+    subst (λ (rs : List RefusedInput). IsPermutation rs (refusals_of all_places outcome count))
+    (sym (refused_by_jobs jobs count outcome workers told.each ∙ ap (λ (js : List ℕ). flat_map by_job js) told.are ∙ brought_by_range by_job jobs))
+    (all_together jobs (λ index. refusal index (outcome index)) count (λ place. mod_below place jobs some))
 
 -- ---- the refused ones in order
 
@@ -62,13 +62,13 @@ pub all_joined : {X : Type 0} (P : X → Type 0) (xs ys : List X) → AllByRecur
 all_joined P [] ys a b = b
 all_joined P (x ∷ xs) ys a b = (a.0, all_joined P xs ys a.1 b)
 
-refusal_is : (fate : ℕ → Fate) (index : ℕ) (own : Fate) → fate index ≡ own → AllByRecursion (IsRefusal fate) (refusal index own)
-refusal_is fate index (Ok submission) is = tt
-refusal_is fate index (Err fault) is = (ap (λ (f : Fate). refusal index f) is, tt)
+refusal_is : (outcome : ℕ → Outcome) (index : ℕ) (own : Outcome) → outcome index ≡ own → AllByRecursion (IsRefusal outcome) (refusal index own)
+refusal_is outcome index (Ok submission) is = tt
+refusal_is outcome index (Err fault) is = (ap (λ (f : Outcome). refusal index f) is, tt)
 
-refusals_are : (fate : ℕ → Fate) (count : ℕ) → AllByRecursion (IsRefusal fate) (refusals_of all_places fate count)
-refusals_are fate zero = tt
-refusals_are fate (suc count) = all_joined (IsRefusal fate) (refusals_of all_places fate count) (refusal count (fate count)) (refusals_are fate count) (refusal_is fate count (fate count) refl)
+refusals_are : (outcome : ℕ → Outcome) (count : ℕ) → AllByRecursion (IsRefusal outcome) (refusals_of all_places outcome count)
+refusals_are outcome zero = tt
+refusals_are outcome (suc count) = all_joined (IsRefusal outcome) (refusals_of all_places outcome count) (refusal count (outcome count)) (refusals_are outcome count) (refusal_is outcome count (outcome count) refl)
 
 all_higher : (xs : List ℕ) (n : ℕ) → AllByRecursion (λ (x : ℕ). x < n) xs → AllByRecursion (λ (x : ℕ). x < suc n) xs
 all_higher [] n below = tt
@@ -78,21 +78,21 @@ record Rising (count : ℕ) (inputs : List RefusedInput) : Type 0 where
   up : Up (places_of inputs)
   below : AllByRecursion (λ (x : ℕ). x < count) (places_of inputs)
 
-one_more_rises : (count : ℕ) (inputs : List RefusedInput) (own : Fate) → Rising count inputs → Rising (suc count) (inputs ++ refusal count own)
+one_more_rises : (count : ℕ) (inputs : List RefusedInput) (own : Outcome) → Rising count inputs → Rising (suc count) (inputs ++ refusal count own)
 one_more_rises count inputs (Ok submission) so_far =
     subst (λ (rs : List RefusedInput). Rising (suc count) rs) (sym (append-nil inputs)) (record { up = so_far.up; below = all_higher (places_of inputs) count so_far.below })
 one_more_rises count inputs (Err fault) so_far =
     let r : RefusedInput = record { index = count; fault = fault } in
     let is : places_of (inputs ++ r ∷ []) ≡ places_of inputs ++ count ∷ [] = map-append (λ (r : RefusedInput). r.index) inputs (r ∷ []) in
     record {
-      up = subst (λ (xs : List ℕ). Up xs) (sym is) (up_behind (places_of inputs) count so_far.up so_far.below);
+      up = subst (λ (xs : List ℕ). Up xs) (sym is) (up_after (places_of inputs) count so_far.up so_far.below);
       below = subst (λ (xs : List ℕ). AllByRecursion (λ (x : ℕ). x < suc count) xs) (sym is)
           (all_joined (λ (x : ℕ). x < suc count) (places_of inputs) (count ∷ []) (all_higher (places_of inputs) count so_far.below) (omega arith, tt));
     }
 
-refusals_rise : (fate : ℕ → Fate) (count : ℕ) → Rising count (refusals_of all_places fate count)
-refusals_rise fate zero = record { up = tt; below = tt }
-refusals_rise fate (suc count) = one_more_rises count (refusals_of all_places fate count) (fate count) (refusals_rise fate count)
+refusals_rise : (outcome : ℕ → Outcome) (count : ℕ) → Rising count (refusals_of all_places outcome count)
+refusals_rise outcome zero = record { up = tt; below = tt }
+refusals_rise outcome (suc count) = one_more_rises count (refusals_of all_places outcome count) (outcome count) (refusals_rise outcome count)
 
 times_by_sum : (k : ℕ) (inputs : List RefusedInput) → times k (places_of inputs) ≡ sum_by (λ (r : RefusedInput). cond (eqb k r.index) 1 0) inputs
 times_by_sum k [] = refl
@@ -100,21 +100,21 @@ times_by_sum k (r ∷ inputs) =
     ap (λ (n : ℕ). cond (eqb k r.index) 1 0 + n) (times_by_sum k inputs) ∙ sym (sum_by-cons (λ (r : RefusedInput). cond (eqb k r.index) 1 0) r inputs)
 
 -- all that the workers refused, sorted, is what all places refuse
-pub refused_is : (jobs count : ℕ) (fate : ℕ → Fate) (workers : List WorkerData) (refused : List RefusedInput) → 0 < jobs → HaveTold jobs 0 jobs count fate workers
-    → IsPermutation (refused_in workers) refused → IsNonDecreasingBy (λ (r : RefusedInput). r.index) refused → refused ≡ refusals_of all_places fate count
-refused_is jobs count fate workers refused some told same sorted =
-    let all = refusals_of all_places fate count in
-    let moved : IsPermutation all refused = IsPermutation-trans all (refused_in workers) refused (IsPermutation-sym (refused_in workers) all (all_refused jobs count fate workers some told)) same in
-    one_refused fate refused all
-    (recursion_from_All (IsRefusal fate) refused (All-permutation (IsRefusal fate) all refused moved (All-from_recursion (IsRefusal fate) all (refusals_are fate count))))
-    (refusals_are fate count)
-    (one_order (places_of refused) (places_of all) (up_from_sorted refused sorted) (refusals_rise fate count).up
+pub refused_is : (jobs count : ℕ) (outcome : ℕ → Outcome) (workers : List WorkerData) (refused : List RefusedInput) → 0 < jobs → HaveTold jobs 0 jobs count outcome workers
+    → IsPermutation (refused_in workers) refused → IsNonDecreasingBy (λ (r : RefusedInput). r.index) refused → refused ≡ refusals_of all_places outcome count
+refused_is jobs count outcome workers refused some told same sorted =
+    let all = refusals_of all_places outcome count in
+    let moved : IsPermutation all refused = IsPermutation-trans all (refused_in workers) refused (IsPermutation-sym (refused_in workers) all (all_refused jobs count outcome workers some told)) same in
+    one_refused outcome refused all
+    (recursion_from_All (IsRefusal outcome) refused (All-permutation (IsRefusal outcome) all refused moved (All-from_recursion (IsRefusal outcome) all (refusals_are outcome count))))
+    (refusals_are outcome count)
+    (one_order (places_of refused) (places_of all) (up_from_sorted refused sorted) (refusals_rise outcome count).up
     (λ k. times_by_sum k refused ∙ sum_by-IsPermutation (λ (r : RefusedInput). cond (eqb k r.index) 1 0) all refused moved ∙ sym (times_by_sum k all)))
 
 -- what all jobs submit is what all places submit, in another order
-pub all_submitted : (jobs count : ℕ) (fate : ℕ → Fate) → 0 < jobs
-    → IsPermutation (flat_map (λ job. submissions_of (places_of_job jobs job) fate count) (range_with_len 0 jobs)) (submissions_of all_places fate count)
-all_submitted jobs count fate some =
-    let by_job : ℕ → List SubmissionData = λ job. submissions_of (places_of_job jobs job) fate count in
-    subst (λ (ss : List SubmissionData). IsPermutation ss (submissions_of all_places fate count)) (sym (brought_by_range by_job jobs))
-    (all_together jobs (λ index. submitted (fate index)) count (λ place. mod_below place jobs some))
+pub all_submitted : (jobs count : ℕ) (outcome : ℕ → Outcome) → 0 < jobs
+    → IsPermutation (flat_map (λ job. submissions_of (places_of_job jobs job) outcome count) (range_with_len 0 jobs)) (submissions_of all_places outcome count)
+all_submitted jobs count outcome some =
+    let by_job : ℕ → List SubmissionData = λ job. submissions_of (places_of_job jobs job) outcome count in
+    subst (λ (ss : List SubmissionData). IsPermutation ss (submissions_of all_places outcome count)) (sym (brought_by_range by_job jobs))
+    (all_together jobs (λ index. submitted (outcome index)) count (λ place. mod_below place jobs some))

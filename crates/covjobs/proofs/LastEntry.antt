@@ -19,7 +19,7 @@ use Rattle.covjobs.proofs.AskedLast.{heads}
 use Rattle.covjobs.proofs.EachOnce.{In, In-from, In-parts, each_once}
 use Rattle.covjobs.proofs.Gathered.{all_joined, all_submitted}
 use Rattle.covjobs.proofs.Histories.{same_submitted}
-use Rattle.covjobs.proofs.Taken.{Fate}
+use Rattle.covjobs.proofs.Taken.{Outcome}
 
 -- two laws of the book: a run goes on where it ended, and the order of submissions doesn't matter to texts
 abbrev pub GoesOn : Type 0
@@ -44,12 +44,12 @@ abbrev final : {X : Type 0} → X → List X → X
 final d [] = d
 final d (x ∷ xs) = final x xs
 
-final_behind : {X : Type 0} (d : X) (xs : List X) (y : X) → final d (xs ++ y ∷ []) ≡ y
-final_behind d [] y = refl
-final_behind d (x ∷ xs) y = final_behind x xs y
+final_after : {X : Type 0} (d : X) (xs : List X) (y : X) → final d (xs ++ y ∷ []) ≡ y
+final_after d [] y = refl
+final_after d (x ∷ xs) y = final_after x xs y
 
 last_same : {X : Type 0} (xs ys : List X) (x y : X) → ◌≡◌ {A = List X} (xs ++ x ∷ []) (ys ++ y ∷ []) → x ≡ y
-last_same {X} xs ys x y is = sym (final_behind x xs x) ∙ ap (λ (zs : List X). final x zs) is ∙ final_behind x ys y
+last_same {X} xs ys x y is = sym (final_after x xs x) ∙ ap (λ (zs : List X). final x zs) is ∙ final_after x ys y
 
 -- the last entry, of which this holds
 record LastIs (P : EntryData → Type 0) (entries : List EntryData) : Type 0 where
@@ -81,11 +81,11 @@ first_job : (jobs : ℕ) (log : LogData) (logs : List LogData) → 0 < jobs → 
 first_job zero log logs some are = absurd (omega (arith, some))
 first_job (suc more) log logs some are = heads log.job 0 (map (λ (l : LogData). l.job) logs) (range_with_len 1 more) are
 
-last_is : (fate : ℕ → Fate) (count jobs end : ℕ) (last : OpData) (workers after : List WorkerData) (entries : List EntryData) → 0 < jobs → FirstAsks workers after end last
-    → AllByRecursion (IsLogOf entries) (logs_in after) → AreJobLogs fate count jobs last (logs_in after) → length entries ≡ end → LastIs (IsLastOf last) entries
-last_is fate count jobs end last workers after entries some asks kept asked long =
+last_is : (outcome : ℕ → Outcome) (count jobs end : ℕ) (last : OpData) (workers after : List WorkerData) (entries : List EntryData) → 0 < jobs → FirstAsks workers after end last
+    → AllByRecursion (IsLogOf entries) (logs_in after) → AreJobLogs outcome count jobs last (logs_in after) → length entries ≡ end → LastIs (IsLastOf last) entries
+last_is outcome count jobs end last workers after entries some asks kept asked long =
     let new : AllByRecursion (IsLogOf entries) (log_of asks.next ∷ logs_in asks.others) = subst (λ (ws : List WorkerData). AllByRecursion (IsLogOf entries) (logs_in ws)) asks.new kept in
-    let jobs_are : AreJobLogs fate count jobs last (log_of asks.next ∷ logs_in asks.others) = subst (λ (ws : List WorkerData). AreJobLogs fate count jobs last (logs_in ws)) asks.new asked in
+    let jobs_are : AreJobLogs outcome count jobs last (log_of asks.next ∷ logs_in asks.others) = subst (λ (ws : List WorkerData). AreJobLogs outcome count jobs last (logs_in ws)) asks.new asked in
     let zero_is : asks.next.seat.job ≡ 0 = first_job jobs (log_of asks.next) (logs_in asks.others) some jobs_are.0 in
     let r = asks.asks.receipt in
     let own = all_last (λ (r : ReceiptData). IsSomeAnd (slice_get entries r.place) (λ (e : EntryData). e.job ≡ asks.next.seat.job)) asks.first.receipts r
@@ -165,47 +165,47 @@ last_submits_none : (last : OpData) → IsText last → (here : Bool) → submis
 last_submits_none last is true = ap (λ (ss : List SubmissionData). ss ++ []) (no_submission last is)
 last_submits_none last is false = refl
 
-job_submits : (fate : ℕ → Fate) (count jobs : ℕ) (last : OpData) (job : ℕ) → IsText last → submissions_in (asked_by fate count jobs last job) ≡ submissions_of (places_of_job jobs job) fate count
-job_submits fate count jobs last job is =
-    let subs = submissions_of (places_of_job jobs job) fate count in
+job_submits : (outcome : ℕ → Outcome) (count jobs : ℕ) (last : OpData) (job : ℕ) → IsText last → submissions_in (asked_by outcome count jobs last job) ≡ submissions_of (places_of_job jobs job) outcome count
+job_submits outcome count jobs last job is =
+    let subs = submissions_of (places_of_job jobs job) outcome count in
     flat_map-append submission_of (map SubmitOp subs) (last_of last job)
     ∙ ap (λ (ss : List SubmissionData). ss ++ submissions_in (last_of last job)) (submitted_all subs)
     ∙ ap (λ (ss : List SubmissionData). subs ++ ss) (last_submits_none last is (eqb job 0))
     ∙ append-nil subs
 
-abbrev HasAsked : (ℕ → Fate) → (count jobs : ℕ) → OpData → LogData → Type 0
-HasAsked fate count jobs last log = ops_in log.receipts ≡ asked_by fate count jobs last log.job
+abbrev HasAsked : (ℕ → Outcome) → (count jobs : ℕ) → OpData → LogData → Type 0
+HasAsked outcome count jobs last log = ops_in log.receipts ≡ asked_by outcome count jobs last log.job
 
 abbrev log_submits : LogData → List SubmissionData
 log_submits log = submissions_in (ops_in log.receipts)
 
-logs_submit_by_job : (fate : ℕ → Fate) (count jobs : ℕ) (last : OpData) (logs : List LogData) → IsText last → AllByRecursion (HasAsked fate count jobs last) logs
-    → flat_map log_submits logs ≡ flat_map (λ job. submissions_of (places_of_job jobs job) fate count) (map (λ (log : LogData). log.job) logs)
-logs_submit_by_job fate count jobs last [] is asked = refl
-logs_submit_by_job fate count jobs last (log ∷ logs) is asked =
+logs_submit_by_job : (outcome : ℕ → Outcome) (count jobs : ℕ) (last : OpData) (logs : List LogData) → IsText last → AllByRecursion (HasAsked outcome count jobs last) logs
+    → flat_map log_submits logs ≡ flat_map (λ job. submissions_of (places_of_job jobs job) outcome count) (map (λ (log : LogData). log.job) logs)
+logs_submit_by_job outcome count jobs last [] is asked = refl
+logs_submit_by_job outcome count jobs last (log ∷ logs) is asked =
     ap (λ (ops : List OpData). submissions_in ops ++ flat_map log_submits logs) asked.0
-    ∙ ap (λ (ss : List SubmissionData). ss ++ flat_map log_submits logs) (job_submits fate count jobs last log.job is)
-    ∙ ap (λ (ss : List SubmissionData). submissions_of (places_of_job jobs log.job) fate count ++ ss) (logs_submit_by_job fate count jobs last logs is asked.1)
+    ∙ ap (λ (ss : List SubmissionData). ss ++ flat_map log_submits logs) (job_submits outcome count jobs last log.job is)
+    ∙ ap (λ (ss : List SubmissionData). submissions_of (places_of_job jobs log.job) outcome count ++ ss) (logs_submit_by_job outcome count jobs last logs is asked.1)
 
-logs_ask : (fate : ℕ → Fate) (count jobs : ℕ) (last : OpData) (logs : List LogData) → IsText last → AllByRecursion (HasAsked fate count jobs last) logs
+logs_ask : (outcome : ℕ → Outcome) (count jobs : ℕ) (last : OpData) (logs : List LogData) → IsText last → AllByRecursion (HasAsked outcome count jobs last) logs
     → AllByRecursion (λ (log : LogData). OnlySubmitsAndAsks (ops_in log.receipts)) logs
-logs_ask fate count jobs last [] is asked = tt
-logs_ask fate count jobs last (log ∷ logs) is asked =
-    let subs = submissions_of (places_of_job jobs log.job) fate count in (
+logs_ask outcome count jobs last [] is asked = tt
+logs_ask outcome count jobs last (log ∷ logs) is asked =
+    let subs = submissions_of (places_of_job jobs log.job) outcome count in (
       subst (λ (ops : List OpData). OnlySubmitsAndAsks ops) (sym asked.0) (all_joined SubmitsOrAsks (map SubmitOp subs) (last_of last log.job) (submits_all subs) (asks_last last is (eqb log.job 0))),
-      logs_ask fate count jobs last logs is asked.1,
+      logs_ask outcome count jobs last logs is asked.1,
     )
 
 -- the history submits what all places do, in another order
-history_submits : (fate : ℕ → Fate) (count jobs : ℕ) (last : OpData) (entries : List EntryData) (logs : List LogData) → 0 < jobs → IsText last → IsMerge entries logs
-    → AreJobLogs fate count jobs last logs → IsPermutation (submissions_of all_places fate count) (submissions_in (ops_of entries))
-history_submits fate count jobs last entries logs some is merge asked =
-    let by_job : ℕ → List SubmissionData = λ job. submissions_of (places_of_job jobs job) fate count in
+history_submits : (outcome : ℕ → Outcome) (count jobs : ℕ) (last : OpData) (entries : List EntryData) (logs : List LogData) → 0 < jobs → IsText last → IsMerge entries logs
+    → AreJobLogs outcome count jobs last logs → IsPermutation (submissions_of all_places outcome count) (submissions_in (ops_of entries))
+history_submits outcome count jobs last entries logs some is merge asked =
+    let by_job : ℕ → List SubmissionData = λ job. submissions_of (places_of_job jobs job) outcome count in
     let told = flat_map log_submits logs in
-    let all = submissions_of all_places fate count in
-    let is_told : told ≡ flat_map by_job (range_with_len 0 jobs) = logs_submit_by_job fate count jobs last logs is asked.1 ∙ ap (λ (js : List ℕ). flat_map by_job js) asked.0 in
+    let all = submissions_of all_places outcome count in
+    let is_told : told ≡ flat_map by_job (range_with_len 0 jobs) = logs_submit_by_job outcome count jobs last logs is asked.1 ∙ ap (λ (js : List ℕ). flat_map by_job js) asked.0 in
     IsPermutation-trans all told (submissions_in (ops_of entries))
-    (IsPermutation-sym told all (subst (λ (ss : List SubmissionData). IsPermutation ss all) (sym is_told) (all_submitted jobs count fate some)))
+    (IsPermutation-sym told all (subst (λ (ss : List SubmissionData). IsPermutation ss all) (sym is_told) (all_submitted jobs count outcome some)))
     (same_submitted entries logs merge.kept (each_once entries logs merge))
 
 front_submits : (before : List EntryData) (entry : EntryData) (last : OpData) → IsText last → entry.op ≡ last → submissions_in (ops_of (before ++ entry ∷ [])) ≡ submissions_in (ops_of before)
@@ -217,39 +217,39 @@ front_submits before entry last is is_last =
     ∙ ap (λ (ss : List SubmissionData). front ++ (ss ++ [])) (no_submission last is)
     ∙ append-nil front
 
-front_asks : (fate : ℕ → Fate) (count jobs : ℕ) (last : OpData) (entries : List EntryData) (logs : List LogData) (before : List EntryData) (entry : EntryData) → IsText last
-    → IsMerge entries logs → AreJobLogs fate count jobs last logs → entries ≡ before ++ entry ∷ [] → OnlySubmitsAndAsks (ops_of before)
-front_asks fate count jobs last entries logs before entry is merge asked place =
+front_asks : (outcome : ℕ → Outcome) (count jobs : ℕ) (last : OpData) (entries : List EntryData) (logs : List LogData) (before : List EntryData) (entry : EntryData) → IsText last
+    → IsMerge entries logs → AreJobLogs outcome count jobs last logs → entries ≡ before ++ entry ∷ [] → OnlySubmitsAndAsks (ops_of before)
+front_asks outcome count jobs last entries logs before entry is merge asked place =
     let every : OnlySubmitsAndAsks (ops_of entries) =
-    from_places SubmitsOrAsks entries (λ place less. at_log SubmitsOrAsks entries logs place merge.kept (logs_ask fate count jobs last logs is asked.1) (In-from (places_in logs) place (merge.whole place less))) in
+    from_places SubmitsOrAsks entries (λ place less. at_log SubmitsOrAsks entries logs place merge.kept (logs_ask outcome count jobs last logs is asked.1) (In-from (places_in logs) place (merge.whole place less))) in
     all_front SubmitsOrAsks (ops_of before) (entry.op ∷ [])
     (subst (λ (ops : List OpData). OnlySubmitsAndAsks ops) (ap (λ (es : List EntryData). ops_of es) place ∙ map-append (λ (e : EntryData). e.op) before (entry ∷ [])) every)
 
-text_is : (fate : ℕ → Fate) (count jobs : ℕ) (last : OpData) (entries : List EntryData) (logs : List LogData) (before : List EntryData) (entry : EntryData) → 0 < jobs
-    → IsLegal entries → IsMerge entries logs → AreJobLogs fate count jobs last logs → entries ≡ before ++ entry ∷ [] → entry.op ≡ last → GoesOn → SameTexts
-    → IsText last → AreAgreeing (submissions_of all_places fate count) → entry.answer ≡ answer_of (table_of (map SubmitOp (submissions_of all_places fate count))) last
-text_is fate count jobs last entries logs before entry some legal merge asked place is_last goes same is agree =
-    let all = submissions_of all_places fate count in
+text_is : (outcome : ℕ → Outcome) (count jobs : ℕ) (last : OpData) (entries : List EntryData) (logs : List LogData) (before : List EntryData) (entry : EntryData) → 0 < jobs
+    → IsLegal entries → IsMerge entries logs → AreJobLogs outcome count jobs last logs → entries ≡ before ++ entry ∷ [] → entry.op ≡ last → GoesOn → SameTexts
+    → IsText last → AreAgreeing (submissions_of all_places outcome count) → entry.answer ≡ answer_of (table_of (map SubmitOp (submissions_of all_places outcome count))) last
+text_is outcome count jobs last entries logs before entry some legal merge asked place is_last goes same is agree =
+    let all = submissions_of all_places outcome count in
     let moved : IsPermutation all (submissions_in (ops_of before)) =
     subst (λ (ss : List SubmissionData). IsPermutation all ss) (ap (λ (es : List EntryData). submissions_in (ops_of es)) place ∙ front_submits before entry last is is_last)
-    (history_submits fate count jobs last entries logs some is merge asked) in
+    (history_submits outcome count jobs last entries logs some is merge asked) in
     last_answer before entry entries legal place goes
     ∙ ap (λ (op : OpData). answer_of (table_of (ops_of before)) op) is_last
-    ∙ sym (same (map SubmitOp all) (ops_of before) (submits_all all) (front_asks fate count jobs last entries logs before entry is merge asked place)
+    ∙ sym (same (map SubmitOp all) (ops_of before) (submits_all all) (front_asks outcome count jobs last entries logs before entry is merge asked place)
     (subst (λ (ss : List SubmissionData). IsPermutation ss (submissions_in (ops_of before))) (sym (submitted_all all)) moved)
     (subst (λ (ss : List SubmissionData). AreAgreeing ss) (sym (submitted_all all)) agree) last is)
 
 -- a history that is as long as job 0 saw after its last call ends with that call
-pub ends_with : (fate : ℕ → Fate) (count jobs end : ℕ) (last : OpData) (workers after : List WorkerData) (entries : List EntryData) → 0 < jobs → FirstAsks workers after end last
-    → IsLegal entries → IsMerge entries (logs_in after) → AreJobLogs fate count jobs last (logs_in after) → length entries ≡ end → GoesOn → SameTexts
-    → EndsWith (submissions_of all_places fate count) last entries
-ends_with fate count jobs end last workers after entries some asks legal merge asked long goes same =
-    let found = last_is fate count jobs end last workers after entries some asks merge.kept asked long in
+pub ends_with : (outcome : ℕ → Outcome) (count jobs end : ℕ) (last : OpData) (workers after : List WorkerData) (entries : List EntryData) → 0 < jobs → FirstAsks workers after end last
+    → IsLegal entries → IsMerge entries (logs_in after) → AreJobLogs outcome count jobs last (logs_in after) → length entries ≡ end → GoesOn → SameTexts
+    → EndsWith (submissions_of all_places outcome count) last entries
+ends_with outcome count jobs end last workers after entries some asks legal merge asked long goes same =
+    let found = last_is outcome count jobs end last workers after entries some asks merge.kept asked long in
     record {
       before = found.before;
       entry = found.entry;
       place = found.place;
       asked = found.holds.0;
       asker = found.holds.1;
-      text = text_is fate count jobs last entries (logs_in after) found.before found.entry some legal merge asked found.place found.holds.0 goes same;
+      text = text_is outcome count jobs last entries (logs_in after) found.before found.entry some legal merge asked found.place found.holds.0 goes same;
     }

@@ -4,12 +4,12 @@ pub mod AskedLast
 pub mod EachOnce
 pub mod Ended
 pub mod Everything
-pub mod Fates
+pub mod Outcomes
 pub mod Gathered
 pub mod Histories
 pub mod LastEntry
 pub mod Places
-pub mod ReadBehind
+pub mod ReadAfter
 pub mod Submitted
 pub mod Taken
 pub mod Together

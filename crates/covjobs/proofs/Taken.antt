@@ -9,11 +9,11 @@ use Rattle.covread.specs.declared.fault.ReadFault.{ReadFault}
 use Rattle.covread.specs.declared.fault.ReadFault.TheVariants as faults
 use Rattle.covbook.specs.Op.{OpData, SubmitOp, ReceiptData}
 use Rattle.covjobs.specs.declared.refused.RefusedInput.{RefusedInput}
-use Rattle.covjobs.specs.Collect.{InputData, IsFate, submitted, refusal, brought, places_of_job, submissions_of, ops_in, HasTaken}
+use Rattle.covjobs.specs.Collect.{InputData, IsOutcomeOf, submitted, refusal, brought, places_of_job, submissions_of, ops_in, HasTaken}
 use Rattle.covjobs.specs.Work.{Takes}
 
-abbrev pub Fate : Type 0
-Fate = Result SubmissionData ReadFault
+abbrev pub Outcome : Type 0
+Outcome = Result SubmissionData ReadFault
 
 -- what becomes of the inputs, once it is known of one more
 abbrev pub put : {X : Type 0} → ℕ → X → (ℕ → X) → ℕ → X
@@ -54,36 +54,36 @@ brought_past {X} meant bring count apart =
     sym (ap (λ (n : ℕ). brought meant bring n) (behind count))
     ∙ ap (λ (b : Bool). brought meant bring count ++ (if b then bring count else [])) apart ∙ append_nothing (brought meant bring count)
 
-pub map_behind : {X Y : Type 0} (f : X → Y) (xs ys : List X) → map f (xs ++ ys) ≡ map f xs ++ map f ys
-map_behind f [] ys = refl
-map_behind {X} {Y} f (x ∷ xs) ys = ap (λ (rest : List Y). f x ∷ rest) (map_behind f xs ys)
+pub map_after : {X Y : Type 0} (f : X → Y) (xs ys : List X) → map f (xs ++ ys) ≡ map f xs ++ map f ys
+map_after f [] ys = refl
+map_after {X} {Y} f (x ∷ xs) ys = ap (λ (rest : List Y). f x ∷ rest) (map_after f xs ys)
 
 pub none_taken : (inputs : List InputData) (jobs job : ℕ) (receipts : List ReceiptData) (refused : List RefusedInput) → receipts ≡ [] → refused ≡ []
     → HasTaken inputs jobs job 0 receipts refused
 none_taken inputs jobs job receipts refused no_receipts none_refused =
-    record { fate = λ index. Err faults.Memory; fates = λ index less own. absurd (omega (arith, less)); asked = ap (λ (rs : List ReceiptData). ops_in rs) no_receipts; are_refused = none_refused }
+    record { outcome = λ index. Err faults.Memory; outcomes = λ index less own. absurd (omega (arith, less)); asked = ap (λ (rs : List ReceiptData). ops_in rs) no_receipts; are_refused = none_refused }
 
 is_below : (index count : ℕ) → index < count + 1 → (index ≡ count → ⊥) → index < count
 is_below index count less apart = omega (arith, less, apart)
 
-by_place : (inputs : List InputData) (meant : ℕ → Bool) (count : ℕ) (input : InputData) (new : Fate) (old : ℕ → Fate)
-    → ((index : ℕ) → index < count → IsTrue (meant index) → IsSomeAnd (slice_get inputs index) (λ input. IsFate input (old index)))
-    → slice_get inputs count ≡ Some input → IsFate input new
+by_place : (inputs : List InputData) (meant : ℕ → Bool) (count : ℕ) (input : InputData) (new : Outcome) (old : ℕ → Outcome)
+    → ((index : ℕ) → index < count → IsTrue (meant index) → IsSomeAnd (slice_get inputs index) (λ input. IsOutcomeOf input (old index)))
+    → slice_get inputs count ≡ Some input → IsOutcomeOf input new
     → (index : ℕ) → index < count + 1 → IsTrue (meant index)
     → ((eqb index count ≡ true) × (index ≡ count)) ⊎ ((eqb index count ≡ false) × (index ≡ count → ⊥))
-    → IsSomeAnd (slice_get inputs index) (λ input. IsFate input (put count new old index))
+    → IsSomeAnd (slice_get inputs index) (λ input. IsOutcomeOf input (put count new old index))
 by_place inputs meant count input new old before is is_fate index less own (inl (_, same)) =
-    subst (λ (i : ℕ). IsSomeAnd (slice_get inputs i) (λ input. IsFate input (put count new old i))) (sym same)
-    (subst (λ (f : Fate). IsSomeAnd (slice_get inputs count) (λ input. IsFate input f)) (sym (put_here count new old))
-    (subst (λ (found : Option InputData). IsSomeAnd found (λ input. IsFate input new)) (sym is) is_fate))
+    subst (λ (i : ℕ). IsSomeAnd (slice_get inputs i) (λ input. IsOutcomeOf input (put count new old i))) (sym same)
+    (subst (λ (f : Outcome). IsSomeAnd (slice_get inputs count) (λ input. IsOutcomeOf input f)) (sym (put_here count new old))
+    (subst (λ (found : Option InputData). IsSomeAnd found (λ input. IsOutcomeOf input new)) (sym is) is_fate))
 by_place inputs meant count input new old before is is_fate index less own (inr (_, differs)) =
-    subst (λ (f : Fate). IsSomeAnd (slice_get inputs index) (λ input. IsFate input f)) (sym (put_apart count new old index differs))
+    subst (λ (f : Outcome). IsSomeAnd (slice_get inputs index) (λ input. IsOutcomeOf input f)) (sym (put_apart count new old index differs))
     (before index (is_below index count less differs) own)
 
-fates_put : (inputs : List InputData) (meant : ℕ → Bool) (count : ℕ) (input : InputData) (new : Fate) (old : ℕ → Fate)
-    → ((index : ℕ) → index < count → IsTrue (meant index) → IsSomeAnd (slice_get inputs index) (λ input. IsFate input (old index)))
-    → slice_get inputs count ≡ Some input → IsFate input new
-    → (index : ℕ) → index < count + 1 → IsTrue (meant index) → IsSomeAnd (slice_get inputs index) (λ input. IsFate input (put count new old index))
+fates_put : (inputs : List InputData) (meant : ℕ → Bool) (count : ℕ) (input : InputData) (new : Outcome) (old : ℕ → Outcome)
+    → ((index : ℕ) → index < count → IsTrue (meant index) → IsSomeAnd (slice_get inputs index) (λ input. IsOutcomeOf input (old index)))
+    → slice_get inputs count ≡ Some input → IsOutcomeOf input new
+    → (index : ℕ) → index < count + 1 → IsTrue (meant index) → IsSomeAnd (slice_get inputs index) (λ input. IsOutcomeOf input (put count new old index))
 fates_put inputs meant count input new old before is is_fate index less own =
     by_place inputs meant count input new old before is is_fate index less own (eqb_tells index count)
 
@@ -92,28 +92,28 @@ pub step_taken : (inputs : List InputData) (jobs job count : ℕ) (receipts afte
     → Takes input count (ops_in receipts) (ops_in after) refused refuses → HasTaken inputs jobs job (count + 1) after refuses
 step_taken inputs jobs job count receipts after refused refuses input so_far own is takes =
     let meant = places_of_job jobs job in
-    let old = so_far.fate in
-    let new = put count takes.fate old in
-    let here : new count ≡ takes.fate = put_here count takes.fate old in
+    let old = so_far.outcome in
+    let new = put count takes.outcome old in
+    let here : new count ≡ takes.outcome = put_here count takes.outcome old in
     record {
-      fate = new;
-      fates = fates_put inputs meant count input takes.fate old so_far.fates is takes.is_fate;
+      outcome = new;
+      outcomes = fates_put inputs meant count input takes.outcome old so_far.outcomes is takes.is_fate;
       asked = takes.submits
-          ∙ ap (λ (ops : List OpData). ops ++ map SubmitOp (submitted takes.fate)) so_far.asked
-          ∙ sym (map_behind SubmitOp (submissions_of meant old count) (submitted takes.fate))
-          ∙ sym (ap (λ (subs : List SubmissionData). map SubmitOp subs) (brought_more meant (λ index. submitted (old index)) (λ index. submitted (new index)) count (submitted takes.fate)
-          (λ index less. ap (λ (f : Fate). submitted f) (put_apart count takes.fate old index (λ same. omega (arith, less, same)))) own (ap (λ (f : Fate). submitted f) here)));
+          ∙ ap (λ (ops : List OpData). ops ++ map SubmitOp (submitted takes.outcome)) so_far.asked
+          ∙ sym (map_after SubmitOp (submissions_of meant old count) (submitted takes.outcome))
+          ∙ sym (ap (λ (subs : List SubmissionData). map SubmitOp subs) (brought_more meant (λ index. submitted (old index)) (λ index. submitted (new index)) count (submitted takes.outcome)
+          (λ index less. ap (λ (f : Outcome). submitted f) (put_apart count takes.outcome old index (λ same. omega (arith, less, same)))) own (ap (λ (f : Outcome). submitted f) here)));
       are_refused = takes.tells
-          ∙ ap (λ (rs : List RefusedInput). rs ++ refusal count takes.fate) so_far.are_refused
-          ∙ sym (brought_more meant (λ index. refusal index (old index)) (λ index. refusal index (new index)) count (refusal count takes.fate)
-          (λ index less. ap (λ (f : Fate). refusal index f) (put_apart count takes.fate old index (λ same. omega (arith, less, same)))) own (ap (λ (f : Fate). refusal count f) here));
+          ∙ ap (λ (rs : List RefusedInput). rs ++ refusal count takes.outcome) so_far.are_refused
+          ∙ sym (brought_more meant (λ index. refusal index (old index)) (λ index. refusal index (new index)) count (refusal count takes.outcome)
+          (λ index less. ap (λ (f : Outcome). refusal index f) (put_apart count takes.outcome old index (λ same. omega (arith, less, same)))) own (ap (λ (f : Outcome). refusal count f) here));
     }
 
-fates_past : (inputs : List InputData) (meant : ℕ → Bool) (count : ℕ) (old : ℕ → Fate) → meant count ≡ false
-    → ((index : ℕ) → index < count → IsTrue (meant index) → IsSomeAnd (slice_get inputs index) (λ input. IsFate input (old index)))
+fates_past : (inputs : List InputData) (meant : ℕ → Bool) (count : ℕ) (old : ℕ → Outcome) → meant count ≡ false
+    → ((index : ℕ) → index < count → IsTrue (meant index) → IsSomeAnd (slice_get inputs index) (λ input. IsOutcomeOf input (old index)))
     → (index : ℕ) → index < count + 1 → IsTrue (meant index)
     → ((eqb index count ≡ true) × (index ≡ count)) ⊎ ((eqb index count ≡ false) × (index ≡ count → ⊥))
-    → IsSomeAnd (slice_get inputs index) (λ input. IsFate input (old index))
+    → IsSomeAnd (slice_get inputs index) (λ input. IsOutcomeOf input (old index))
 fates_past inputs meant count old apart before index less own (inl (_, same)) = absurd (false≢true (sym apart ∙ subst (λ (i : ℕ). meant i ≡ true) same own))
 fates_past inputs meant count old apart before index less own (inr (_, differs)) = before index (is_below index count less differs) own
 
@@ -121,10 +121,10 @@ pub step_past : (inputs : List InputData) (jobs job count : ℕ) (receipts : Lis
     → HasTaken inputs jobs job count receipts refused → places_of_job jobs job count ≡ false → HasTaken inputs jobs job (count + 1) receipts refused
 step_past inputs jobs job count receipts refused so_far apart =
     let meant = places_of_job jobs job in
-    let old = so_far.fate in
+    let old = so_far.outcome in
     record {
-      fate = old;
-      fates = λ index less own. fates_past inputs meant count old apart so_far.fates index less own (eqb_tells index count);
+      outcome = old;
+      outcomes = λ index less own. fates_past inputs meant count old apart so_far.outcomes index less own (eqb_tells index count);
       asked = so_far.asked ∙ sym (ap (λ (subs : List SubmissionData). map SubmitOp subs) (brought_past meant (λ index. submitted (old index)) count apart));
       are_refused = so_far.are_refused ∙ sym (brought_past meant (λ index. refusal index (old index)) count apart);
     }

@@ -9,10 +9,10 @@ use Rattle.std.proofs.lemmas.Nat.{mod_below}
 use Rattle.covline.specs.Row.{SubmissionData}
 use Rattle.covread.specs.declared.fault.ReadFault.TheVariants as faults
 use Rattle.covbook.specs.Op.{SubmitOp}
-use Rattle.covjobs.specs.Collect.{InputData, IsFate, AreFates, HasRead, submitted, refusal, places_of_job, submissions_of, refusals_of, ops_in}
+use Rattle.covjobs.specs.Collect.{InputData, IsOutcomeOf, AreOutcomes, HasRead, submitted, refusal, places_of_job, submissions_of, refusals_of, ops_in}
 use Rattle.covlock.specs.Seat.{fresh_seat}
 use Rattle.covjobs.specs.Work.{WorkerData, WorkData, HasDone, HaveDone, work_of}
-use Rattle.covjobs.proofs.Taken.{Fate}
+use Rattle.covjobs.proofs.Taken.{Outcome}
 use Rattle.covjobs.proofs.Together.{brought_own}
 
 -- the work of the jobs from a number on
@@ -20,31 +20,31 @@ abbrev pub works_from : List InputData → (jobs from count : ℕ) → List Work
 works_from inputs jobs from count = map (work_of inputs jobs) (map fresh_seat (range_with_len from count))
 
 -- what became of the inputs of the job at a place
-abbrev fates_at : (works : List WorkData) (workers : List WorkerData) → HaveDone works workers → ℕ → ℕ → Fate
+abbrev fates_at : (works : List WorkData) (workers : List WorkerData) → HaveDone works workers → ℕ → ℕ → Outcome
 fates_at [] [] done k = λ index. Err faults.Memory
 fates_at [] (worker ∷ workers) done k = absurd done
 fates_at (work ∷ works) [] done k = absurd done
-fates_at (work ∷ works) (worker ∷ workers) done zero = done.0.taken.fate
+fates_at (work ∷ works) (worker ∷ workers) done zero = done.0.taken.outcome
 fates_at (work ∷ works) (worker ∷ workers) done (suc k) = fates_at works workers done.1 k
 
 -- a worker has asked and refused what one account of all inputs says, and has read after what it asked
-pub record HasTold (jobs count : ℕ) (fate : ℕ → Fate) (worker : WorkerData) : Type 0 where
-  pub asked : ops_in worker.receipts ≡ map SubmitOp (submissions_of (places_of_job jobs worker.seat.job) fate count)
-  pub are_refused : worker.refused ≡ refusals_of (places_of_job jobs worker.seat.job) fate count
+pub record HasTold (jobs count : ℕ) (outcome : ℕ → Outcome) (worker : WorkerData) : Type 0 where
+  pub asked : ops_in worker.receipts ≡ map SubmitOp (submissions_of (places_of_job jobs worker.seat.job) outcome count)
+  pub are_refused : worker.refused ≡ refusals_of (places_of_job jobs worker.seat.job) outcome count
   pub read : HasRead worker.has_reader worker.receipts worker.readings
 
-told : (inputs : List InputData) (jobs job : ℕ) (worker : WorkerData) (done : HasDone (record { inputs = inputs; jobs = jobs; job = job }) worker) (whole : ℕ → Fate)
-    → ((index : ℕ) → index % jobs ≡ job → whole index ≡ done.taken.fate index) → HasTold jobs (length inputs) whole worker
+told : (inputs : List InputData) (jobs job : ℕ) (worker : WorkerData) (done : HasDone (record { inputs = inputs; jobs = jobs; job = job }) worker) (whole : ℕ → Outcome)
+    → ((index : ℕ) → index % jobs ≡ job → whole index ≡ done.taken.outcome index) → HasTold jobs (length inputs) whole worker
 told inputs jobs job worker done whole same =
-    let own = done.taken.fate in
+    let own = done.taken.outcome in
     let agree : (index : ℕ) → index < length inputs → places_of_job jobs job index ≡ true → whole index ≡ own index = λ index less meant. same index (is_own jobs job index meant) in
     record {
       asked =
           (subst (λ (j : ℕ). ops_in worker.receipts ≡ map SubmitOp (submissions_of (places_of_job jobs j) whole (length inputs))) (sym done.own)
-          (done.taken.asked ∙ sym (ap (λ (subs : List SubmissionData). map SubmitOp subs) (brought_own (places_of_job jobs job) (λ index. submitted (own index)) (λ index. submitted (whole index)) (length inputs) (λ index less meant. ap (λ (f : Fate). submitted f) (agree index less meant))))));
+          (done.taken.asked ∙ sym (ap (λ (subs : List SubmissionData). map SubmitOp subs) (brought_own (places_of_job jobs job) (λ index. submitted (own index)) (λ index. submitted (whole index)) (length inputs) (λ index less meant. ap (λ (f : Outcome). submitted f) (agree index less meant))))));
       are_refused =
           (subst (λ (j : ℕ). worker.refused ≡ refusals_of (places_of_job jobs j) whole (length inputs)) (sym done.own)
-          (done.taken.are_refused ∙ sym (brought_own (places_of_job jobs job) (λ index. refusal index (own index)) (λ index. refusal index (whole index)) (length inputs) (λ index less meant. ap (λ (f : Fate). refusal index f) (agree index less meant)))));
+          (done.taken.are_refused ∙ sym (brought_own (places_of_job jobs job) (λ index. refusal index (own index)) (λ index. refusal index (whole index)) (length inputs) (λ index less meant. ap (λ (f : Outcome). refusal index f) (agree index less meant)))));
       read = done.read;
     }
   where
@@ -55,11 +55,11 @@ told inputs jobs job worker done whole same =
     ]
 
 -- this holds of all workers, and they are of the jobs in order
-pub record HaveTold (jobs from some count : ℕ) (fate : ℕ → Fate) (workers : List WorkerData) : Type 0 where
+pub record HaveTold (jobs from some count : ℕ) (outcome : ℕ → Outcome) (workers : List WorkerData) : Type 0 where
   pub are : map (λ (w : WorkerData). w.seat.job) workers ≡ range_with_len from some
-  pub each : AllByRecursion (HasTold jobs count fate) workers
+  pub each : AllByRecursion (HasTold jobs count outcome) workers
 
-have_told : (inputs : List InputData) (jobs from some : ℕ) (workers : List WorkerData) (done : HaveDone (works_from inputs jobs from some) workers) (whole : ℕ → Fate)
+have_told : (inputs : List InputData) (jobs from some : ℕ) (workers : List WorkerData) (done : HaveDone (works_from inputs jobs from some) workers) (whole : ℕ → Outcome)
     → ((k index : ℕ) → index % jobs ≡ from + k → whole index ≡ fates_at (works_from inputs jobs from some) workers done k index) → HaveTold jobs from some (length inputs) whole workers
 have_told inputs jobs from zero [] done whole same = record { are = refl; each = tt }
 have_told inputs jobs from zero (worker ∷ workers) done whole same = absurd done
@@ -78,10 +78,10 @@ have_told inputs jobs from (suc some) (worker ∷ workers) done whole same =
     none_more from = omega arith
 
 holds_at : (inputs : List InputData) (jobs from some : ℕ) (workers : List WorkerData) (done : HaveDone (works_from inputs jobs from some) workers) (k index : ℕ)
-    → k < some → index < length inputs → index % jobs ≡ from + k → IsSomeAnd (slice_get inputs index) (λ input. IsFate input (fates_at (works_from inputs jobs from some) workers done k index))
+    → k < some → index < length inputs → index % jobs ≡ from + k → IsSomeAnd (slice_get inputs index) (λ input. IsOutcomeOf input (fates_at (works_from inputs jobs from some) workers done k index))
 holds_at inputs jobs from zero workers done k index below less is = absurd (omega (arith, below))
 holds_at inputs jobs from (suc some) [] done k index below less is = absurd done
-holds_at inputs jobs from (suc some) (worker ∷ workers) done zero index below less is = done.0.taken.fates index less (true_is (eq-eqb (index % jobs) from (is ∙ none_more from)))
+holds_at inputs jobs from (suc some) (worker ∷ workers) done zero index below less is = done.0.taken.outcomes index less (true_is (eq-eqb (index % jobs) from (is ∙ none_more from)))
   where
     none_more : (from : ℕ) → from + 0 ≡ from
     none_more from = omega arith
@@ -95,17 +95,17 @@ holds_at inputs jobs from (suc some) (worker ∷ workers) done (suc k) index bel
 
 -- one account of all that became of the inputs
 pub record IsWhole (inputs : List InputData) (jobs : ℕ) (workers : List WorkerData) : Type 0 where
-  pub fate : ℕ → Fate
-  pub fates : AreFates inputs fate
-  pub tell : HaveTold jobs 0 jobs (length inputs) fate workers
+  pub outcome : ℕ → Outcome
+  pub outcomes : AreOutcomes inputs outcome
+  pub tell : HaveTold jobs 0 jobs (length inputs) outcome workers
 
 pub whole_of : (inputs : List InputData) (jobs : ℕ) (workers : List WorkerData) → 0 < jobs → HaveDone (works_from inputs jobs 0 jobs) workers → IsWhole inputs jobs workers
 whole_of inputs jobs workers some done =
     let at = fates_at (works_from inputs jobs 0 jobs) workers done in
-    let whole : ℕ → Fate = λ index. at (index % jobs) index in
+    let whole : ℕ → Outcome = λ index. at (index % jobs) index in
     record {
-      fate = whole;
-      fates = λ index less. holds_at inputs jobs 0 jobs workers done (index % jobs) index (mod_below index jobs some) less (sym (none_before (index % jobs)));
+      outcome = whole;
+      outcomes = λ index less. holds_at inputs jobs 0 jobs workers done (index % jobs) index (mod_below index jobs some) less (sym (none_before (index % jobs)));
       tell = have_told inputs jobs 0 jobs workers done whole (λ k index is. ap (λ (j : ℕ). at j index) (is ∙ none_before k));
     }
   where

@@ -28,16 +28,16 @@ IsReadAs (GcovInput test text) outcome = gcov.IsOutcome test text outcome
 
 -- the input's length, and the name of its test, are good: before that memory can't run out
 abbrev pub MayRunOut : InputData → Type 0
-MayRunOut (TraceInput text) = length text ≤ trace.most_bytes
-MayRunOut (GcovInput test text) = (length text ≤ trace.most_bytes) × IsGoodTest test
+MayRunOut (TraceInput text) = length text ≤ trace.max_bytes
+MayRunOut (GcovInput test text) = (length text ≤ trace.max_bytes) × IsGoodTest test
 
 -- what becomes of an input: what it is read as, or memory ran out
-abbrev pub IsFate : InputData → Result SubmissionData ReadFault → Type 0
-IsFate input fate = IsReadAs input fate ⊎ (MayRunOut input × (fate ≡ Err faults.Memory))
+abbrev pub IsOutcomeOf : InputData → Result SubmissionData ReadFault → Type 0
+IsOutcomeOf input outcome = IsReadAs input outcome ⊎ (MayRunOut input × (outcome ≡ Err faults.Memory))
 
 -- what becomes of each of these inputs, by its place
-abbrev pub AreFates : List InputData → (ℕ → Result SubmissionData ReadFault) → Type 0
-AreFates inputs fate = (index : ℕ) → index < length inputs → IsSomeAnd (slice_get inputs index) (λ input. IsFate input (fate index))
+abbrev pub AreOutcomes : List InputData → (ℕ → Result SubmissionData ReadFault) → Type 0
+AreOutcomes inputs outcome = (index : ℕ) → index < length inputs → IsSomeAnd (slice_get inputs index) (λ input. IsOutcomeOf input (outcome index))
 
 -- an input that is read is submitted, one that isn't is refused with its place
 abbrev pub submitted : Result SubmissionData ReadFault → List SubmissionData
@@ -62,17 +62,17 @@ places_of_job jobs job index = index % jobs == job
 
 -- what is submitted, and what is refused, of the meant ones among the first `count` inputs
 abbrev pub submissions_of : (meant : ℕ → Bool) → (ℕ → Result SubmissionData ReadFault) → (count : ℕ) → List SubmissionData
-submissions_of meant fate count = brought meant (λ index. submitted (fate index)) count
+submissions_of meant outcome count = brought meant (λ index. submitted (outcome index)) count
 
 abbrev pub refusals_of : (meant : ℕ → Bool) → (ℕ → Result SubmissionData ReadFault) → (count : ℕ) → List RefusedInput
-refusals_of meant fate count = brought meant (λ index. refusal index (fate index)) count
+refusals_of meant outcome count = brought meant (λ index. refusal index (outcome index)) count
 
 -- what a job asks: the submissions of its inputs, and job 0 the last operation after them
 abbrev pub last_of : (last : OpData) → (job : ℕ) → List OpData
 last_of last job = if job == 0 then last ∷ [] else []
 
 abbrev pub asked_by : (ℕ → Result SubmissionData ReadFault) → (count jobs : ℕ) → (last : OpData) → (job : ℕ) → List OpData
-asked_by fate count jobs last job = map SubmitOp (submissions_of (places_of_job jobs job) fate count) ++ last_of last job
+asked_by outcome count jobs last job = map SubmitOp (submissions_of (places_of_job jobs job) outcome count) ++ last_of last job
 
 -- the operations of a log
 abbrev pub ops_in : List ReceiptData → List OpData
@@ -80,19 +80,19 @@ ops_in receipts = map (λ (r : ReceiptData). r.op) receipts
 
 -- there is one log for each job from 0 on, and it has what the job asks
 abbrev pub AreJobLogs : (ℕ → Result SubmissionData ReadFault) → (count jobs : ℕ) → (last : OpData) → List LogData → Type 0
-AreJobLogs fate count jobs last logs =
+AreJobLogs outcome count jobs last logs =
     (map (λ (log : LogData). log.job) logs ≡ range_with_len 0 jobs)
-    × AllByRecursion (λ (log : LogData). ops_in log.receipts ≡ asked_by fate count jobs last log.job) logs
+    × AllByRecursion (λ (log : LogData). ops_in log.receipts ≡ asked_by outcome count jobs last log.job) logs
 
 -- one reading for each of these receipts, in their order, of a history that has the receipt's entry
-abbrev pub AreReadBehind : List ReceiptData → List Reading → Type 0
-AreReadBehind [] [] = Unit {0}
-AreReadBehind (receipt ∷ receipts) (reading ∷ readings) = (receipt.place < reading.upto) × AreReadBehind receipts readings
-AreReadBehind receipts readings = ⊥
+abbrev pub AreReadAfter : List ReceiptData → List Reading → Type 0
+AreReadAfter [] [] = Unit {0}
+AreReadAfter (receipt ∷ receipts) (reading ∷ readings) = (receipt.place < reading.upto) × AreReadAfter receipts readings
+AreReadAfter receipts readings = ⊥
 
 -- what a job has read after these receipts: one reading after each, or none at all if it has no reader
 abbrev pub HasRead : (has_reader : Bool) → List ReceiptData → List Reading → Type 0
-HasRead true receipts readings = AreReadBehind receipts readings
+HasRead true receipts readings = AreReadAfter receipts readings
 HasRead false receipts readings = readings ≡ []
 
 -- a log has one reading for each of its submissions, or none at all; none is for the last operation
@@ -118,20 +118,20 @@ pub record EndsWith (submissions : List SubmissionData) (last : OpData) (entries
 -- turns, and how many entries their readings count, stay open. The submissions are lawful, and each reading has the
 -- totals after its number of entries
 pub record IsCollected (inputs : List InputData) (jobs : ℕ) (last : OpData) (entries : List EntryData) (logs : List LogData) (refused : List RefusedInput) : Type 0 where
-  pub fate : ℕ → Result SubmissionData ReadFault
-  pub fates : AreFates inputs fate
+  pub outcome : ℕ → Result SubmissionData ReadFault
+  pub outcomes : AreOutcomes inputs outcome
   pub legal : IsLegal entries
   pub lawful : AreLawfulOps (ops_of entries)
   pub merge : IsMerge entries logs
   pub gathered : IsGathered entries logs
-  pub asked : AreJobLogs fate (length inputs) jobs last logs
+  pub asked : AreJobLogs outcome (length inputs) jobs last logs
   pub read : AllByRecursion (HasReadings last) logs
-  pub are_refused : refused ≡ refusals_of all_places fate (length inputs)
-  pub ends : EndsWith (submissions_of all_places fate (length inputs)) last entries
+  pub are_refused : refused ≡ refusals_of all_places outcome (length inputs)
+  pub ends : EndsWith (submissions_of all_places outcome (length inputs)) last entries
 
 -- what a job has done with its inputs among the first `count`: the operations of its receipts, and what it refused
 pub record HasTaken (inputs : List InputData) (jobs job count : ℕ) (receipts : List ReceiptData) (refused : List RefusedInput) : Type 0 where
-  pub fate : ℕ → Result SubmissionData ReadFault
-  pub fates : (index : ℕ) → index < count → IsTrue (places_of_job jobs job index) → IsSomeAnd (slice_get inputs index) (λ input. IsFate input (fate index))
-  pub asked : ops_in receipts ≡ map SubmitOp (submissions_of (places_of_job jobs job) fate count)
-  pub are_refused : refused ≡ refusals_of (places_of_job jobs job) fate count
+  pub outcome : ℕ → Result SubmissionData ReadFault
+  pub outcomes : (index : ℕ) → index < count → IsTrue (places_of_job jobs job index) → IsSomeAnd (slice_get inputs index) (λ input. IsOutcomeOf input (outcome index))
+  pub asked : ops_in receipts ≡ map SubmitOp (submissions_of (places_of_job jobs job) outcome count)
+  pub are_refused : refused ≡ refusals_of (places_of_job jobs job) outcome count

@@ -8,15 +8,15 @@ use Rattle.covbook.specs.declared.reading.Reading.{Reading}
 use Rattle.covbook.specs.Gather.{LogData}
 use Rattle.covbook.specs.Op.{OpData, SubmitOp, ReceiptData}
 use Rattle.covjobs.specs.declared.refused.RefusedInput.{RefusedInput}
-use Rattle.covjobs.specs.Collect.{InputData, IsFate, submitted, refusal, HasRead, HasTaken}
+use Rattle.covjobs.specs.Collect.{InputData, IsOutcomeOf, submitted, refusal, HasRead, HasTaken}
 use Rattle.covlock.specs.Seat.{SeatData}
 
 -- an input is taken: what becomes of it comes after what was submitted and what was refused before
 pub record Takes (input : InputData) (index : ℕ) (asked asks : List OpData) (refused refuses : List RefusedInput) : Type 0 where
-  pub fate : Result SubmissionData ReadFault
-  pub is_fate : IsFate input fate
-  pub submits : asks ≡ asked ++ map SubmitOp (submitted fate)
-  pub tells : refuses ≡ refused ++ refusal index fate
+  pub outcome : Result SubmissionData ReadFault
+  pub is_fate : IsOutcomeOf input outcome
+  pub submits : asks ≡ asked ++ map SubmitOp (submitted outcome)
+  pub tells : refuses ≡ refused ++ refusal index outcome
 
 -- an operation is asked: its receipt comes after those before, and the job has now seen the place after the receipt's
 pub record Asks (receipts after : List ReceiptData) (seen : ℕ) (op : OpData) : Type 0 where

@@ -15,21 +15,21 @@ pub enum Input<A: Allocator = Global> {
 }
 
 impl<A: Allocator + Copy> Input<A> {
-    ghost use Rattle.covjobs.specs.Collect.{IsFate};
+    ghost use Rattle.covjobs.specs.Collect.{IsOutcomeOf};
     ghost use Rattle.covjobs.specs.InputView.{input_data};
 
     /// What the text is read as, to be submitted, or why it isn't read.
-    #[tactic(auto, using(crate::proofs::Fates::late_fate))]
+    #[tactic(auto, using(crate::proofs::Outcomes::late_outcome))]
     pub(crate) fn read(&self, alloc: A) -> Result<SubRef<A>, ReadFault>
-        ensures { IsFate (input_data self.now) result }
+        ensures { IsOutcomeOf (input_data self.now) result }
     {
         Ok(SubRef::of(alloc, self.submission(alloc)?)?)
     }
 
     /// The submission that the text is read as.
-    #[tactic(auto, using(crate::proofs::Fates::trace_fate, crate::proofs::Fates::gcov_fate))]
+    #[tactic(auto, using(crate::proofs::Outcomes::trace_outcome, crate::proofs::Outcomes::gcov_outcome))]
     fn submission(&self, alloc: A) -> Result<Submission<A>, ReadFault>
-        ensures { IsFate (input_data self.now) result }
+        ensures { IsOutcomeOf (input_data self.now) result }
     {
         match self {
             Input::Trace(text) => read_trace(alloc, text.get()),

@@ -43,7 +43,7 @@ pub use collected::{Collected, collect};
 // Readings of a reader that is no job are gathered too: as a log with a job number that no seat has, and no receipts.
 pub use covbook::{BookFault, Entries, JobLog, Op, Reading, Receipt, gather};
 pub use covlock::{
-    CloseFault, Done, Live, MOST_JOBS, MOST_READERS, Name, News, OpenFault, ReaderFault, Seat,
+    CloseFault, Done, Live, MAX_JOBS, MAX_READERS, Name, News, OpenFault, ReaderFault, Seat,
     Seats, Shared, Start, open_book,
 };
 pub use gate::{Gate, NoGate};

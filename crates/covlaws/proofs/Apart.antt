@@ -56,9 +56,9 @@ distinct_apart same (x ∷ xs) apart =
     ap (λ (b : Bool). cond b (distinct same xs) (distinct same xs + 1)) (none_same same x xs apart.0)
     ∙ (let rest = distinct_apart same xs apart.1 in omega (arith, rest))
 
-found_behind : {X : Type 0} (same : X → X → Bool) → IsEquivalence same → (front : List X) (x : X) (back : List X) → list_any (same x) (front ++ x ∷ back) ≡ true
-found_behind same laws [] x back = ap (λ (b : Bool). b || list_any (same x) back) (laws.refl x)
-found_behind same laws (y ∷ front) x back = ap (λ (b : Bool). same x y || b) (found_behind same laws front x back) ∙ or_true (same x y)
+found_later : {X : Type 0} (same : X → X → Bool) → IsEquivalence same → (front : List X) (x : X) (back : List X) → list_any (same x) (front ++ x ∷ back) ≡ true
+found_later same laws [] x back = ap (λ (b : Bool). b || list_any (same x) back) (laws.refl x)
+found_later same laws (y ∷ front) x back = ap (λ (b : Bool). same x y || b) (found_later same laws front x back) ∙ or_true (same x y)
 
 -- members that come again later are counted there alone
 pub distinct_again : {X : Type 0} (same : X → X → Bool) → IsEquivalence same → (xs front : List X) (ys : List X) → ys ≡ front ++ xs → distinct same (xs ++ ys) ≡ distinct same ys
@@ -75,7 +75,7 @@ distinct_again {X} same laws (x ∷ xs) front ys is =
     found =
         list_any-append (same x) xs ys
         ∙ ap (λ (l : List X). list_any (same x) xs || list_any (same x) l) is
-        ∙ ap (λ (b : Bool). list_any (same x) xs || b) (found_behind same laws front x xs)
+        ∙ ap (λ (b : Bool). list_any (same x) xs || b) (found_later same laws front x xs)
         ∙ or_true (list_any (same x) xs)
 
 -- ---- members that pass a test, or are mapped, are as different

@@ -2,7 +2,7 @@
 use Rattle.std.proofs.Common.{◌≡◌, ℕ, ◌≤◌, List, [], ◌∷◌, ◌++◌, length, sym, ◌∙◌, subst}
 use Rattle.covbook.specs.Op.{OpData, EntryData, TextAnswer, AreLawfulOps, HaveGoodNames}
 use Rattle.covbook.specs.Step.{IsLegal, answer_of, answers_from, answers_in, ops_in, table_after, table_from, table_of}
-use Rattle.covread.specs.Outcome.{most_bytes}
+use Rattle.covread.specs.Outcome.{max_bytes}
 use Rattle.covstore.specs.Table.{Table}
 use Rattle.covlaws.specs.ReadsBack.{IsReport, ReadsBack}
 
@@ -27,10 +27,10 @@ lawful_before (first ∷ before) after lawful = (lawful.0, lawful_before before 
 
 abbrev pub ReportsReadBack : Type 0
 ReportsReadBack =
-    (ops : List OpData) → AreLawfulOps ops → HaveGoodNames ops → (op : OpData) → IsReport op → (text : List ℕ) → answer_of (table_of ops) op ≡ TextAnswer text → length text ≤ most_bytes → ReadsBack text
+    (ops : List OpData) → AreLawfulOps ops → HaveGoodNames ops → (op : OpData) → IsReport op → (text : List ℕ) → answer_of (table_of ops) op ≡ TextAnswer text → length text ≤ max_bytes → ReadsBack text
 
 pub history_back : ReportsReadBack → (entries : List EntryData) → IsLegal entries → AreLawfulOps (ops_in entries) → (before after : List EntryData) (entry : EntryData) → entries ≡ before ++ entry ∷ after → HaveGoodNames (ops_in before)
-    → IsReport entry.op → (text : List ℕ) → entry.answer ≡ TextAnswer text → length text ≤ most_bytes → ReadsBack text
+    → IsReport entry.op → (text : List ℕ) → entry.answer ≡ TextAnswer text → length text ≤ max_bytes → ReadsBack text
 history_back back entries legal lawful before after entry is good asks text told short =
     let here = subst IsLegal is legal in
     back (ops_in before) (lawful_before before (entry ∷ after) (subst (λ (es : List EntryData). AreLawfulOps (ops_in es)) is lawful)) good entry.op asks text

@@ -11,7 +11,7 @@ use Rattle.covreport.specs.Choice.{AllFiles, Extracted, Removed}
 use Rattle.covstore.specs.Clash.{Agree, Checksum, checksum_of_row, checksums_in}
 use Rattle.covstore.specs.Content.{SectionData, content_at, content_of}
 use Rattle.covline.specs.Lawful.{IsLawful}
-use Rattle.covline.specs.LineLaws.{OneBehindOther, PrintedSpells}
+use Rattle.covline.specs.LineLaws.{OneAfterOther, PrintedSpells}
 use Rattle.covbook.specs.Op.{OpData, SubmitOp, DropTestOp, RenameOp, ReportOp, ExtractOp, RemoveOp, SummaryOp, TextAnswer}
 use Rattle.covbook.specs.Order.{AreAgreeing}
 use Rattle.covlaws.specs.Printable.{IsLawfulRow, submission_shown}
@@ -19,7 +19,7 @@ use Rattle.covlaws.specs.ReadsBack.{AreMergesOf, IsMergeOf, IsReadAs}
 use Rattle.covreport.specs.Report.{report_text, section_text}
 use Rattle.covline.specs.Row.{Row, SubmissionData, rows_of}
 use Rattle.covread.specs.declared.fault.ReadFault.{ReadFault}
-use Rattle.covread.specs.Outcome.{IsOutcome, most_bytes}
+use Rattle.covread.specs.Outcome.{IsOutcome, max_bytes}
 use Rattle.covbook.specs.Step.{answer_of, table_of}
 use Rattle.covreport.specs.Summary.{summary_of}
 use Rattle.covstore.specs.Table.{Table}
@@ -132,9 +132,9 @@ module _ (order : SameInAnyOrder) where
   swapped rows others agree = order (rows ++ others) (others ++ rows) (IsPermutation-append_comm rows others) agree
 
   -- what is known to add up to the same may also come after other rows
-  content_behind : (front rows others : List Row) → Agree (checksums_in (front ++ others)) → AreAmong rows others → content_of rows ≡ content_of others
+  content_after : (front rows others : List Row) → Agree (checksums_in (front ++ others)) → AreAmong rows others → content_of rows ≡ content_of others
       → content_of (front ++ rows) ≡ content_of (front ++ others)
-  content_behind front rows others agree among same =
+  content_after front rows others agree among same =
       swapped front rows (agree_among (front ++ rows) (front ++ others)
       (among_both front rows (front ++ others) (among_front front others) (λ c i. among_back front others c (among c i))) agree)
       ∙ content-append rows others front same
@@ -145,7 +145,7 @@ module _ (order : SameInAnyOrder) where
   content_of_parts [] agree = refl
   content_of_parts (part ∷ parts) agree =
       stands_for_rows (rows_in part) (rows_shown parts)
-      ∙ content_behind (rows_in part) (rows_shown parts) (rows_in (all_in parts))
+      ∙ content_after (rows_in part) (rows_shown parts) (rows_in (all_in parts))
       (subst (λ (rows : List Row). Agree (checksums_in rows)) (rows_in_joined part (all_in parts)) agree)
       (shown_among parts) (content_of_parts parts (agree_back part (all_in parts) agree))
       ∙ ap content_of (sym (rows_in_joined part (all_in parts)))
@@ -180,7 +180,7 @@ module _ (taken : AllAreTaken) where
   content_taken : (submissions : List SubmissionData) → AreAgreeing submissions → content_at (table_of (map SubmitOp submissions)) ≡ content_of (rows_in submissions)
   content_taken submissions agree = ap content_at (taken submissions agree) ∙ ap content_of (flat_map-map (λ (rows : List Row). rows) rows_of submissions)
 
-  module _ (spells : PrintedSpells) (behind : OneBehindOther) (one : HasOneReading) where
+  module _ (spells : PrintedSpells) (behind : OneAfterOther) (one : HasOneReading) where
     -- the text of a merge is that of what the part adds up to
     printed_is : (part : List SubmissionData) (merge : SubmissionData) → AreAgreeing part → (is : IsMergeOf part merge) → flat_map section_text (content_of (rows_in part)) ≡ is.text
     printed_is part merge agree is = sym (text_of_all (content_of (rows_in part))) ∙ ap (report_text AllFiles) (sym (content_taken part agree)) ∙ same_text _ is.text is.told
@@ -196,7 +196,7 @@ module _ (taken : AllAreTaken) where
     merge_lawful part merge lawful agree is =
         subst IsLawful (sym (merge_is part merge lawful agree is))
         (shown_is_lawful (content_of (rows_in part)) (printable_content (rows_in part) (lawful_all part lawful) agree)
-        (subst (λ (text : List ℕ). length text ≤ most_bytes) (sym (printed_is part merge agree is)) is.read.0))
+        (subst (λ (text : List ℕ). length text ≤ max_bytes) (sym (printed_is part merge agree is)) is.read.0))
 
     merges_are : (parts : List (List SubmissionData)) (merges : List SubmissionData) → AllByRecursion IsLawful (all_in parts) → AreAgreeing (all_in parts) → AreMergesOf parts merges
         → merges ≡ map shown_of parts

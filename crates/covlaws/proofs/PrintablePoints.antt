@@ -215,20 +215,20 @@ module _ (key : Key) (items : List ItemData) where
       some_left (map start_item (by_start s.functions)) (map call_item (by_start s.functions) ++ (map branch_item s.branches ++ map line_item s.lines))
       (some_mapped start_item (by_start s.functions) (some-sorted function_cmp s.functions names))
 
-  some_behind : 0 < length (map branch_item s.branches ++ map line_item s.lines) → 0 < length (items_shown s)
-  some_behind some =
+  some_later : 0 < length (map branch_item s.branches ++ map line_item s.lines) → 0 < length (items_shown s)
+  some_later some =
       some_right (map start_item (by_start s.functions)) (map call_item (by_start s.functions) ++ (map branch_item s.branches ++ map line_item s.lines))
       (some_right (map call_item (by_start s.functions)) (map branch_item s.branches ++ map line_item s.lines) some)
 
   some_branches : (point : BranchPoint) → In point (branch_points items) → 0 < length (items_shown s)
   some_branches point i =
-      some_behind (some_left (map branch_item s.branches) (map line_item s.lines)
+      some_later (some_left (map branch_item s.branches) (map line_item s.lines)
       (some_mapped branch_item s.branches
       (some_mapped (branch_at items) (branches_in items) (In-some (branches_in items) point (In-to_ascending branches_order.exact point (branch_points items) i)))))
 
   some_lines : (line : ℕ) → In line (line_points items) → 0 < length (items_shown s)
   some_lines line i =
-      some_behind (some_right (map branch_item s.branches) (map line_item s.lines)
+      some_later (some_right (map branch_item s.branches) (map line_item s.lines)
       (some_mapped line_item s.lines (some_mapped (line_at items) (lines_in items) (In-some (lines_in items) line (In-to_ascending lines_order.exact line (line_points items) i)))))
 
   pub some_shown : (item : ItemData) → In item items → 0 < length (items_shown s)

@@ -7,8 +7,8 @@ use Rattle.covline.specs.declared.trace_line.TotalKind.TheVariants.{FuncFound, F
 use Rattle.covline.specs.Row.{ItemData, SectData}
 use Rattle.covline.specs.Lawful.{AllFit, IsLawful, IsLawfulSect}
 use Rattle.covline.specs.Lines.{lines_of}
-use Rattle.covline.specs.LineLaws.{OneBehindOther, PrintedSpells}
-use Rattle.covread.specs.Outcome.{most_bytes}
+use Rattle.covline.specs.LineLaws.{OneAfterOther, PrintedSpells}
+use Rattle.covread.specs.Outcome.{max_bytes}
 use Rattle.covline.specs.Spells.{LineData, Test, Path, End}
 use Rattle.covread.specs.Reads.{Part, Outside, Section, IsInside, IsLawfulPart, AllSpell, records_of, odd_in, sects_from, Reads}
 use Rattle.covstore.specs.Content.{SectionData}
@@ -73,15 +73,15 @@ all_apart : (sections : List SectionData) → IsPrintable sections → AllByRecu
 all_apart sections printable = all_more _ _ (λ s own. points_apart s own.order) sections printable.each
 
 -- the lines of the whole text say what the parts' records are
-parts_spelled : PrintedSpells → OneBehindOther → (sections : List SectionData) → IsPrintable sections → length (flat_map section_text sections) ≤ most_bytes
+parts_spelled : PrintedSpells → OneAfterOther → (sections : List SectionData) → IsPrintable sections → length (flat_map section_text sections) ≤ max_bytes
     → AllSpell (lines_of (flat_map section_text sections)) (flat_map records_of (parts_of sections))
 parts_spelled spells behind sections printable short =
     subst (λ (records : List LineData). AllSpell (lines_of (flat_map section_text sections)) records) (sym (records_back sections))
     (subst (λ (text : List ℕ). AllSpell (lines_of text) (flat_map section_records sections)) (text_printed sections)
     (all_spell spells behind (flat_map section_records sections)
-    (readable_sections sections printable.each (all_more _ _ few_points sections (all_short sections most_bytes short)))))
+    (readable_sections sections printable.each (all_more _ _ few_points sections (all_short sections max_bytes short)))))
 
-pub text_reads_back : PrintedSpells → OneBehindOther → (sections : List SectionData) → IsPrintable sections → length (flat_map section_text sections) ≤ most_bytes
+pub text_reads_back : PrintedSpells → OneAfterOther → (sections : List SectionData) → IsPrintable sections → length (flat_map section_text sections) ≤ max_bytes
     → Reads (lines_of (flat_map section_text sections)) (submission_shown sections)
 text_reads_back spells behind sections printable short = record {
   parts = parts_of sections;
@@ -91,7 +91,7 @@ text_reads_back spells behind sections printable short = record {
   odd = sym (none_odd sections (all_apart sections printable));
 }
 
-pub shown_is_lawful : (sections : List SectionData) → IsPrintable sections → length (flat_map section_text sections) ≤ most_bytes → IsLawful (submission_shown sections)
+pub shown_is_lawful : (sections : List SectionData) → IsPrintable sections → length (flat_map section_text sections) ≤ max_bytes → IsLawful (submission_shown sections)
 shown_is_lawful sections printable short = record {
   few = omega (arith, items_in_text sections, short);
   texts = All-from_recursion IsLawfulSect (map sect_shown sections) (all_mapped sect_shown IsLawfulSect sections (all_more _ _ (λ s own. own.lawful) sections printable.each));

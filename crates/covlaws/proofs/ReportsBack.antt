@@ -6,10 +6,10 @@ use Rattle.std.proofs.lemmas.List.{append-nil}
 use Rattle.covreport.specs.Choice.{ChoiceData, AllFiles, Extracted, Removed, is_chosen}
 use Rattle.covstore.specs.Clash.{Agree, Checksum, checksum_of_row, checksums_in, first_clash}
 use Rattle.covstore.specs.Content.{SectionData, content_at, content_of}
-use Rattle.covline.specs.LineLaws.{OneBehindOther, PrintedSpells}
+use Rattle.covline.specs.LineLaws.{OneAfterOther, PrintedSpells}
 use Rattle.covline.specs.Lines.{lines_of}
 use Rattle.covbook.specs.Op.{OpData, SubmitOp, DropTestOp, RenameOp, ReportOp, ExtractOp, RemoveOp, SummaryOp, AcceptedAnswer, TextAnswer, AreLawfulOps, HaveGoodNames}
-use Rattle.covread.specs.Outcome.{most_bytes}
+use Rattle.covread.specs.Outcome.{max_bytes}
 use Rattle.covlaws.specs.Printable.{IsLawfulRow, IsPrintable, submission_shown}
 use Rattle.covread.specs.Reads.{Reads}
 use Rattle.covlaws.specs.ReadsBack.{IsReport, ReadsBack}
@@ -62,7 +62,7 @@ content_of_one s none = ap content_at (table_of_one s none) ∙ ap content_of (a
 
 -- ---- the text that lawful rows are printed as
 
-module _ (spells : PrintedSpells) (behind : OneBehindOther) (rows : List Row) (lawful : AllByRecursion IsLawfulRow rows) (agree : Agree (checksums_in rows)) where
+module _ (spells : PrintedSpells) (behind : OneAfterOther) (rows : List Row) (lawful : AllByRecursion IsLawfulRow rows) (agree : Agree (checksums_in rows)) where
   abbrev shown : SubmissionData
   shown = submission_shown (content_of rows)
 
@@ -70,10 +70,10 @@ module _ (spells : PrintedSpells) (behind : OneBehindOther) (rows : List Row) (l
   printable = printable_content rows lawful agree
 
   -- it is read as what it shows
-  pub text_read : (text : List ℕ) → flat_map section_text (content_of rows) ≡ text → length text ≤ most_bytes → Reads (lines_of text) shown
+  pub text_read : (text : List ℕ) → flat_map section_text (content_of rows) ≡ text → length text ≤ max_bytes → Reads (lines_of text) shown
   text_read text is short =
       subst (λ (t : List ℕ). Reads (lines_of t) shown) is
-      (text_reads_back spells behind (content_of rows) printable (subst (λ (t : List ℕ). length t ≤ most_bytes) (sym is) short))
+      (text_reads_back spells behind (content_of rows) printable (subst (λ (t : List ℕ). length t ≤ max_bytes) (sym is) short))
 
   -- an empty book that accepted it reports it again
   text_again : clash_at [] shown ≡ None → answer_of (table_of (SubmitOp shown ∷ [])) ReportOp ≡ TextAnswer (flat_map section_text (content_of rows))
@@ -81,13 +81,13 @@ module _ (spells : PrintedSpells) (behind : OneBehindOther) (rows : List Row) (l
       ap (λ (sections : List SectionData). TextAnswer (report_text AllFiles sections)) (content_of_one shown none ∙ content_shown rows)
       ∙ ap TextAnswer (text_of_all (content_of rows))
 
-  rows_read_back : ToldByFirstClash → (text : List ℕ) → flat_map section_text (content_of rows) ≡ text → length text ≤ most_bytes → ReadsBack text
+  rows_read_back : ToldByFirstClash → (text : List ℕ) → flat_map section_text (content_of rows) ≡ text → length text ≤ max_bytes → ReadsBack text
   rows_read_back told text is short =
       let none = no_clash told shown printable.agree in
       record {
         submission = shown;
         read = (short, text_read text is short);
-        lawful = shown_is_lawful (content_of rows) printable (subst (λ (t : List ℕ). length t ≤ most_bytes) (sym is) short);
+        lawful = shown_is_lawful (content_of rows) printable (subst (λ (t : List ℕ). length t ≤ max_bytes) (sym is) short);
         nothing_odd = refl;
         accepted = accepted_first shown none;
         same = text_again none ∙ ap TextAnswer is;
@@ -104,9 +104,9 @@ agree_picked p rows agree a b i j = agree a b (among a i) (among b j)
         let from = In-unflat checksum_of_row (filter p rows) c (In-from (checksums_in (filter p rows)) c k) in
         Contains-from (checksums_in rows) c (In-flat checksum_of_row rows from.0 c (In-unfilter p rows from.0 from.1).0 from.2)
 
-module _ (spells : PrintedSpells) (behind : OneBehindOther) (told : ToldByFirstClash) where
+module _ (spells : PrintedSpells) (behind : OneAfterOther) (told : ToldByFirstClash) where
   chosen_reads_back : (choice : ChoiceData) (rows : List Row) → AllByRecursion IsLawfulRow rows → Agree (checksums_in rows)
-      → (text : List ℕ) → report_text choice (content_of rows) ≡ text → length text ≤ most_bytes → ReadsBack text
+      → (text : List ℕ) → report_text choice (content_of rows) ≡ text → length text ≤ max_bytes → ReadsBack text
   chosen_reads_back choice rows lawful agree text is short =
       let test = λ (row : Row). is_chosen choice row.file in
       rows_read_back spells behind (filter test rows) (All-picked IsLawfulRow test rows lawful) (agree_picked test rows agree) told text
@@ -114,7 +114,7 @@ module _ (spells : PrintedSpells) (behind : OneBehindOther) (told : ToldByFirstC
 
   -- what is answered to such an operation is the text of a choice
   answer_reads_back : (table : Table) → AllByRecursion IsLawfulRow (all_rows table) → Agree (checksums_in (all_rows table))
-      → (op : OpData) → IsReport op → (text : List ℕ) → answer_of table op ≡ TextAnswer text → length text ≤ most_bytes → ReadsBack text
+      → (op : OpData) → IsReport op → (text : List ℕ) → answer_of table op ≡ TextAnswer text → length text ≤ max_bytes → ReadsBack text
   answer_reads_back table lawful agree (SubmitOp submission) asks text is short = absurd asks
   answer_reads_back table lawful agree (DropTestOp test) asks text is short = absurd asks
   answer_reads_back table lawful agree (RenameOp old new) asks text is short = absurd asks
@@ -125,5 +125,5 @@ module _ (spells : PrintedSpells) (behind : OneBehindOther) (told : ToldByFirstC
   answer_reads_back table lawful agree SummaryOp asks text is short = absurd asks
 
   pub reports_back : ((ops : List OpData) → Agree (checksums_in (all_rows (table_of ops)))) → (ops : List OpData) → AreLawfulOps ops → HaveGoodNames ops
-      → (op : OpData) → IsReport op → (text : List ℕ) → answer_of (table_of ops) op ≡ TextAnswer text → length text ≤ most_bytes → ReadsBack text
+      → (op : OpData) → IsReport op → (text : List ℕ) → answer_of (table_of ops) op ≡ TextAnswer text → length text ≤ max_bytes → ReadsBack text
   reports_back agree ops lawful good = answer_reads_back (table_of ops) (lawful_run ops lawful good) (agree ops)

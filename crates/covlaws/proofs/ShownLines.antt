@@ -9,7 +9,7 @@ use Rattle.covline.specs.declared.trace_line.TotalKind.TheVariants.{FuncFound, F
 use Rattle.covline.specs.Row.{ItemData, LineItem, BranchItem}
 use Rattle.covline.specs.Lawful.{IsLawfulItem, FitsItem}
 use Rattle.covline.specs.Lines.{line_feed, lines_of}
-use Rattle.covline.specs.LineLaws.{OneBehindOther, PrintedSpells}
+use Rattle.covline.specs.LineLaws.{OneAfterOther, PrintedSpells}
 use Rattle.covline.specs.Spells.{LineData, Test, Path, FuncStart, FuncCount, Branch, Line, Total, End, Skip}
 use Rattle.covline.specs.Printed.{line_text, printed, IsReadable}
 use Rattle.covread.specs.Reads.{AllSpell}
@@ -52,11 +52,11 @@ readable_hit kind hit found most small = readable_total kind hit (omega arith)
 
 -- each part of the items that a section shows is good
 module _ (s : SectionData) (good : AllByRecursion IsGoodItem (items_shown s)) where
-  behind_starts : AllByRecursion IsGoodItem (map call_item (by_start s.functions) ++ (map branch_item s.branches ++ map line_item s.lines))
-  behind_starts = all_back IsGoodItem (map start_item (by_start s.functions)) _ good
+  after_starts : AllByRecursion IsGoodItem (map call_item (by_start s.functions) ++ (map branch_item s.branches ++ map line_item s.lines))
+  after_starts = all_back IsGoodItem (map start_item (by_start s.functions)) _ good
 
-  behind_calls : AllByRecursion IsGoodItem (map branch_item s.branches ++ map line_item s.lines)
-  behind_calls = all_back IsGoodItem (map call_item (by_start s.functions)) _ behind_starts
+  after_calls : AllByRecursion IsGoodItem (map branch_item s.branches ++ map line_item s.lines)
+  after_calls = all_back IsGoodItem (map call_item (by_start s.functions)) _ after_starts
 
   readable_starts : AllByRecursion IsReadable (map start_record (by_start s.functions))
   readable_starts =
@@ -68,19 +68,19 @@ module _ (s : SectionData) (good : AllByRecursion IsGoodItem (items_shown s)) wh
   readable_calls =
       all_mapped call_record IsReadable (by_start s.functions)
       (all_more _ _ readable_call (by_start s.functions)
-      (all_unmapped call_item IsGoodItem (by_start s.functions) (all_front IsGoodItem (map call_item (by_start s.functions)) _ behind_starts)))
+      (all_unmapped call_item IsGoodItem (by_start s.functions) (all_front IsGoodItem (map call_item (by_start s.functions)) _ after_starts)))
 
   readable_branches : AllByRecursion IsReadable (map branch_record s.branches)
   readable_branches =
       all_mapped branch_record IsReadable s.branches
       (all_more _ _ (λ b good. readable_branch b.point.line b.point.block b.point.branch b.taken good.1) s.branches
-      (all_unmapped branch_item IsGoodItem s.branches (all_front IsGoodItem (map branch_item s.branches) _ behind_calls)))
+      (all_unmapped branch_item IsGoodItem s.branches (all_front IsGoodItem (map branch_item s.branches) _ after_calls)))
 
   readable_lines : AllByRecursion IsReadable (map line_record s.lines)
   readable_lines =
       all_mapped line_record IsReadable s.lines
       (all_more _ _ (λ l good. readable_line l.line l.count l.checksum good) s.lines
-      (all_unmapped line_item IsGoodItem s.lines (all_back IsGoodItem (map branch_item s.branches) _ behind_calls)))
+      (all_unmapped line_item IsGoodItem s.lines (all_back IsGoodItem (map branch_item s.branches) _ after_calls)))
 
 pub readable_section : (s : SectionData) → IsPrintableSection s → HasFewPoints s → AllByRecursion IsReadable (section_records s)
 readable_section s printable few =
@@ -117,7 +117,7 @@ feed_last (Total kind value) readable = refl
 feed_last End readable = refl
 feed_last Skip readable = absurd readable.texts
 
-module _ (spells : PrintedSpells) (behind : OneBehindOther) where
+module _ (spells : PrintedSpells) (behind : OneAfterOther) where
   first_line : (says : LineData) → IsReadable says → (rest : List ℕ) → lines_of (printed says ++ rest) ≡ line_text says ∷ lines_of rest
   first_line says readable rest =
       ap (λ (text : List ℕ). lines_of (text ++ rest)) (feed_last says readable)

@@ -8,7 +8,7 @@ use Rattle.covline.specs.Row.{ItemData, SectData, items_in}
 use Rattle.covline.specs.Lines.{line_feed}
 use Rattle.covline.specs.Spells.{LineData, Test, Path, End}
 use Rattle.covline.specs.Printed.{line_text, printed}
-use Rattle.covread.specs.Outcome.{most_bytes}
+use Rattle.covread.specs.Outcome.{max_bytes}
 use Rattle.covstore.specs.Content.{SectionData}
 use Rattle.covreport.specs.Report.{by_start, function_cmp, start_record, call_record, branch_record, line_record, section_records, section_text}
 use Rattle.covlaws.specs.Printable.{start_item, call_item, branch_item, line_item, items_shown, sect_shown}
@@ -117,9 +117,9 @@ points_shown s =
       length-map s.lines line_item,
     )
 
-pub few_points : (s : SectionData) → length (section_text s) ≤ most_bytes → HasFewPoints s
+pub few_points : (s : SectionData) → length (section_text s) ≤ max_bytes → HasFewPoints s
 few_points s short =
-    let most : length s.functions + length s.branches + length s.lines ≤ most_bytes = omega (arith, points_shown s, items_printed s, short) in
+    let most : length s.functions + length s.branches + length s.lines ≤ max_bytes = omega (arith, points_shown s, items_printed s, short) in
     record { functions = omega (arith, most); branches = omega (arith, most); lines = omega (arith, most) }
 
 -- each section's text is part of the whole text

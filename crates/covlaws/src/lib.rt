@@ -20,7 +20,7 @@ ghost use Rattle.std.specs.List.{AllByRecursion, flat_map};
 ghost use Rattle.covline.specs.Row.{Row, SubmissionData, rows_of};
 ghost use Rattle.covline.specs.Lines.{lines_of};
 ghost use Rattle.covline.specs.Lawful.{IsLawful};
-ghost use Rattle.covread.specs.Outcome.{most_bytes};
+ghost use Rattle.covread.specs.Outcome.{max_bytes};
 ghost use Rattle.covread.specs.Reads.{Reads};
 ghost use Rattle.covstore.specs.Clash.{Agree, checksums_in};
 ghost use Rattle.covstore.specs.Content.{SectionData, content_of};
@@ -44,7 +44,7 @@ use covstore::laws::{order_of_rows_does_not_matter, the_first_clash_is_told};
 /// new name that a line can't hold and the text has at most 67,108,864 bytes: it is read as a lawful submission with no odd
 /// line, an empty book accepts that, and reports the same text.
 pub fn reports_read_back()
-    ensures { (ops : List OpData) → AreLawfulOps ops → HaveGoodNames ops → (op : OpData) → IsReport op → (text : List ℕ) → answer_of (table_of ops) op ≡ TextAnswer text → length text ≤ most_bytes → ReadsBack text }
+    ensures { (ops : List OpData) → AreLawfulOps ops → HaveGoodNames ops → (op : OpData) → IsReport op → (text : List ℕ) → answer_of (table_of ops) op ≡ TextAnswer text → length text ≤ max_bytes → ReadsBack text }
 {
     printed_records_spell();
     lines_are_the_text();
@@ -56,7 +56,7 @@ pub fn reports_read_back()
 /// reads back, if it has at most 67,108,864 bytes and no rename before it has a new name that a line can't hold.
 pub fn each_report_of_a_history_reads_back()
     ensures { (entries : List EntryData) → IsLegal entries → AreLawfulOps (ops_in entries) → (before after : List EntryData) (entry : EntryData) → entries ≡ before ++ entry ∷ after → HaveGoodNames (ops_in before)
-        → IsReport entry.op → (text : List ℕ) → entry.answer ≡ TextAnswer text → length text ≤ most_bytes → ReadsBack text }
+        → IsReport entry.op → (text : List ℕ) → entry.answer ≡ TextAnswer text → length text ≤ max_bytes → ReadsBack text }
 {
     reports_read_back();
 }
@@ -85,8 +85,8 @@ pub fn a_merge_of_merges_is_the_merge_of_all()
 
 /// The text of printable sections is read as what they show, which is lawful.
 pub fn printed_sections_read_back()
-    ensures reads { (sections : List SectionData) → IsPrintable sections → length (flat_map section_text sections) ≤ most_bytes → Reads (lines_of (flat_map section_text sections)) (submission_shown sections) }
-    ensures lawful { (sections : List SectionData) → IsPrintable sections → length (flat_map section_text sections) ≤ most_bytes → IsLawful (submission_shown sections) }
+    ensures reads { (sections : List SectionData) → IsPrintable sections → length (flat_map section_text sections) ≤ max_bytes → Reads (lines_of (flat_map section_text sections)) (submission_shown sections) }
+    ensures lawful { (sections : List SectionData) → IsPrintable sections → length (flat_map section_text sections) ≤ max_bytes → IsLawful (submission_shown sections) }
 {
     printed_records_spell();
     lines_are_the_text();

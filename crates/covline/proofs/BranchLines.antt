@@ -6,16 +6,16 @@ use Rattle.std.proofs.lemmas.Bool.{cases_eq, eq-eqb, ne_eqb}
 use Rattle.std.proofs.lemmas.Option.{none-some, option_and_then_some}
 use Rattle.std.proofs.lemmas.List.Elements.{All-nil, All-cons, All-head, All-tail}
 use Rattle.covline.specs.declared.reader.Number.{Number}
-use Rattle.covline.specs.declared.reader.FirstBranch.{FirstBranch}
+use Rattle.covline.specs.declared.reader.BranchLine.{BranchLine}
 use Rattle.covline.specs.Lines.{line_feed, carriage_return, lines_of, IsFirstCut}
 use Rattle.covline.specs.Points.{BranchPoint}
 use Rattle.covline.specs.PointView.{branch_point_data}
 use Rattle.covline.specs.Spells.{LineData, Branch, IsDigit, IsNumeral, IsTaken, HasSmallNumbers, Spells, BeginsWithLine, comma, minus}
-use Rattle.covline.specs.Reading.{behind_key, field_at, number_at}
-use Rattle.covline.specs.Fronts.{BeginsWithBranchLine, IsSmallIfAny, behind_feed, branch_behind_block, branch_behind_key, branch_behind_line, branch_behind_number, branch_end, branch_front, small_front, taken_front}
+use Rattle.covline.specs.Reading.{after_key, field_at, number_at}
+use Rattle.covline.specs.Fronts.{BeginsWithBranchLine, IsSmallIfAny, after_feed, branch_after_block, branch_after_key, branch_after_line, branch_after_number, branch_end, branch_front, small_front, taken_front}
 use Rattle.covline.proofs.Cut.{HasNoFeed, NoReturn, cut_at, lines_at, strip-none}
 use Rattle.covline.proofs.ReadNumbers.{field_is, number_is}
-use Rattle.covline.proofs.SmallNumbers.{HasNumber, behind_some, mapped_some, same_some, small_field_has, small_is, small_number_has}
+use Rattle.covline.proofs.SmallNumbers.{HasNumber, after_some, mapped_some, same_some, small_field_has, small_is, small_number_has}
 
 -- bytes above a line feed and a carriage return
 abbrev IsClean : List ℕ → Type 0
@@ -129,15 +129,15 @@ field_parts : (fields rest : List ℕ) (n : ℕ) (f : HasNumber fields rest n (�
 field_parts fields rest n f = f.parts ∙ append_assoc f.digits (comma ∷ []) rest
 
 -- the parts of a branch line, if it is read in one pass
-branch_line_of : (text fields : List ℕ) (line block branch : ℕ × List ℕ) (taken : Option ℕ × List ℕ) (rest : List ℕ) → behind_key (codes "BRDA:") text ≡ Some fields
+branch_line_of : (text fields : List ℕ) (line block branch : ℕ × List ℕ) (taken : Option ℕ × List ℕ) (rest : List ℕ) → after_key (codes "BRDA:") text ≡ Some fields
     → small_front (field_at fields) ≡ Some line → small_front (field_at line.1) ≡ Some block → small_front (field_at block.1) ≡ Some branch → taken_front branch.1 ≡ Some taken
-    → behind_feed taken.1 ≡ Some rest → BeginsWithBranchLine text (record { line = line.0; block = block.0; branch = branch.0 }) taken.0 rest
+    → after_feed taken.1 ≡ Some rest → BeginsWithBranchLine text (record { line = line.0; block = block.0; branch = branch.0 }) taken.0 rest
 branch_line_of text fields line block branch taken rest key first second third fourth feed =
     let l = small_field_has fields line.1 line.0 first in
     let k = small_field_has line.1 block.1 block.0 second in
     let b = small_field_has block.1 branch.1 branch.0 third in
     let t = taken_has branch.1 taken fourth in
-    let end : branch.1 ≡ t.word ++ line_feed ∷ rest = t.parts ∙ ap (λ (u : List ℕ). t.word ++ u) (behind_some (line_feed ∷ []) taken.1 rest (sym feed)) in
+    let end : branch.1 ≡ t.word ++ line_feed ∷ rest = t.parts ∙ ap (λ (u : List ℕ). t.word ++ u) (after_some (line_feed ∷ []) taken.1 rest (sym feed)) in
     let last : block.1 ≡ b.digits ++ comma ∷ (t.word ++ line_feed ∷ rest) = field_parts block.1 branch.1 branch.0 b ∙ ap (λ (u : List ℕ). b.digits ++ comma ∷ u) end in
     let middle : line.1 ≡ k.digits ++ comma ∷ (b.digits ++ comma ∷ (t.word ++ line_feed ∷ rest)) = field_parts line.1 block.1 block.0 k ∙ ap (λ (u : List ℕ). k.digits ++ comma ∷ u) last in
     let front : fields ≡ l.digits ++ comma ∷ (k.digits ++ comma ∷ (b.digits ++ comma ∷ (t.word ++ line_feed ∷ rest))) =
@@ -147,7 +147,7 @@ branch_line_of text fields line block branch taken rest key first second third f
       blocks = k.digits;
       branches = b.digits;
       word = t.word;
-      parts = behind_some (codes "BRDA:") text fields (sym key) ∙ ap (λ (u : List ℕ). codes "BRDA:" ++ u) front;
+      parts = after_some (codes "BRDA:") text fields (sym key) ∙ ap (λ (u : List ℕ). codes "BRDA:" ++ u) front;
       line_is = l.numeral;
       block_is = k.numeral;
       branch_is = b.numeral;
@@ -163,13 +163,13 @@ Read = (BranchPoint × Option ℕ) × List ℕ
 
 branch_line_from : (text : List ℕ) (read : Read) → branch_front text ≡ Some read → BeginsWithBranchLine text read.0.0 read.0.1 read.1
 branch_line_from text read e =
-    option_and_then_some branch_behind_key (behind_key (codes "BRDA:") text) read e (λ fields key e1.
-    option_and_then_some branch_behind_line (small_front (field_at fields)) read e1 (λ line first e2.
-    option_and_then_some (branch_behind_block line.0) (small_front (field_at line.1)) read e2 (λ block second e3.
-    option_and_then_some (branch_behind_number line.0 block.0) (small_front (field_at block.1)) read e3 (λ branch third e4.
+    option_and_then_some branch_after_key (after_key (codes "BRDA:") text) read e (λ fields key e1.
+    option_and_then_some branch_after_line (small_front (field_at fields)) read e1 (λ line first e2.
+    option_and_then_some (branch_after_block line.0) (small_front (field_at line.1)) read e2 (λ block second e3.
+    option_and_then_some (branch_after_number line.0 block.0) (small_front (field_at block.1)) read e3 (λ branch third e4.
     let point : BranchPoint = record { line = line.0; block = block.0; branch = branch.0 } in
     option_and_then_some (branch_end point) (taken_front branch.1) read e4 (λ taken fourth e5.
-    let end = mapped_some (λ (rest : List ℕ). ((point, taken.0), rest)) (behind_feed taken.1) read e5 in
+    let end = mapped_some (λ (rest : List ℕ). ((point, taken.0), rest)) (after_feed taken.1) read e5 in
     subst (λ (r : Read). BeginsWithBranchLine text r.0.0 r.0.1 r.1) end.2 (branch_line_of text fields line block branch taken end.0 key first second third fourth end.1))))))
 
 -- and each such line is read so
@@ -179,13 +179,13 @@ branch_line_read text point taken rest begins =
     let last : List ℕ = begins.branches ++ comma ∷ end in
     let middle : List ℕ = begins.blocks ++ comma ∷ last in
     ap branch_front begins.parts
-    ∙ ap (option_and_then branch_behind_line) (small_field begins.digits middle point.line begins.line_is begins.line_small)
-    ∙ ap (option_and_then (branch_behind_block point.line)) (small_field begins.blocks last point.block begins.block_is begins.block_small)
-    ∙ ap (option_and_then (branch_behind_number point.line point.block)) (small_field begins.branches end point.branch begins.branch_is begins.branch_small)
+    ∙ ap (option_and_then branch_after_line) (small_field begins.digits middle point.line begins.line_is begins.line_small)
+    ∙ ap (option_and_then (branch_after_block point.line)) (small_field begins.blocks last point.block begins.block_is begins.block_small)
+    ∙ ap (option_and_then (branch_after_number point.line point.block)) (small_field begins.branches end point.branch begins.branch_is begins.branch_small)
     ∙ ap (option_and_then (branch_end point)) (taken_is begins.word rest taken begins.taken_is begins.taken_small)
   where
-    small_field : (digits behind : List ℕ) (n : ℕ) → IsNumeral digits n → n < 2 ^ 64 → small_front (field_at (digits ++ comma ∷ behind)) ≡ Some (n, behind)
-    small_field digits behind n numeral small = ap small_front (field_is digits behind n numeral) ∙ small_is n behind small
+    small_field : (digits after : List ℕ) (n : ℕ) → IsNumeral digits n → n < 2 ^ 64 → small_front (field_at (digits ++ comma ∷ after)) ≡ Some (n, after)
+    small_field digits after n numeral small = ap small_front (field_is digits after n numeral) ∙ small_is n after small
 
 -- such a first line says the record that is read
 branch_line_says : (text : List ℕ) (point : BranchPoint) (taken : Option ℕ) (rest : List ℕ) → BeginsWithBranchLine text point taken rest
@@ -197,19 +197,19 @@ branch_line_says text point taken rest begins =
 
 -- ---- what the reader of such lines answers
 
-abbrev pub branch_seen : FirstBranch → Read
+abbrev pub branch_seen : BranchLine → Read
 branch_seen f = ((branch_point_data f.point, f.taken), f.rest.now)
 
-pub branch_form : (result : Option FirstBranch) (text : List ℕ) → option_map branch_seen result ≡ branch_front text → IfSome result (λ f. BeginsWithBranchLine text (branch_point_data f.point) f.taken f.rest.now)
+pub branch_form : (result : Option BranchLine) (text : List ℕ) → option_map branch_seen result ≡ branch_front text → IfSome result (λ f. BeginsWithBranchLine text (branch_point_data f.point) f.taken f.rest.now)
 branch_form None text read = tt
 branch_form (Some f) text read = branch_line_from text (branch_seen f) (sym read)
 
-pub branch_says : (result : Option FirstBranch) (text : List ℕ) → option_map branch_seen result ≡ branch_front text
+pub branch_says : (result : Option BranchLine) (text : List ℕ) → option_map branch_seen result ≡ branch_front text
     → IfSome result (λ f. BeginsWithLine text (Branch f.point.line f.point.block f.point.branch f.taken) f.rest.now)
 branch_says None text read = tt
 branch_says (Some f) text read = branch_line_says text (branch_point_data f.point) f.taken f.rest.now (branch_line_from text (branch_seen f) (sym read))
 
-pub branch_only : (result : Option FirstBranch) (text : List ℕ) → option_map branch_seen result ≡ branch_front text → (point : BranchPoint) (taken : Option ℕ) (rest : List ℕ)
+pub branch_only : (result : Option BranchLine) (text : List ℕ) → option_map branch_seen result ≡ branch_front text → (point : BranchPoint) (taken : Option ℕ) (rest : List ℕ)
     → BeginsWithBranchLine text point taken rest → MatchOption result ⊥ (λ f. (branch_point_data f.point ≡ point) × (f.taken ≡ taken) × (f.rest.now ≡ rest))
 branch_only None text read point taken rest begins = none-some ((point, taken), rest) (read ∙ branch_line_read text point taken rest begins)
 branch_only (Some f) text read point taken rest begins =

@@ -7,7 +7,7 @@ use Rattle.std.proofs.Math.Seq.{take-append_seam}
 use Rattle.std.proofs.lemmas.List.Elements.{All-cons, All-nil, All-head, All-tail}
 use Rattle.covline.specs.Lawful.{IsChecksum, IsChecksumByte}
 use Rattle.covline.specs.Spells.{comma}
-use Rattle.covline.specs.Fronts.{behind_checksum, checksum_bytes, checksum_front, some_front}
+use Rattle.covline.specs.Fronts.{after_checksum, checksum_bytes, checksum_front, some_front}
 use Rattle.covline.specs.Reading.{is_checksum_byte, all_checksum_bytes, is_checksum, checksum_of}
 
 differ : (a b : ℕ) → not (eqb a b) ≡ true → a ≢ b
@@ -55,7 +55,7 @@ checksum_test text false told =
 
 -- ---- at the front of a text, with what follows it
 
-pub checksum_parts : (text : List ℕ) → text ≡ checksum_bytes text ++ behind_checksum text
+pub checksum_parts : (text : List ℕ) → text ≡ checksum_bytes text ++ after_checksum text
 checksum_parts [] = refl
 checksum_parts (b ∷ bs) =
     elim (cases_Bool (is_checksum_byte b)) [
@@ -63,23 +63,23 @@ checksum_parts (b ∷ bs) =
       | inr fails ↦ rw fails refl
     ]
 
-pub behind_fits : (text : List ℕ) → length (behind_checksum text) ≤ length text
-behind_fits text =
-    let e : length text ≡ length (checksum_bytes text) + length (behind_checksum text) = ap (λ (u : List ℕ). length u) (checksum_parts text) ∙ length-append (checksum_bytes text) (behind_checksum text) in
+pub after_fits : (text : List ℕ) → length (after_checksum text) ≤ length text
+after_fits text =
+    let e : length text ≡ length (checksum_bytes text) + length (after_checksum text) = ap (λ (u : List ℕ). length u) (checksum_parts text) ∙ length-append (checksum_bytes text) (after_checksum text) in
     omega (arith, e)
 
-bytes_are : (text : List ℕ) → take (length text - length (behind_checksum text)) text ≡ checksum_bytes text
+bytes_are : (text : List ℕ) → take (length text - length (after_checksum text)) text ≡ checksum_bytes text
 bytes_are text =
     let bytes : List ℕ = checksum_bytes text in
-    let behind : List ℕ = behind_checksum text in
-    let e : length text ≡ length bytes + length behind = ap (λ (u : List ℕ). length u) (checksum_parts text) ∙ length-append bytes behind in
-    let size : length text - length behind ≡ length bytes = omega (arith, e) in
-    ap (λ (n : ℕ). take n text) size ∙ ap (λ (u : List ℕ). take (length bytes) u) (checksum_parts text) ∙ take-append_seam bytes behind
+    let after : List ℕ = after_checksum text in
+    let e : length text ≡ length bytes + length after = ap (λ (u : List ℕ). length u) (checksum_parts text) ∙ length-append bytes after in
+    let size : length text - length after ≡ length bytes = omega (arith, e) in
+    ap (λ (n : ℕ). take n text) size ∙ ap (λ (u : List ℕ). take (length bytes) u) (checksum_parts text) ∙ take-append_seam bytes after
 
 -- the bytes before the rest are the checksum
-pub front_is : (text rest : List ℕ) → rest ≡ behind_checksum text → some_front (take (length text - length rest) text) rest ≡ checksum_front text
+pub front_is : (text rest : List ℕ) → rest ≡ after_checksum text → some_front (take (length text - length rest) text) rest ≡ checksum_front text
 front_is text rest e =
-    ap (λ (u : List ℕ). some_front (take (length text - length u) text) u) e ∙ ap (λ (u : List ℕ). some_front u (behind_checksum text)) (bytes_are text)
+    ap (λ (u : List ℕ). some_front (take (length text - length u) text) u) e ∙ ap (λ (u : List ℕ). some_front u (after_checksum text)) (bytes_are text)
 
 pub no_front : (checksum rest : List ℕ) → eqb (length checksum) 0 ≡ true → None ≡ some_front checksum rest
 no_front [] rest e = refl
@@ -92,24 +92,24 @@ whole_front (b ∷ bs) rest e = refl
 -- ---- after a count
 
 -- nothing follows the count, or a comma and a checksum
-abbrev pub IsBehindCount : List ℕ → Option (List ℕ) → Type 0
-IsBehindCount rest None = rest ≡ []
-IsBehindCount rest (Some checksum) = (rest ≡ comma ∷ checksum) × IsChecksum checksum
+abbrev pub IsAfterCount : List ℕ → Option (List ℕ) → Type 0
+IsAfterCount rest None = rest ≡ []
+IsAfterCount rest (Some checksum) = (rest ≡ comma ∷ checksum) × IsChecksum checksum
 
-pub checksum_read : (rest : List ℕ) (checksum : Option (List ℕ)) → IsBehindCount rest checksum → checksum_of rest ≡ Some checksum
-checksum_read rest None behind = ap checksum_of behind
-checksum_read rest (Some checksum) behind =
-    let test : is_checksum checksum ≡ true = checksum_is checksum behind.1 in
-    ap checksum_of behind.0 ∙ rw test refl
+pub checksum_read : (rest : List ℕ) (checksum : Option (List ℕ)) → IsAfterCount rest checksum → checksum_of rest ≡ Some checksum
+checksum_read rest None after = ap checksum_of after
+checksum_read rest (Some checksum) after =
+    let test : is_checksum checksum ≡ true = checksum_is checksum after.1 in
+    ap checksum_of after.0 ∙ rw test refl
 
-pub checksum_or_none : (rest : List ℕ) → ((checksum : Option (List ℕ)) × IsBehindCount rest checksum) ⊎ (checksum_of rest ≡ None)
+pub checksum_or_none : (rest : List ℕ) → ((checksum : Option (List ℕ)) × IsAfterCount rest checksum) ⊎ (checksum_of rest ≡ None)
 checksum_or_none [] = inl (None, refl)
 checksum_or_none (b ∷ bs) =
     elim (cases_eq b comma) [
-      | inl same ↦ let behind : eqb b comma ≡ true = eq-eqb b comma same in
+      | inl same ↦ let after : eqb b comma ≡ true = eq-eqb b comma same in
           elim (cases_Bool (is_checksum bs)) [
             | inl holds ↦ inl (Some bs, (ap (λ (c : ℕ). c ∷ bs) same, checksum_from bs holds))
-            | inr fails ↦ inr (rw (behind, fails) refl)
+            | inr fails ↦ inr (rw (after, fails) refl)
           ]
-      | inr differs ↦ let behind : eqb b comma ≡ false = ne_eqb b comma differs in inr (rw behind refl)
+      | inr differs ↦ let after : eqb b comma ≡ false = ne_eqb b comma differs in inr (rw after refl)
     ]

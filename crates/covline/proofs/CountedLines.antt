@@ -5,17 +5,17 @@ use Rattle.std.specs.Option.{option_and_then}
 use Rattle.std.proofs.lemmas.Bool.{cases_Bool, cases_eq, eq-eqb, ne_eqb}
 use Rattle.std.proofs.lemmas.Option.{none-some, option_and_then_some}
 use Rattle.std.proofs.lemmas.List.Elements.{All-nil, All-cons, All-head, All-tail, All-append, All-weaker}
-use Rattle.covline.specs.declared.reader.FirstLine.{FirstLine}
+use Rattle.covline.specs.declared.reader.CountLine.{CountLine}
 use Rattle.covline.specs.Lawful.{IsChecksum, IsChecksumByte, IsGoodTest}
 use Rattle.covline.specs.Lines.{line_feed, lines_of, IsFirstCut}
 use Rattle.covline.specs.Spells.{LineData, Line, IsDigit, IsNumeral, Spells, BeginsWithLine, comma}
-use Rattle.covline.specs.Reading.{behind_key, field_at, is_checksum_byte, number_at, sized_number}
-use Rattle.covline.specs.Fronts.{BeginsWithCountedLine, EndsCount, behind_checksum, behind_feed, checked_end, checksum_bytes, checksum_front, count_end, counted_behind_key, counted_behind_line, counted_end, counted_front, plain_end, small_front, some_front}
+use Rattle.covline.specs.Reading.{after_key, field_at, is_checksum_byte, number_at, sized_number}
+use Rattle.covline.specs.Fronts.{BeginsWithCountedLine, EndsCount, after_checksum, after_feed, checked_end, checksum_bytes, checksum_front, count_end, counted_after_key, counted_after_line, counted_end, counted_front, plain_end, small_front, some_front}
 use Rattle.covline.proofs.Cut.{cut_at, lines_at, strip-none}
 use Rattle.covline.proofs.GoodTexts.{IsGoodTest-append, IsGoodTest-checksum, IsGoodTest-plain, IsPlain}
 use Rattle.covline.proofs.Checksums.{byte_from, byte_is, checksum_parts}
 use Rattle.covline.proofs.ReadNumbers.{field_is, number_is}
-use Rattle.covline.proofs.SmallNumbers.{behind_some, mapped_some, same_some, small_field_has, small_is, small_number_has}
+use Rattle.covline.proofs.SmallNumbers.{after_some, mapped_some, same_some, small_field_has, small_is, small_number_has}
 
 -- a line that a line feed ends, and what it says
 good_line : (line rest : List ℕ) (says : LineData) → IsGoodTest line → Spells line says → BeginsWithLine (line ++ line_feed ∷ rest) says rest
@@ -97,7 +97,7 @@ counted_line_says text line count checksum rest begins =
 
 -- ---- the end of such a line
 
-checksum_read : (checksum rest : List ℕ) → All IsChecksumByte checksum → (checksum_bytes (checksum ++ line_feed ∷ rest) ≡ checksum) × (behind_checksum (checksum ++ line_feed ∷ rest) ≡ line_feed ∷ rest)
+checksum_read : (checksum rest : List ℕ) → All IsChecksumByte checksum → (checksum_bytes (checksum ++ line_feed ∷ rest) ≡ checksum) × (after_checksum (checksum ++ line_feed ∷ rest) ≡ line_feed ∷ rest)
 checksum_read [] rest each = (refl, refl)
 checksum_read (b ∷ bs) rest each =
     let test : is_checksum_byte b ≡ true = byte_is b (All-head IsChecksumByte b bs each) in
@@ -111,7 +111,7 @@ some_front_is (b ∷ bs) rest some = refl
 checksum_front_is : (checksum rest : List ℕ) → IsChecksum checksum → checksum_front (checksum ++ line_feed ∷ rest) ≡ Some (checksum, line_feed ∷ rest)
 checksum_front_is checksum rest checked =
     let read = checksum_read checksum rest checked.each in
-    ap (λ (u : List ℕ). some_front u (behind_checksum (checksum ++ line_feed ∷ rest))) read.0 ∙ ap (some_front checksum) read.1 ∙ some_front_is checksum (line_feed ∷ rest) checked.some
+    ap (λ (u : List ℕ). some_front u (after_checksum (checksum ++ line_feed ∷ rest))) read.0 ∙ ap (some_front checksum) read.1 ∙ some_front_is checksum (line_feed ∷ rest) checked.some
 
 -- each end is read so
 count_end_is : (end : List ℕ) (checksum : Option (List ℕ)) (rest : List ℕ) → EndsCount end checksum rest → count_end end ≡ Some (checksum, rest)
@@ -135,16 +135,16 @@ some_front_has (b ∷ bs) rest front e =
 
 plain_from : (text : List ℕ) (end : Option (List ℕ) × List ℕ) → plain_end text ≡ Some end → EndsCount text end.0 end.1
 plain_from text end e =
-    let feed = mapped_some (λ (rest : List ℕ). (None, rest)) (behind_feed text) end e in
-    subst (λ (r : Option (List ℕ) × List ℕ). EndsCount text r.0 r.1) feed.2 (behind_some (line_feed ∷ []) text feed.0 (sym feed.1))
+    let feed = mapped_some (λ (rest : List ℕ). (None, rest)) (after_feed text) end e in
+    subst (λ (r : Option (List ℕ) × List ℕ). EndsCount text r.0 r.1) feed.2 (after_some (line_feed ∷ []) text feed.0 (sym feed.1))
 
 checked_from : (text : List ℕ) (end : Option (List ℕ) × List ℕ) → option_and_then checked_end (checksum_front text) ≡ Some end → EndsCount (comma ∷ text) end.0 end.1
 checked_from text end e =
     option_and_then_some checked_end (checksum_front text) end e (λ front read e1.
-    let some = some_front_has (checksum_bytes text) (behind_checksum text) front read in
-    let feed = mapped_some (λ (rest : List ℕ). (Some front.0, rest)) (behind_feed front.1) end e1 in
-    let behind : front.1 ≡ line_feed ∷ feed.0 = behind_some (line_feed ∷ []) front.1 feed.0 (sym feed.1) in
-    let parts : text ≡ front.0 ++ line_feed ∷ feed.0 = checksum_parts text ∙ ap (λ (u : List ℕ). u ++ behind_checksum text) some.1 ∙ ap (λ (u : List ℕ). front.0 ++ u) (some.2 ∙ behind) in
+    let some = some_front_has (checksum_bytes text) (after_checksum text) front read in
+    let feed = mapped_some (λ (rest : List ℕ). (Some front.0, rest)) (after_feed front.1) end e1 in
+    let after : front.1 ≡ line_feed ∷ feed.0 = after_some (line_feed ∷ []) front.1 feed.0 (sym feed.1) in
+    let parts : text ≡ front.0 ++ line_feed ∷ feed.0 = checksum_parts text ∙ ap (λ (u : List ℕ). u ++ after_checksum text) some.1 ∙ ap (λ (u : List ℕ). front.0 ++ u) (some.2 ∙ after) in
     let checked : IsChecksum front.0 = subst IsChecksum some.1 (record { some = some.0; each = each_byte text }) in
     subst (λ (r : Option (List ℕ) × List ℕ). EndsCount (comma ∷ text) r.0 r.1) feed.2 (ap (λ (u : List ℕ). comma ∷ u) parts, checked))
 
@@ -167,7 +167,7 @@ abbrev Read : Type 0
 Read = (ℕ × ℕ) × (Option (List ℕ) × List ℕ)
 
 -- the parts of a counted line, if it is read in one pass
-counted_line_of : (text fields : List ℕ) (line count : ℕ × List ℕ) (end : Option (List ℕ) × List ℕ) → behind_key (codes "DA:") text ≡ Some fields → small_front (field_at fields) ≡ Some line
+counted_line_of : (text fields : List ℕ) (line count : ℕ × List ℕ) (end : Option (List ℕ) × List ℕ) → after_key (codes "DA:") text ≡ Some fields → small_front (field_at fields) ≡ Some line
     → small_front (number_at line.1) ≡ Some count → count_end count.1 ≡ Some end → BeginsWithCountedLine text line.0 count.0 end.0 end.1
 counted_line_of text fields line count end key field number last =
     let f = small_field_has fields line.1 line.0 field in
@@ -177,7 +177,7 @@ counted_line_of text fields line count end key field number last =
       counts = n.digits;
       end = count.1;
       parts =
-          behind_some (codes "DA:") text fields (sym key)
+          after_some (codes "DA:") text fields (sym key)
           ∙ ap (λ (u : List ℕ). codes "DA:" ++ u) (f.parts ∙ append_assoc f.digits (comma ∷ []) line.1)
           ∙ ap (λ (u : List ℕ). codes "DA:" ++ (f.digits ++ comma ∷ u)) n.parts;
       line_is = f.numeral;
@@ -189,8 +189,8 @@ counted_line_of text fields line count end key field number last =
 
 counted_line_from : (text : List ℕ) (read : Read) → counted_front text ≡ Some read → BeginsWithCountedLine text read.0.0 read.0.1 read.1.0 read.1.1
 counted_line_from text read e =
-    option_and_then_some counted_behind_key (behind_key (codes "DA:") text) read e (λ fields key e1.
-    option_and_then_some counted_behind_line (small_front (field_at fields)) read e1 (λ line field e2.
+    option_and_then_some counted_after_key (after_key (codes "DA:") text) read e (λ fields key e1.
+    option_and_then_some counted_after_line (small_front (field_at fields)) read e1 (λ line field e2.
     option_and_then_some (counted_end line.0) (small_front (number_at line.1)) read e2 (λ count number e3.
     let end = mapped_some (λ (last : Option (List ℕ) × List ℕ). ((line.0, count.0), last)) (count_end count.1) read e3 in
     subst (λ (r : Read). BeginsWithCountedLine text r.0.0 r.0.1 r.1.0 r.1.1) end.2 (counted_line_of text fields line count end.0 key field number end.1))))
@@ -211,27 +211,27 @@ counted_line_read text line count checksum rest begins =
     let number : small_front (number_at (begins.counts ++ begins.end)) ≡ Some (count, begins.end) =
     ap small_front (counts_read begins.counts begins.end count checksum rest begins.count_is begins.end_is) ∙ small_is count begins.end begins.count_small in
     ap counted_front begins.parts
-    ∙ ap (option_and_then counted_behind_line) field
+    ∙ ap (option_and_then counted_after_line) field
     ∙ ap (option_and_then (counted_end line)) number
     ∙ ap (option_map (λ (end : Option (List ℕ) × List ℕ). ((line, count), end))) (count_end_is begins.end checksum rest begins.end_is)
 
 -- ---- what the reader of such lines answers
 
-abbrev pub counted_seen : FirstLine → Read
+abbrev pub counted_seen : CountLine → Read
 counted_seen f = ((f.line, f.count), (option_map (λ c. c.now) f.checksum, f.rest.now))
 
-pub counted_form : (result : Option FirstLine) (text : List ℕ) → option_map counted_seen result ≡ counted_front text
+pub counted_form : (result : Option CountLine) (text : List ℕ) → option_map counted_seen result ≡ counted_front text
     → IfSome result (λ f. BeginsWithCountedLine text f.line f.count (option_map (λ c. c.now) f.checksum) f.rest.now)
 counted_form None text read = tt
 counted_form (Some f) text read = counted_line_from text (counted_seen f) (sym read)
 
-pub counted_says : (result : Option FirstLine) (text : List ℕ) → option_map counted_seen result ≡ counted_front text
+pub counted_says : (result : Option CountLine) (text : List ℕ) → option_map counted_seen result ≡ counted_front text
     → IfSome result (λ f. BeginsWithLine text (Line f.line f.count (option_map (λ c. c.now) f.checksum)) f.rest.now)
 counted_says None text read = tt
 counted_says (Some f) text read =
     counted_line_says text f.line f.count (option_map (λ c. c.now) f.checksum) f.rest.now (counted_line_from text (counted_seen f) (sym read))
 
-pub counted_only : (result : Option FirstLine) (text : List ℕ) → option_map counted_seen result ≡ counted_front text → (line count : ℕ) (checksum : Option (List ℕ)) (rest : List ℕ)
+pub counted_only : (result : Option CountLine) (text : List ℕ) → option_map counted_seen result ≡ counted_front text → (line count : ℕ) (checksum : Option (List ℕ)) (rest : List ℕ)
     → BeginsWithCountedLine text line count checksum rest
     → MatchOption result ⊥ (λ f. (f.line ≡ line) × (f.count ≡ count) × (option_map (λ c. c.now) f.checksum ≡ checksum) × (f.rest.now ≡ rest))
 counted_only None text read line count checksum rest begins = none-some ((line, count), (checksum, rest)) (read ∙ counted_line_read text line count checksum rest begins)

@@ -214,15 +214,15 @@ HasNoFeed-take text i none =
 -- if there is a line feed at this place, the text before it is the first line, and the text after it is the rest
 parts_at : (text : List ℕ) (i : ℕ) → NoneBefore (Passes (is_byte line_feed) text) 0 (length text) i → Passes (is_byte line_feed) text i → text ≡ take i text ++ line_feed ∷ drop (i + 1) text
 parts_at text i first here =
-    let behind : drop i text ≡ line_feed ∷ drop (i + 1) text = drop_more text i 0 first.high ∙ ap (λ (b : ℕ). b ∷ drop (i + 1) text) (eqb-true (get_or text i 0) line_feed here) in
-    sym (take-append-drop i text) ∙ ap (λ (t : List ℕ). take i text ++ t) behind
+    let after : drop i text ≡ line_feed ∷ drop (i + 1) text = drop_more text i 0 first.high ∙ ap (λ (b : ℕ). b ∷ drop (i + 1) text) (eqb-true (get_or text i 0) line_feed here) in
+    sym (take-append-drop i text) ∙ ap (λ (t : List ℕ). take i text ++ t) after
 
 pub cut_at : (text front rest : List ℕ) → HasNoFeed front → text ≡ front ++ line_feed ∷ rest → IsFirstCut text (strip front) rest
 cut_at text front rest none parts = record {
   piece = front ++ line_feed ∷ [];
   first = ap pieces_of parts ∙ pieces_at front rest none;
   line_is = ap strip (sym (before_feed-at front [] none));
-  behind = parts ∙ sym (append_assoc front (line_feed ∷ []) rest);
+  after = parts ∙ sym (append_assoc front (line_feed ∷ []) rest);
 }
 
 cut_whole : (b : ℕ) (bs : List ℕ) → HasNoFeed (b ∷ bs) → IsFirstCut (b ∷ bs) (strip (b ∷ bs)) []
@@ -230,7 +230,7 @@ cut_whole b bs none = record {
   piece = b ∷ bs;
   first = pieces_last b bs none;
   line_is = ap strip (sym (before_feed-none (b ∷ bs) none));
-  behind = sym (append-nil (b ∷ bs));
+  after = sym (append-nil (b ∷ bs));
 }
 
 -- the first line, both if the search found a line feed after it and if it found none
@@ -244,8 +244,8 @@ first_cut_whole (b ∷ bs) line [] some none line-is empty = rw line-is (cut_who
 first_cut_whole text line (b ∷ bs) some none line-is empty = absurd (omega (arith, empty))
 
 -- the lines of the text are then that line and those of the rest
-pub lines_behind : (text line rest : List ℕ) → IsFirstCut text line rest → lines_of text ≡ line ∷ lines_of rest
-lines_behind text line rest cut = ap (map line_of) cut.first ∙ ap (λ (l : List ℕ). l ∷ lines_of rest) (sym cut.line_is)
+pub lines_after : (text line rest : List ℕ) → IsFirstCut text line rest → lines_of text ≡ line ∷ lines_of rest
+lines_after text line rest cut = ap (map line_of) cut.first ∙ ap (λ (l : List ℕ). l ∷ lines_of rest) (sym cut.line_is)
 
 -- ---- texts joined to others
 

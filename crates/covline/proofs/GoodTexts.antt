@@ -19,8 +19,8 @@ pub All-part : {X : Type 0} (P : X → Type 0) (front rest : List X) → All P (
 All-part P front rest all = All-same P rest (drop (length front) (front ++ rest)) (sym (drop_at front rest (length front) refl)) (All-drop P (length front) (front ++ rest) all)
 
 -- what follows the front of a good text is a good text
-pub IsGoodTest-behind : (front rest : List ℕ) → IsGoodTest (front ++ rest) → IsGoodTest rest
-IsGoodTest-behind front rest good = record {
+pub IsGoodTest-after : (front rest : List ℕ) → IsGoodTest (front ++ rest) → IsGoodTest rest
+IsGoodTest-after front rest good = record {
   one_line = All-part (λ b. b ≢ line_feed) front rest good.one_line;
   no_return = λ before e. good.no_return (front ++ before) (ap (λ (t : List ℕ). front ++ t) e ∙ sym (append_assoc front before (carriage_return ∷ [])));
 }

@@ -1,6 +1,6 @@
 -- The laws of the lines of a text, in the words of the definitions.
-use Rattle.covline.specs.LineLaws.{JoinedAgain, GoodLines, GoodRest, FewLines, FewBytes, OnlyReturnsOff, OneBehindOther, MadeOfLines}
-use Rattle.covline.proofs.GoodTexts.{IsGoodTest-behind}
+use Rattle.covline.specs.LineLaws.{JoinedAgain, GoodLines, GoodRest, FewLines, FewBytes, OnlyReturnsOff, OneAfterOther, MadeOfLines}
+use Rattle.covline.proofs.GoodTexts.{IsGoodTest-after}
 use Rattle.covline.proofs.Cut.{concat-pieces, IsGoodTest-lines, length-lines, bytes-lines, strip-parts, lines-append, lines-joined}
 
 pub joined_again : JoinedAgain
@@ -10,7 +10,7 @@ pub good_lines : GoodLines
 good_lines = IsGoodTest-lines
 
 pub good_rest : GoodRest
-good_rest = IsGoodTest-behind
+good_rest = IsGoodTest-after
 
 pub few_lines : FewLines
 few_lines = length-lines
@@ -21,8 +21,8 @@ few_bytes = bytes-lines
 pub only_returns_off : OnlyReturnsOff
 only_returns_off = strip-parts
 
-pub one_behind_other : OneBehindOther
-one_behind_other = lines-append
+pub one_after_other : OneAfterOther
+one_after_other = lines-append
 
 pub made_of_lines : MadeOfLines
 made_of_lines = lines-joined

@@ -85,13 +85,13 @@ plain_end = All-from_recursion IsPlain (codes "end_of_record") (lit< tt, (lit< t
 good_number : (front : List ℕ) (n : ℕ) → All IsPlain front → n < 2 ^ 128 → IsGoodTest (front ++ decimal n)
 good_number front n plain small = IsGoodTest-plain (front ++ decimal n) (All-append IsPlain front (decimal n) plain (plain_decimal n small))
 
-good_behind_comma : (rest : List ℕ) → IsGoodTest rest → IsGoodTest (comma ∷ rest)
-good_behind_comma rest good = IsGoodTest-append (comma ∷ []) rest (IsGoodTest-plain (comma ∷ []) (All-cons IsPlain comma [] (lit< tt) (All-nil IsPlain))) good
+good_after_comma : (rest : List ℕ) → IsGoodTest rest → IsGoodTest (comma ∷ rest)
+good_after_comma rest good = IsGoodTest-append (comma ∷ []) rest (IsGoodTest-plain (comma ∷ []) (All-cons IsPlain comma [] (lit< tt) (All-nil IsPlain))) good
 
 -- a number, a comma, and what follows
 good_field : (front : List ℕ) (n : ℕ) (rest : List ℕ) → All IsPlain front → n < 2 ^ 128 → IsGoodTest rest → IsGoodTest ((front ++ decimal n) ++ comma ∷ rest)
 good_field front n rest plain small good =
-    IsGoodTest-append (front ++ decimal n) (comma ∷ rest) (good_number front n plain small) (good_behind_comma rest good)
+    IsGoodTest-append (front ++ decimal n) (comma ∷ rest) (good_number front n plain small) (good_after_comma rest good)
 
 -- no front: the number comes first
 good_first : (n : ℕ) (rest : List ℕ) → n < 2 ^ 128 → IsGoodTest rest → IsGoodTest (decimal n ++ comma ∷ rest)

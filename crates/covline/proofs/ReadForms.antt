@@ -9,7 +9,7 @@ use Rattle.covline.specs.declared.trace_line.LineFault.TheVariants.{BadLine, Num
 use Rattle.covline.specs.Spells.{LineData, Test, Path, FuncStart, FuncCount, Branch, Line, Total, End, Skip, comma, IsNumeral, IsCount, IsTaken, HasForm, HasSmallNumbers}
 use Rattle.covline.specs.Reading.{Fields, sized_number, with_fit, with_count, with_name, start_of, start_fields, calls_of, calls_fields, with_taken, branch_of, branch_fields, count_of, line_fields, total_of}
 use Rattle.covline.proofs.ReadNumbers.{Stops, fit_small, fit_large, count_small, count_large, field_is, BeginsWithField, field_or_none, field_read, count_is, BeginsWithCount, count_or_none, count_read, comma_or_none, taken_is, taken_or_none}
-use Rattle.covline.proofs.Checksums.{IsBehindCount, checksum_read, checksum_or_none}
+use Rattle.covline.proofs.Checksums.{IsAfterCount, checksum_read, checksum_or_none}
 
 -- what a record of this form is read as, by the size of its numbers
 abbrev pub sized : LineData → Result LineData LineFault
@@ -67,14 +67,14 @@ more_sized n says small others =
     ]
 
 -- what a branch is read as, once its three numbers are small
-abbrev behind_branch : Option ℕ → ℕ → ℕ → ℕ → Result LineData LineFault
-behind_branch taken number block b = with_taken number block b (option_map sized_number taken)
+abbrev after_branch : Option ℕ → ℕ → ℕ → ℕ → Result LineData LineFault
+after_branch taken number block b = with_taken number block b (option_map sized_number taken)
 
-abbrev behind_block : ℕ → Option ℕ → ℕ → ℕ → Result LineData LineFault
-behind_block branch taken number k = with_fit (sized_number branch) (behind_branch taken number k)
+abbrev after_block : ℕ → Option ℕ → ℕ → ℕ → Result LineData LineFault
+after_block branch taken number k = with_fit (sized_number branch) (after_branch taken number k)
 
-abbrev behind_number : ℕ → ℕ → Option ℕ → ℕ → Result LineData LineFault
-behind_number block branch taken l = with_fit (sized_number block) (behind_block branch taken l)
+abbrev after_number : ℕ → ℕ → Option ℕ → ℕ → Result LineData LineFault
+after_number block branch taken l = with_fit (sized_number block) (after_block branch taken l)
 
 -- the same for an equivalent condition
 resized : {P Q : Type 0} (read : Result LineData LineFault) → (P → Q) → (Q → P) → IsSized P read → IsSized Q read
@@ -85,13 +85,13 @@ resized read there back (inr large) = inr (λ small. large.0 (back small), large
 branch_sized : (number block branch : ℕ) (taken : Option ℕ) → IsSized (HasSmallNumbers (Branch number block branch taken)) (sized (Branch number block branch taken))
 branch_sized number block branch None =
     resized (sized (Branch number block branch None)) (λ small. (small.0, small.1.0, small.1.1)) (λ small. (small.0, (small.1, small.2)))
-    (more_sized number (behind_number block branch None) ((block < 2 ^ 64) × (branch < 2 ^ 64))
-    (more_sized block (behind_block branch None number) (branch < 2 ^ 64) (last_sized branch (behind_branch None number block))))
+    (more_sized number (after_number block branch None) ((block < 2 ^ 64) × (branch < 2 ^ 64))
+    (more_sized block (after_block branch None number) (branch < 2 ^ 64) (last_sized branch (after_branch None number block))))
 branch_sized number block branch (Some taken) =
     resized (sized (Branch number block branch (Some taken))) (λ small. (small.0, small.1.0, small.1.1.0, small.1.1.1)) (λ small. (small.0, (small.1, (small.2, small.3))))
-    (more_sized number (behind_number block branch (Some taken)) ((block < 2 ^ 64) × ((branch < 2 ^ 64) × (taken < 2 ^ 128)))
-    (more_sized block (behind_block branch (Some taken) number) ((branch < 2 ^ 64) × (taken < 2 ^ 128))
-    (more_sized branch (behind_branch (Some taken) number block) (taken < 2 ^ 128) (last_counted taken (λ t. Ok (Branch number block branch (Some t)))))))
+    (more_sized number (after_number block branch (Some taken)) ((block < 2 ^ 64) × ((branch < 2 ^ 64) × (taken < 2 ^ 128)))
+    (more_sized block (after_block branch (Some taken) number) ((branch < 2 ^ 64) × (taken < 2 ^ 128))
+    (more_sized branch (after_branch (Some taken) number block) (taken < 2 ^ 128) (last_counted taken (λ t. Ok (Branch number block branch (Some t)))))))
 
 -- the numbers are small, or the record is read as too large
 pub small_or_large : (says : LineData) → IsSized (HasSmallNumbers says) (sized says)
@@ -127,17 +127,17 @@ branch_read digits blocks branches text number block branch taken numbers block_
     ) refl
 
 -- after the count of a line no digit follows
-behind_stops : (rest : List ℕ) (checksum : Option (List ℕ)) → IsBehindCount rest checksum → Stops rest
-behind_stops [] checksum behind = tt
-behind_stops (b ∷ bs) None behind = absurd cc
-behind_stops (b ∷ bs) (Some checksum) behind = let e : b ≡ comma = cc in rw e refl
+after_stops : (rest : List ℕ) (checksum : Option (List ℕ)) → IsAfterCount rest checksum → Stops rest
+after_stops [] checksum after = tt
+after_stops (b ∷ bs) None after = absurd cc
+after_stops (b ∷ bs) (Some checksum) after = let e : b ≡ comma = cc in rw e refl
 
-pub line_read : (digits text rest : List ℕ) (number count : ℕ) (checksum : Option (List ℕ)) → IsNumeral digits number → IsCount text count → IsBehindCount rest checksum → line_fields (digits ++ comma ∷ (text ++ rest)) ≡ sized (Line number count checksum)
-line_read digits text rest number count checksum numeral counts behind =
+pub line_read : (digits text rest : List ℕ) (number count : ℕ) (checksum : Option (List ℕ)) → IsNumeral digits number → IsCount text count → IsAfterCount rest checksum → line_fields (digits ++ comma ∷ (text ++ rest)) ≡ sized (Line number count checksum)
+line_read digits text rest number count checksum numeral counts after =
     rw (
       field_is digits (text ++ rest) number numeral,
-      count_is text rest count counts (behind_stops rest checksum behind),
-      checksum_read rest checksum behind,
+      count_is text rest count counts (after_stops rest checksum after),
+      checksum_read rest checksum after,
     ) refl
 
 -- ---- fields have their key's form, or are refused
@@ -161,11 +161,11 @@ start_formed fields =
     ]
 
 calls_from : (fields : List ℕ) (front : BeginsWithCount fields) (name : List ℕ) → front.rest ≡ comma ∷ name → IsFormed (codes "FNDA:") calls_fields fields
-calls_from fields front name behind =
-    let parts : fields ≡ front.counted ++ comma ∷ name = front.parts ∙ ap (λ (t : List ℕ). front.counted ++ t) behind in
+calls_from fields front name after =
+    let parts : fields ≡ front.counted ++ comma ∷ name = front.parts ∙ ap (λ (t : List ℕ). front.counted ++ t) after in
     elim (name_or_none name (calls_of (sized_number front.count) name)) [
       | inl some ↦ inl (FuncCount front.count name, (front.counted, ap (λ (t : List ℕ). codes "FNDA:" ++ t) parts, front.counts, some))
-      | inr none ↦ inr (rw (count_read fields front, behind) none)
+      | inr none ↦ inr (rw (count_read fields front, after) none)
     ]
 
 pub calls_formed : (fields : List ℕ) → IsFormed (codes "FNDA:") calls_fields fields
@@ -208,21 +208,21 @@ branch_formed fields =
       | inr none ↦ inr (rw none refl)
     ]
 
-line_form : (fields : List ℕ) (line : BeginsWithField fields) (front : BeginsWithCount line.rest) (checksum : Option (List ℕ)) → IsBehindCount front.rest checksum → HasForm (codes "DA:" ++ fields) (Line line.number front.count checksum)
-line_form fields line front None behind = (
+line_form : (fields : List ℕ) (line : BeginsWithField fields) (front : BeginsWithCount line.rest) (checksum : Option (List ℕ)) → IsAfterCount front.rest checksum → HasForm (codes "DA:" ++ fields) (Line line.number front.count checksum)
+line_form fields line front None after = (
   line.digits,
   front.counted,
-  ap (λ (t : List ℕ). codes "DA:" ++ t) (line.parts ∙ ap (λ (t : List ℕ). line.digits ++ comma ∷ t) (front.parts ∙ ap (λ (t : List ℕ). front.counted ++ t) behind ∙ append-nil front.counted)),
+  ap (λ (t : List ℕ). codes "DA:" ++ t) (line.parts ∙ ap (λ (t : List ℕ). line.digits ++ comma ∷ t) (front.parts ∙ ap (λ (t : List ℕ). front.counted ++ t) after ∙ append-nil front.counted)),
   line.numeral,
   front.counts,
 )
-line_form fields line front (Some checksum) behind = (
+line_form fields line front (Some checksum) after = (
   line.digits,
   front.counted,
-  ap (λ (t : List ℕ). codes "DA:" ++ t) (line.parts ∙ ap (λ (t : List ℕ). line.digits ++ comma ∷ t) (front.parts ∙ ap (λ (t : List ℕ). front.counted ++ t) behind.0)),
+  ap (λ (t : List ℕ). codes "DA:" ++ t) (line.parts ∙ ap (λ (t : List ℕ). line.digits ++ comma ∷ t) (front.parts ∙ ap (λ (t : List ℕ). front.counted ++ t) after.0)),
   line.numeral,
   front.counts,
-  behind.1,
+  after.1,
 )
 
 line_from : (fields : List ℕ) (line : BeginsWithField fields) (front : BeginsWithCount line.rest) → IsFormed (codes "DA:") line_fields fields

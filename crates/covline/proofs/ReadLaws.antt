@@ -13,8 +13,8 @@ use Rattle.covline.specs.declared.trace_line.TotalKind.TheVariants.{FuncFound, F
 use Rattle.covline.specs.declared.trace_line.LineFault.{LineFault}
 use Rattle.covline.specs.declared.trace_line.LineFault.TheVariants.{BadLine, NumberTooLarge, EmptyPath}
 use Rattle.covline.specs.Spells.{LineData, Test, Path, FuncStart, FuncCount, Branch, Line, Total, End, Skip, line_data, comma, Begins, BeginsWithOneOf, HasKey, key_of, IsNumeral, HasForm, HasSmallNumbers, Spells, HasFault}
-use Rattle.covline.specs.Reading.{Gives, Fields, behind_key, keyed, read_by, forms, read_of, with_part, start_fields, calls_fields, branch_fields, line_fields, total_of, total_fields, path_fields}
-use Rattle.covline.proofs.ReadKeys.{begins_or_not, behind_key-none, behind_key-same}
+use Rattle.covline.specs.Reading.{Gives, Fields, after_key, keyed, read_by, forms, read_of, with_part, start_fields, calls_fields, branch_fields, line_fields, total_of, total_fields, path_fields}
+use Rattle.covline.proofs.ReadKeys.{begins_or_not, after_key-none, after_key-same}
 use Rattle.covline.proofs.ReadNumbers.{whole_is, whole_or_none}
 use Rattle.covline.proofs.ReadForms.{sized, sized_small, small_or_large, start_read, calls_read, branch_read, line_read, IsFormed, start_formed, calls_formed, branch_formed, line_formed}
 
@@ -24,9 +24,9 @@ keys_in table = map (λ form. form.0) table
 -- ---- a line of some form is read as what the form says
 
 skip_read : (table : List (List ℕ × Fields)) (line : List ℕ) → ¬ BeginsWithOneOf (keys_in table) line → ¬ Begins line (codes "end_of_record") → read_by table line ≡ Ok Skip
-skip_read [] line no_key no_end = ap (λ (o : Option (List ℕ)). keyed o (λ rest. Ok End) (Ok Skip)) (behind_key-none (codes "end_of_record") line no_end)
+skip_read [] line no_key no_end = ap (λ (o : Option (List ℕ)). keyed o (λ rest. Ok End) (Ok Skip)) (after_key-none (codes "end_of_record") line no_end)
 skip_read (form ∷ others) line no_key no_end =
-    ap (λ (o : Option (List ℕ)). keyed o form.1 (read_by others line)) (behind_key-none form.0 line (λ begins. no_key (inl begins)))
+    ap (λ (o : Option (List ℕ)). keyed o form.1 (read_by others line)) (after_key-none form.0 line (λ begins. no_key (inl begins)))
     ∙ skip_read others line (λ begins. no_key (inr begins)) no_end
 
 path_read : (path : List ℕ) → 0 < length path → path_fields path ≡ Ok (Path path)
@@ -82,14 +82,14 @@ IsJudgedBy table line =
 judged_here : (form : List ℕ × Fields) (others : List (List ℕ × Fields)) (line rest : List ℕ) → line ≡ form.0 ++ rest → IsJudged (form.0 ++ rest) (form.1 rest) → IsJudgedBy (form ∷ others) line
 judged_here form others line rest same (inl says) = inl (says.0, let P : List ℕ → Type 0 = λ l. HasForm l says.0 in subst P (sym same) says.1)
 judged_here form others line rest same (inr (inl bad)) =
-    let read : read_by (form ∷ others) line ≡ form.1 rest = ap (λ (o : Option (List ℕ)). keyed o form.1 (read_by others line)) (ap (behind_key form.0) same ∙ behind_key-same form.0 rest) in
+    let read : read_by (form ∷ others) line ≡ form.1 rest = ap (λ (o : Option (List ℕ)). keyed o form.1 (read_by others line)) (ap (after_key form.0) same ∙ after_key-same form.0 rest) in
     inr (inl (read ∙ bad.0, λ e. bad.1 (sym same ∙ e), inl (rest, same)))
 judged_here form others line rest same (inr (inr path)) = inr (inr (inl (same ∙ path)))
 
 judged_later : (form : List ℕ × Fields) (others : List (List ℕ × Fields)) (line : List ℕ) → ¬ Begins line form.0 → IsJudgedBy others line → IsJudgedBy (form ∷ others) line
 judged_later form others line other (inl says) = inl says
 judged_later form others line other (inr (inl bad)) =
-    let read : read_by (form ∷ others) line ≡ read_by others line = ap (λ (o : Option (List ℕ)). keyed o form.1 (read_by others line)) (behind_key-none form.0 line other) in
+    let read : read_by (form ∷ others) line ≡ read_by others line = ap (λ (o : Option (List ℕ)). keyed o form.1 (read_by others line)) (after_key-none form.0 line other) in
     inr (inl (read ∙ bad.0, bad.1, inr bad.2))
 judged_later form others line other (inr (inr (inl path))) = inr (inr (inl path))
 judged_later form others line other (inr (inr (inr none))) =
@@ -109,18 +109,18 @@ judged (form ∷ others) each line =
 
 -- ---- the readers judge
 
-not_path : (line : List ℕ) → behind_key (codes "SF:") line ≡ None → line ≢ codes "SF:"
-not_path line other e = none-some [] (sym other ∙ ap (behind_key (codes "SF:")) e)
+not_path : (line : List ℕ) → after_key (codes "SF:") line ≡ None → line ≢ codes "SF:"
+not_path line other e = none-some [] (sym other ∙ ap (after_key (codes "SF:")) e)
 
 path_judged : (rest : List ℕ) → IsJudged (codes "SF:" ++ rest) (path_fields rest)
 path_judged [] = inr (inr refl)
 path_judged (b ∷ bs) = inl (Path (b ∷ bs), (refl, omega arith))
 
-formed_judged : (key : List ℕ) (reader : Fields) (rest : List ℕ) → behind_key (codes "SF:") (key ++ rest) ≡ None → IsFormed key reader rest → IsJudged (key ++ rest) (reader rest)
+formed_judged : (key : List ℕ) (reader : Fields) (rest : List ℕ) → after_key (codes "SF:") (key ++ rest) ≡ None → IsFormed key reader rest → IsJudged (key ++ rest) (reader rest)
 formed_judged key reader rest other (inl says) = inl says
 formed_judged key reader rest other (inr bad) = inr (inl (bad, not_path (key ++ rest) other))
 
-total_judged : (kind : TotalKind) (rest : List ℕ) → behind_key (codes "SF:") (key_of kind ++ rest) ≡ None → IsJudged (key_of kind ++ rest) (total_fields kind rest)
+total_judged : (kind : TotalKind) (rest : List ℕ) → after_key (codes "SF:") (key_of kind ++ rest) ≡ None → IsJudged (key_of kind ++ rest) (total_fields kind rest)
 total_judged kind rest other =
     elim (whole_or_none rest) [
       | inl found ↦ inl (Total kind found.0, (rest, refl, found.1))

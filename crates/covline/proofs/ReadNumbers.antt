@@ -5,7 +5,7 @@ use Rattle.std.proofs.lemmas.Bool.{lt-ltb, le-ltb, le-leb, and_from, and_parts, 
 use Rattle.std.proofs.lemmas.List.{append-nil}
 use Rattle.std.proofs.lemmas.List.Elements.{All-cons, All-nil, All-head, All-tail}
 use Rattle.covline.specs.declared.reader.Number.{Number}
-use Rattle.covline.specs.declared.reader.Number.TheVariants.{Value, Wide, TooLarge}
+use Rattle.covline.specs.declared.reader.Number.TheVariants.{Value, U128, TooLarge}
 use Rattle.covline.specs.Spells.{IsDigit, IsNumeral, IsCount, IsTaken, digits_value, comma, minus}
 use Rattle.covline.specs.declared.trace_line.LineFault.TheVariants.{NumberTooLarge}
 use Rattle.covline.specs.Reading.{is_digit, sized_number, fit, fit_count, with_digit, digits_from, number_at, number_of, as_zero, count_at, before_comma, field_of, field_at, taken_of, whole}
@@ -26,7 +26,7 @@ Stops (b ∷ bs) = is_digit b ≡ false
 pub sized_number_small : (n : ℕ) → n < 2 ^ 64 → sized_number n ≡ Value n
 sized_number_small n lt = let test : ltb n (2 ^ 64) ≡ true = lt-ltb n (2 ^ 64) lt in rw test refl
 
-pub sized_number_wide : (n : ℕ) → 2 ^ 64 ≤ n → n < 2 ^ 128 → sized_number n ≡ Wide n
+pub sized_number_wide : (n : ℕ) → 2 ^ 64 ≤ n → n < 2 ^ 128 → sized_number n ≡ U128 n
 sized_number_wide n le lt =
     let above : ltb n (2 ^ 64) ≡ false = le-ltb n (2 ^ 64) le in
     let below : ltb n (2 ^ 128) ≡ true = lt-ltb n (2 ^ 128) lt in

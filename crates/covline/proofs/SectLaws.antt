@@ -9,7 +9,7 @@ use Rattle.covline.specs.declared.item.Item.{Item}
 use Rattle.covline.specs.declared.sect.Sect.{Sect}
 use Rattle.covline.specs.Row.{ItemData, SectData, SubmissionData, item_data, items_in}
 use Rattle.covline.specs.SectView.{sect_data}
-use Rattle.covline.specs.Lawful.{most_items, AllFit, IsGoodTest, IsGoodName, IsLawful, IsLawfulItem, IsLawfulSect, IsFirstUnlawful}
+use Rattle.covline.specs.Lawful.{max_items, AllFit, IsGoodTest, IsGoodName, IsLawful, IsLawfulItem, IsLawfulSect, IsFirstUnlawful}
 use Rattle.covline.proofs.GoodTexts.{All-part}
 
 -- the section that the code reads at this place
@@ -47,8 +47,8 @@ pub unlawful_at : {A : Type 0} (sects : List (Sect A)) (i : ℕ) (s : Sect A) �
 unlawful_at sects i s at so_far here =
     let all = map sect_data sects in
     let lt : i < length all = in_data sects i s at in
-    let behind : drop i all ≡ sect_data s ∷ drop (i + 1) all = drop_more all i (sect_data s) lt ∙ ap (λ (d : SectData). d ∷ drop (i + 1) all) (data_at sects i s at (sect_data s)) in
-    (take i all, sect_data s, drop (i + 1) all, sym (take-append-drop i all) ∙ ap (λ (ds : List SectData). take i all ++ ds) behind, omega (arith, length-take i all), so_far, here)
+    let after : drop i all ≡ sect_data s ∷ drop (i + 1) all = drop_more all i (sect_data s) lt ∙ ap (λ (d : SectData). d ∷ drop (i + 1) all) (data_at sects i s at (sect_data s)) in
+    (take i all, sect_data s, drop (i + 1) all, sym (take-append-drop i all) ∙ ap (λ (ds : List SectData). take i all ++ ds) after, omega (arith, length-take i all), so_far, here)
 
 -- sections of which one is unlawful aren't all lawful
 pub unlawful_among : (sects : List SectData) (k : ℕ) → IsFirstUnlawful sects k → ¬ All IsLawfulSect sects
@@ -82,21 +82,21 @@ abbrev pub submission : List SectData → ℕ → SubmissionData
 submission sects odd = record { sects = sects; odd = odd }
 
 -- what the tests of the sections show of the submission
-pub lawful_from : (all sects : List SectData) (items odd : ℕ) → all ≡ sects → (items ≡ items_in all) × (items ≤ most_items) → AllByRecursion (λ s. AllFit s.items) all → All IsLawfulSect all → odd < 2 ^ 64 → IsLawful (submission sects odd) × (items ≡ items_in sects)
+pub lawful_from : (all sects : List SectData) (items odd : ℕ) → all ≡ sects → (items ≡ items_in all) × (items ≤ max_items) → AllByRecursion (λ s. AllFit s.items) all → All IsLawfulSect all → odd < 2 ^ 64 → IsLawful (submission sects odd) × (items ≡ items_in sects)
 lawful_from all sects items odd e counted fit texts small =
-    let few : items_in all ≤ most_items = omega arith in
+    let few : items_in all ≤ max_items = omega arith in
     let whole : IsLawful (submission all odd) = record { few = few; texts = texts; fit = fit; odd_fits = small } in
     subst (λ (s : List SectData). IsLawful (submission s odd) × (items ≡ items_in s)) e (whole, counted.0)
 
 pub unlawful_from : (all sects : List SectData) (k odd : ℕ) → all ≡ sects → IsFirstUnlawful all k → ¬ IsLawful (submission sects odd)
 unlawful_from all sects k odd e first lawful = unlawful_among all k first (All-same IsLawfulSect all sects e lawful.texts)
 
-pub too_many : (all sects : List SectData) (odd : ℕ) → all ≡ sects → most_items < items_in all → ¬ IsLawful (submission sects odd)
+pub too_many : (all sects : List SectData) (odd : ℕ) → all ≡ sects → max_items < items_in all → ¬ IsLawful (submission sects odd)
 too_many all sects odd e many lawful =
-    let few : items_in sects ≤ most_items = lawful.few in
+    let few : items_in sects ≤ max_items = lawful.few in
     omega (arith, ap items_in e)
 
-pub refused_from : (all sects : List SectData) (items k : ℕ) → all ≡ sects → (items ≡ items_in all) × (items ≤ most_items) → IsFirstUnlawful all k → (items_in sects ≤ most_items) × IsFirstUnlawful sects k
+pub refused_from : (all sects : List SectData) (items k : ℕ) → all ≡ sects → (items ≡ items_in all) × (items ≤ max_items) → IsFirstUnlawful all k → (items_in sects ≤ max_items) × IsFirstUnlawful sects k
 refused_from all sects items k e counted first =
-    let few : items_in all ≤ most_items = omega arith in
-    subst (λ (s : List SectData). (items_in s ≤ most_items) × IsFirstUnlawful s k) e (few, first)
+    let few : items_in all ≤ max_items = omega arith in
+    subst (λ (s : List SectData). (items_in s ≤ max_items) × IsFirstUnlawful s k) e (few, first)

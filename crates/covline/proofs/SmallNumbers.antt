@@ -3,11 +3,11 @@ use Rattle.std.proofs.Common.{◌≡◌, ℕ, ◌<◌, ◌^◌, inl, inr, List, 
 use Rattle.std.proofs.lemmas.Bool.{cases_lt}
 use Rattle.std.proofs.lemmas.Option.{none-some, option_and_then_some}
 use Rattle.covline.specs.declared.reader.Number.{Number}
-use Rattle.covline.specs.declared.reader.Number.TheVariants.{Value, Wide, TooLarge}
+use Rattle.covline.specs.declared.reader.Number.TheVariants.{Value, U128, TooLarge}
 use Rattle.covline.specs.Spells.{IsNumeral, comma, digits_value}
-use Rattle.covline.specs.Reading.{sized_number, behind_key, number_at, field_at}
+use Rattle.covline.specs.Reading.{sized_number, after_key, number_at, field_at}
 use Rattle.covline.specs.Fronts.{small_front, small_of}
-use Rattle.covline.proofs.ReadKeys.{begins_or_not, behind_key-none, behind_key-same}
+use Rattle.covline.proofs.ReadKeys.{begins_or_not, after_key-none, after_key-same}
 use Rattle.covline.proofs.ReadNumbers.{sized_number_small, sized_number_wide, sized_number_large, numeral_or_none, field_or_none, field_read, number_is}
 
 value_of : (n v : ℕ) → sized_number n ≡ Value v → (n ≡ v) × (n < 2 ^ 64)
@@ -15,7 +15,7 @@ value_of n v e =
     elim (cases_lt n (2 ^ 64)) [
       | inl lt ↦ (let same : Value n ≡ Value v = sym (sized_number_small n lt) ∙ e in let is : n ≡ v = cc in is, lt)
       | inr le ↦ elim (cases_lt n (2 ^ 128)) [
-        | inl lt ↦ (let other : Wide n ≡ Value v = sym (sized_number_wide n le lt) ∙ e in absurd cc)
+        | inl lt ↦ (let other : U128 n ≡ Value v = sym (sized_number_wide n le lt) ∙ e in absurd cc)
         | inr far ↦ (let other : TooLarge ≡ Value v = sym (sized_number_large n far) ∙ e in absurd cc)
       ]
     ]
@@ -25,11 +25,11 @@ value_of n v e =
 pub same_some : {A : Type 0} (x y : A) → Some x ≡ Some y → x ≡ y
 same_some x y e = cc
 
-pub behind_some : (key line rest : List ℕ) → Some rest ≡ behind_key key line → line ≡ key ++ rest
-behind_some key line rest e =
+pub after_some : (key line rest : List ℕ) → Some rest ≡ after_key key line → line ≡ key ++ rest
+after_some key line rest e =
     elim (begins_or_not key line) [
-      | inl begins ↦ let same : rest ≡ begins.0 = same_some rest begins.0 (e ∙ ap (behind_key key) begins.1 ∙ behind_key-same key begins.0) in begins.1 ∙ ap (λ (u : List ℕ). key ++ u) (sym same)
-      | inr other ↦ absurd (none-some rest (sym (e ∙ behind_key-none key line other)))
+      | inl begins ↦ let same : rest ≡ begins.0 = same_some rest begins.0 (e ∙ ap (after_key key) begins.1 ∙ after_key-same key begins.0) in begins.1 ∙ ap (λ (u : List ℕ). key ++ u) (sym same)
+      | inr other ↦ absurd (none-some rest (sym (e ∙ after_key-none key line other)))
     ]
 
 -- digits, the number that they say and what follows them
@@ -77,10 +77,10 @@ pub mapped_some : {A B : Type 0} (f : A → B) (o : Option A) (y : B) → option
 mapped_some f None y e = absurd (none-some y e)
 mapped_some f (Some x) y e = (x, refl, same_some (f x) y e)
 
-front_is : (a : Number) (behind rest : List ℕ) (n : ℕ) → option_map {U = ℕ × List ℕ} (λ (m : ℕ). (m, behind)) (small_of a) ≡ Some (n, rest) → (a ≡ Value n) × (behind ≡ rest)
-front_is (Value v) behind rest n e = let same : (v, behind) ≡ (n, rest) = same_some (v, behind) (n, rest) e in (ap (λ (p : ℕ × List ℕ). Value p.0) same, ap (λ (p : ℕ × List ℕ). p.1) same)
-front_is (Wide v) behind rest n e = absurd (none-some (n, rest) e)
-front_is TooLarge behind rest n e = absurd (none-some (n, rest) e)
+front_is : (a : Number) (after rest : List ℕ) (n : ℕ) → option_map {U = ℕ × List ℕ} (λ (m : ℕ). (m, after)) (small_of a) ≡ Some (n, rest) → (a ≡ Value n) × (after ≡ rest)
+front_is (Value v) after rest n e = let same : (v, after) ≡ (n, rest) = same_some (v, after) (n, rest) e in (ap (λ (p : ℕ × List ℕ). Value p.0) same, ap (λ (p : ℕ × List ℕ). p.1) same)
+front_is (U128 v) after rest n e = absurd (none-some (n, rest) e)
+front_is TooLarge after rest n e = absurd (none-some (n, rest) e)
 
 pub small_field_has : (fields rest : List ℕ) (n : ℕ) → small_front (field_at fields) ≡ Some (n, rest) → HasNumber fields rest n (λ digits. digits ++ comma ∷ [])
 small_field_has fields rest n e =

@@ -3,12 +3,12 @@
 use Rattle.std.specs.Prelude.{◌≡◌, ℕ, ◌<◌, ◌^◌, ◌==◌, if◌then◌else◌, List, [], ◌∷◌, ◌++◌, Option, Some, None, codes, option_map}
 use Rattle.std.specs.Option.{option_and_then}
 use Rattle.covline.specs.declared.reader.Number.{Number}
-use Rattle.covline.specs.declared.reader.Number.TheVariants.{Value, Wide, TooLarge}
+use Rattle.covline.specs.declared.reader.Number.TheVariants.{Value, U128, TooLarge}
 use Rattle.covline.specs.Lawful.{IsChecksum}
 use Rattle.covline.specs.Lines.{line_feed}
 use Rattle.covline.specs.Points.{BranchPoint}
 use Rattle.covline.specs.Spells.{comma, minus, IsNumeral, IsTaken}
-use Rattle.covline.specs.Reading.{behind_key, field_at, is_checksum_byte, number_at}
+use Rattle.covline.specs.Reading.{after_key, field_at, is_checksum_byte, number_at}
 
 -- after a line's count: a line feed, or a comma, this checksum and a line feed
 abbrev pub EndsCount : List ℕ → Option (List ℕ) → List ℕ → Type 0
@@ -53,7 +53,7 @@ pub record BeginsWithBranchLine (text : List ℕ) (point : BranchPoint) (taken :
 -- the number, if it fits 64 bits
 abbrev pub small_of : Number → Option ℕ
 small_of (Value n) = Some n
-small_of (Wide n) = None
+small_of (U128 n) = None
 small_of TooLarge = None
 
 abbrev pub small_front : Option (Number × List ℕ) → Option (ℕ × List ℕ)
@@ -65,17 +65,17 @@ taken_front [] = None
 taken_front (b ∷ bs) = if b == minus then Some (None, bs) else option_map (λ (f : ℕ × List ℕ). (Some f.0, f.1)) (small_front (number_at (b ∷ bs)))
 
 -- what follows a line feed
-abbrev pub behind_feed : List ℕ → Option (List ℕ)
-behind_feed text = behind_key (line_feed ∷ []) text
+abbrev pub after_feed : List ℕ → Option (List ℕ)
+after_feed text = after_key (line_feed ∷ []) text
 
 -- the bytes at the front that a checksum may have, and what follows them
 abbrev pub checksum_bytes : List ℕ → List ℕ
 checksum_bytes [] = []
 checksum_bytes (b ∷ bs) = if is_checksum_byte b then b ∷ checksum_bytes bs else []
 
-abbrev pub behind_checksum : List ℕ → List ℕ
-behind_checksum [] = []
-behind_checksum (b ∷ bs) = if is_checksum_byte b then behind_checksum bs else b ∷ bs
+abbrev pub after_checksum : List ℕ → List ℕ
+after_checksum [] = []
+after_checksum (b ∷ bs) = if is_checksum_byte b then after_checksum bs else b ∷ bs
 
 -- a checksum isn't empty
 abbrev pub some_front : List ℕ → List ℕ → Option (List ℕ × List ℕ)
@@ -83,14 +83,14 @@ some_front [] rest = None
 some_front (b ∷ bs) rest = Some (b ∷ bs, rest)
 
 abbrev pub checksum_front : List ℕ → Option (List ℕ × List ℕ)
-checksum_front text = some_front (checksum_bytes text) (behind_checksum text)
+checksum_front text = some_front (checksum_bytes text) (after_checksum text)
 
 -- the checksum after a count, if any, and what follows the line feed
 abbrev pub checked_end : List ℕ × List ℕ → Option (Option (List ℕ) × List ℕ)
-checked_end front = option_map (λ (rest : List ℕ). (Some front.0, rest)) (behind_feed front.1)
+checked_end front = option_map (λ (rest : List ℕ). (Some front.0, rest)) (after_feed front.1)
 
 abbrev pub plain_end : List ℕ → Option (Option (List ℕ) × List ℕ)
-plain_end text = option_map (λ (rest : List ℕ). (None, rest)) (behind_feed text)
+plain_end text = option_map (λ (rest : List ℕ). (None, rest)) (after_feed text)
 
 abbrev pub count_end : List ℕ → Option (Option (List ℕ) × List ℕ)
 count_end [] = None
@@ -100,30 +100,30 @@ count_end (b ∷ bs) = if b == comma then option_and_then checked_end (checksum_
 abbrev pub counted_end : ℕ → ℕ × List ℕ → Option ((ℕ × ℕ) × (Option (List ℕ) × List ℕ))
 counted_end line count = option_map (λ (end : Option (List ℕ) × List ℕ). ((line, count.0), end)) (count_end count.1)
 
-abbrev pub counted_behind_line : ℕ × List ℕ → Option ((ℕ × ℕ) × (Option (List ℕ) × List ℕ))
-counted_behind_line line = option_and_then (counted_end line.0) (small_front (number_at line.1))
+abbrev pub counted_after_line : ℕ × List ℕ → Option ((ℕ × ℕ) × (Option (List ℕ) × List ℕ))
+counted_after_line line = option_and_then (counted_end line.0) (small_front (number_at line.1))
 
-abbrev pub counted_behind_key : List ℕ → Option ((ℕ × ℕ) × (Option (List ℕ) × List ℕ))
-counted_behind_key fields = option_and_then counted_behind_line (small_front (field_at fields))
+abbrev pub counted_after_key : List ℕ → Option ((ℕ × ℕ) × (Option (List ℕ) × List ℕ))
+counted_after_key fields = option_and_then counted_after_line (small_front (field_at fields))
 
 abbrev pub counted_front : List ℕ → Option ((ℕ × ℕ) × (Option (List ℕ) × List ℕ))
-counted_front text = option_and_then counted_behind_key (behind_key (codes "DA:") text)
+counted_front text = option_and_then counted_after_key (after_key (codes "DA:") text)
 
 -- a branch, from its point, how often it was taken and what follows these
 abbrev pub branch_end : BranchPoint → Option ℕ × List ℕ → Option ((BranchPoint × Option ℕ) × List ℕ)
-branch_end point taken = option_map (λ (rest : List ℕ). ((point, taken.0), rest)) (behind_feed taken.1)
+branch_end point taken = option_map (λ (rest : List ℕ). ((point, taken.0), rest)) (after_feed taken.1)
 
-abbrev pub branch_behind_number : ℕ → ℕ → ℕ × List ℕ → Option ((BranchPoint × Option ℕ) × List ℕ)
-branch_behind_number line block branch = option_and_then (branch_end (record { line = line; block = block; branch = branch.0 })) (taken_front branch.1)
+abbrev pub branch_after_number : ℕ → ℕ → ℕ × List ℕ → Option ((BranchPoint × Option ℕ) × List ℕ)
+branch_after_number line block branch = option_and_then (branch_end (record { line = line; block = block; branch = branch.0 })) (taken_front branch.1)
 
-abbrev pub branch_behind_block : ℕ → ℕ × List ℕ → Option ((BranchPoint × Option ℕ) × List ℕ)
-branch_behind_block line block = option_and_then (branch_behind_number line block.0) (small_front (field_at block.1))
+abbrev pub branch_after_block : ℕ → ℕ × List ℕ → Option ((BranchPoint × Option ℕ) × List ℕ)
+branch_after_block line block = option_and_then (branch_after_number line block.0) (small_front (field_at block.1))
 
-abbrev pub branch_behind_line : ℕ × List ℕ → Option ((BranchPoint × Option ℕ) × List ℕ)
-branch_behind_line line = option_and_then (branch_behind_block line.0) (small_front (field_at line.1))
+abbrev pub branch_after_line : ℕ × List ℕ → Option ((BranchPoint × Option ℕ) × List ℕ)
+branch_after_line line = option_and_then (branch_after_block line.0) (small_front (field_at line.1))
 
-abbrev pub branch_behind_key : List ℕ → Option ((BranchPoint × Option ℕ) × List ℕ)
-branch_behind_key fields = option_and_then branch_behind_line (small_front (field_at fields))
+abbrev pub branch_after_key : List ℕ → Option ((BranchPoint × Option ℕ) × List ℕ)
+branch_after_key fields = option_and_then branch_after_line (small_front (field_at fields))
 
 abbrev pub branch_front : List ℕ → Option ((BranchPoint × Option ℕ) × List ℕ)
-branch_front text = option_and_then branch_behind_key (behind_key (codes "BRDA:") text)
+branch_front text = option_and_then branch_after_key (after_key (codes "BRDA:") text)

@@ -7,8 +7,8 @@ use Rattle.covline.specs.Lines.{line_feed, carriage_return}
 use Rattle.covline.specs.Row.{ItemData, LineItem, FuncItem, BranchItem, SectData, SubmissionData, items_in}
 
 -- the most items that a submission can have: 64 Mi
-abbrev pub most_items : ℕ
-most_items = 67108864
+abbrev pub max_items : ℕ
+max_items = 67108864
 
 -- a name that fits into one line: no line feed in it, and no carriage return at its end
 pub record IsGoodTest (name : List ℕ) : Type 0 where
@@ -58,7 +58,7 @@ AllFit items = AllByRecursion FitsItem items
 
 -- what holds of each submission
 pub record IsLawful (s : SubmissionData) : Type 0 where
-  pub few : items_in s.sects ≤ most_items
+  pub few : items_in s.sects ≤ max_items
   pub texts : All IsLawfulSect s.sects
   pub fit : AllByRecursion (λ sect. AllFit sect.items) s.sects
   pub odd_fits : s.odd < 2 ^ 64
@@ -71,8 +71,8 @@ IsFirstUnlawful sects k =
 
 -- why sections make no submission: the number of items is tested first, then the texts in order
 abbrev pub IsRefusedAs : List SectData → BadSubmission → Type 0
-IsRefusedAs sects TooMany = most_items < items_in sects
-IsRefusedAs sects (BadText k) = (items_in sects ≤ most_items) × IsFirstUnlawful sects k
+IsRefusedAs sects TooMany = max_items < items_in sects
+IsRefusedAs sects (BadText k) = (items_in sects ≤ max_items) × IsFirstUnlawful sects k
 
 -- the number of the reason, which stays the same in all versions
 abbrev pub refusal_number : BadSubmission → ℕ

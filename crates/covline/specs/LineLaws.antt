@@ -32,8 +32,8 @@ abbrev pub OnlyReturnsOff : Type 0
 OnlyReturnsOff = (text : List ℕ) → (n : ℕ) × (text ≡ strip text ++ replicate n carriage_return)
 
 -- if a text that ends in a line feed is joined to another, its lines come first and then those of the other
-abbrev pub OneBehindOther : Type 0
-OneBehindOther = (front rest : List ℕ) → lines_of (front ++ line_feed ∷ rest) ≡ lines_of (front ++ line_feed ∷ []) ++ lines_of rest
+abbrev pub OneAfterOther : Type 0
+OneAfterOther = (front rest : List ℕ) → lines_of (front ++ line_feed ∷ rest) ≡ lines_of (front ++ line_feed ∷ []) ++ lines_of rest
 
 -- a text made of such lines, each with a line feed after it, has these lines
 abbrev pub MadeOfLines : Type 0

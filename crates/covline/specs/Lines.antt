@@ -46,4 +46,4 @@ pub record IsFirstCut (text line rest : List ℕ) : Type 0 where
   pub piece : List ℕ
   pub first : pieces_of text ≡ piece ∷ pieces_of rest
   pub line_is : line ≡ line_of piece
-  pub behind : text ≡ piece ++ rest
+  pub after : text ≡ piece ++ rest

@@ -2,7 +2,7 @@
 -- definitions of a spelled line and of its fault.
 use Rattle.std.specs.Prelude.{ℕ, ◌+◌, ◌-◌, ◌*◌, ◌^◌, ◌≡◌, Bool, true, false, not, ◌&&◌, ◌==◌, nat_lt, nat_le, if◌then◌else◌, List, [], ◌∷◌, Option, Some, None, Result, Ok, Err, codes, option_map}
 use Rattle.covline.specs.declared.reader.Number.{Number}
-use Rattle.covline.specs.declared.reader.Number.TheVariants.{Value, Wide, TooLarge}
+use Rattle.covline.specs.declared.reader.Number.TheVariants.{Value, U128, TooLarge}
 use Rattle.covline.specs.declared.trace_line.TraceLine.{TraceLine}
 use Rattle.covline.specs.declared.trace_line.TotalKind.{TotalKind}
 use Rattle.covline.specs.declared.trace_line.TotalKind.TheVariants.{FuncFound, FuncHit, BranchFound, BranchHit, LineFound, LineHit}
@@ -21,13 +21,13 @@ is_digit b = nat_le 48 b && nat_le b 57
 
 -- a number of 64 bits, a larger one of 128 bits, or one that is larger still
 abbrev pub sized_number : ℕ → Number
-sized_number n = if nat_lt n (2 ^ 64) then Value n else (if nat_lt n (2 ^ 128) then Wide n else TooLarge)
+sized_number n = if nat_lt n (2 ^ 64) then Value n else (if nat_lt n (2 ^ 128) then U128 n else TooLarge)
 
 -- a number followed by one more digit
 abbrev pub with_digit : Number → ℕ → Number
 with_digit TooLarge b = TooLarge
 with_digit (Value n) b = sized_number (n * 10 + (b - 48))
-with_digit (Wide n) b = sized_number (n * 10 + (b - 48))
+with_digit (U128 n) b = sized_number (n * 10 + (b - 48))
 
 -- a number followed by the digits at the front, and what follows them
 abbrev pub digits_from : Number → List ℕ → Number × List ℕ
@@ -112,13 +112,13 @@ with_part (Some part) says = says part
 -- the number, if it fits 64 bits
 abbrev pub fit : Number → Result ℕ LineFault
 fit TooLarge = Err NumberTooLarge
-fit (Wide n) = Err NumberTooLarge
+fit (U128 n) = Err NumberTooLarge
 fit (Value n) = Ok n
 
 -- the count, if it fits 128 bits
 abbrev pub fit_count : Number → Result ℕ LineFault
 fit_count TooLarge = Err NumberTooLarge
-fit_count (Wide n) = Ok n
+fit_count (U128 n) = Ok n
 fit_count (Value n) = Ok n
 
 abbrev pub if_ok : Result ℕ LineFault → (ℕ → Result LineData LineFault) → Result LineData LineFault
@@ -185,10 +185,10 @@ path_fields [] = Err EmptyPath
 path_fields (b ∷ bs) = Ok (Path (b ∷ bs))
 
 -- what follows the key
-abbrev pub behind_key : List ℕ → List ℕ → Option (List ℕ)
-behind_key [] line = Some line
-behind_key (k ∷ ks) [] = None
-behind_key (k ∷ ks) (b ∷ bs) = if k == b then behind_key ks bs else None
+abbrev pub after_key : List ℕ → List ℕ → Option (List ℕ)
+after_key [] line = Some line
+after_key (k ∷ ks) [] = None
+after_key (k ∷ ks) (b ∷ bs) = if k == b then after_key ks bs else None
 
 abbrev pub keyed : Option (List ℕ) → Fields → Result LineData LineFault → Result LineData LineFault
 keyed None fields otherwise = otherwise
@@ -202,8 +202,8 @@ forms =
     ∷ (codes "DA:", line_fields) ∷ (codes "LF:", total_fields LineFound) ∷ (codes "LH:", total_fields LineHit) ∷ []
 
 abbrev pub read_by : List (List ℕ × Fields) → List ℕ → Result LineData LineFault
-read_by [] line = keyed (behind_key (codes "end_of_record") line) (λ rest. Ok End) (Ok Skip)
-read_by (form ∷ others) line = keyed (behind_key form.0 line) form.1 (read_by others line)
+read_by [] line = keyed (after_key (codes "end_of_record") line) (λ rest. Ok End) (Ok Skip)
+read_by (form ∷ others) line = keyed (after_key form.0 line) form.1 (read_by others line)
 
 -- what the line says, or its fault
 unfoldable pub read_of : List ℕ → Result LineData LineFault

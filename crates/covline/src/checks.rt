@@ -4,7 +4,7 @@ ghost use Rattle.std.specs.Prelude.{◌≡◌, ◌<◌, ◌≤◌, ◌↔◌, Is
 ghost use Rattle.std.specs.List.{AllByRecursion};
 ghost use Rattle.covline.specs.Row.{item_data, items_in};
 ghost use Rattle.covline.specs.SectView.{sect_data};
-ghost use Rattle.covline.specs.Lawful.{most_items, AllFit, IsFirstUnlawful, IsLawfulItem, IsLawfulSect};
+ghost use Rattle.covline.specs.Lawful.{max_items, AllFit, IsFirstUnlawful, IsLawfulItem, IsLawfulSect};
 
 use crate::item::Item;
 use crate::names::{good_checksum, good_name, good_test};
@@ -12,18 +12,18 @@ use crate::sect::Sect;
 use std::alloc::Allocator;
 
 /// The most items that a submission can have.
-const MOST_ITEMS: u64 = 67_108_864;
+const MAX_ITEMS: u64 = 67_108_864;
 
 /// The number of items in the sections, or `None` if there are too many.
 pub fn count_items<A: Allocator>(sects: &[Sect<A>]) -> Option<u64>
     ensures count { let all = map sect_data sects.now in
-        MatchOption result (most_items < items_in all) (λ n. (n ≡ items_in all) × (n ≤ most_items)) }
+        MatchOption result (max_items < items_in all) (λ n. (n ≡ items_in all) × (n ≤ max_items)) }
     ensures fit { IsSome result → AllByRecursion (λ s. AllFit s.items) (map sect_data sects.now) }
 {
     let mut items = 0;
     for sect in sects {
         let more = sect.items.get().len() as u64;
-        if more > MOST_ITEMS - items {
+        if more > MAX_ITEMS - items {
             return None;
         }
         items += more;

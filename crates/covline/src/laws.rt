@@ -3,7 +3,7 @@
 ghost use Rattle.std.specs.Prelude.{◌≡◌, ◌⊎◌, ℕ, List};
 ghost use Rattle.covline.specs.declared.trace_line.LineFault.{LineFault};
 ghost use Rattle.covline.specs.Spells.{LineData, Spells, HasFault};
-ghost use Rattle.covline.specs.LineLaws.{JoinedAgain, GoodLines, GoodRest, FewLines, FewBytes, OnlyReturnsOff, OneBehindOther, MadeOfLines, PrintedSpells};
+ghost use Rattle.covline.specs.LineLaws.{JoinedAgain, GoodLines, GoodRest, FewLines, FewBytes, OnlyReturnsOff, OneAfterOther, MadeOfLines, PrintedSpells};
 
 /// The lines of a text make up the text. Its pieces, each cut after a line feed, are joined to the same text; a line is
 /// its piece without the line feed and the carriage returns before it. Neither a line nor what follows a key in it has
@@ -17,7 +17,7 @@ pub fn lines_are_the_text()
     ensures few_lines { FewLines }
     ensures few_bytes { FewBytes }
     ensures only_returns_off { OnlyReturnsOff }
-    ensures one_behind_other { OneBehindOther }
+    ensures one_after_other { OneAfterOther }
     ensures made_of_lines { MadeOfLines }
 {}
 

@@ -6,9 +6,9 @@ ghost use Rattle.covline.specs.declared.trace_line.LineFault.{LineFault};
 ghost use Rattle.covline.specs.Points.{BranchPoint as BranchData};
 ghost use Rattle.covline.specs.PointView.{branch_point_data};
 ghost use Rattle.covline.specs.Spells.{LineData, Line, Branch, line_data, Spells, HasFault, BeginsWithLine};
-ghost use Rattle.covline.specs.Fronts.{BeginsWithBranchLine, BeginsWithCountedLine, behind_checksum, branch_front, checksum_front, count_end, counted_front, small_front, small_of, taken_front};
+ghost use Rattle.covline.specs.Fronts.{BeginsWithBranchLine, BeginsWithCountedLine, after_checksum, branch_front, checksum_front, count_end, counted_front, small_front, small_of, taken_front};
 ghost use Rattle.covline.specs.Lines.{line_feed};
-ghost use Rattle.covline.specs.Reading.{Gives, behind_key, sized_number, with_digit, digits_from, number_at, number_of, count_at, before_comma, field_at, taken_of, only_checksum, checksum_of, fit, fit_count, start_fields, calls_fields, branch_of, branch_fields, line_fields, total_fields, path_fields, read_of};
+ghost use Rattle.covline.specs.Reading.{Gives, after_key, sized_number, with_digit, digits_from, number_at, number_of, count_at, before_comma, field_at, taken_of, only_checksum, checksum_of, fit, fit_count, start_fields, calls_fields, branch_of, branch_fields, line_fields, total_fields, path_fields, read_of};
 
 use crate::names::{good_checksum, is_checksum_byte};
 use crate::point::BranchPoint;
@@ -20,7 +20,7 @@ enum Number {
     /// A number of 64 bits, as most are.
     Value(u64),
     /// A larger one of 128 bits.
-    Wide(u128),
+    U128(u128),
     /// 2^128 or more.
     TooLarge,
 }
@@ -32,7 +32,7 @@ impl Number {
     {
         match u64::try_from(value) {
             Ok(value) => Number::Value(value),
-            Err(_) => Number::Wide(value),
+            Err(_) => Number::U128(value),
         }
     }
 
@@ -42,7 +42,7 @@ impl Number {
     {
         match self {
             Number::Value(value) => Ok(value),
-            Number::Wide(_) | Number::TooLarge => Err(LineFault::NumberTooLarge),
+            Number::U128(_) | Number::TooLarge => Err(LineFault::NumberTooLarge),
         }
     }
 
@@ -52,7 +52,7 @@ impl Number {
     {
         match self {
             Number::Value(value) => Ok(u128::from(value)),
-            Number::Wide(value) => Ok(value),
+            Number::U128(value) => Ok(value),
             Number::TooLarge => Err(LineFault::NumberTooLarge),
         }
     }
@@ -63,7 +63,7 @@ impl Number {
     {
         match self {
             Number::Value(value) => Some(value),
-            Number::Wide(_) | Number::TooLarge => None,
+            Number::U128(_) | Number::TooLarge => None,
         }
     }
 }
@@ -75,7 +75,7 @@ fn push_digit(number: Number, digit: u8) -> Number
 {
     match number {
         Number::Value(value) => push_wide(u128::from(value), digit),
-        Number::Wide(value) => push_wide(value, digit),
+        Number::U128(value) => push_wide(value, digit),
         Number::TooLarge => Number::TooLarge,
     }
 }
@@ -328,13 +328,13 @@ fn path_record(path: &[u8]) -> Result<TraceLine<'_>, LineFault>
 fn branch_key(rest: &[u8]) -> Result<TraceLine<'_>, LineFault>
     ensures { Gives result (read_of (codes "B" ++ rest.now)) }
 {
-    if let Some(fields) = behind(rest, b"RDA:") {
+    if let Some(fields) = strip_key(rest, b"RDA:") {
         return branch_record(fields);
     }
-    if let Some(found) = behind(rest, b"RF:") {
+    if let Some(found) = strip_key(rest, b"RF:") {
         return total_record(TotalKind::BranchFound, found);
     }
-    if let Some(hit) = behind(rest, b"RH:") {
+    if let Some(hit) = strip_key(rest, b"RH:") {
         return total_record(TotalKind::BranchHit, hit);
     }
     Ok(TraceLine::Skip)
@@ -345,16 +345,16 @@ fn branch_key(rest: &[u8]) -> Result<TraceLine<'_>, LineFault>
 fn function_key(rest: &[u8]) -> Result<TraceLine<'_>, LineFault>
     ensures { Gives result (read_of (codes "F" ++ rest.now)) }
 {
-    if let Some(fields) = behind(rest, b"N:") {
+    if let Some(fields) = strip_key(rest, b"N:") {
         return start_record(fields);
     }
-    if let Some(fields) = behind(rest, b"NDA:") {
+    if let Some(fields) = strip_key(rest, b"NDA:") {
         return calls_record(fields);
     }
-    if let Some(found) = behind(rest, b"NF:") {
+    if let Some(found) = strip_key(rest, b"NF:") {
         return total_record(TotalKind::FuncFound, found);
     }
-    if let Some(hit) = behind(rest, b"NH:") {
+    if let Some(hit) = strip_key(rest, b"NH:") {
         return total_record(TotalKind::FuncHit, hit);
     }
     Ok(TraceLine::Skip)
@@ -365,18 +365,18 @@ fn function_key(rest: &[u8]) -> Result<TraceLine<'_>, LineFault>
 fn line_total(rest: &[u8]) -> Result<TraceLine<'_>, LineFault>
     ensures { Gives result (read_of (codes "L" ++ rest.now)) }
 {
-    if let Some(found) = behind(rest, b"F:") {
+    if let Some(found) = strip_key(rest, b"F:") {
         return total_record(TotalKind::LineFound, found);
     }
-    if let Some(hit) = behind(rest, b"H:") {
+    if let Some(hit) = strip_key(rest, b"H:") {
         return total_record(TotalKind::LineHit, hit);
     }
     Ok(TraceLine::Skip)
 }
 
 /// What follows the key, if the text begins with it.
-fn behind<'a>(text: &'a [u8], key: &[u8]) -> Option<&'a [u8]>
-    ensures { option_map (λ rest. rest.now) result ≡ behind_key key.now text.now }
+pub fn strip_key<'a>(text: &'a [u8], key: &[u8]) -> Option<&'a [u8]>
+    ensures { option_map (λ rest. rest.now) result ≡ after_key key.now text.now }
 {
     let mut left = key;
     let mut rest = text;
@@ -395,7 +395,7 @@ fn behind<'a>(text: &'a [u8], key: &[u8]) -> Option<&'a [u8]>
 fn end_key(rest: &[u8]) -> TraceLine<'_>
     ensures { read_of (codes "e" ++ rest.now) ≡ Ok (line_data result) }
 {
-    match behind(rest, b"nd_of_record") {
+    match strip_key(rest, b"nd_of_record") {
         Some(_) => TraceLine::End,
         None => TraceLine::Skip,
     }
@@ -406,7 +406,7 @@ fn end_key(rest: &[u8]) -> TraceLine<'_>
 fn line_key(rest: &[u8]) -> Result<TraceLine<'_>, LineFault>
     ensures { Gives result (read_of (codes "D" ++ rest.now)) }
 {
-    if let Some(fields) = behind(rest, b"A:") {
+    if let Some(fields) = strip_key(rest, b"A:") {
         return line_record(fields);
     }
     Ok(TraceLine::Skip)
@@ -417,7 +417,7 @@ fn line_key(rest: &[u8]) -> Result<TraceLine<'_>, LineFault>
 fn path_key(rest: &[u8]) -> Result<TraceLine<'_>, LineFault>
     ensures { Gives result (read_of (codes "S" ++ rest.now)) }
 {
-    if let Some(path) = behind(rest, b"F:") {
+    if let Some(path) = strip_key(rest, b"F:") {
         return path_record(path);
     }
     Ok(TraceLine::Skip)
@@ -428,7 +428,7 @@ fn path_key(rest: &[u8]) -> Result<TraceLine<'_>, LineFault>
 fn test_key(rest: &[u8]) -> TraceLine<'_>
     ensures { read_of (codes "T" ++ rest.now) ≡ Ok (line_data result) }
 {
-    match behind(rest, b"N:") {
+    match strip_key(rest, b"N:") {
         Some(name) => TraceLine::Test(name),
         None => TraceLine::Skip,
     }
@@ -436,7 +436,7 @@ fn test_key(rest: &[u8]) -> TraceLine<'_>
 
 /// Reads a line that is given as its first byte and the rest.
 #[tactic(auto, unfolding(crate::specs::Reading::read_of))]
-fn read_behind(first: u8, rest: &[u8]) -> Result<TraceLine<'_>, LineFault>
+fn read_after(first: u8, rest: &[u8]) -> Result<TraceLine<'_>, LineFault>
     ensures { Gives result (read_of (first ∷ rest.now)) }
 {
     match first {
@@ -457,7 +457,7 @@ fn read_any(line: &[u8]) -> Result<TraceLine<'_>, LineFault>
     ensures { Gives result (read_of line.now) }
 {
     match line {
-        [first, rest @ ..] => read_behind(*first, rest),
+        [first, rest @ ..] => read_after(*first, rest),
         [] => Ok(TraceLine::Skip),
     }
 }
@@ -475,8 +475,8 @@ pub fn read_line(line: &[u8]) -> Result<TraceLine<'_>, LineFault>
 }
 
 /// What follows the key of a counted line.
-fn behind_line_key(text: &[u8]) -> Option<&[u8]>
-    ensures { option_map (λ rest. rest.now) result ≡ behind_key (codes "DA:") text.now }
+fn after_count_key(text: &[u8]) -> Option<&[u8]>
+    ensures { option_map (λ rest. rest.now) result ≡ after_key (codes "DA:") text.now }
 {
     match text {
         [b'D', b'A', b':', fields @ ..] => Some(fields),
@@ -485,8 +485,8 @@ fn behind_line_key(text: &[u8]) -> Option<&[u8]>
 }
 
 /// What follows a line feed.
-fn behind_feed(text: &[u8]) -> Option<&[u8]>
-    ensures { option_map (λ rest. rest.now) result ≡ behind_key (line_feed ∷ []) text.now }
+fn after_feed(text: &[u8]) -> Option<&[u8]>
+    ensures { option_map (λ rest. rest.now) result ≡ after_key (line_feed ∷ []) text.now }
 {
     match text {
         [b'\n', rest @ ..] => Some(rest),
@@ -496,7 +496,7 @@ fn behind_feed(text: &[u8]) -> Option<&[u8]>
 
 /// The first line of a text that counts a source line, with its checksum if it has one, and the rest of the text.
 #[derive(Clone, Copy)]
-pub struct FirstLine<'a> {
+pub struct CountLine<'a> {
     /// The line of the source file.
     pub line: u64,
     /// Its execution count.
@@ -508,8 +508,8 @@ pub struct FirstLine<'a> {
 }
 
 /// What follows the bytes at the front of the text that a checksum may have.
-fn behind_checksum(text: &[u8]) -> &[u8]
-    ensures { result.now ≡ behind_checksum text.now }
+fn after_checksum(text: &[u8]) -> &[u8]
+    ensures { result.now ≡ after_checksum text.now }
 {
     let mut rest = text;
     while let Some((byte, after)) = rest.split_first() {
@@ -525,7 +525,7 @@ fn behind_checksum(text: &[u8]) -> &[u8]
 fn front_checksum(text: &[u8]) -> Option<(&[u8], &[u8])>
     ensures { option_map (λ front. (front.0.now, front.1.now)) result ≡ checksum_front text.now }
 {
-    let rest = behind_checksum(text);
+    let rest = after_checksum(text);
     let checksum = &text[..text.len() - rest.len()];
     if checksum.is_empty() {
         return None;
@@ -539,16 +539,16 @@ fn split_count_end(text: &[u8]) -> Option<(Option<&[u8]>, &[u8])>
 {
     if let [b',', fields @ ..] = text {
         let (checksum, rest) = front_checksum(fields)?;
-        return Some((Some(checksum), behind_feed(rest)?));
+        return Some((Some(checksum), after_feed(rest)?));
     }
-    Some((None, behind_feed(text)?))
+    Some((None, after_feed(text)?))
 }
 
 /// Reads the first line if it is `DA:<line>,<count>` or `DA:<line>,<count>,<checksum>` of digits, with numbers below 2^64, and
 /// ends in a line feed. Most lines of a tracefile do, so these are read in one pass. For any other first line it returns
 /// `None`, and the caller cuts and reads that.
 #[inline]
-pub fn first_counted(text: &[u8]) -> Option<FirstLine<'_>>
+pub fn try_count_line(text: &[u8]) -> Option<CountLine<'_>>
     ensures says { IfSome result (λ f. BeginsWithLine text.now (Line f.line f.count (option_map (λ c. c.now) f.checksum)) f.rest.now) }
     ensures form { IfSome result (λ f. BeginsWithCountedLine text.now f.line f.count (option_map (λ c. c.now) f.checksum) f.rest.now) }
     ensures only { (line count : ℕ) (checksum : Option (List ℕ)) (rest : List ℕ) → BeginsWithCountedLine text.now line count checksum rest → MatchOption result ⊥ (λ f. (f.line ≡ line) × (f.count ≡ count) × (option_map (λ c. c.now) f.checksum ≡ checksum) × (f.rest.now ≡ rest)) }
@@ -558,13 +558,13 @@ pub fn first_counted(text: &[u8]) -> Option<FirstLine<'_>>
 
 /// Reads such a first line from left to right.
 #[inline]
-fn front_counted(text: &[u8]) -> Option<FirstLine<'_>>
+fn front_counted(text: &[u8]) -> Option<CountLine<'_>>
     ensures { option_map (λ f. ((f.line, f.count), (option_map (λ c. c.now) f.checksum, f.rest.now))) result ≡ counted_front text.now }
 {
-    let (line, rest) = small_field(behind_line_key(text)?)?;
+    let (line, rest) = small_field(after_count_key(text)?)?;
     let (count, rest) = small_number(rest)?;
     let (checksum, rest) = split_count_end(rest)?;
-    Some(FirstLine {
+    Some(CountLine {
         line,
         count,
         checksum,
@@ -574,7 +574,7 @@ fn front_counted(text: &[u8]) -> Option<FirstLine<'_>>
 
 /// The first line of a text that says how often a branch was taken, and the rest of the text.
 #[derive(Clone, Copy)]
-pub struct FirstBranch<'a> {
+pub struct BranchLine<'a> {
     /// The branch.
     pub point: BranchPoint,
     /// How often it was taken; `None` if its block was never executed.
@@ -611,10 +611,10 @@ fn front_taken(text: &[u8]) -> Option<(Option<u64>, &[u8])>
 }
 
 /// Reads the first line if it is `BRDA:<line>,<block>,<branch>,<taken>` of digits (or `-` for how often the branch was taken),
-/// with numbers below 2^64, and ends in a line feed: in one pass, as `first_counted` does. For any other first line it returns
+/// with numbers below 2^64, and ends in a line feed: in one pass, as `try_count_line` does. For any other first line it returns
 /// `None`, and the caller cuts and reads that.
 #[inline]
-pub fn first_branch(text: &[u8]) -> Option<FirstBranch<'_>>
+pub fn try_branch_line(text: &[u8]) -> Option<BranchLine<'_>>
     ensures says { IfSome result (λ f. BeginsWithLine text.now (Branch f.point.line f.point.block f.point.branch f.taken) f.rest.now) }
     ensures form { IfSome result (λ f. BeginsWithBranchLine text.now (branch_point_data f.point) f.taken f.rest.now) }
     ensures only { (point : BranchData) (taken : Option ℕ) (rest : List ℕ) → BeginsWithBranchLine text.now point taken rest → MatchOption result ⊥ (λ f. (branch_point_data f.point ≡ point) × (f.taken ≡ taken) × (f.rest.now ≡ rest)) }
@@ -624,18 +624,18 @@ pub fn first_branch(text: &[u8]) -> Option<FirstBranch<'_>>
 
 /// Reads such a first line from left to right.
 #[inline]
-fn front_branch(text: &[u8]) -> Option<FirstBranch<'_>>
+fn front_branch(text: &[u8]) -> Option<BranchLine<'_>>
     ensures { option_map (λ f. ((branch_point_data f.point, f.taken), f.rest.now)) result ≡ branch_front text.now }
 {
-    let (line, rest) = small_field(behind(text, b"BRDA:")?)?;
+    let (line, rest) = small_field(strip_key(text, b"BRDA:")?)?;
     let (block, rest) = small_field(rest)?;
     let (branch, rest) = small_field(rest)?;
     let (taken, rest) = front_taken(rest)?;
-    let rest = behind_feed(rest)?;
+    let rest = after_feed(rest)?;
     let point = BranchPoint {
         line,
         block,
         branch,
     };
-    Some(FirstBranch { point, taken, rest })
+    Some(BranchLine { point, taken, rest })
 }

@@ -4,21 +4,21 @@ use Rattle.std.proofs.lemmas.List.{length_push}
 use Rattle.covbook.specs.declared.book.BookFault.{BookFault}
 use Rattle.covbook.specs.declared.book.BookFault.TheVariants as faults
 use Rattle.covbook.specs.Op.{OpData, EntryData, ReceiptData}
-use Rattle.covbook.specs.Step.{ComesNext, IsLegal, answer_of, next_entry, receipt_of, table_of, ops_in, most_entries}
+use Rattle.covbook.specs.Step.{ComesNext, IsLegal, answer_of, next_entry, receipt_of, table_of, ops_in, max_entries}
 use Rattle.covlock.specs.Call.{IsNewsOf}
 
 -- what follows the history as it was made ready follows the history that was there before
-pub entry_behind : (history ready after : List EntryData) (job asker : ℕ) (op asked : OpData) → ready ≡ history → job ≡ asker → op ≡ asked
+pub entry_after : (history ready after : List EntryData) (job asker : ℕ) (op asked : OpData) → ready ≡ history → job ≡ asker → op ≡ asked
     → after ≡ ready ++ next_entry ready job op ∷ [] → after ≡ history ++ next_entry history asker asked ∷ []
-entry_behind history ready after job asker op asked same is_job is_op grown =
+entry_after history ready after job asker op asked same is_job is_op grown =
     subst (λ (h : List EntryData). after ≡ h ++ next_entry h asker asked ∷ []) same
     (subst (λ (j : ℕ). after ≡ ready ++ next_entry ready j asked ∷ []) is_job
     (subst (λ (o : OpData). after ≡ ready ++ next_entry ready job o ∷ []) is_op grown))
 
 -- what holds of the history as it was made ready holds of the history that was there before
-pub told_behind : (history ready : List EntryData) (job : ℕ) (op asked : OpData) (told : ReceiptData) → ready ≡ history → op ≡ asked
+pub told_later : (history ready : List EntryData) (job : ℕ) (op asked : OpData) (told : ReceiptData) → ready ≡ history → op ≡ asked
     → told ≡ receipt_of (length ready) (next_entry ready job op) → told ≡ record { place = length history; op = asked; answer = answer_of (table_of (ops_in history)) asked }
-told_behind history ready job op asked told same is_op is_told =
+told_later history ready job op asked told same is_op is_told =
     subst (λ (h : List EntryData). told ≡ record { place = length h; op = asked; answer = answer_of (table_of (ops_in h)) asked }) same
     (subst (λ (o : OpData). told ≡ receipt_of (length ready) (next_entry ready job o)) is_op is_told)
 
@@ -26,13 +26,13 @@ pub ok_is_no_err : {T E : Type 0} (value : T) (fault : E) → ◌≡◌ {A = Res
 ok_is_no_err value fault is = cc
 
 -- a history that takes more and is as long as what was seen is no reason for a refusal
-pub takes_more : (entries seen : ℕ) → entries < most_entries → seen ≤ entries → (entries ≡ most_entries) ⊎ (entries < seen) → ⊥
+pub takes_more : (entries seen : ℕ) → entries < max_entries → seen ≤ entries → (entries ≡ max_entries) ⊎ (entries < seen) → ⊥
 takes_more entries seen few long (inl is) = omega arith
 takes_more entries seen few long (inr is) = omega arith
 
 -- such a history isn't the cause of an answer, and the answer isn't this fault
-pub is_not_full : {T E : Type 0} (answer : Result T E) (fault : E) (entries seen : ℕ) → (answer ≡ Err fault → ⊥) → entries < most_entries → seen ≤ entries
-    → (answer ≡ Err fault → (entries ≡ most_entries) ⊎ (entries < seen)) × ((entries ≡ most_entries) ⊎ (entries < seen) → answer ≡ Err fault)
+pub is_not_full : {T E : Type 0} (answer : Result T E) (fault : E) (entries seen : ℕ) → (answer ≡ Err fault → ⊥) → entries < max_entries → seen ≤ entries
+    → (answer ≡ Err fault → (entries ≡ max_entries) ⊎ (entries < seen)) × ((entries ≡ max_entries) ⊎ (entries < seen) → answer ≡ Err fault)
 is_not_full answer fault entries seen other few long = (λ is. absurd (other is), λ full. absurd (takes_more entries seen few long full))
 
 pub no_room_is_not_full : {T : Type 0} → ◌≡◌ {A = Result T BookFault} (Err faults.Memory) (Err faults.Full) → ⊥

@@ -2,7 +2,7 @@ pub mod Start
 pub mod Seat
 pub mod Handed
 pub mod Call
-pub mod Locked
+pub mod SharedState
 pub mod Shared
 pub mod OpenFault
 pub mod CloseFault

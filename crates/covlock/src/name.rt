@@ -2,14 +2,14 @@
 
 use covbook::Book;
 use covline::Memory;
-use covnews::Opening;
+use covnews::HistorySeed;
 use std::alloc::{Allocator, Global};
 use std::marker::Model;
 use std::sync::ledger::Blank;
 use thiserror::Error;
 
 /// The most jobs that can share one book.
-pub const MOST_JOBS: u32 = 64;
+pub const MAX_JOBS: u32 = 64;
 
 /// Why no book is opened.
 #[derive(Clone, Copy, Debug, PartialEq, Eq, Error)]
@@ -52,7 +52,7 @@ pub struct Start<A: Allocator = Global> {
     jobs: u32,
     count: Blank,
     book: Book<A>,
-    opening: Opening,
+    opening: HistorySeed,
 }
 
 impl<A: Allocator> Model for Start<A> {
@@ -76,14 +76,14 @@ impl<A: Allocator + Copy> Start<A> {
         ensures jobs { IfOk result (λ s. s.jobs ≡ jobs) }
         ensures bad { (result ≡ Err faults.BadJobs) ↔ (AreJobs jobs → ⊥) }
     {
-        if jobs == 0 || jobs > MOST_JOBS {
+        if jobs == 0 || jobs > MAX_JOBS {
             return Err(OpenFault::BadJobs);
         }
         Ok(Start {
             jobs,
             count: Blank::new(u64::from(jobs)),
             book: Book::new(alloc),
-            opening: Opening::new(),
+            opening: HistorySeed::new(),
         })
     }
 }
@@ -93,7 +93,7 @@ impl<A: Allocator> Start<A> {
     ghost use Rattle.covlock.specs.Start.{AreJobs};
 
     /// How many jobs there are, the count without a call, the empty book, and the opening of what is published of it.
-    pub(crate) fn into_parts(self) -> (u32, Blank, Book<A>, Opening)
+    pub(crate) fn into_parts(self) -> (u32, Blank, Book<A>, HistorySeed)
         ensures jobs { result.0 ≡ self.jobs }
         ensures bounds { AreJobs self.jobs }
         ensures name { result.1.name ≡ self.name }

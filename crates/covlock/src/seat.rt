@@ -27,7 +27,7 @@ impl<L: Name> Model for Seat<L> {
 
 impl<L: Name> Seat<L> {
     ghost use Rattle.std.specs.Prelude.{◌≡◌, ◌+◌, ◌<◌};
-    ghost use Rattle.covbook.specs.Step.{most_entries};
+    ghost use Rattle.covbook.specs.Step.{max_entries};
     ghost use Rattle.covlock.specs.Seat.{fresh_seat, after_call};
 
     /// The seat of a job that has made no call, with a share of the count.
@@ -67,8 +67,8 @@ impl<L: Name> Seat<L> {
 
     /// Counts a call that is answered at this place, in the seat and in the book's count.
     pub(crate) fn count_call(&mut self, count: &mut Book<L>, place: u64)
-        requires few { count.old.total < most_entries }
-        requires place { place < most_entries }
+        requires few { count.old.total < max_entries }
+        requires place { place < max_entries }
         ensures seat { self.new ≡ after_call self.old place }
         ensures total { count.new.total ≡ count.old.total + 1 }
     {

@@ -1,7 +1,7 @@
 //! The book that threads share.
 
-use crate::handed::{Seats, seats_for};
-use crate::locked::Locked;
+use crate::seat_list::{Seats, seats_for};
+use crate::shared_state::SharedState;
 use crate::name::Start;
 use crate::seat::Seat;
 use covbook::{BookFault, Entries, Op, Receipt};
@@ -13,14 +13,14 @@ use std::sync::{Mutex, Wait};
 use thiserror::Error;
 
 /// The most readers that can be made of one book.
-pub const MOST_READERS: u32 = 64;
+pub const MAX_READERS: u32 = 64;
 
 /// A book under a lock, which threads share by reference. Contracts see how many jobs it is for. A book that is dropped
 /// without being closed never frees the memory that it shares with its readers (some 17 KB).
 #[derive(Drop)]
 pub struct Shared<L: Name, A: Allocator = Global> {
     jobs: u32,
-    locked: Mutex<Locked<L, A>>,
+    shared_state: Mutex<SharedState<L, A>>,
 }
 
 impl<L: Name, A: Allocator> Model for Shared<L, A> {
@@ -80,9 +80,9 @@ pub fn open_book<L: Name, A: Allocator + Copy>(
     let (jobs, count, book, opening) = start.into_parts();
     let (count, mut all) = count.open::<L>();
     let seats = seats_for(alloc, jobs, &mut all)?;
-    let publisher = Publisher::new(alloc, opening, MOST_READERS)?;
-    let locked = Mutex::new(Locked::new(book, count, all, publisher));
-    Ok((Shared { jobs, locked }, seats))
+    let publisher = Publisher::new(alloc, opening, MAX_READERS)?;
+    let shared_state = Mutex::new(SharedState::new(book, count, all, publisher));
+    Ok((Shared { jobs, shared_state }, seats))
 }
 
 impl<L: Name, A: Allocator + Copy> Shared<L, A> {
@@ -110,7 +110,7 @@ impl<L: Name, A: Allocator + Copy> Shared<L, A> {
         ensures seen { IfOk result (λ d. seat.old.seen ≤ d.receipt.place) }
         ensures seat { MatchResult result (λ d. seat.new ≡ after_call seat.old d.receipt.place) (λ _. seat.new ≡ seat.old) }
     {
-        let (receipt, news) = self.locked.lock(rt).step(rt, alloc, seat, op)?;
+        let (receipt, news) = self.shared_state.lock(rt).step(rt, alloc, seat, op)?;
         Ok(Done { receipt, news })
     }
 }
@@ -130,7 +130,7 @@ impl<L: Name, A: Allocator> Shared<L, A> {
         ensures legal { IfOk result (λ live. IsLegal live) }
         ensures fault { IfErr result (λ fault. fault ≡ reader_faults.NoPlace) }
     {
-        self.locked.lock(rt).reader()
+        self.shared_state.lock(rt).reader()
     }
 
     /// Closes the book if the seat of each job is handed in, and returns its history, whose submissions are lawful, with news
@@ -152,6 +152,6 @@ impl<L: Name, A: Allocator> Shared<L, A> {
         if let Some(job) = seats.missing(self.jobs) {
             return Err((self, seats, CloseFault::Missing { job }));
         }
-        Ok(self.locked.into_inner().close(rt, seats))
+        Ok(self.shared_state.into_inner().close(rt, seats))
     }
 }

@@ -1,4 +1,4 @@
 pub mod History
-pub mod Mark
+pub mod Snapshot
 pub mod Publisher
 pub mod ReaderFault

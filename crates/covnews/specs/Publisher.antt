@@ -4,7 +4,7 @@ pub use Rattle.logbook.specs.Pages.{Book}
 use Rattle.covbook.specs.Op.{EntryData}
 
 -- the book whose history begins here
-pub record OpeningData : Type 0 where
+pub record HistorySeedData : Type 0 where
   pub book : Book
 
 -- the history that is noted, the one that is published, and for how many more readers there are places

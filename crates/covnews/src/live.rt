@@ -1,6 +1,6 @@
 //! Readers that wait for nobody.
 
-use crate::mark::{MarkReader, OfBook};
+use crate::snapshot::{SnapshotReader, OfBook};
 use crate::name::Name;
 use crate::news::News;
 use core::mem::replace_with;
@@ -14,7 +14,7 @@ use std::thread;
 #[derive(Drop)]
 pub struct Live<L: Name, A: Allocator = Global> {
     longest: News<L>,
-    reader: MarkReader<L, A>,
+    reader: SnapshotReader<L, A>,
 }
 
 impl<L: Name, A: Allocator> Model for Live<L, A> {
@@ -27,7 +27,7 @@ impl<L: Name, A: Allocator> Model for Live<L, A> {
 }
 
 /// News of what is published, if the reader is given a view.
-fn look<L: Name, A: Allocator>(reader: MarkReader<L, A>) -> (MarkReader<L, A>, Option<News<L>>) {
+fn look<L: Name, A: Allocator>(reader: SnapshotReader<L, A>) -> (SnapshotReader<L, A>, Option<News<L>>) {
     match reader.enter_as::<OfBook<L>>() {
         Ok(reading) => {
             let news = News::of(reading.get());
@@ -43,7 +43,7 @@ impl<L: Name, A: Allocator> Live<L, A> {
     ghost use Rattle.covnews.specs.History.{IsPrefix};
 
     /// A reader that begins with these news.
-    pub(crate) fn new(news: News<L>, reader: MarkReader<L, A>) -> Live<L, A>
+    pub(crate) fn new(news: News<L>, reader: SnapshotReader<L, A>) -> Live<L, A>
         ensures { result ≡ news }
     {
         Live {

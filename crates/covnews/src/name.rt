@@ -21,31 +21,31 @@ impl Name for Brand {
 
 /// What a noted history begins with: no entry. Contracts see the name of the book that it is opened for.
 #[derive(Drop)]
-pub struct Opening {
+pub struct HistorySeed {
     length: Length,
     seen: SeenHistory,
 }
 
-impl Model for Opening {
+impl Model for HistorySeed {
     ghost use Rattle.std.specs.Prelude.{◌≡◌, []};
     ghost use Rattle.covnews.specs.History.{length_of};
-    ghost use Rattle.covnews.specs.Publisher.{OpeningData};
+    ghost use Rattle.covnews.specs.Publisher.{HistorySeedData};
 
-    ghost Value = { OpeningData };
+    ghost Value = { HistorySeedData };
 
     ghost view = { λ opening. record { book = opening.seen.book } };
 
     ghost invariant = { λ opening. (opening.seen.log ≡ []) × (opening.length ≡ length_of opening.seen.book) };
 }
 
-impl Opening {
+impl HistorySeed {
     ghost use Rattle.std.specs.Prelude.{◌≡◌, []};
     ghost use Rattle.covnews.specs.History.{length_of};
 
     /// The opening of one book. Takes no memory.
-    pub fn new() -> Opening {
+    pub fn new() -> HistorySeed {
         let (seen, mut first, _second) = Seen::open(Start::alone(), 0, 0);
-        Opening {
+        HistorySeed {
             length: Word::tracked(0, &mut first),
             seen,
         }

@@ -1,7 +1,7 @@
 //! News of a noted history.
 
 use crate::history::{Append, Length, NoGain, SeenHistory};
-use crate::mark::Mark;
+use crate::snapshot::Snapshot;
 use crate::name::Name;
 use crate::noted::NotedEntry;
 use covbook::{Entry, Reading};
@@ -14,7 +14,7 @@ use std::marker::{Model, PhantomData};
 /// entries, which are legal. Hand news out only after their history is published.
 #[derive(Drop)]
 pub struct News<L: Name> {
-    mark: Mark,
+    snapshot: Snapshot,
     name: PhantomData<L>,
 }
 
@@ -25,15 +25,15 @@ impl<L: Name> Model for News<L> {
 
     ghost Value = { List EntryData };
 
-    ghost view = { λ news. news.mark.seen.log };
+    ghost view = { λ news. news.snapshot.seen.log };
 
-    ghost invariant = { λ news. (news.mark.seen.book ≡ L.book) × IsLegal news.mark.seen.log };
+    ghost invariant = { λ news. (news.snapshot.seen.book ≡ L.book) × IsLegal news.snapshot.seen.log };
 }
 
 impl<L: Name> News<L> {
     ghost use Rattle.std.specs.Prelude.{◌≡◌, ◌<◌, ◌⊎◌, ◌++◌, ◌∷◌, [], length, IfSome};
     ghost use Rattle.covbook.specs.EntryView.{entry_data};
-    ghost use Rattle.covbook.specs.Step.{ComesNext, IsLegal, last_totals, most_entries};
+    ghost use Rattle.covbook.specs.Step.{ComesNext, IsLegal, last_totals, max_entries};
     ghost use Rattle.covnews.specs.History.{IsPrefix, length_of};
 
     /// How many entries the history has, and the totals after the last of them. Takes no memory.
@@ -43,8 +43,8 @@ impl<L: Name> News<L> {
         ensures legal { IsLegal self.now }
     {
         Reading {
-            upto: self.mark.upto,
-            totals: self.mark.totals,
+            upto: self.snapshot.upto,
+            totals: self.snapshot.totals,
         }
     }
 
@@ -53,7 +53,7 @@ impl<L: Name> News<L> {
         ensures { result ≡ self.now }
     {
         News {
-            mark: self.mark.copy(),
+            snapshot: self.snapshot.copy(),
             name: PhantomData,
         }
     }
@@ -65,7 +65,7 @@ impl<L: Name> News<L> {
         ensures { result ≡ [] }
     {
         News {
-            mark: Mark {
+            snapshot: Snapshot {
                 upto: 0,
                 totals: Totals::default(),
                 seen,
@@ -75,24 +75,24 @@ impl<L: Name> News<L> {
     }
 
     /// News of the history that a mark is of.
-    pub(crate) fn of(mark: &Mark) -> News<L>
-        requires { mark.now.seen.book ≡ L.book }
-        ensures { result ≡ mark.now.seen.log }
+    pub(crate) fn of(snapshot: &Snapshot) -> News<L>
+        requires { snapshot.now.seen.book ≡ L.book }
+        ensures { result ≡ snapshot.now.seen.log }
     {
-        let mut seen = mark.seen.again();
-        seen.learn(&mark.seen);
+        let mut seen = snapshot.seen.again();
+        seen.learn(&snapshot.seen);
         News {
-            mark: mark.copy(),
+            snapshot: snapshot.copy(),
             name: PhantomData,
         }
     }
 
     /// The mark of the history.
-    pub(crate) fn mark(&self) -> &Mark
+    pub(crate) fn snapshot(&self) -> &Snapshot
         ensures book { result.now.seen.book ≡ L.book }
         ensures history { result.now.seen.log ≡ self.now }
     {
-        &self.mark
+        &self.snapshot
     }
 
     /// The longer of two histories' news. Both are prefixes of the longer, since both are of one book.
@@ -101,9 +101,9 @@ impl<L: Name> News<L> {
         ensures this { IsPrefix self.now result }
         ensures that { IsPrefix other.now result }
     {
-        let mut both = self.mark.seen.again();
-        both.learn(&other.mark.seen);
-        if self.mark.upto < other.mark.upto {
+        let mut both = self.snapshot.seen.again();
+        both.learn(&other.snapshot.seen);
+        if self.snapshot.upto < other.snapshot.upto {
             other.copy()
         } else {
             self.copy()
@@ -118,16 +118,16 @@ impl<L: Name> News<L> {
         entry: &Entry<A>,
     ) -> Option<News<L>>
         requires history { history.now ≡ length_of L.book }
-        requires few { length self.now < most_entries }
+        requires few { length self.now < max_entries }
         requires next { ComesNext self.now (entry_data entry.now) }
         ensures { IfSome result (λ news. news ≡ self.now ++ entry_data entry.now ∷ []) }
     {
-        let mut seen = self.mark.seen.again();
+        let mut seen = self.snapshot.seen.again();
         let mut offer: Offer<NotedEntry, u64, _, NoGain> = seen.plain::<NoGain, Entry<A>, Append>(
             entry,
         );
         let mut pen = seen.no_pen();
-        let upto = self.mark.upto;
+        let upto = self.snapshot.upto;
         let next = upto + 1;
         let found = history.compare_exchange::<Append, NoGain>(
             upto, next, &mut seen, &mut offer, &mut pen,
@@ -135,13 +135,13 @@ impl<L: Name> News<L> {
         if found != upto {
             return None;
         }
-        let mark = Mark {
+        let snapshot = Snapshot {
             upto: next,
             totals: entry.after,
             seen,
         };
         Some(News {
-            mark,
+            snapshot,
             name: PhantomData,
         })
     }

@@ -3,9 +3,9 @@
 use crate::fault::ReaderFault;
 use crate::history::Length;
 use crate::live::Live;
-use crate::name::{Name, Opening};
+use crate::name::{Name, HistorySeed};
 use crate::news::News;
-use crate::showing::Showing;
+use crate::snapshot_cell::SnapshotCell;
 use covbook::Entry;
 use covline::Memory;
 use std::alloc::{Allocator, Global};
@@ -21,7 +21,7 @@ use std::sync::Wait;
 pub struct Publisher<L: Name, A: Allocator = Global> {
     history: Length,
     noted: News<L>,
-    showing: Showing<L, A>,
+    snapshot_cell: SnapshotCell<L, A>,
     places: u32,
 }
 
@@ -32,7 +32,7 @@ impl<L: Name, A: Allocator> Model for Publisher<L, A> {
 
     ghost Value = { PublisherData };
 
-    ghost view = { λ publisher. record { noted = publisher.noted; published = publisher.showing; places = publisher.places } };
+    ghost view = { λ publisher. record { noted = publisher.noted; published = publisher.snapshot_cell; places = publisher.places } };
 
     ghost invariant = { λ publisher. publisher.history ≡ length_of L.book };
 }
@@ -42,7 +42,7 @@ impl<L: Name, A: Allocator + Copy> Publisher<L, A> {
 
     /// Publishes the history without an entry, for at most `readers` readers. Allocates all that publishing needs later, so
     /// nothing is refused then.
-    pub fn new(alloc: A, opening: Opening, readers: u32) -> Result<Publisher<L, A>, Memory>
+    pub fn new(alloc: A, opening: HistorySeed, readers: u32) -> Result<Publisher<L, A>, Memory>
         requires book { opening.book ≡ L.book }
         requires readers { 0 < readers }
         ensures noted { IfOk result (λ publisher. publisher.noted ≡ []) }
@@ -51,11 +51,11 @@ impl<L: Name, A: Allocator + Copy> Publisher<L, A> {
     {
         let (history, seen) = opening.into_parts();
         let noted = News::first(seen);
-        let showing = Showing::new(alloc, &noted, readers)?;
+        let snapshot_cell = SnapshotCell::new(alloc, &noted, readers)?;
         Ok(Publisher {
             history,
             noted,
-            showing,
+            snapshot_cell,
             places: readers,
         })
     }
@@ -64,14 +64,14 @@ impl<L: Name, A: Allocator + Copy> Publisher<L, A> {
 impl<L: Name, A: Allocator> Publisher<L, A> {
     ghost use Rattle.std.specs.Prelude.{◌≡◌, ◌-◌, ◌<◌, ◌++◌, ◌∷◌, [], length, IfOk, IfErr, IfSome, IfNone, OnOk, OnErr, Err};
     ghost use Rattle.covbook.specs.EntryView.{entry_data};
-    ghost use Rattle.covbook.specs.Step.{ComesNext, most_entries};
+    ghost use Rattle.covbook.specs.Step.{ComesNext, max_entries};
     ghost use Rattle.covnews.specs.declared.fault.ReaderFault.TheVariants as faults;
 
     /// Notes the next entry of the history; `publish` then publishes it. The news are of the history with this entry, so hand
     /// them out after that. `None` leaves all as it was. It doesn't happen if one publisher alone has the history, which the
     /// types ensure, though no contract says so. Takes no memory.
     pub fn note(&mut self, entry: &Entry<A>) -> Option<News<L>>
-        requires few { length self.old.noted < most_entries }
+        requires few { length self.old.noted < max_entries }
         requires next { ComesNext self.old.noted (entry_data entry.now) }
         ensures news { IfSome result (λ news. news ≡ self.old.noted ++ entry_data entry.now ∷ []) }
         ensures noted { IfSome result (λ news. self.new ≡ record self.old { noted = news }) }
@@ -87,7 +87,7 @@ impl<L: Name, A: Allocator> Publisher<L, A> {
     pub fn publish<R: Wait>(&mut self, rt: &R)
         ensures { self.new ≡ record self.old { published = self.old.noted } }
     {
-        self.showing.show(rt, &self.noted);
+        self.snapshot_cell.show(rt, &self.noted);
     }
 
     /// Makes one more reader, which begins with what is published. `NoPlace` if all places that there were at first are
@@ -102,11 +102,11 @@ impl<L: Name, A: Allocator> Publisher<L, A> {
         if self.places == 0 {
             return Err(ReaderFault::NoPlace);
         }
-        let Ok(reader) = self.showing.reader() else {
+        let Ok(reader) = self.snapshot_cell.reader() else {
             return Err(ReaderFault::NoPlace);
         };
         self.places -= 1;
-        Ok(Live::new(self.showing.news(), reader))
+        Ok(Live::new(self.snapshot_cell.news(), reader))
     }
 
     /// Ends the publishing, and returns news of what is published. Readers then report the longest history that they saw or
@@ -117,11 +117,11 @@ impl<L: Name, A: Allocator> Publisher<L, A> {
         let Publisher {
             history: _,
             noted: _,
-            showing,
+            snapshot_cell,
             places: _,
         } = self;
-        let news = showing.news();
-        showing.close(rt);
+        let news = snapshot_cell.news();
+        snapshot_cell.close(rt);
         news
     }
 }

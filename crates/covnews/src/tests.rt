@@ -15,7 +15,7 @@ use std::thread::{Threads, join};
 fn opened<L: Name, A: Allocator + Copy>(
     rt: &impl Abort,
     alloc: A,
-    opening: Opening,
+    opening: HistorySeed,
     readers: u32,
 ) -> Publisher<L, A>
     requires book { opening.book ≡ L.book }
@@ -74,7 +74,7 @@ fn check_no_place<L: Name, A: Allocator>(rt: &impl Abort, publisher: &mut Publis
 }
 
 /// A reader sees what it didn't learn, another one begins with it, and what is learned after the end counts.
-fn follow<L: Name, R: Wait + Abort>(rt: &R, alloc: Global, opening: Opening)
+fn follow<L: Name, R: Wait + Abort>(rt: &R, alloc: Global, opening: HistorySeed)
     requires { opening.book ≡ L.book }
 {
     let mut publisher = opened::<L, Global>(rt, alloc, opening, 3);
@@ -97,7 +97,7 @@ fn follow<L: Name, R: Wait + Abort>(rt: &R, alloc: Global, opening: Opening)
 
 #[test]
 fn readers_follow(rt: HostRuntime) -> Result<(), Fail> {
-    follow::<Brand, _>(&rt, rt.alloc(), Opening::new());
+    follow::<Brand, _>(&rt, rt.alloc(), HistorySeed::new());
     Ok(())
 }
 
@@ -119,7 +119,7 @@ fn fill<A: Allocator + Copy, R: Abort + AllocGlobal>(rt: &R, alloc: A) -> Vec<Ve
 fn publish_without_room<L: Name, A: Allocator + Copy, R: Wait + Abort + AllocGlobal>(
     rt: &R,
     alloc: A,
-    opening: Opening,
+    opening: HistorySeed,
 )
     requires { opening.book ≡ L.book }
 {
@@ -137,7 +137,7 @@ fn publish_without_room<L: Name, A: Allocator + Copy, R: Wait + Abort + AllocGlo
 #[test]
 fn publishing_takes_no_memory(rt: HostRuntime) -> Result<(), Fail> {
     let heap = LocalHeap::new(rt.alloc(), 100_000)?;
-    publish_without_room::<Brand, _, _>(&rt, &heap, Opening::new());
+    publish_without_room::<Brand, _, _>(&rt, &heap, HistorySeed::new());
     Ok(())
 }
 
@@ -171,7 +171,7 @@ fn read_often<L: Name>(rt: &impl Abort, mut live: Live<L>) -> Live<L> {
 fn read_meanwhile<L: Name + Send + Sync, R: Threads + Wait + Abort + Sync>(
     rt: &R,
     alloc: Global,
-    opening: Opening,
+    opening: HistorySeed,
 )
     requires { opening.book ≡ L.book }
 {
@@ -190,6 +190,6 @@ fn read_meanwhile<L: Name + Send + Sync, R: Threads + Wait + Abort + Sync>(
 
 #[test]
 fn readings_rise(rt: HostRuntime) -> Result<(), Fail> {
-    read_meanwhile::<Brand, _>(&rt, rt.alloc(), Opening::new());
+    read_meanwhile::<Brand, _>(&rt, rt.alloc(), HistorySeed::new());
     Ok(())
 }

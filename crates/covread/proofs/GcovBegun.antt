@@ -13,7 +13,7 @@ use Rattle.covread.specs.declared.gcov.line.OwnFault.{OwnFault}
 use Rattle.covread.specs.declared.gcov.line.OwnFault.TheVariants as own
 use Rattle.covread.specs.Gcov.{GcovLine, Path, SourceLine, FuncCount, BranchCount, BlockNumber, Nothing, Says, LineSays}
 use Rattle.covread.specs.GcovItems.{is_path, has_path, has_line, waiting, is_empty, begins_keeping, place_fault}
-use Rattle.covread.specs.Outcome.{most_bytes}
+use Rattle.covread.specs.Outcome.{max_bytes}
 use Rattle.covread.specs.GcovOutcome.{AllSay, own_fault, IsFaultAt, IsFirstFault, FaultsEarly, HasBegun, GrowsLate, Answers}
 use Rattle.covread.specs.GcovSteps.{SectionData, HeldData, Stepped, line_step, line_grows, submission_held, ends, EndsTo}
 use Rattle.covread.proofs.GcovPlaces.{any-yes}
@@ -188,7 +188,7 @@ early_isnt lines fault early late =
     reach [] first.before first.line first.after first.above fault late.before late.after late.above (sym first.place ∙ late.place) first.said faulty late.said early.none_kept late.begun
 
 pub early_told : (test text : List ℕ) (answer : Result SubmissionData ReadFault) (fault : ReadFault) → Answers test text answer → GrowsLate text answer
-    → length text ≤ most_bytes → IsGoodTest test → FaultsEarly (lines_of text) fault → answer ≡ Err fault
+    → length text ≤ max_bytes → IsGoodTest test → FaultsEarly (lines_of text) fault → answer ≡ Err fault
 early_told test text answer fault answers late short good early =
     elim (answer_is test text answer (Err fault) answers (inr (inr (inl (short, good, early.first))))) [
       | inl none ↦ absurd (early_isnt (lines_of text) fault early (late none))

@@ -12,16 +12,16 @@ use Rattle.covline.specs.Lines.{line_feed, lines_of}
 use Rattle.covline.specs.Row.{ItemData, BranchItem, SectData, SubmissionData, items_in}
 use Rattle.covline.specs.Lawful.{IsGoodTest, IsGoodName, IsLawfulItem, IsLawfulSect, FitsItem, AllFit, IsLawful}
 use Rattle.covline.specs.Spells.{digits_value}
-use Rattle.covline.specs.Reading.{behind_key}
+use Rattle.covline.specs.Reading.{after_key}
 use Rattle.covline.proofs.LineLaws.{good_rest, good_lines, few_lines}
 use Rattle.covread.specs.declared.fault.ReadFault.{ReadFault}
 use Rattle.covread.specs.declared.fault.ReadFault.TheVariants as faults
 use Rattle.covread.specs.declared.gcov.line.OwnFault.TheVariants as own
-use Rattle.covread.specs.declared.gcov.reader.Place.{Place}
+use Rattle.covread.specs.declared.gcov.reader.BranchAnchor.{BranchAnchor}
 use Rattle.covread.specs.Gcov.{Shape, Instances, Function, Never, Taken, Block, Numbered, Other, HasShape, IsName, Says, says_of, GcovLine, Path, SourceLine, FuncCount, BranchCount, BlockNumber, Nothing, with_number, are_digits, without_last, percent, star, branch_says, source_says, path_says, colon}
 use Rattle.covread.specs.GcovReading.{shape_of}
 use Rattle.covread.specs.GcovItems.{func_item, line_item, is_empty}
-use Rattle.covread.specs.Outcome.{most_bytes}
+use Rattle.covread.specs.Outcome.{max_bytes}
 use Rattle.covread.specs.GcovOutcome.{IsOutcome}
 use Rattle.covread.specs.GcovSteps.{SectionData, HeldData, empty, closed, section_with, Stepped, begun, step_path, step_source, step_func, step_branch, step_branch_in, in_block, section_in_block, step_block, step, line_step, run_on, run, submission_held}
 use Rattle.covread.proofs.GcovParts.{key_or_none}
@@ -87,15 +87,15 @@ all_of_front P front rest all = subst (λ (t : List ℕ). All P t) (take-append_
 
 name_good : (line name rest : List ℕ) → line ≡ codes "function " ++ (name ++ rest) → IsName name → IsGoodTest line → IsGoodName name
 name_good line name rest e is good =
-    let behind = good_rest (codes "function ") (name ++ rest) (subst (λ (t : List ℕ). IsGoodTest t) e good) in
-    record { fits = record { one_line = all_of_front (λ b. b ≢ line_feed) name rest behind.one_line; no_return = is.no_return }; some = is.some }
+    let following = good_rest (codes "function ") (name ++ rest) (subst (λ (t : List ℕ). IsGoodTest t) e good) in
+    record { fits = record { one_line = all_of_front (λ b. b ≢ line_feed) name rest following.one_line; no_return = is.no_return }; some = is.some }
 
 text_good : (line indent mark pad number text : List ℕ) → line ≡ indent ++ (mark ++ colon ∷ (pad ++ (number ++ colon ∷ text))) → IsGoodTest line → IsGoodTest text
 text_good line indent mark pad number text e good =
     good_rest (colon ∷ []) text (good_rest number (colon ∷ text) (good_rest pad (number ++ colon ∷ text) (good_rest (colon ∷ []) (pad ++ (number ++ colon ∷ text))
     (good_rest mark (colon ∷ (pad ++ (number ++ colon ∷ text))) (good_rest indent (mark ++ colon ∷ (pad ++ (number ++ colon ∷ text))) (subst (λ (t : List ℕ). IsGoodTest t) e good))))))
 
-path_good : (text : List ℕ) → IsGoodTest text → IsGoodIf (path_says (behind_key (codes "Source:") text))
+path_good : (text : List ℕ) → IsGoodTest text → IsGoodIf (path_says (after_key (codes "Source:") text))
 path_good text good =
     elim (key_or_none (codes "Source:") text) [
       | inl key ↦ rw key.read (good_rest (codes "Source:") key.rest (subst (λ (t : List ℕ). IsGoodTest t) key.parts good))
@@ -109,7 +109,7 @@ shape_good line (Never branch) form good = numbered_good branch (λ b. Ok (Branc
 shape_good line (Taken branch word) form good = branch_good branch word
 shape_good line (Block number block) form good = numbered_good number (λ _. with_number block (λ b. Ok (BlockNumber b))) (λ _ _. numbered_good block (λ b. Ok (BlockNumber b)) (λ b small. small))
 shape_good line (Numbered mark number text) form good =
-    if_good (eqb (digits_value number) 0) (path_says (behind_key (codes "Source:") text)) (source_says mark number) (path_good text (text_good line form.0 mark form.1 number text form.2 good)) (source_good mark number)
+    if_good (eqb (digits_value number) 0) (path_says (after_key (codes "Source:") text)) (source_says mark number) (path_good text (text_good line form.0 mark form.1 number text form.2 good)) (source_good mark number)
 shape_good line Other form good = tt
 
 read_good : (line : List ℕ) → IsGoodTest line → IsGoodIf (read line)
@@ -129,7 +129,7 @@ record IsGoodItem (item : ItemData) : Type 0 where
   fits : FitsItem item
   lawful : IsLawfulItem item
 
-abbrev IsSmallPlace : Option Place → Type 0
+abbrev IsSmallPlace : Option BranchAnchor → Type 0
 IsSmallPlace None = Unit {0}
 IsSmallPlace (Some p) = IsSmall p.line × IsSmall p.block
 
@@ -197,7 +197,7 @@ few_begun : (test path : List ℕ) (n : ℕ) (held : HeldData) → held_items te
 few_begun test path n held few =
     omega (arith, few, items_append (held.sects ++ closed test held.section) (record { test = test; file = path; items = [] } ∷ []), one_section (record { test = test; file = path; items = [] }))
 
-few_with : (test : List ℕ) (n k : ℕ) (held : HeldData) (s : SectionData) (more : List ItemData) (place : Option Place) (waits : List (List ℕ × ℕ)) → held.section ≡ Some s
+few_with : (test : List ℕ) (n k : ℕ) (held : HeldData) (s : SectionData) (more : List ItemData) (place : Option BranchAnchor) (waits : List (List ℕ × ℕ)) → held.section ≡ Some s
     → held_items test held ≤ n → length more + length waits ≤ length held.waiting + k → held_items test (section_with s more place held waits) ≤ n + k
 few_with test n k held s more place waits e few less =
     let old : SectData = record { test = test; file = s.file; items = s.items } in
@@ -252,7 +252,7 @@ func_step test n held name count h good small = record {
   few = omega (arith, h.few, length-append held.waiting ((name, count) ∷ []));
 }
 
-branch_in : (test : List ℕ) (at n : ℕ) (held : HeldData) (branch : ℕ) (taken : Option ℕ) (o : SectionData) (place : Option Place) → held.section ≡ Some o → IsGoodSection (Some o) → IsSmallPlace place
+branch_in : (test : List ℕ) (at n : ℕ) (held : HeldData) (branch : ℕ) (taken : Option ℕ) (o : SectionData) (place : Option BranchAnchor) → held.section ≡ Some o → IsGoodSection (Some o) → IsSmallPlace place
     → IsGoodHeld test n held → IsSmall branch → IsSmallIf taken → IsGoodStep test (n + 1) (step_branch_in at o place held branch taken)
 branch_in test at n held branch taken o None e g small h b t = tt
 branch_in test at n held branch taken o (Some p) e g small h b t = record {
@@ -267,7 +267,7 @@ branch_step : (test : List ℕ) (at n : ℕ) (held : HeldData) (branch : ℕ) (t
 branch_step test at n held branch taken None e g h b t = tt
 branch_step test at n held branch taken (Some o) e g h b t = branch_in test at n held branch taken o o.place e g g.2 h b t
 
-place_small : (block : ℕ) (place : Option Place) → IsSmall block → IsSmallPlace place → IsSmallPlace (option_map (in_block block) place)
+place_small : (block : ℕ) (place : Option BranchAnchor) → IsSmall block → IsSmallPlace place → IsSmallPlace (option_map (in_block block) place)
 place_small block None b p = tt
 place_small block (Some x) b p = (p.0, b)
 
@@ -318,7 +318,7 @@ run_good test at n held (line ∷ lines) good h all =
 
 -- ---- the submission
 
-pub lawful_run : (test text : List ℕ) (held : HeldData) → length text ≤ most_bytes → IsGoodTest test → run test 0 empty (lines_of text) ≡ Ok held → IsLawful (submission_held test held)
+pub lawful_run : (test text : List ℕ) (held : HeldData) → length text ≤ max_bytes → IsGoodTest test → run test 0 empty (lines_of text) ≡ Ok held → IsLawful (submission_held test held)
 lawful_run test text held short good e =
     let start : IsGoodHeld test 0 empty = record { funcs = tt; sects = tt; section = tt; few = omega arith } in
     let h : IsGoodStep test (0 + length (lines_of text)) (Ok held)
@@ -339,7 +339,7 @@ lawful_if : (none : Bool) (s t : SubmissionData) → IsLawful t → (let told : 
 lawful_if true s t h e = let same : s ≡ t = cc in subst (λ (x : SubmissionData). IsLawful x) (sym same) h
 lawful_if false s t h e = absurd cc
 
-lawful_stepped : (test text : List ℕ) (s : SubmissionData) (stepped : Stepped) → length text ≤ most_bytes → IsGoodTest test → whole_run test text ≡ stepped → (let told : Told = Ok s in told ≡ then_ends test stepped) → IsLawful s
+lawful_stepped : (test text : List ℕ) (s : SubmissionData) (stepped : Stepped) → length text ≤ max_bytes → IsGoodTest test → whole_run test text ≡ stepped → (let told : Told = Ok s in told ≡ then_ends test stepped) → IsLawful s
 lawful_stepped test text s (Err fault) short good e f = absurd cc
 lawful_stepped test text s (Ok held) short good e f = lawful_if (is_empty held.waiting) s (submission_held test held) (lawful_run test text held short good e) f
 

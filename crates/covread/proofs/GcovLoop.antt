@@ -12,7 +12,7 @@ use Rattle.covread.specs.declared.fault.ReadFault.TheVariants as faults
 use Rattle.covread.specs.declared.gcov.reader.Function.{Function}
 use Rattle.covread.specs.GcovItems.{func_item, place_fault, is_empty}
 use Rattle.covread.specs.Gcov.{GcovLine, Says, LineSays}
-use Rattle.covread.specs.Outcome.{most_bytes}
+use Rattle.covread.specs.Outcome.{max_bytes}
 use Rattle.covread.specs.GcovOutcome.{HasBegun, IsOutcome, Answers}
 use Rattle.covread.specs.GcovSteps.{line_grows, step_path, begun, SectionData, HeldData, func_data, empty, Stepped, line_step, run_on, run, submission_held, ends, EndsTo}
 use Rattle.covread.proofs.GcovRuns.{stands_at_first, goes, Stands}
@@ -77,7 +77,7 @@ reading_more test text rest line left held next at r e f =
       known = more.1;
     }
 
-pub reading_room : (test text rest line left : List ℕ) (held : HeldData) (at : ℕ) → length text ≤ most_bytes → Reading test text rest held at → lines_of rest ≡ line ∷ lines_of left → at + 1 ≤ most_bytes
+pub reading_room : (test text rest line left : List ℕ) (held : HeldData) (at : ℕ) → length text ≤ max_bytes → Reading test text rest held at → lines_of rest ≡ line ∷ lines_of left → at + 1 ≤ max_bytes
 reading_room test text rest line left held at short r e =
     omega (arith, r.number, ap length (place_is test text rest line left held at r e), length-append r.before (line ∷ lines_of left), few_lines text, short)
 
@@ -108,19 +108,19 @@ own_stop test own text rest line left held at fault same r e f =
 
 -- ---- the answer
 
-pub answer_fault : (test text : List ℕ) (fault : ReadFault) → length text ≤ most_bytes → IsGoodTest test → ((fault ≡ faults.Memory) × HasBegun (lines_of text)) ⊎ (whole_run test text ≡ Err fault) → Answers test text (Err fault)
+pub answer_fault : (test text : List ℕ) (fault : ReadFault) → length text ≤ max_bytes → IsGoodTest test → ((fault ≡ faults.Memory) × HasBegun (lines_of text)) ⊎ (whole_run test text ≡ Err fault) → Answers test text (Err fault)
 answer_fault test text fault short good (inl none) = inl (short, good, ap (λ (f : ReadFault). Err f) none.0)
 answer_fault test text fault short good (inr e) = inr (subst (λ (r : Result SubmissionData ReadFault). IsOutcome test text r) (ap (then_ends test) e) (whole_outcome test text short good))
 
-pub answer_end : (test text : List ℕ) (held : HeldData) (answer : Result SubmissionData ReadFault) → length text ≤ most_bytes → IsGoodTest test → whole_run test text ≡ Ok held → EndsTo answer (is_some held.section) (ends test held) → Answers test text answer
+pub answer_end : (test text : List ℕ) (held : HeldData) (answer : Result SubmissionData ReadFault) → length text ≤ max_bytes → IsGoodTest test → whole_run test text ≡ Ok held → EndsTo answer (is_some held.section) (ends test held) → Answers test text answer
 answer_end test text held answer short good e (inl none) = inl (short, good, none.0)
 answer_end test text held answer short good e (inr is) =
     inr (subst (λ (r : Result SubmissionData ReadFault). IsOutcome test text r) (ap (then_ends test) e ∙ sym is) (whole_outcome test text short good))
 
-pub lawful_end : (test own text : List ℕ) (held : HeldData) → own ≡ test → length text ≤ most_bytes → IsGoodTest test → whole_run test text ≡ Ok held → IsLawful (submission_held own held)
+pub lawful_end : (test own text : List ℕ) (held : HeldData) → own ≡ test → length text ≤ max_bytes → IsGoodTest test → whole_run test text ≡ Ok held → IsLawful (submission_held own held)
 lawful_end test own text held same short good e = subst (λ (t : List ℕ). IsLawful (submission_held t held)) (sym same) (lawful_run test text held short good e)
 
-pub answer_own : (test own text : List ℕ) (held : HeldData) (answer : Result SubmissionData ReadFault) → own ≡ test → length text ≤ most_bytes → IsGoodTest test → whole_run test text ≡ Ok held → EndsTo answer (is_some held.section) (ends own held) → Answers test text answer
+pub answer_own : (test own text : List ℕ) (held : HeldData) (answer : Result SubmissionData ReadFault) → own ≡ test → length text ≤ max_bytes → IsGoodTest test → whole_run test text ≡ Ok held → EndsTo answer (is_some held.section) (ends own held) → Answers test text answer
 answer_own test own text held answer same short good e ended = answer_end test text held answer short good e (subst (λ (t : List ℕ). EndsTo answer (is_some held.section) (ends t held)) same ended)
 
 -- ---- the functions that wait

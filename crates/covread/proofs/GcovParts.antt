@@ -5,8 +5,8 @@ use Rattle.std.specs.Option.{option_or}
 use Rattle.std.proofs.lemmas.Bool.{cases_Bool, cases_eq, eq-eqb, ne_eqb, eqb-true, false≢true}
 use Rattle.std.proofs.lemmas.List.{length-append}
 use Rattle.std.proofs.Math.Seq.{take-append_seam}
-use Rattle.covline.specs.Reading.{is_digit, behind_key}
-use Rattle.covline.proofs.ReadKeys.{begins_or_not, behind_key-same, behind_key-none}
+use Rattle.covline.specs.Reading.{is_digit, after_key}
+use Rattle.covline.proofs.ReadKeys.{begins_or_not, after_key-same, after_key-none}
 use Rattle.covline.proofs.ReadNumbers.{digit_from}
 use Rattle.covread.specs.Gcov.{is_space, is_mark_byte, is_word_byte, AreAll, AreSome, EndsWord, EndsDigits, IsName, Lacks, without_last}
 use Rattle.covread.specs.GcovReading.{front_of, rest_of, some_front, ends_word, is_name, last_called, before_called}
@@ -178,13 +178,13 @@ is_name-true (b ∷ d ∷ ds) is =
 pub record HasKey (key text : List ℕ) : Type 0 where
   pub rest : List ℕ
   pub parts : text ≡ key ++ rest
-  pub read : behind_key key text ≡ Some rest
+  pub read : after_key key text ≡ Some rest
 
-pub key_or_none : (key text : List ℕ) → HasKey key text ⊎ (behind_key key text ≡ None)
+pub key_or_none : (key text : List ℕ) → HasKey key text ⊎ (after_key key text ≡ None)
 key_or_none key text =
     elim (begins_or_not key text) [
-      | inl begins ↦ inl (record { rest = begins.0; parts = begins.1; read = ap (behind_key key) begins.1 ∙ behind_key-same key begins.0 })
-      | inr other ↦ inr (behind_key-none key text other)
+      | inl begins ↦ inl (record { rest = begins.0; parts = begins.1; read = ap (after_key key) begins.1 ∙ after_key-same key begins.0 })
+      | inr other ↦ inr (after_key-none key text other)
     ]
 
 -- ---- the last ` called `
@@ -205,7 +205,7 @@ or_first (Some x) b holds = refl
 
 called_some : (before after : List ℕ) → is_some (last_called (before ++ (called ++ after))) ≡ true
 called_some [] after = or_some (last_called (called_tail ++ after)) (Some after) refl
-called_some (b ∷ before) after = or_first (last_called (before ++ (called ++ after))) (behind_key called (b ∷ (before ++ (called ++ after)))) (called_some before after)
+called_some (b ∷ before) after = or_first (last_called (before ++ (called ++ after))) (after_key called (b ∷ (before ++ (called ++ after)))) (called_some before after)
 
 none_lacks : (text : List ℕ) → last_called text ≡ None → Lacks called text
 none_lacks text none before after e =
@@ -215,19 +215,19 @@ lacks_none : (text : List ℕ) → Lacks called text → last_called text ≡ No
 lacks_none [] lacks = refl
 lacks_none (b ∷ bs) lacks =
     let below : last_called bs ≡ None = lacks_none bs (λ before after e. lacks (b ∷ before) after (ap (λ (t : List ℕ). b ∷ t) e)) in
-    let here : behind_key called (b ∷ bs) ≡ None = behind_key-none called (b ∷ bs) (λ begins. lacks [] begins.0 begins.1) in
-    ap (λ (o : Option (List ℕ)). option_or o (behind_key called (b ∷ bs))) below ∙ here
+    let here : after_key called (b ∷ bs) ≡ None = after_key-none called (b ∷ bs) (λ begins. lacks [] begins.0 begins.1) in
+    ap (λ (o : Option (List ℕ)). option_or o (after_key called (b ∷ bs))) below ∙ here
 
-pub called_is : (front behind : List ℕ) → Lacks called (called_tail ++ behind) → last_called (front ++ (called ++ behind)) ≡ Some behind
-called_is [] behind last = ap (λ (o : Option (List ℕ)). option_or o (Some behind)) (lacks_none (called_tail ++ behind) last)
-called_is (b ∷ front) behind last = ap (λ (o : Option (List ℕ)). option_or o (behind_key called (b ∷ (front ++ (called ++ behind))))) (called_is front behind last)
+pub called_is : (front following : List ℕ) → Lacks called (called_tail ++ following) → last_called (front ++ (called ++ following)) ≡ Some following
+called_is [] following last = ap (λ (o : Option (List ℕ)). option_or o (Some following)) (lacks_none (called_tail ++ following) last)
+called_is (b ∷ front) following last = ap (λ (o : Option (List ℕ)). option_or o (after_key called (b ∷ (front ++ (called ++ following))))) (called_is front following last)
 
 pub record HasCalled (text : List ℕ) : Type 0 where
   pub front : List ℕ
-  pub behind : List ℕ
-  pub parts : text ≡ front ++ (called ++ behind)
-  pub last : Lacks called (called_tail ++ behind)
-  pub read : last_called text ≡ Some behind
+  pub following : List ℕ
+  pub parts : text ≡ front ++ (called ++ following)
+  pub last : Lacks called (called_tail ++ following)
+  pub read : last_called text ≡ Some following
 
 cons_tail : (a b : ℕ) (xs ys : List ℕ) → a ∷ xs ≡ b ∷ ys → xs ≡ ys
 cons_tail a b xs ys e = cc
@@ -237,10 +237,10 @@ called_here b bs none key =
     let tail : bs ≡ called_tail ++ key.rest = cons_tail b 32 bs (called_tail ++ key.rest) key.parts in
     record {
       front = [];
-      behind = key.rest;
+      following = key.rest;
       parts = key.parts;
       last = subst (λ (t : List ℕ). Lacks called t) tail (none_lacks bs none);
-      read = ap (λ (o : Option (List ℕ)). option_or o (behind_key called (b ∷ bs))) none ∙ key.read;
+      read = ap (λ (o : Option (List ℕ)). option_or o (after_key called (b ∷ bs))) none ∙ key.read;
     }
 
 pub called_or_none : (text : List ℕ) → HasCalled text ⊎ (last_called text ≡ None)
@@ -249,21 +249,21 @@ called_or_none (b ∷ bs) =
     elim (called_or_none bs) [
       | inl found ↦ inl (record {
         front = b ∷ found.front;
-        behind = found.behind;
+        following = found.following;
         parts = ap (λ (t : List ℕ). b ∷ t) found.parts;
         last = found.last;
-        read = ap (λ (o : Option (List ℕ)). option_or o (behind_key called (b ∷ bs))) found.read;
+        read = ap (λ (o : Option (List ℕ)). option_or o (after_key called (b ∷ bs))) found.read;
       })
       | inr none ↦ elim (key_or_none called (b ∷ bs)) [
         | inl key ↦ inl (called_here b bs none key)
-        | inr other ↦ inr (ap (λ (o : Option (List ℕ)). option_or o (behind_key called (b ∷ bs))) none ∙ other)
+        | inr other ↦ inr (ap (λ (o : Option (List ℕ)). option_or o (after_key called (b ∷ bs))) none ∙ other)
       ]
     ]
 
-pub before_is : (front behind : List ℕ) → before_called (front ++ (called ++ behind)) behind ≡ front
-before_is front behind =
-    let n : length (front ++ (called ++ behind)) - (length behind + 8) ≡ length front = omega (arith, length-append front (called ++ behind)) in
-    ap (λ (k : ℕ). take k (front ++ (called ++ behind))) n ∙ take-append_seam front (called ++ behind)
+pub before_is : (front following : List ℕ) → before_called (front ++ (called ++ following)) following ≡ front
+before_is front following =
+    let n : length (front ++ (called ++ following)) - (length following + 8) ≡ length front = omega (arith, length-append front (called ++ following)) in
+    ap (λ (k : ℕ). take k (front ++ (called ++ following))) n ∙ take-append_seam front (called ++ following)
 
 -- ---- what the code's calls give
 

@@ -6,7 +6,7 @@ use Rattle.std.proofs.lemmas.Bool.{cases_Bool}
 use Rattle.std.proofs.lemmas.List.{append-nil}
 use Rattle.covline.specs.Row.{ItemData, SectData}
 use Rattle.covread.specs.Gcov.{GcovLine, Path}
-use Rattle.covread.specs.GcovItems.{is_path, behind_last, last_given, items_given, items_until, section_at, sects_from, is_empty}
+use Rattle.covread.specs.GcovItems.{is_path, after_last, last_given, items_given, items_until, section_at, sects_from, is_empty}
 
 -- ---- the lines after the last one
 
@@ -18,15 +18,15 @@ pub any-no : (so : GcovLine → Bool) (xs : List GcovLine) (says : GcovLine) →
 any-no so [] says fails = rw fails refl
 any-no so (x ∷ xs) says fails = rw (any-no so xs says fails) refl
 
-pub behind_last-yes : (so : GcovLine → Bool) (xs : List GcovLine) (says : GcovLine) → so says ≡ true → behind_last so (xs ++ says ∷ []) ≡ []
-behind_last-yes so [] says holds = rw holds refl
-behind_last-yes so (x ∷ xs) says holds = rw (any-yes so xs says holds) (behind_last-yes so xs says holds)
+pub after_last-yes : (so : GcovLine → Bool) (xs : List GcovLine) (says : GcovLine) → so says ≡ true → after_last so (xs ++ says ∷ []) ≡ []
+after_last-yes so [] says holds = rw holds refl
+after_last-yes so (x ∷ xs) says holds = rw (any-yes so xs says holds) (after_last-yes so xs says holds)
 
-pub behind_last-no : (so : GcovLine → Bool) (xs : List GcovLine) (says : GcovLine) → so says ≡ false → behind_last so (xs ++ says ∷ []) ≡ behind_last so xs ++ says ∷ []
-behind_last-no so [] says fails = rw fails refl
-behind_last-no so (x ∷ xs) says fails =
+pub after_last-no : (so : GcovLine → Bool) (xs : List GcovLine) (says : GcovLine) → so says ≡ false → after_last so (xs ++ says ∷ []) ≡ after_last so xs ++ says ∷ []
+after_last-no so [] says fails = rw fails refl
+after_last-no so (x ∷ xs) says fails =
     elim (cases_Bool (list_any so xs)) [
-      | inl t ↦ rw (any-no so xs says fails, t) (behind_last-no so xs says fails)
+      | inl t ↦ rw (any-no so xs says fails, t) (after_last-no so xs says fails)
       | inr f ↦ elim (cases_Bool (so x)) [
         | inl t ↦ rw (any-no so xs says fails, f, t) refl
         | inr g ↦ rw (any-no so xs says fails, f, g) refl

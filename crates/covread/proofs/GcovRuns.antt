@@ -9,14 +9,14 @@ use Rattle.std.proofs.lemmas.Grind.{flat_map-append}
 use Rattle.covline.specs.Row.{ItemData, BranchItem, SectData}
 use Rattle.covread.specs.declared.fault.ReadFault.{ReadFault}
 use Rattle.covread.specs.declared.fault.ReadFault.TheVariants as faults
-use Rattle.covread.specs.declared.gcov.reader.Place.{Place}
+use Rattle.covread.specs.declared.gcov.reader.BranchAnchor.{BranchAnchor}
 use Rattle.covread.specs.Gcov.{GcovLine, Path, SourceLine, FuncCount, BranchCount, BlockNumber, Nothing}
-use Rattle.covread.specs.GcovItems.{is_path, is_source, source_number, block_number, func_said, behind_last, last_given, waiting, line_above, or_zero, block_above, func_item, line_item, items_given, sects_from, has_path, has_line, is_empty, place_fault}
+use Rattle.covread.specs.GcovItems.{is_path, is_source, source_number, block_number, func_said, after_last, last_given, waiting, line_above, or_zero, block_above, func_item, line_item, items_given, sects_from, has_path, has_line, is_empty, place_fault}
 use Rattle.covread.specs.GcovSteps.{SectionData, HeldData, empty, closed, section_with, begun, step_func, in_block, section_in_block, step_block, step}
-use Rattle.covread.proofs.GcovPlaces.{any-yes, any-no, behind_last-yes, behind_last-no, last_given-more, extended, extended-last, sects-path, sects-more}
+use Rattle.covread.proofs.GcovPlaces.{any-yes, any-no, after_last-yes, after_last-no, last_given-more, extended, extended-last, sects-path, sects-more}
 
 -- the place of branches
-abbrev pub PlaceStands : List GcovLine → Option Place → Type 0
+abbrev pub PlaceStands : List GcovLine → Option BranchAnchor → Type 0
 PlaceStands above None = has_line above ≡ false
 PlaceStands above (Some p) = (has_line above ≡ true) × (line_above above ≡ Some p.line) × (block_above above ≡ p.block)
 
@@ -40,19 +40,19 @@ is_head says = is_source says || is_path says
 
 waits_same : (above : List GcovLine) (says : GcovLine) → is_head says ≡ false → waiting (above ++ says ∷ []) ≡ waiting above ++ func_said says
 waits_same above says fails =
-    ap (flat_map func_said) (behind_last-no is_head above says fails)
-    ∙ flat_map-append func_said (behind_last is_head above) (says ∷ [])
+    ap (flat_map func_said) (after_last-no is_head above says fails)
+    ∙ flat_map-append func_said (after_last is_head above) (says ∷ [])
     ∙ ap (λ (fs : List (List ℕ × ℕ)). waiting above ++ fs) (append-nil (func_said says))
 
 waits_none : (above : List GcovLine) (says : GcovLine) → is_head says ≡ true → waiting (above ++ says ∷ []) ≡ []
-waits_none above says holds = ap (flat_map func_said) (behind_last-yes is_head above says holds)
+waits_none above says holds = ap (flat_map func_said) (after_last-yes is_head above says holds)
 
 path_same : (above : List GcovLine) (says : GcovLine) → is_path says ≡ false → has_path (above ++ says ∷ []) ≡ has_path above
 path_same above says fails = any-no is_path above says fails
 
 line_same : (above : List GcovLine) (says : GcovLine) → is_path says ≡ false → is_source says ≡ false → has_line (above ++ says ∷ []) ≡ has_line above
 line_same above says no_path no_source =
-    rw (any-no is_path above says no_path, behind_last-no is_path above says no_path, any-no is_source (behind_last is_path above) says no_source) refl
+    rw (any-no is_path above says no_path, after_last-no is_path above says no_path, any-no is_source (after_last is_path above) says no_source) refl
 
 -- ---- the sections
 
@@ -77,14 +77,14 @@ no_items test above says fails given =
 -- ---- each kind of line
 
 -- what a line that is no head, and no block, leaves of the place
-place_same : (above : List GcovLine) (says : GcovLine) (place : Option Place) → is_path says ≡ false → source_number says ≡ None → block_number says ≡ None
+place_same : (above : List GcovLine) (says : GcovLine) (place : Option BranchAnchor) → is_path says ≡ false → source_number says ≡ None → block_number says ≡ None
     → PlaceStands above place → PlaceStands (above ++ says ∷ []) place
 place_same above says None no_path no_source no_block stands = line_same above says no_path (ap (λ (o : Option ℕ). is_some o) no_source) ∙ stands
 place_same above says (Some p) no_path no_source no_block stands = (
   line_same above says no_path (ap (λ (o : Option ℕ). is_some o) no_source) ∙ stands.0,
   last_given-more source_number above says ∙ ap (λ (o : Option ℕ). option_or o (line_above above)) no_source ∙ stands.1,
-  ap (λ (ls : List GcovLine). or_zero (last_given block_number ls)) (behind_last-no is_source above says (ap (λ (o : Option ℕ). is_some o) no_source))
-      ∙ ap or_zero (last_given-more block_number (behind_last is_source above) says ∙ ap (λ (o : Option ℕ). option_or o (last_given block_number (behind_last is_source above))) no_block)
+  ap (λ (ls : List GcovLine). or_zero (last_given block_number ls)) (after_last-no is_source above says (ap (λ (o : Option ℕ). is_some o) no_source))
+      ∙ ap or_zero (last_given-more block_number (after_last is_source above) says ∙ ap (λ (o : Option ℕ). option_or o (last_given block_number (after_last is_source above))) no_block)
       ∙ stands.2,
 )
 
@@ -119,7 +119,7 @@ goes_path test at above held (b ∷ bs) s =
             record {
               waits = nothing_left held.waiting none ∙ sym (waits_none above (Path (b ∷ bs)) refl);
               sects = sects-path test [] above (b ∷ bs) ∙ ap (λ (ss : List SectData). ss ++ record { test = test; file = b ∷ bs; items = [] } ∷ []) s.sects;
-              section = (any-yes is_path above (Path (b ∷ bs)) refl, rw (any-yes is_path above (Path (b ∷ bs)) refl, behind_last-yes is_path above (Path (b ∷ bs)) refl) refl);
+              section = (any-yes is_path above (Path (b ∷ bs)) refl, rw (any-yes is_path above (Path (b ∷ bs)) refl, after_last-yes is_path above (Path (b ∷ bs)) refl) refl);
             },
           )
       | inr some ↦
@@ -129,9 +129,9 @@ goes_path test at above held (b ∷ bs) s =
 
 line_place : (above : List GcovLine) (line : ℕ) (count : Option ℕ) → has_path above ≡ true → PlaceStands (above ++ SourceLine line count ∷ []) (Some (record { line = line; block = 0 }))
 line_place above line count some = (
-  rw (any-no is_path above (SourceLine line count) refl, some, behind_last-no is_path above (SourceLine line count) refl, any-yes is_source (behind_last is_path above) (SourceLine line count) refl) refl,
+  rw (any-no is_path above (SourceLine line count) refl, some, after_last-no is_path above (SourceLine line count) refl, any-yes is_source (after_last is_path above) (SourceLine line count) refl) refl,
   last_given-more source_number above (SourceLine line count),
-  ap (λ (ls : List GcovLine). or_zero (last_given block_number ls)) (behind_last-yes is_source above (SourceLine line count) refl),
+  ap (λ (ls : List GcovLine). or_zero (last_given block_number ls)) (after_last-yes is_source above (SourceLine line count) refl),
 )
 
 goes_source_in : (test : List ℕ) (at : ℕ) (above : List GcovLine) (held : HeldData) (line : ℕ) (count : Option ℕ) (section : Option SectionData) → held.section ≡ section
@@ -175,7 +175,7 @@ goes_nothing test at above held s = inl (
   },
 )
 
-goes_branch_at : (test : List ℕ) (at : ℕ) (above : List GcovLine) (held : HeldData) (branch : ℕ) (taken : Option ℕ) (o : SectionData) (place : Option Place) → held.section ≡ Some o → o.place ≡ place
+goes_branch_at : (test : List ℕ) (at : ℕ) (above : List GcovLine) (held : HeldData) (branch : ℕ) (taken : Option ℕ) (o : SectionData) (place : Option BranchAnchor) → held.section ≡ Some o → o.place ≡ place
     → Stands test above held → SectionStands above (Some o) → PlaceStands above place → Goes test at above held (BranchCount branch taken)
 goes_branch_at test at above held branch taken o None e f s stands here = inr (faults.Misplaced at, rw (e, f) refl, rw here refl)
 goes_branch_at test at above held branch taken o (Some p) e f s stands here =
@@ -197,13 +197,13 @@ goes_branch : (test : List ℕ) (at : ℕ) (above : List GcovLine) (held : HeldD
 goes_branch test at above held branch taken None e s stands = inr (faults.Misplaced at, rw e refl, rw stands refl)
 goes_branch test at above held branch taken (Some o) e s stands = goes_branch_at test at above held branch taken o o.place e refl s stands stands.1
 
-place_in_block : (above : List GcovLine) (block : ℕ) (place : Option Place) → PlaceStands above place → PlaceStands (above ++ BlockNumber block ∷ []) (option_map (in_block block) place)
+place_in_block : (above : List GcovLine) (block : ℕ) (place : Option BranchAnchor) → PlaceStands above place → PlaceStands (above ++ BlockNumber block ∷ []) (option_map (in_block block) place)
 place_in_block above block None stands = line_same above (BlockNumber block) refl refl ∙ stands
 place_in_block above block (Some p) stands = (
   line_same above (BlockNumber block) refl refl ∙ stands.0,
   last_given-more source_number above (BlockNumber block) ∙ stands.1,
-  ap (λ (ls : List GcovLine). or_zero (last_given block_number ls)) (behind_last-no is_source above (BlockNumber block) refl)
-      ∙ ap or_zero (last_given-more block_number (behind_last is_source above) (BlockNumber block)),
+  ap (λ (ls : List GcovLine). or_zero (last_given block_number ls)) (after_last-no is_source above (BlockNumber block) refl)
+      ∙ ap or_zero (last_given-more block_number (after_last is_source above) (BlockNumber block)),
 )
 
 section_block : (above : List GcovLine) (block : ℕ) (section : Option SectionData) → SectionStands above section → SectionStands (above ++ BlockNumber block ∷ []) (option_map (section_in_block block) section)

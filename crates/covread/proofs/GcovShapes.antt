@@ -3,15 +3,15 @@ use Rattle.std.proofs.Common.{◌≡◌, ◌≢◌, ℕ, ◌<◌, ◌≤◌, ◌
 use Rattle.std.specs.Prelude.{codes, ◌&&◌, IfSome}
 use Rattle.std.specs.Option.{option_or}
 use Rattle.std.proofs.lemmas.Bool.{cases_Bool, and_parts, eqb-true}
-use Rattle.covline.specs.Reading.{is_digit, behind_key}
-use Rattle.covline.proofs.ReadKeys.{behind_key-none}
+use Rattle.covline.specs.Reading.{is_digit, after_key}
+use Rattle.covline.proofs.ReadKeys.{after_key-none}
 use Rattle.covread.specs.Gcov.{Shape, Instances, Function, Never, Taken, Block, Numbered, Other, place_of, colon, is_space, is_mark_byte, is_word_byte, AreAll, AreSome, EndsWord, EndsDigits, IsName, Lacks, HasShape, IsShapeOf}
-use Rattle.covread.specs.GcovReading.{front_of, rest_of, behind_spaces, ends_word, is_name, before_called, function_of, function_shape, branch_front, never_of, taken_of, branch_rest, branch_shape, block_of, numbered_rest, numbered_shape, or_other, other_shape, shape_of}
+use Rattle.covread.specs.GcovReading.{front_of, rest_of, after_spaces, ends_word, is_name, before_called, function_of, function_shape, branch_front, never_of, taken_of, branch_rest, branch_shape, block_of, numbered_rest, numbered_shape, or_other, other_shape, shape_of}
 use Rattle.covread.proofs.GcovParts.{Stops, rest_is, some_is, parts_of, front_all, HasFront, front_or_none, digits_then, mark_then, word_then, spaces_stop_digits, word_stops, digits_stop, digits_end, word_ends, ends_word-true, ends_word-from, is_name-from, is_name-true, HasKey, key_or_none, called, called_tail, called_is, HasCalled, called_or_none, before_is}
 
 -- ---- a line with a form is found to have it
 
-spaces_is : (gap rest : List ℕ) → AreSome is_space gap → Stops is_space rest → behind_spaces (gap ++ rest) ≡ Some rest
+spaces_is : (gap rest : List ℕ) → AreSome is_space gap → Stops is_space rest → after_spaces (gap ++ rest) ≡ Some rest
 spaces_is gap rest some stops = rw (some_is is_space gap rest some stops) refl
 
 function_found : (name count rest : List ℕ) → IsName name → AreSome is_digit count → EndsWord rest → Lacks called (called_tail ++ (count ++ rest))
@@ -67,7 +67,7 @@ block_found mark number gap block rest gaps digits ends =
 
 -- the line doesn't begin as those on template instances
 record IsPlain (line : List ℕ) : Type 0 where
-  plain : behind_key (codes "-----") line ≡ None
+  plain : after_key (codes "-----") line ≡ None
 
 or_none_then : (o : Option Shape) → o ≡ None → (p : Option Shape) → option_or o p ≡ p
 or_none_then o e p = ap (λ (x : Option Shape). option_or x p) e
@@ -97,14 +97,14 @@ numbered_other line s found =
       | inr other ↦ rw other found
     ]
 
-no_function : (line : List ℕ) (s : Shape) → numbered_shape line ≡ Some s → behind_key (codes "function ") line ≡ None
+no_function : (line : List ℕ) (s : Shape) → numbered_shape line ≡ Some s → after_key (codes "function ") line ≡ None
 no_function line s found =
     elim (key_or_none (codes "function ") line) [
       | inl key ↦ absurd (some_not_none s (numbered_shape line) found (ap numbered_shape key.parts))
       | inr other ↦ other
     ]
 
-numbered_read : (line : List ℕ) (s : Shape) → behind_key (codes "-----") line ≡ None → numbered_shape line ≡ Some s → shape_of line ≡ s
+numbered_read : (line : List ℕ) (s : Shape) → after_key (codes "-----") line ≡ None → numbered_shape line ≡ Some s → shape_of line ≡ s
 unfolding shape_of
 numbered_read line s plain found = rw (plain, no_function line s found, numbered_other line s found) refl
 
@@ -127,7 +127,7 @@ instances_read : (line rest : List ℕ) → line ≡ codes "-----" ++ rest → s
 unfolding shape_of
 instances_read line rest e = ap shape_of e
 
-pub shape_read : (line : List ℕ) (shape : Shape) → IsSome shape → HasShape line shape → (shape ≢ Instances → behind_key (codes "-----") line ≡ None) → shape_of line ≡ shape
+pub shape_read : (line : List ℕ) (shape : Shape) → IsSome shape → HasShape line shape → (shape ≢ Instances → after_key (codes "-----") line ≡ None) → shape_of line ≡ shape
 shape_read line Instances some form plain = instances_read line form.0 form.1
 shape_read line (Function name count) some form plain =
     ap shape_of form.1 ∙ function_read (name ++ (called ++ (count ++ form.0))) (Function name count) (function_found name count form.0 form.2 form.3 form.4 form.5)
@@ -161,11 +161,11 @@ Fits line found = IfSome found (λ shape. HasShape line shape)
 with_found : (line : List ℕ) (found other : Option Shape) → found ≡ other → Fits line other → Fits line found
 with_found line found other e fits = subst (λ (o : Option Shape). Fits line o) (sym e) fits
 
-function_of_fits : (line : List ℕ) (text : List ℕ) → line ≡ codes "function " ++ text → (found : HasCalled text) (count : HasFront is_digit found.behind)
-    → Fits line (function_of (before_called text found.behind) count.front count.rest)
+function_of_fits : (line : List ℕ) (text : List ℕ) → line ≡ codes "function " ++ text → (found : HasCalled text) (count : HasFront is_digit found.following)
+    → Fits line (function_of (before_called text found.following) count.front count.rest)
 function_of_fits line text e found count =
-    let name : before_called text found.behind ≡ found.front = ap (λ (t : List ℕ). before_called t found.behind) found.parts ∙ before_is found.front found.behind in
-    with_found line (function_of (before_called text found.behind) count.front count.rest) (function_of found.front count.front count.rest) (ap (λ (n : List ℕ). function_of n count.front count.rest) name)
+    let name : before_called text found.following ≡ found.front = ap (λ (t : List ℕ). before_called t found.following) found.parts ∙ before_is found.front found.following in
+    with_found line (function_of (before_called text found.following) count.front count.rest) (function_of found.front count.front count.rest) (ap (λ (n : List ℕ). function_of n count.front count.rest) name)
     (elim (cases_Bool (is_name found.front && ends_word count.rest)) [
       | inl both ↦
           let p = and_parts (is_name found.front) (ends_word count.rest) both in
@@ -183,7 +183,7 @@ function_of_fits line text e found count =
 function_fits : (line text : List ℕ) → line ≡ codes "function " ++ text → Fits line (function_shape text)
 function_fits line text e =
     elim (called_or_none text) [
-      | inl found ↦ elim (front_or_none is_digit found.behind) [
+      | inl found ↦ elim (front_or_none is_digit found.following) [
         | inl count ↦ rw (found.read, count.read) (function_of_fits line text e found count)
         | inr none ↦ rw (found.read, none) tt
       ]
@@ -431,8 +431,8 @@ is_shape line = record { fits = found_fits line; first = none_before line }
 
 -- ---- there is no other
 
-not_instances : (line : List ℕ) (shape : Shape) → 1 < place_of shape → IsShapeOf line shape → behind_key (codes "-----") line ≡ None
-not_instances line shape lt is = behind_key-none (codes "-----") line (λ begins. is.first Instances lt begins)
+not_instances : (line : List ℕ) (shape : Shape) → 1 < place_of shape → IsShapeOf line shape → after_key (codes "-----") line ≡ None
+not_instances line shape lt is = after_key-none (codes "-----") line (λ begins. is.first Instances lt begins)
 
 other_last : (line : List ℕ) (shape : Shape) → shape_of line ≡ shape → ((s : Shape) → place_of s < 7 → ¬ HasShape line s) → shape_of line ≡ Other
 other_last line Other e none = e

@@ -12,7 +12,7 @@ use Rattle.covread.specs.declared.fault.ReadFault.TheVariants as faults
 use Rattle.covread.specs.Gcov.{GcovLine, Says, says_of, LineSays}
 use Rattle.covread.specs.GcovReading.{is_name, shape_of}
 use Rattle.covread.specs.GcovItems.{waiting, sects_from, is_empty, place_fault}
-use Rattle.covread.specs.Outcome.{most_bytes, IsOrMemory}
+use Rattle.covread.specs.Outcome.{max_bytes, IsOrMemory}
 use Rattle.covread.specs.GcovOutcome.{AllSay, own_fault, IsFaultAt, IsFirstFault, LosesFunction, Reads, IsOutcome, Answers}
 use Rattle.covread.specs.GcovSteps.{HeldData, empty, Stepped, step, line_step, run_on, run, submission_held, ends}
 use Rattle.covread.proofs.GcovRuns.{Stands, stands_at_first, goes}
@@ -129,7 +129,7 @@ abbrev pub whole : List ℕ → List ℕ → Result SubmissionData ReadFault
 whole test text = then_ends test (whole_run test text)
 
 record IsFit (test text : List ℕ) : Type 0 where
-  short : length text ≤ most_bytes
+  short : length text ≤ max_bytes
   good : IsGoodTest test
 
 waiting_empty : (test : List ℕ) (said : List GcovLine) (held : HeldData) (b : Bool) → Stands test said held → is_empty held.waiting ≡ b → is_empty (waiting said) ≡ b
@@ -149,7 +149,7 @@ outcome_of : (test text : List ℕ) (stepped : Stepped) → IsFit test text → 
 outcome_of test text stepped fit (To held said e all stands) = subst (λ (s : Stepped). IsOutcome test text (then_ends test s)) (sym e) (ends_so test text held said fit all stands)
 outcome_of test text stepped fit (At fault e first) = subst (λ (s : Stepped). IsOutcome test text (then_ends test s)) (sym e) (inr (inr (inl (fit.short, fit.good, first))))
 
-pub whole_outcome : (test text : List ℕ) → length text ≤ most_bytes → IsGoodTest test → IsOutcome test text (whole test text)
+pub whole_outcome : (test text : List ℕ) → length text ≤ max_bytes → IsGoodTest test → IsOutcome test text (whole test text)
 whole_outcome test text short good = outcome_of test text (whole_run test text) (record { short = short; good = good }) (ending test text)
 
 -- ---- there is no other: what the definitions ask for is the run
@@ -233,9 +233,9 @@ loses_whole test text loses =
 
 -- an outcome is one of these three
 data Kind (test text : List ℕ) (outcome : Result SubmissionData ReadFault) : Type 0 where
-  Long : most_bytes < length text → outcome ≡ Err faults.TooLong → Kind test text outcome
-  Bad : length text ≤ most_bytes → ¬ IsGoodTest test → outcome ≡ Err faults.BadTest → Kind test text outcome
-  Said : length text ≤ most_bytes → IsGoodTest test → outcome ≡ whole test text → Kind test text outcome
+  Long : max_bytes < length text → outcome ≡ Err faults.TooLong → Kind test text outcome
+  Bad : length text ≤ max_bytes → ¬ IsGoodTest test → outcome ≡ Err faults.BadTest → Kind test text outcome
+  Said : length text ≤ max_bytes → IsGoodTest test → outcome ≡ whole test text → Kind test text outcome
 
 kind_of : (test text : List ℕ) (outcome : Result SubmissionData ReadFault) → IsOutcome test text outcome → Kind test text outcome
 kind_of test text (Ok submission) is = Said is.0 is.1 (sym (reads_whole test text submission is.2))
@@ -303,7 +303,7 @@ good_or_not name =
 
 pub some_outcome : (test text : List ℕ) → (outcome : Result SubmissionData ReadFault) × IsOutcome test text outcome
 some_outcome test text =
-    elim (cases_lt most_bytes (length text)) [
+    elim (cases_lt max_bytes (length text)) [
       | inl long ↦ (Err faults.TooLong, inl (long, refl))
       | inr short ↦ elim (good_or_not test) [
         | inl good ↦ (whole test text, whole_outcome test text short good)

@@ -8,7 +8,7 @@ use Rattle.covline.specs.Spells.{LineData, Test, Path, End, Skip, Spells}
 use Rattle.covread.specs.declared.fault.ReadFault.{ReadFault}
 use Rattle.covread.specs.declared.fault.ReadFault.TheVariants as faults
 use Rattle.covread.specs.Reads.{Part}
-use Rattle.covread.specs.Outcome.{most_bytes, IsFirstFault, IsOutcome, Answers, IsOrMemory}
+use Rattle.covread.specs.Outcome.{max_bytes, IsFirstFault, IsOutcome, Answers, IsOrMemory}
 use Rattle.covread.proofs.TraceGrammar.{LineLaw, Place, Between, Within}
 use Rattle.covread.proofs.TraceStands.{Stands, stands_at_first, stands_outside, stands_path, stands_inside, stands_end, stands_reads, stop_by_fault, stop_outside, stop_inside, stop_open}
 use Rattle.covread.proofs.TraceOutcome.{one_outcome}
@@ -58,13 +58,13 @@ module _ (line_law : LineLaw) where
   abbrev HasOutcome : List ℕ → Type 0
   HasOutcome text = (r : Result SubmissionData ReadFault) × IsOutcome text r
 
-  short_outcome : (text : List ℕ) → length text ≤ most_bytes → Ends (lines_of text) → HasOutcome text
+  short_outcome : (text : List ℕ) → length text ≤ max_bytes → Ends (lines_of text) → HasOutcome text
   short_outcome text short (Lawful parts s) = (Ok _, (short, stands_reads (lines_of text) parts s))
   short_outcome text short (Faulty fault first) = (Err fault, inr (short, first))
 
   pub some_outcome : (text : List ℕ) → (r : Result SubmissionData ReadFault) × IsOutcome text r
   some_outcome text =
-      elim (cases_lt most_bytes (length text)) [
+      elim (cases_lt max_bytes (length text)) [
         | inl long ↦ (Err faults.TooLong, inl (long, refl))
         | inr short ↦ short_outcome text short (walk [] [] Between (lines_of text) (lines_of text) stands_at_first refl)
       ]

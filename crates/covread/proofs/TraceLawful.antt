@@ -14,7 +14,7 @@ use Rattle.covline.specs.Spells.{LineData, Test, Path, FuncStart, FuncCount, Bra
 use Rattle.covline.specs.LineLaws.{GoodRest}
 use Rattle.covline.proofs.LineLaws as line_laws
 use Rattle.covread.specs.Reads.{AllSpell, Part, Outside, Section, records_of, start_said, start_in, counted, items_said, items_of, is_odd, odd_in, test_after, sects_from}
-use Rattle.covread.specs.Outcome.{most_bytes, IsOutcome}
+use Rattle.covread.specs.Outcome.{max_bytes, IsOutcome}
 use Rattle.covread.specs.TraceSteps.{HeldData, kept_in}
 use Rattle.covread.proofs.AllOf.{all_front, all_back, all_weaker, all_flat}
 use Rattle.covread.proofs.TraceGrammar.{Place, Between, Within}
@@ -38,15 +38,15 @@ record IsGood (says : LineData) : Type 0 where
   texts : HasGoodTexts says
 
 -- a text after a key, a number and a comma
-good_behind : GoodRest → (key number rest line : List ℕ) → line ≡ key ++ number ++ comma ∷ rest → IsGoodTest line → IsGoodTest rest
-good_behind good_rest key number rest line e good =
+good_after : GoodRest → (key number rest line : List ℕ) → line ≡ key ++ number ++ comma ∷ rest → IsGoodTest line → IsGoodTest rest
+good_after good_rest key number rest line e good =
     good_rest (comma ∷ []) rest (good_rest (key ++ number) (comma ∷ rest) (subst (λ (x : List ℕ). IsGoodTest x) e good))
 
 texts_good : GoodRest → (line : List ℕ) (says : LineData) → IsGoodTest line → HasForm line says → HasGoodTexts says
 texts_good good_rest line (Test name) good form = good_rest (codes "TN:") name (subst (λ (x : List ℕ). IsGoodTest x) form good)
 texts_good good_rest line (Path path) good form = record { fits = good_rest (codes "SF:") path (subst (λ (x : List ℕ). IsGoodTest x) form.0 good); some = form.1 }
-texts_good good_rest line (FuncStart number name) good form = record { fits = good_behind good_rest (codes "FN:") form.0 name line form.1 good; some = form.3 }
-texts_good good_rest line (FuncCount count name) good form = record { fits = good_behind good_rest (codes "FNDA:") form.0 name line form.1 good; some = form.3 }
+texts_good good_rest line (FuncStart number name) good form = record { fits = good_after good_rest (codes "FN:") form.0 name line form.1 good; some = form.3 }
+texts_good good_rest line (FuncCount count name) good form = record { fits = good_after good_rest (codes "FNDA:") form.0 name line form.1 good; some = form.3 }
 texts_good good_rest line (Line number count (Some checksum)) good form = form.5
 texts_good good_rest line says good form = tt
 
@@ -188,7 +188,7 @@ held_room lines held h =
 
 -- ---- the submission
 
-pub lawful_parts : GoodRest → (lines : List (List ℕ)) (parts : List Part) → Stands lines parts Between → All IsGoodTest lines → length lines ≤ most_bytes
+pub lawful_parts : GoodRest → (lines : List (List ℕ)) (parts : List Part) → Stands lines parts Between → All IsGoodTest lines → length lines ≤ max_bytes
     → IsLawful (record { sects = sects_from [] parts; odd = sum_by odd_in parts })
 lawful_parts good_rest lines parts s good short =
     let spelled : AllSpell lines (records parts) = subst (λ (x : List LineData). AllSpell lines x) (append-nil (records parts)) s.spelled in

@@ -12,7 +12,7 @@ use Rattle.covread.specs.declared.fault.ReadFault.TheVariants as faults
 use Rattle.covread.specs.declared.trace.reader.OpenSection.{OpenSection}
 use Rattle.covread.specs.declared.trace.reader.Reader.{Reader}
 use Rattle.covread.specs.Reads.{Part}
-use Rattle.covread.specs.Outcome.{most_bytes, IsFirstFault, Answers, HasBegun, GrowsLate}
+use Rattle.covread.specs.Outcome.{max_bytes, IsFirstFault, Answers, HasBegun, GrowsLate}
 use Rattle.covread.specs.TraceSteps.{SectionData, HeldData, submission_held, IsLawfulAt, empty, kept_in, section_data, IsOpen, step, StopsAt, TakesLine, GrowsAt, ends, ends_at, EndsLawfully}
 use Rattle.covread.proofs.TraceGrammar.{TextLaw, Place, Between, Within}
 use Rattle.covread.proofs.TraceStands.{Stands, stands_path, stands_goes_on, path_line, stands_reads, stop_by_fault, stop_open}
@@ -46,15 +46,15 @@ reading_more text rest line left before after at r f says spells e = record {
 }
 
 -- the number of a line fits 64 bits, and so does what may become odd
-pub reading_number : TextLaw → (text rest line left : List ℕ) (held : HeldData) (at : ℕ) → length text ≤ most_bytes → Reading text rest held at → lines_of rest ≡ line ∷ lines_of left → at + 1 < 2 ^ 64
+pub reading_number : TextLaw → (text rest line left : List ℕ) (held : HeldData) (at : ℕ) → length text ≤ max_bytes → Reading text rest held at → lines_of rest ≡ line ∷ lines_of left → at + 1 < 2 ^ 64
 reading_number law text rest line left held at short r f =
     omega (arith, short, law.few_lines text, r.number, ap length (place_is text rest line left held at r f), length-append r.before (line ∷ lines_of left))
 
 -- so does the number of the next one
-pub reading_next : TextLaw → (text rest : List ℕ) (held : HeldData) (at : ℕ) → length text ≤ most_bytes → Reading text rest held at → at + 1 < 2 ^ 64
+pub reading_next : TextLaw → (text rest : List ℕ) (held : HeldData) (at : ℕ) → length text ≤ max_bytes → Reading text rest held at → at + 1 < 2 ^ 64
 reading_next law text rest held at short r = omega (arith, short, law.few_lines text, r.number, ap length r.whole, length-append r.before (lines_of rest))
 
-pub reading_room : TextLaw → (text rest : List ℕ) (held : HeldData) (at : ℕ) → length text ≤ most_bytes → Reading text rest held at → held.odd + length (kept_in held.section) + 1 < 2 ^ 64
+pub reading_room : TextLaw → (text rest : List ℕ) (held : HeldData) (at : ℕ) → length text ≤ max_bytes → Reading text rest held at → held.odd + length (kept_in held.section) + 1 < 2 ^ 64
 reading_room law text rest held at short r =
     omega (arith, short, law.few_lines text, held_room r.before held r.holds, ap length r.whole, length-append r.before (lines_of rest))
 
@@ -62,7 +62,7 @@ number_is : (n at : ℕ) (lines : List (List ℕ)) → n ≡ at + 1 → at ≡ l
 number_is n at lines e f = omega (arith, e, f)
 
 -- a fault of the next line is the first fault of the text
-pub reading_stop : TextLaw → (text rest line left : List ℕ) (before : HeldData) (at : ℕ) (fault : ReadFault) → length text ≤ most_bytes → Reading text rest before at
+pub reading_stop : TextLaw → (text rest line left : List ℕ) (before : HeldData) (at : ℕ) (fault : ReadFault) → length text ≤ max_bytes → Reading text rest before at
     → lines_of rest ≡ line ∷ lines_of left → StopsAt fault before line (at + 1) → Answers text (Err fault)
 reading_stop law text rest line left before at (faults.Line n f) short r e takes = inr (inr (
   short,
@@ -115,12 +115,12 @@ ends_late text (Some s) held = λ same. absurd cc
 abbrev Ended : List ℕ → HeldData → Type 0
 Ended text held = Answers text (ends held) × EndsLawfully held
 
-ended : TextLaw → (text : List ℕ) (parts : List Part) (place : Place) → length text ≤ most_bytes → Stands (lines_of text) parts place → Ended text (held_of parts place)
+ended : TextLaw → (text : List ℕ) (parts : List Part) (place : Place) → length text ≤ max_bytes → Stands (lines_of text) parts place → Ended text (held_of parts place)
 ended law text parts Between short s =
     (inr (short, stands_reads (lines_of text) parts s), lawful_parts law.good_rest (lines_of text) parts s (law.good_lines text) (omega (arith, short, law.few_lines text)))
 ended law text parts (Within path inside) short s = (inr (inr (short, stop_open law.line_law (lines_of text) parts path inside s)), tt)
 
-pub reading_end : TextLaw → (text rest : List ℕ) (held : HeldData) (at : ℕ) → length text ≤ most_bytes → Reading text rest held at → lines_of rest ≡ []
+pub reading_end : TextLaw → (text rest : List ℕ) (held : HeldData) (at : ℕ) → length text ≤ max_bytes → Reading text rest held at → lines_of rest ≡ []
     → Answers text (ends held) × EndsLawfully held
 reading_end law text rest held at short r none =
     let all : r.before ≡ lines_of text = sym (r.whole ∙ ap (λ (x : List (List ℕ)). r.before ++ x) none ∙ append-nil r.before) in

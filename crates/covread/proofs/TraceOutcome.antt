@@ -8,7 +8,7 @@ use Rattle.covline.specs.Spells.{LineData, Test, Path, Skip, Spells, HasFault}
 use Rattle.covread.specs.declared.fault.ReadFault.{ReadFault}
 use Rattle.covread.specs.declared.fault.ReadFault.TheVariants as faults
 use Rattle.covread.specs.Reads.{odd_in, records_of, sects_from, Reads}
-use Rattle.covread.specs.Outcome.{most_bytes, IsLawfulText, MayGoOn, IsFirstFaulty, NeedsSection, NeedsOutside, IsFirstFault, IsOutcome}
+use Rattle.covread.specs.Outcome.{max_bytes, IsLawfulText, MayGoOn, IsFirstFaulty, NeedsSection, NeedsOutside, IsFirstFault, IsOutcome}
 use Rattle.covread.proofs.TraceGrammar.{LineLaw, one_parts}
 use Rattle.covread.proofs.TraceStands.{AllSpell-one}
 
@@ -125,9 +125,9 @@ lawful_no_fault lines other text a = a
 
 -- the outcome of a text by its length, apart from which fault it is
 data Told (text : List ℕ) : Result SubmissionData ReadFault → Type 0 where
-  Long : most_bytes < length text → Told text (Err faults.TooLong)
-  Lawful : (s : SubmissionData) → length text ≤ most_bytes → Reads (lines_of text) s → Told text (Ok s)
-  Faulty : (f : ReadFault) → length text ≤ most_bytes → IsFirstFault (lines_of text) f → Told text (Err f)
+  Long : max_bytes < length text → Told text (Err faults.TooLong)
+  Lawful : (s : SubmissionData) → length text ≤ max_bytes → Reads (lines_of text) s → Told text (Ok s)
+  Faulty : (f : ReadFault) → length text ≤ max_bytes → IsFirstFault (lines_of text) f → Told text (Err f)
 
 told : (text : List ℕ) (r : Result SubmissionData ReadFault) → IsOutcome text r → Told text r
 told text (Ok s) h = Lawful s h.0 h.1

@@ -18,10 +18,10 @@ use Rattle.covread.proofs.TraceStands.{Stands, stands_at_first, stands_outside, 
 use Rattle.covread.proofs.TraceKept.{without_skips, without_skips-append, items_kept, odd_kept}
 
 -- the name in the last test line of the parts, at first the one given
-abbrev pub test_behind : List ℕ → List Part → List ℕ
-test_behind test [] = test
-test_behind test (Outside says ∷ parts) = test_behind (test_after test says) parts
-test_behind test (Section path inside ∷ parts) = test_behind test parts
+abbrev pub test_follows : List ℕ → List Part → List ℕ
+test_follows test [] = test
+test_follows test (Outside says ∷ parts) = test_follows (test_after test says) parts
+test_follows test (Section path inside ∷ parts) = test_follows test parts
 
 abbrev pub section_of : Place → Option SectionData
 section_of Between = None
@@ -29,7 +29,7 @@ section_of (Within path inside) = Some (record { file = path; lines = without_sk
 
 -- what a reader holds at a place
 abbrev pub held_of : List Part → Place → HeldData
-held_of parts place = record { test = test_behind [] parts; section = section_of place; sects = sects_from [] parts; odd = sum_by odd_in parts }
+held_of parts place = record { test = test_follows [] parts; section = section_of place; sects = sects_from [] parts; odd = sum_by odd_in parts }
 
 -- the lines so far lead to what the reader holds
 pub record Holds (lines : List (List ℕ)) (held : HeldData) : Type 0 where
@@ -43,12 +43,12 @@ holds_at_first = record { parts = []; place = Between; stands = stands_at_first;
 
 -- ---- one more part
 
-test_push : (test : List ℕ) (parts : List Part) (part : Part) → test_behind test (parts ++ part ∷ []) ≡ test_behind (test_behind test parts) (part ∷ [])
+test_push : (test : List ℕ) (parts : List Part) (part : Part) → test_follows test (parts ++ part ∷ []) ≡ test_follows (test_follows test parts) (part ∷ [])
 test_push test [] part = refl
 test_push test (Outside says ∷ parts) part = test_push (test_after test says) parts part
 test_push test (Section path inside ∷ parts) part = test_push test parts part
 
-sects_push : (test : List ℕ) (parts : List Part) (part : Part) → sects_from test (parts ++ part ∷ []) ≡ sects_from test parts ++ sects_from (test_behind test parts) (part ∷ [])
+sects_push : (test : List ℕ) (parts : List Part) (part : Part) → sects_from test (parts ++ part ∷ []) ≡ sects_from test parts ++ sects_from (test_follows test parts) (part ∷ [])
 sects_push test [] part = refl
 sects_push test (Outside says ∷ parts) part = sects_push (test_after test says) parts part
 sects_push test (Section path inside ∷ parts) part = ap (λ (x : List SectData). record { test = test; file = path; items = items_of inside } ∷ x) (sects_push test parts part)
@@ -64,31 +64,31 @@ two_errors e = absurd cc
 
 -- ---- one more line
 
-outside_held : (parts : List Part) (says : LineData) (test : List ℕ) → test ≡ test_after (test_behind [] parts) says
+outside_held : (parts : List Part) (says : LineData) (test : List ℕ) → test ≡ test_after (test_follows [] parts) says
     → let h : HeldData = record { test = test; section = None; sects = sects_from [] parts; odd = sum_by odd_in parts } in
     h ≡ held_of (parts ++ Outside says ∷ []) Between
 outside_held parts says test t =
-    same_held test (test_behind [] (parts ++ Outside says ∷ [])) None None (sects_from [] parts) (sects_from [] (parts ++ Outside says ∷ [])) (sum_by odd_in parts) (sum_by odd_in (parts ++ Outside says ∷ []))
+    same_held test (test_follows [] (parts ++ Outside says ∷ [])) None None (sects_from [] parts) (sects_from [] (parts ++ Outside says ∷ [])) (sum_by odd_in parts) (sum_by odd_in (parts ++ Outside says ∷ []))
     (t ∙ sym (test_push [] parts (Outside says))) refl
     (sym (sects_push [] parts (Outside says) ∙ append-nil (sects_from [] parts)))
     (let k = sum_by_push odd_in parts (Outside says) in omega (arith, k))
 
 inside_held : (parts : List Part) (path : List ℕ) (inside : List LineData) (says : LineData) (lines : List LineData) → lines ≡ without_skips inside ++ without_skips (says ∷ [])
-    → let h : HeldData = record { test = test_behind [] parts; section = Some (record { file = path; lines = lines }); sects = sects_from [] parts; odd = sum_by odd_in parts } in
+    → let h : HeldData = record { test = test_follows [] parts; section = Some (record { file = path; lines = lines }); sects = sects_from [] parts; odd = sum_by odd_in parts } in
     h ≡ held_of parts (Within path (inside ++ says ∷ []))
 inside_held parts path inside says lines e =
-    ap (λ (x : List LineData). let h : HeldData = record { test = test_behind [] parts; section = Some (record { file = path; lines = x }); sects = sects_from [] parts; odd = sum_by odd_in parts } in h)
+    ap (λ (x : List LineData). let h : HeldData = record { test = test_follows [] parts; section = Some (record { file = path; lines = x }); sects = sects_from [] parts; odd = sum_by odd_in parts } in h)
     (e ∙ sym (without_skips-append inside (says ∷ [])))
 
 end_held : (parts : List Part) (path : List ℕ) (inside : List LineData)
     → closed (record { file = path; lines = without_skips inside }) (held_of parts (Within path inside)) ≡ held_of (parts ++ Section path inside ∷ []) Between
 end_held parts path inside =
-    let test = test_behind [] parts in
+    let test = test_follows [] parts in
     let kept = without_skips inside in
     let odd = sum_by odd_in parts + count_by (is_odd kept) kept in
     let items : sects_from [] parts ++ record { test = test; file = path; items = items_of kept } ∷ [] ≡ sects_from [] parts ++ record { test = test; file = path; items = items_of inside } ∷ [] =
     ap (λ (x : List ItemData). sects_from [] parts ++ record { test = test; file = path; items = x } ∷ []) (items_kept inside) in
-    same_held test (test_behind [] (parts ++ Section path inside ∷ [])) None None
+    same_held test (test_follows [] (parts ++ Section path inside ∷ [])) None None
     (sects_from [] parts ++ record { test = test; file = path; items = items_of kept } ∷ []) (sects_from [] (parts ++ Section path inside ∷ []))
     odd (sum_by odd_in (parts ++ Section path inside ∷ []))
     (sym (test_push [] parts (Section path inside))) refl (items ∙ sym (sects_push [] parts (Section path inside)))
@@ -99,7 +99,7 @@ step_on : (lines : List (List ℕ)) (line : List ℕ) (parts : List Part) (place
 step_on lines line parts Between (Test name) held s spells e =
     record { parts = parts ++ Outside (Test name) ∷ []; place = Between; stands = stands_outside lines parts line (Test name) s tt spells; is = sym (ok_is _ held e) ∙ outside_held parts (Test name) name refl }
 step_on lines line parts Between Skip held s spells e =
-    record { parts = parts ++ Outside Skip ∷ []; place = Between; stands = stands_outside lines parts line Skip s tt spells; is = sym (ok_is _ held e) ∙ outside_held parts Skip (test_behind [] parts) refl }
+    record { parts = parts ++ Outside Skip ∷ []; place = Between; stands = stands_outside lines parts line Skip s tt spells; is = sym (ok_is _ held e) ∙ outside_held parts Skip (test_follows [] parts) refl }
 step_on lines line parts Between (Path path) held s spells e =
     record { parts = parts; place = Within path []; stands = stands_path lines parts line path s spells; is = sym (ok_is _ held e) }
 step_on lines line parts Between says held s spells e = absurd cc

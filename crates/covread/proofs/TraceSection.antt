@@ -17,13 +17,13 @@ use Rattle.covline.specs.Spells.{LineData, FuncStart, FuncCount, Branch, Line}
 use Rattle.covread.specs.declared.trace.points.Hit.{Hit}
 use Rattle.covread.specs.Reads.{distinct, start_in, counted, items_said, items_of}
 use Rattle.covread.specs.declared.trace.functions.Found.{Found}
-use Rattle.covread.specs.declared.trace.section.Waiting.{Waiting}
+use Rattle.covread.specs.declared.trace.section.PendingCount.{PendingCount}
 use Rattle.covread.specs.TraceFunctions.{named, found_by}
 use Rattle.covread.specs.TracePoints.{Counts, branch_key, hits_said, hits_of_item}
 use Rattle.covread.specs.TraceSection.{item_said, stored, Mark, mark, marks_from}
 use Rattle.covread.specs.TraceSettle.{is_unstarted, names_in, alone, unstarted_in, start_set, start_put, filled, HavePlaces, IsSettled, left, starts_with}
-use Rattle.covread.specs.declared.trace.tally.Has.{Has}
-use Rattle.covread.specs.declared.trace.tally.Stated.{Stated}
+use Rattle.covread.specs.declared.trace.tally.SectionPoints.{SectionPoints}
+use Rattle.covread.specs.declared.trace.tally.StatedTotal.{StatedTotal}
 use Rattle.covread.specs.TraceTally.{is_total, branch_cmp, stated_record, HasTotals, AreFew}
 use Rattle.covread.proofs.TraceDistinct.{distinct_push, none_if}
 
@@ -150,23 +150,23 @@ filled_from starts front (says ∷ inside) =
     ∙ filled_from starts (front ++ item_said says) inside ∙ append_assoc front (item_said says) (flat_map (filled_said starts) inside)
 
 -- each of the places is at least this one
-abbrev Behind : ℕ → List ℕ → Type 0
-Behind at [] = Unit {0}
-Behind at (place ∷ places) = at ≤ place
+abbrev AtOrAfter : ℕ → List ℕ → Type 0
+AtOrAfter at [] = Unit {0}
+AtOrAfter at (place ∷ places) = at ≤ place
 
-behind_less : (a b : ℕ) (places : List ℕ) → a ≤ b → Behind b places → Behind a places
-behind_less a b [] le h = tt
-behind_less a b (p ∷ ps) le h = omega (arith, le, h)
+after_less : (a b : ℕ) (places : List ℕ) → a ≤ b → AtOrAfter b places → AtOrAfter a places
+after_less a b [] le h = tt
+after_less a b (p ∷ ps) le h = omega (arith, le, h)
 
-alone_behind : (at : ℕ) (start : Option ℕ) (rest : List ℕ) → Behind (at + 1) rest → Behind at (alone at start ++ rest)
-alone_behind at None rest h = omega arith
-alone_behind at (Some line) rest h = behind_less at (at + 1) rest (omega arith) h
+alone_after : (at : ℕ) (start : Option ℕ) (rest : List ℕ) → AtOrAfter (at + 1) rest → AtOrAfter at (alone at start ++ rest)
+alone_after at None rest h = omega arith
+alone_after at (Some line) rest h = after_less at (at + 1) rest (omega arith) h
 
-places_behind : (starts : List ℕ → Option ℕ) (at : ℕ) (inside : List LineData) → Behind at (unstarted_in starts (marks_from at inside))
-places_behind starts at [] = tt
-places_behind starts at (FuncCount count name ∷ inside) = alone_behind at (starts name) (unstarted_in starts (marks_from (at + 1) inside)) (places_behind starts (at + 1) inside)
-places_behind starts at (says ∷ inside) =
-    behind_less at (at + length (item_said says)) (unstarted_in starts (marks_from (at + length (item_said says)) inside)) (omega arith) (places_behind starts (at + length (item_said says)) inside)
+places_after : (starts : List ℕ → Option ℕ) (at : ℕ) (inside : List LineData) → AtOrAfter at (unstarted_in starts (marks_from at inside))
+places_after starts at [] = tt
+places_after starts at (FuncCount count name ∷ inside) = alone_after at (starts name) (unstarted_in starts (marks_from (at + 1) inside)) (places_after starts (at + 1) inside)
+places_after starts at (says ∷ inside) =
+    after_less at (at + length (item_said says)) (unstarted_in starts (marks_from (at + length (item_said says)) inside)) (omega arith) (places_after starts (at + length (item_said says)) inside)
 
 differs_from : (a b : ℕ) → b < a → (a == b) ≡ false
 differs_from a b lt = grind (arith, nat_tests)
@@ -178,14 +178,14 @@ left_nil : {X : Type 0} (at : ℕ) (xs : List X) → left at [] xs ≡ xs
 left_nil at [] = refl
 left_nil at (x ∷ xs) = refl
 
-stays : {X : Type 0} (at : ℕ) (places : List ℕ) (x : X) (xs : List X) → Behind (at + 1) places → left at places (x ∷ xs) ≡ x ∷ left (at + 1) places xs
+stays : {X : Type 0} (at : ℕ) (places : List ℕ) (x : X) (xs : List X) → AtOrAfter (at + 1) places → left at places (x ∷ xs) ≡ x ∷ left (at + 1) places xs
 stays at [] x xs h = ap (λ (ys : List _). x ∷ ys) (sym (left_nil (at + 1) xs))
 stays at (p ∷ ps) x xs h = ap (λ (b : Bool). cond b (left (at + 1) ps xs) (x ∷ left (at + 1) (p ∷ ps) xs)) (differs_from p at (omega (arith, h)))
 
 goes : {X : Type 0} (at : ℕ) (places : List ℕ) (x : X) (xs : List X) → left at (at ∷ places) (x ∷ xs) ≡ left (at + 1) places xs
 goes at places x xs = ap (λ (b : Bool). cond b (left (at + 1) places xs) (x ∷ left (at + 1) (at ∷ places) xs)) (same_number at)
 
-left_count : (at : ℕ) (name : List ℕ) (count : ℕ) (start : Option ℕ) (places : List ℕ) (items after : List ItemData) → Behind (at + 1) places → left (at + 1) places items ≡ after
+left_count : (at : ℕ) (name : List ℕ) (count : ℕ) (start : Option ℕ) (places : List ℕ) (items after : List ItemData) → AtOrAfter (at + 1) places → left (at + 1) places items ≡ after
     → left at (alone at start ++ places) (half name count start ∷ items) ≡ counted name count start ++ after
 left_count at name count None places items after h e = goes at places (FuncItem name 0 count) items ∙ e
 left_count at name count (Some line) places items after h e = stays at places (FuncItem name line count) items h ∙ ap (λ (x : List ItemData). FuncItem name line count ∷ x) e
@@ -194,15 +194,15 @@ left_from : (starts : List ℕ → Option ℕ) (at : ℕ) (inside : List LineDat
 left_from starts at [] = refl
 left_from starts at (FuncCount count name ∷ inside) =
     left_count at name count (starts name) (unstarted_in starts (marks_from (at + 1) inside)) (flat_map (filled_said starts) inside) (flat_map (finished starts) inside)
-    (places_behind starts (at + 1) inside) (left_from starts (at + 1) inside)
+    (places_after starts (at + 1) inside) (left_from starts (at + 1) inside)
 left_from starts at (FuncStart line name ∷ inside) =
-    stays at (unstarted_in starts (marks_from (at + 1) inside)) (FuncItem name line 0) (flat_map (filled_said starts) inside) (places_behind starts (at + 1) inside)
+    stays at (unstarted_in starts (marks_from (at + 1) inside)) (FuncItem name line 0) (flat_map (filled_said starts) inside) (places_after starts (at + 1) inside)
     ∙ ap (λ (x : List ItemData). FuncItem name line 0 ∷ x) (left_from starts (at + 1) inside)
 left_from starts at (Branch line block branch taken ∷ inside) =
-    stays at (unstarted_in starts (marks_from (at + 1) inside)) (BranchItem line block branch taken) (flat_map (filled_said starts) inside) (places_behind starts (at + 1) inside)
+    stays at (unstarted_in starts (marks_from (at + 1) inside)) (BranchItem line block branch taken) (flat_map (filled_said starts) inside) (places_after starts (at + 1) inside)
     ∙ ap (λ (x : List ItemData). BranchItem line block branch taken ∷ x) (left_from starts (at + 1) inside)
 left_from starts at (Line line count checksum ∷ inside) =
-    stays at (unstarted_in starts (marks_from (at + 1) inside)) (LineItem line count checksum) (flat_map (filled_said starts) inside) (places_behind starts (at + 1) inside)
+    stays at (unstarted_in starts (marks_from (at + 1) inside)) (LineItem line count checksum) (flat_map (filled_said starts) inside) (places_after starts (at + 1) inside)
     ∙ ap (λ (x : List ItemData). LineItem line count checksum ∷ x) (left_from starts (at + 1) inside)
 left_from starts at (says ∷ inside) = ap (λ (n : ℕ). left at (unstarted_in starts (marks_from n inside)) (flat_map (filled_said starts) inside)) (let k : at + 0 ≡ at = omega arith in k) ∙ left_from starts at inside
 
@@ -400,7 +400,7 @@ length_set at line [] = refl
 length_set zero line (x ∷ xs) = refl
 length_set (suc at) line (x ∷ xs) = let k = length_set at line xs in omega (arith, k)
 
-pub place_at : (n : ℕ) (ws : List Waiting) (k : ℕ) (d : Waiting) → HavePlaces n (map mark ws) → k < length ws → (get_or ws k d).at < n
+pub place_at : (n : ℕ) (ws : List PendingCount) (k : ℕ) (d : PendingCount) → HavePlaces n (map mark ws) → k < length ws → (get_or ws k d).at < n
 place_at n [] k d all low = absurd (omega (arith, low))
 place_at n (w ∷ ws) zero d all low = all.0
 place_at n (w ∷ ws) (suc k) d all low = place_at n ws k d all.1 (omega (arith, low))
@@ -438,7 +438,7 @@ empty_stays items [] b e f = left_nil 0 items
 empty_stays items (p ∷ ps) b e f = absurd (let k : length (p ∷ ps) ≡ 0 = grind (arith, nat_tests, e, f) in omega (arith, k))
 
 -- what the section has, and states
-pub has_totals : (inside : List LineData) (stated : List Stated) (has : Has) (all : List ItemData) → map stated_record stated ≡ filter is_total inside
+pub has_totals : (inside : List LineData) (stated : List StatedTotal) (has : SectionPoints) (all : List ItemData) → map stated_record stated ≡ filter is_total inside
     → has.functions.found ≡ distinct bytes_eq (func_points (items_of inside)) → has.functions.hit ≡ distinct bytes_eq (func_points (filter is_hit (items_of inside)))
     → Counts branch_cmp has.branches (hits_said branch_key (stored inside)) → Counts nat_cmp has.lines (hits_said line_point (stored inside)) → all ≡ items_of inside → HasTotals stated has all inside
 has_totals inside stated has all totals found hit branches lines e = record {

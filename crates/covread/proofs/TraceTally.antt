@@ -14,9 +14,9 @@ use Rattle.covline.specs.declared.trace_line.TotalKind.TheVariants.{FuncFound, F
 use Rattle.covline.specs.Points.{BranchPoint, branch_point, branch_points, line_point, is_hit}
 use Rattle.covline.specs.Row.{ItemData, LineItem, FuncItem, BranchItem}
 use Rattle.covline.specs.Spells.{LineData, Total}
-use Rattle.covread.specs.declared.trace.tally.Own.{Own}
-use Rattle.covread.specs.declared.trace.tally.Sort.{Sort}
-use Rattle.covread.specs.declared.trace.tally.Sort.TheVariants.{Branches, Lines}
+use Rattle.covread.specs.declared.trace.tally.OwnTotals.{OwnTotals}
+use Rattle.covread.specs.declared.trace.tally.PointKind.{PointKind}
+use Rattle.covread.specs.declared.trace.tally.PointKind.TheVariants.{Branches, Lines}
 use Rattle.covread.specs.Reads.{distinct, branch_eq, own_total, items_of}
 use Rattle.covread.specs.TracePoints.{branch_key}
 use Rattle.covread.specs.TraceTally.{has, states, is_total, own_value, differs, is_other, branch_cmp, AreOwn}
@@ -68,7 +68,7 @@ branches_differ items = sym (distinct_on point_at branch_eq (eq_by_cmp branch_cm
 -- ---- what the section states
 
 -- an own total of a sort that the section states
-own_is : (own : Own) (inside : List LineData) → AreOwn own inside → (kind : TotalKind) → ((sort : Sort) → has sort kind ≡ true → list_any (states sort) inside ≡ true) → own_value own kind ≡ own_total kind (items_of inside)
+own_is : (own : OwnTotals) (inside : List LineData) → AreOwn own inside → (kind : TotalKind) → ((sort : PointKind) → has sort kind ≡ true → list_any (states sort) inside ≡ true) → own_value own kind ≡ own_total kind (items_of inside)
 own_is own inside h FuncFound stated = h.functions.found
 own_is own inside h FuncHit stated = h.functions.hit
 own_is own inside h BranchFound stated = (h.branches (stated Branches refl)).found ∙ branches_differ (items_of inside)
@@ -76,7 +76,7 @@ own_is own inside h BranchHit stated = (h.branches (stated Branches refl)).hit �
 own_is own inside h LineFound stated = (h.lines (stated Lines refl)).found ∙ lines_differ (flat_map line_point (items_of inside))
 own_is own inside h LineHit stated = (h.lines (stated Lines refl)).hit ∙ lines_differ (flat_map line_point (filter is_hit (items_of inside)))
 
-differs_is : (own : Own) (inside : List LineData) → AreOwn own inside → (r : LineData) → ((sort : Sort) → states sort r ≡ true → list_any (states sort) inside ≡ true) → differs own r ≡ is_other inside r
+differs_is : (own : OwnTotals) (inside : List LineData) → AreOwn own inside → (r : LineData) → ((sort : PointKind) → states sort r ≡ true → list_any (states sort) inside ≡ true) → differs own r ≡ is_other inside r
 differs_is own inside h (Total kind value) stated = ap (λ (n : ℕ). not (nat_eq value n)) (own_is own inside h kind stated)
 differs_is own inside h says stated = refl
 
@@ -84,7 +84,7 @@ or_last : (a b : Bool) → b ≡ true → (a || b) ≡ true
 or_last true b h = refl
 or_last false b h = h
 
-all_differ : (own : Own) (inside : List LineData) → AreOwn own inside → (records : List LineData) → ((sort : Sort) → list_any (states sort) records ≡ true → list_any (states sort) inside ≡ true) → count_by (differs own) records ≡ count_by (is_other inside) records
+all_differ : (own : OwnTotals) (inside : List LineData) → AreOwn own inside → (records : List LineData) → ((sort : PointKind) → list_any (states sort) records ≡ true → list_any (states sort) inside ≡ true) → count_by (differs own) records ≡ count_by (is_other inside) records
 all_differ own inside h [] stated = refl
 all_differ own inside h (r ∷ rs) stated =
     let first : differs own r ≡ is_other inside r = differs_is own inside h r (λ sort e. stated sort (ap (λ (b : Bool). b || list_any (states sort) rs) e)) in
@@ -94,7 +94,7 @@ all_differ own inside h (r ∷ rs) stated =
     let one : cond {A = ℕ} (differs own r) 1 0 ≡ cond (is_other inside r) 1 0 = ap (λ (x : Bool). cond {A = ℕ} x 1 0) first in
     omega (arith, a, b, one, others)
 
-odd_is : (own : Own) (inside : List LineData) → AreOwn own inside → count_by (differs own) inside ≡ count_by (is_other inside) inside
+odd_is : (own : OwnTotals) (inside : List LineData) → AreOwn own inside → count_by (differs own) inside ≡ count_by (is_other inside) inside
 odd_is own inside h = all_differ own inside h inside (λ sort e. e)
 
 -- ---- the totals alone
@@ -127,18 +127,18 @@ count_total p h (r ∷ rs) =
     let b = sum_by-cons (λ (x : LineData). cond (p x) 1 0) r rs in
     omega (arith, a, b, count_total p h rs)
 
-differs_total : (own : Own) (r : LineData) → is_total r ≡ false → differs own r ≡ false
+differs_total : (own : OwnTotals) (r : LineData) → is_total r ≡ false → differs own r ≡ false
 differs_total own (Total kind value) e = absurd cc
 differs_total own says e = refl
 
-states_total : (sort : Sort) (r : LineData) → is_total r ≡ false → states sort r ≡ false
+states_total : (sort : PointKind) (r : LineData) → is_total r ≡ false → states sort r ≡ false
 states_total sort (Total kind value) e = absurd cc
 states_total sort says e = refl
 
 -- whether the section states a total of the sort
-pub stated_is : (sort : Sort) (totals inside : List LineData) → totals ≡ filter is_total inside → list_any (states sort) totals ≡ list_any (states sort) inside
+pub stated_is : (sort : PointKind) (totals inside : List LineData) → totals ≡ filter is_total inside → list_any (states sort) totals ≡ list_any (states sort) inside
 stated_is sort totals inside e = ap (list_any (states sort)) e ∙ any_total (states sort) (states_total sort) inside
 
 -- how many of the totals are odd
-pub odd_totals_are : (own : Own) (totals inside : List LineData) (odd : ℕ) → totals ≡ filter is_total inside → AreOwn own inside → odd ≡ count_by (differs own) totals → odd ≡ count_by (is_other inside) inside
+pub odd_totals_are : (own : OwnTotals) (totals inside : List LineData) (odd : ℕ) → totals ≡ filter is_total inside → AreOwn own inside → odd ≡ count_by (differs own) totals → odd ≡ count_by (is_other inside) inside
 odd_totals_are own totals inside odd e h o = o ∙ ap (count_by (differs own)) e ∙ count_total (differs own) (differs_total own) inside ∙ odd_is own inside h

@@ -6,7 +6,7 @@ use Rattle.std.specs.List.{AllByRecursion, list_all}
 use Rattle.std.specs.Str.{bytes_eq}
 use Rattle.covline.specs.Lines.{carriage_return}
 use Rattle.covline.specs.Spells.{Begins, digits_value}
-use Rattle.covline.specs.Reading.{is_digit, behind_key}
+use Rattle.covline.specs.Reading.{is_digit, after_key}
 use Rattle.covread.specs.declared.gcov.line.OwnFault.{OwnFault}
 use Rattle.covread.specs.declared.gcov.line.OwnFault.TheVariants as own
 
@@ -173,7 +173,7 @@ says_of (Function name count) = with_number count (λ n. Ok (FuncCount name n))
 says_of (Never branch) = with_number branch (λ b. Ok (BranchCount b None))
 says_of (Taken branch word) = branch_says branch word
 says_of (Block line block) = with_number line (λ _. with_number block (λ b. Ok (BlockNumber b)))
-says_of (Numbered mark line text) = if digits_value line == 0 then path_says (behind_key (codes "Source:") text) else source_says mark line
+says_of (Numbered mark line text) = if digits_value line == 0 then path_says (after_key (codes "Source:") text) else source_says mark line
 says_of Other = Ok Nothing
 
 -- what the line says, or its own fault

@@ -30,9 +30,9 @@ func_said (FuncCount name count) = (name, count) ∷ []
 func_said says = []
 
 -- the lines after the last one of which this holds; all of them if it holds of none
-abbrev pub behind_last : (GcovLine → Bool) → List GcovLine → List GcovLine
-behind_last so [] = []
-behind_last so (says ∷ more) = if list_any so more then behind_last so more else (if so says then more else says ∷ more)
+abbrev pub after_last : (GcovLine → Bool) → List GcovLine → List GcovLine
+after_last so [] = []
+after_last so (says ∷ more) = if list_any so more then after_last so more else (if so says then more else says ∷ more)
 
 -- the number of the last line that gives one
 abbrev pub last_given : (GcovLine → Option ℕ) → List GcovLine → Option ℕ
@@ -41,7 +41,7 @@ last_given gives (says ∷ more) = option_or (last_given gives more) (gives says
 
 -- the function lines after the last source line and the last path: they wait for a source line
 abbrev pub waiting : List GcovLine → List (List ℕ × ℕ)
-waiting above = flat_map func_said (behind_last (λ says. is_source says || is_path says) above)
+waiting above = flat_map func_said (after_last (λ says. is_source says || is_path says) above)
 
 -- the number of the nearest source line above
 abbrev pub line_above : List GcovLine → Option ℕ
@@ -53,7 +53,7 @@ or_zero (Some n) = n
 
 -- the number of the nearest block line between that source line and here, 0 if there is none
 abbrev pub block_above : List GcovLine → ℕ
-block_above above = or_zero (last_given block_number (behind_last is_source above))
+block_above above = or_zero (last_given block_number (after_last is_source above))
 
 -- the functions that begin at a source line, and the line's own count
 abbrev pub func_item : ℕ → List ℕ × ℕ → ItemData
@@ -97,7 +97,7 @@ has_path above = list_any is_path above
 
 -- there is a path above, and a source line between the last path and here
 abbrev pub has_line : List GcovLine → Bool
-has_line above = has_path above && list_any is_source (behind_last is_path above)
+has_line above = has_path above && list_any is_source (after_last is_path above)
 
 abbrev pub is_empty : {X : Type 0} → List X → Bool
 is_empty [] = true

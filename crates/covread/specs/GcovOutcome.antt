@@ -10,7 +10,7 @@ use Rattle.covread.specs.declared.fault.ReadFault.TheVariants as faults
 use Rattle.covread.specs.declared.gcov.line.OwnFault.{OwnFault}
 use Rattle.covread.specs.declared.gcov.line.OwnFault.TheVariants as own
 use Rattle.covread.specs.Gcov.{GcovLine, LineSays}
-use Rattle.covread.specs.Outcome.{most_bytes}
+use Rattle.covread.specs.Outcome.{max_bytes}
 use Rattle.covread.specs.GcovItems.{begins_keeping, place_fault, waiting, sects_from, is_empty}
 
 -- these lines, below the ones above, say this one by one, and none of them is misplaced
@@ -64,17 +64,17 @@ pub record Reads (test : List ℕ) (lines : List (List ℕ)) (submission : Submi
 
 -- what the text is read as; its length is tested first, then the test's name
 abbrev pub IsOutcome : List ℕ → List ℕ → Result SubmissionData ReadFault → Type 0
-IsOutcome test text (Ok submission) = (length text ≤ most_bytes) × IsGoodTest test × Reads test (lines_of text) submission
+IsOutcome test text (Ok submission) = (length text ≤ max_bytes) × IsGoodTest test × Reads test (lines_of text) submission
 IsOutcome test text (Err fault) =
-    ((most_bytes < length text) × (fault ≡ faults.TooLong))
-    ⊎ (((length text ≤ most_bytes) × ¬ IsGoodTest test × (fault ≡ faults.BadTest))
-    ⊎ (((length text ≤ most_bytes) × IsGoodTest test × IsFirstFault (lines_of text) fault)
-    ⊎ ((length text ≤ most_bytes) × IsGoodTest test × LosesFunction (lines_of text) × (fault ≡ faults.LostFunction))))
+    ((max_bytes < length text) × (fault ≡ faults.TooLong))
+    ⊎ (((length text ≤ max_bytes) × ¬ IsGoodTest test × (fault ≡ faults.BadTest))
+    ⊎ (((length text ≤ max_bytes) × IsGoodTest test × IsFirstFault (lines_of text) fault)
+    ⊎ ((length text ≤ max_bytes) × IsGoodTest test × LosesFunction (lines_of text) × (fault ≡ faults.LostFunction))))
 
 -- the answer of a reader is what the text is read as, or memory ran out, which comes only after the tests of length
 -- and name
 abbrev pub Answers : List ℕ → List ℕ → Result SubmissionData ReadFault → Type 0
-Answers test text answer = ((length text ≤ most_bytes) × IsGoodTest test × (answer ≡ Err faults.Memory)) ⊎ IsOutcome test text answer
+Answers test text answer = ((length text ≤ max_bytes) × IsGoodTest test × (answer ≡ Err faults.Memory)) ⊎ IsOutcome test text answer
 
 -- keeping began: some first lines have no fault, and one of them begins it
 pub record HasBegun (lines : List (List ℕ)) : Type 0 where

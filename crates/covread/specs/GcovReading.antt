@@ -2,7 +2,7 @@
 use Rattle.std.specs.Prelude.{ℕ, ◌+◌, ◌-◌, ◌^◌, Bool, true, false, not, ◌&&◌, ◌==◌, nat_lt, if◌then◌else◌, List, [], ◌∷◌, length, take, Option, Some, None, codes, option_map}
 use Rattle.std.specs.Option.{option_or}
 use Rattle.covline.specs.Spells.{digits_value}
-use Rattle.covline.specs.Reading.{is_digit, behind_key}
+use Rattle.covline.specs.Reading.{is_digit, after_key}
 use Rattle.covread.specs.Gcov.{Shape, Instances, Function, Never, Taken, Block, Numbered, Other, is_space, is_mark_byte, is_word_byte}
 use Rattle.covread.specs.declared.gcov.text.Class.{Class}
 use Rattle.covread.specs.declared.gcov.text.Class.TheVariants as classes
@@ -33,8 +33,8 @@ if_some None next = None
 if_some (Some a) next = next a
 
 -- what follows spaces
-abbrev pub behind_spaces : List ℕ → Option (List ℕ)
-behind_spaces text = option_map (λ parts. parts.1) (some_front is_space text)
+abbrev pub after_spaces : List ℕ → Option (List ℕ)
+after_spaces text = option_map (λ parts. parts.1) (some_front is_space text)
 
 -- the number, if it is below 2^64
 abbrev pub fitting : ℕ → Option ℕ
@@ -57,28 +57,28 @@ is_name (b ∷ d ∷ ds) = is_name (d ∷ ds)
 -- what follows the last ` called `
 abbrev pub last_called : List ℕ → Option (List ℕ)
 last_called [] = None
-last_called (b ∷ bs) = option_or (last_called bs) (behind_key (codes " called ") (b ∷ bs))
+last_called (b ∷ bs) = option_or (last_called bs) (after_key (codes " called ") (b ∷ bs))
 
 abbrev pub before_called : List ℕ → List ℕ → List ℕ
-before_called text behind = take (length text - (length behind + 8)) text
+before_called text following = take (length text - (length following + 8)) text
 
 abbrev pub function_of : List ℕ → List ℕ → List ℕ → Option Shape
 function_of name count rest = if is_name name && ends_word rest then Some (Function name count) else None
 
 abbrev pub function_shape : List ℕ → Option Shape
 function_shape text =
-    if_some (last_called text) (λ behind. if_some (some_front is_digit behind) (λ count. function_of (before_called text behind) count.0 count.1))
+    if_some (last_called text) (λ following. if_some (some_front is_digit following) (λ count. function_of (before_called text following) count.0 count.1))
 
 -- a branch's number, and what follows the spaces after it
 abbrev pub branch_front : List ℕ → Option (List ℕ × List ℕ)
 branch_front text =
-    if_some (behind_spaces text) (λ a. if_some (some_front is_digit a) (λ digits. if_some (behind_spaces digits.1) (λ rest. Some (digits.0, rest))))
+    if_some (after_spaces text) (λ a. if_some (some_front is_digit a) (λ digits. if_some (after_spaces digits.1) (λ rest. Some (digits.0, rest))))
 
 abbrev pub never_of : List ℕ → List ℕ → Option Shape
 never_of branch rest = if ends_word rest then Some (Never branch) else None
 
 abbrev pub taken_of : List ℕ → List ℕ → Option Shape
-taken_of branch text = if_some (behind_spaces text) (λ a. if_some (some_front is_word_byte a) (λ word. Some (Taken branch word.0)))
+taken_of branch text = if_some (after_spaces text) (λ a. if_some (some_front is_word_byte a) (λ word. Some (Taken branch word.0)))
 
 abbrev pub if_key : {A : Type 0} → Option (List ℕ) → (List ℕ → Option A) → Option A → Option A
 if_key None next otherwise = otherwise
@@ -86,27 +86,27 @@ if_key (Some rest) next otherwise = next rest
 
 abbrev pub branch_rest : List ℕ → List ℕ → Option Shape
 branch_rest branch text =
-    if_key (behind_key (codes "never executed") text) (never_of branch)
-    (if_key (behind_key (codes "taken") text) (taken_of branch) None)
+    if_key (after_key (codes "never executed") text) (never_of branch)
+    (if_key (after_key (codes "taken") text) (taken_of branch) None)
 
 abbrev pub branch_shape : List ℕ → Option Shape
 branch_shape text = if_some (branch_front text) (λ front. branch_rest front.0 front.1)
 
 -- a mark, a colon and a number, and what follows
 abbrev pub block_of : List ℕ → List ℕ → Option Shape
-block_of line text = if_some (behind_spaces text) (λ a. if_some (some_front is_digit a) (λ block. Some (Block line block.0)))
+block_of line text = if_some (after_spaces text) (λ a. if_some (some_front is_digit a) (λ block. Some (Block line block.0)))
 
 abbrev pub numbered_rest : List ℕ → List ℕ → List ℕ → Option Shape
 numbered_rest mark line text =
-    if_key (behind_key (codes "-block") text) (block_of line)
-    (if_key (behind_key (codes ":") text) (λ rest. Some (Numbered mark line rest)) None)
+    if_key (after_key (codes "-block") text) (block_of line)
+    (if_key (after_key (codes ":") text) (λ rest. Some (Numbered mark line rest)) None)
 
-abbrev pub behind_mark : List ℕ → List ℕ → Option Shape
-behind_mark mark text =
-    if_some (behind_key (codes ":") text) (λ a. if_some (some_front is_digit (rest_of is_space a)) (λ line. numbered_rest mark line.0 line.1))
+abbrev pub after_mark : List ℕ → List ℕ → Option Shape
+after_mark mark text =
+    if_some (after_key (codes ":") text) (λ a. if_some (some_front is_digit (rest_of is_space a)) (λ line. numbered_rest mark line.0 line.1))
 
 abbrev pub numbered_shape : List ℕ → Option Shape
-numbered_shape text = if_some (some_front is_mark_byte (rest_of is_space text)) (λ mark. behind_mark mark.0 mark.1)
+numbered_shape text = if_some (some_front is_mark_byte (rest_of is_space text)) (λ mark. after_mark mark.0 mark.1)
 
 abbrev pub or_other : Option Shape → Shape
 or_other None = Other
@@ -114,13 +114,13 @@ or_other (Some shape) = shape
 
 -- a mark may begin as the lines of branches do
 abbrev pub other_shape : List ℕ → Option Shape
-other_shape line = option_or (if_key (behind_key (codes "branch") line) branch_shape None) (numbered_shape line)
+other_shape line = option_or (if_key (after_key (codes "branch") line) branch_shape None) (numbered_shape line)
 
 -- the shape of the line by what it begins with
 abbrev pub any_shape : List ℕ → Option Shape
 any_shape line =
-    if_key (behind_key (codes "-----") line) (λ rest. Some Instances)
-    (if_key (behind_key (codes "function ") line) function_shape
+    if_key (after_key (codes "-----") line) (λ rest. Some Instances)
+    (if_key (after_key (codes "function ") line) function_shape
     (other_shape line))
 
 unfoldable pub shape_of : List ℕ → Shape

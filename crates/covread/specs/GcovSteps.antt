@@ -6,7 +6,7 @@ use Rattle.covline.specs.Lines.{lines_of}
 use Rattle.covread.specs.declared.fault.ReadFault.{ReadFault}
 use Rattle.covread.specs.declared.fault.ReadFault.TheVariants as faults
 use Rattle.covread.specs.declared.gcov.reader.Function.{Function}
-use Rattle.covread.specs.declared.gcov.reader.Place.{Place}
+use Rattle.covread.specs.declared.gcov.reader.BranchAnchor.{BranchAnchor}
 use Rattle.covread.specs.declared.gcov.reader.OpenSection.{OpenSection}
 use Rattle.covread.specs.declared.gcov.reader.Reader.{Reader}
 use Rattle.covread.specs.Gcov.{GcovLine, Path, SourceLine, FuncCount, BranchCount, BlockNumber, Nothing, Says, says_of}
@@ -18,7 +18,7 @@ use Rattle.covread.specs.GcovOutcome.{own_fault, HasBegun}
 pub record SectionData : Type 0 where
   pub file : List ℕ
   pub items : List ItemData
-  pub place : Option Place
+  pub place : Option BranchAnchor
 
 pub record HeldData : Type 0 where
   pub waiting : List (List ℕ × ℕ)
@@ -44,7 +44,7 @@ closed test None = []
 closed test (Some s) = record { test = test; file = s.file; items = s.items } ∷ []
 
 -- with more items in the open section, and another place
-abbrev pub section_with : SectionData → List ItemData → Option Place → HeldData → List (List ℕ × ℕ) → HeldData
+abbrev pub section_with : SectionData → List ItemData → Option BranchAnchor → HeldData → List (List ℕ × ℕ) → HeldData
 section_with s more place held waiting = record { waiting = waiting; section = Some (record { file = s.file; items = s.items ++ more; place = place }); sects = held.sects }
 
 abbrev pub Stepped : Type 0
@@ -65,7 +65,7 @@ step_source at (Some s) held line count =
 abbrev pub step_func : HeldData → List ℕ → ℕ → HeldData
 step_func held name count = record { waiting = held.waiting ++ (name, count) ∷ []; section = held.section; sects = held.sects }
 
-abbrev pub step_branch_in : ℕ → SectionData → Option Place → HeldData → ℕ → Option ℕ → Stepped
+abbrev pub step_branch_in : ℕ → SectionData → Option BranchAnchor → HeldData → ℕ → Option ℕ → Stepped
 step_branch_in at s None held branch taken = Err (faults.Misplaced at)
 step_branch_in at s (Some p) held branch taken = Ok (section_with s (BranchItem p.line p.block branch taken ∷ []) s.place held held.waiting)
 
@@ -73,7 +73,7 @@ abbrev pub step_branch : ℕ → Option SectionData → HeldData → ℕ → Opt
 step_branch at None held branch taken = Err (faults.Misplaced at)
 step_branch at (Some s) held branch taken = step_branch_in at s s.place held branch taken
 
-abbrev pub in_block : ℕ → Place → Place
+abbrev pub in_block : ℕ → BranchAnchor → BranchAnchor
 in_block block p = record { line = p.line; block = block }
 
 abbrev pub section_in_block : ℕ → SectionData → SectionData

@@ -8,8 +8,8 @@ use Rattle.covread.specs.declared.fault.ReadFault.TheVariants as faults
 use Rattle.covread.specs.Reads.{Reads}
 
 -- the most bytes that a text can have: 64 MiB
-abbrev pub most_bytes : ℕ
-most_bytes = 67108864
+abbrev pub max_bytes : ℕ
+max_bytes = 67108864
 
 abbrev pub IsLawfulText : List (List ℕ) → Type 0
 IsLawfulText lines = (submission : SubmissionData) × Reads lines submission
@@ -49,13 +49,13 @@ IsFirstFault lines other = ⊥
 
 -- what the text is read as; its length is tested first
 abbrev pub IsOutcome : List ℕ → Result SubmissionData ReadFault → Type 0
-IsOutcome text (Ok submission) = (length text ≤ most_bytes) × Reads (lines_of text) submission
+IsOutcome text (Ok submission) = (length text ≤ max_bytes) × Reads (lines_of text) submission
 IsOutcome text (Err fault) =
-    ((most_bytes < length text) × (fault ≡ faults.TooLong)) ⊎ ((length text ≤ most_bytes) × IsFirstFault (lines_of text) fault)
+    ((max_bytes < length text) × (fault ≡ faults.TooLong)) ⊎ ((length text ≤ max_bytes) × IsFirstFault (lines_of text) fault)
 
 -- the answer of a reader is what the text is read as, or memory ran out, which comes only after the test of length
 abbrev pub Answers : List ℕ → Result SubmissionData ReadFault → Type 0
-Answers text answer = ((length text ≤ most_bytes) × (answer ≡ Err faults.Memory)) ⊎ IsOutcome text answer
+Answers text answer = ((length text ≤ max_bytes) × (answer ≡ Err faults.Memory)) ⊎ IsOutcome text answer
 
 -- the answer is the outcome, or memory ran out
 abbrev pub IsOrMemory : Result SubmissionData ReadFault → Result SubmissionData ReadFault → Type 0

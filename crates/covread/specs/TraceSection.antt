@@ -5,8 +5,8 @@ use Rattle.std.specs.Ordering.{nat_cmp}
 use Rattle.covline.specs.Points.{line_point}
 use Rattle.covline.specs.Row.{ItemData, LineItem, FuncItem, BranchItem}
 use Rattle.covline.specs.Spells.{LineData, Test, Path, FuncStart, FuncCount, Branch, Line, Total, End, Skip}
-use Rattle.covread.specs.declared.trace.section.Gathered.{Gathered}
-use Rattle.covread.specs.declared.trace.section.Waiting.{Waiting}
+use Rattle.covread.specs.declared.trace.section.SectionBuilder.{SectionBuilder}
+use Rattle.covread.specs.declared.trace.section.PendingCount.{PendingCount}
 use Rattle.covread.specs.Reads.{start_in}
 use Rattle.covread.specs.TraceFunctions.{AreFunctions}
 use Rattle.covread.specs.TracePoints.{Counts, branch_key, hits_said}
@@ -41,7 +41,7 @@ pub record Mark : Type 0 where
   pub name : List ℕ
   pub is_hit : Bool
 
-abbrev pub mark : Waiting → Mark
+abbrev pub mark : PendingCount → Mark
 mark w = record { at = w.at; name = w.name.now; is_hit = w.is_hit }
 
 -- the counts of functions, if the first item has this place
@@ -51,7 +51,7 @@ marks_from at (FuncCount count name ∷ rest) = record { at = at; name = name; i
 marks_from at (says ∷ rest) = marks_from (at + length (item_said says)) rest
 
 -- what was gathered is what these records give
-pub record IsGathered {A : Type 0} (g : Gathered A) (inside : List LineData) : Type 0 where
+pub record IsBuiltOf {A : Type 0} (g : SectionBuilder A) (inside : List LineData) : Type 0 where
   pub items : g.items ≡ stored inside
   pub functions : AreFunctions g.functions (λ name. start_in name inside) []
   pub waiting : map mark g.waiting.items ≡ marks_from 0 inside

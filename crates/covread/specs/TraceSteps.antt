@@ -12,7 +12,7 @@ use Rattle.covread.specs.declared.fault.ReadFault.{ReadFault}
 use Rattle.covread.specs.declared.fault.ReadFault.TheVariants as faults
 use Rattle.covread.specs.Outcome.{Answers, GrowsLate}
 use Rattle.covread.specs.Reads.{items_of, is_odd}
-use Rattle.covread.specs.TraceSection.{IsGathered}
+use Rattle.covread.specs.TraceSection.{IsBuiltOf}
 
 -- an open section: its path, and what its lines said so far, the skipped ones left out
 pub record SectionData : Type 0 where
@@ -34,7 +34,7 @@ held_data r inside = record { test = r.test.now; section = option_map (section_d
 
 abbrev pub IsOpen : {A : Type 0} → Option (OpenSection A) → List LineData → Type 0
 IsOpen None inside = inside ≡ []
-IsOpen (Some s) inside = IsGathered s.gathered inside
+IsOpen (Some s) inside = IsBuiltOf s.builder inside
 
 -- the reader has room for one more line
 pub record HasRoom {A : Type 0} (r : Reader A) (inside : List LineData) : Type 0 where

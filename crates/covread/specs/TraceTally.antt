@@ -9,17 +9,17 @@ use Rattle.covline.specs.declared.trace_line.TotalKind.TheVariants.{FuncFound, F
 use Rattle.covline.specs.Points.{line_point}
 use Rattle.covline.specs.Row.{ItemData}
 use Rattle.covline.specs.Spells.{LineData, Total}
-use Rattle.covread.specs.declared.trace.tally.Has.{Has}
-use Rattle.covread.specs.declared.trace.tally.Own.{Own}
-use Rattle.covread.specs.declared.trace.tally.Sort.{Sort}
-use Rattle.covread.specs.declared.trace.tally.Sort.TheVariants.{Functions, Branches, Lines}
-use Rattle.covread.specs.declared.trace.tally.Stated.{Stated}
+use Rattle.covread.specs.declared.trace.tally.SectionPoints.{SectionPoints}
+use Rattle.covread.specs.declared.trace.tally.OwnTotals.{OwnTotals}
+use Rattle.covread.specs.declared.trace.tally.PointKind.{PointKind}
+use Rattle.covread.specs.declared.trace.tally.PointKind.TheVariants.{Functions, Branches, Lines}
+use Rattle.covread.specs.declared.trace.tally.StatedTotal.{StatedTotal}
 use Rattle.covread.specs.Reads.{own_total, items_of}
 use Rattle.covread.specs.TracePoints.{AreTotals, Counts, branch_key, hits_said}
 use Rattle.covread.specs.TraceFunctions.{AreFunctionTotals}
 
 -- a stated total as the record that it is
-abbrev pub stated_record : Stated → LineData
+abbrev pub stated_record : StatedTotal → LineData
 stated_record s = Total s.kind s.value
 
 abbrev pub is_total : LineData → Bool
@@ -27,7 +27,7 @@ is_total (Total kind value) = true
 is_total says = false
 
 -- a total of this kind counts this
-abbrev pub has : Sort → TotalKind → Bool
+abbrev pub has : PointKind → TotalKind → Bool
 has Functions FuncFound = true
 has Functions FuncHit = true
 has Functions kind = false
@@ -39,12 +39,12 @@ has Lines LineHit = true
 has Lines kind = false
 
 -- the record states a total of this sort
-abbrev pub states : Sort → LineData → Bool
+abbrev pub states : PointKind → LineData → Bool
 states sort (Total kind value) = has sort kind
 states sort says = false
 
 -- the own total of this kind
-abbrev pub own_value : Own → TotalKind → ℕ
+abbrev pub own_value : OwnTotals → TotalKind → ℕ
 own_value own FuncFound = own.functions.found
 own_value own FuncHit = own.functions.hit
 own_value own BranchFound = own.branches.found
@@ -53,7 +53,7 @@ own_value own LineFound = own.lines.found
 own_value own LineHit = own.lines.hit
 
 -- the record states another total than these
-abbrev pub differs : Own → LineData → Bool
+abbrev pub differs : OwnTotals → LineData → Bool
 differs own (Total kind value) = not (value == own_value own kind)
 differs own says = false
 
@@ -67,13 +67,13 @@ abbrev pub branch_cmp : BranchPoint → BranchPoint → Ordering
 branch_cmp a b = ordering_then (nat_cmp a.line b.line) (ordering_then (nat_cmp a.block b.block) (nat_cmp a.branch b.branch))
 
 -- the totals are the section's own, as far as it states some of their sort
-pub record AreOwn (own : Own) (inside : List LineData) : Type 0 where
+pub record AreOwn (own : OwnTotals) (inside : List LineData) : Type 0 where
   pub functions : AreFunctionTotals own.functions inside
   pub branches : list_any (states Branches) inside ≡ true → AreTotals branch_cmp branch_key own.branches (items_of inside)
   pub lines : list_any (states Lines) inside ≡ true → AreTotals nat_cmp line_point own.lines (items_of inside)
 
 -- the section has these functions, branches and lines, and states these totals
-pub record HasTotals (stated : List Stated) (has : Has) (all : List ItemData) (inside : List LineData) : Type 0 where
+pub record HasTotals (stated : List StatedTotal) (has : SectionPoints) (all : List ItemData) (inside : List LineData) : Type 0 where
   pub totals : map stated_record stated ≡ filter is_total inside
   pub functions : AreFunctionTotals has.functions inside
   pub branches : Counts branch_cmp has.branches (hits_said branch_key all)

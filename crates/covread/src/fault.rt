@@ -8,7 +8,7 @@ use std::alloc::AllocFailed;
 use thiserror::Error;
 
 /// The most bytes that a text can have: 64 MiB.
-pub const MOST_BYTES: usize = 67_108_864;
+pub const MAX_BYTES: usize = 67_108_864;
 
 /// Why a text isn't read: its first fault, with the number of the faulty line, counted from 1.
 #[derive(Clone, Copy, Debug, PartialEq, Eq, Error)]

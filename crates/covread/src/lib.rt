@@ -20,7 +20,7 @@ mod lawful;
 mod trace;
 mod wide;
 
-pub use fault::{MOST_BYTES, ReadFault};
+pub use fault::{MAX_BYTES, ReadFault};
 pub use gcov::{an_early_fault_is_told, each_gcov_text_has_one_outcome, fits_no_shape, read_gcov};
 pub use lawful::what_is_read_is_lawful;
 pub use trace::{each_text_has_one_outcome, laws, read_trace};

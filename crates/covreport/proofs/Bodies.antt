@@ -5,7 +5,7 @@ use Rattle.std.proofs.lemmas.Bool.{false_from_ne_true}
 use Rattle.std.proofs.lemmas.List.{length-take-le, take_rest}
 use Rattle.memchr.specs.Find.{NoneBefore, Nowhere, Passes, is_byte}
 use Rattle.covreport.specs.Pattern.{before_close, body_of}
-use Rattle.covreport.specs.PatternParts.{behind_body}
+use Rattle.covreport.specs.PatternParts.{after_body}
 
 abbrev IsClose : List ℕ → ℕ → Type 0
 IsClose text = Passes (is_byte 93) text
@@ -23,12 +23,12 @@ closed_at (b ∷ bs) (suc k) lt none is =
 
 -- no ] after the first byte
 pub body_unread : (text : List ℕ) (first : ℕ) (behind : List ℕ) → text ≡ first ∷ behind → Nowhere (IsClose behind) 0 (length behind) →
-    option_map (behind_body text) (body_of text) ≡ None
+    option_map (after_body text) (body_of text) ≡ None
 body_unread text first behind e none =
     rw (e, unclosed behind (λ j lt. none j (omega arith) lt)) refl
 
 read_cut : (first : ℕ) (behind : List ℕ) (k : ℕ) → k < length behind → before_close behind ≡ Some (take k behind) →
-    Some (take (k + 1) (first ∷ behind), take (length behind - (k + 1)) (drop (k + 1) behind)) ≡ option_map (behind_body (first ∷ behind)) (body_of (first ∷ behind))
+    Some (take (k + 1) (first ∷ behind), take (length behind - (k + 1)) (drop (k + 1) behind)) ≡ option_map (after_body (first ∷ behind)) (body_of (first ∷ behind))
 read_cut first behind k lt is =
     let le : k ≤ length behind = omega arith in
     rw (is, take_rest behind (k + 1), add-one k, add-one (suc (length (take k behind))))
@@ -36,6 +36,6 @@ read_cut first behind k lt is =
 
 -- the first ] comes after the first byte and k more
 pub body_read : (text : List ℕ) (first : ℕ) (behind : List ℕ) (k : ℕ) → text ≡ first ∷ behind → NoneBefore (IsClose behind) 0 (length behind) k × IsClose behind k →
-    Some (take (k + 1) text, take (length behind - (k + 1)) (drop (k + 1) behind)) ≡ option_map (behind_body text) (body_of text)
+    Some (take (k + 1) text, take (length behind - (k + 1)) (drop (k + 1) behind)) ≡ option_map (after_body text) (body_of text)
 body_read text first behind k e at =
     rw e (read_cut first behind k at.0.high (closed_at behind k at.0.high (λ j lt. at.0.before j (omega arith) lt) at.1))

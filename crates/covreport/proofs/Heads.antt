@@ -1,12 +1,12 @@
 -- The first part of a pattern, and the parts after it.
 use Rattle.std.proofs.Common.{◌≡◌, ℕ, zero, suc, ◌+◌, ◌-◌, ◌≤◌, List, [], ◌∷◌, length, get_or, take, drop, refl, sym, ap, arith}
 use Rattle.std.proofs.lemmas.List.{take_all, length-drop}
-use Rattle.covreport.specs.Pattern.{Part, head_of, parts_behind, parts_of}
-use Rattle.covreport.specs.PatternParts.{part_data, head_data, behind_head}
+use Rattle.covreport.specs.Pattern.{Part, head_of, parts_after, parts_of}
+use Rattle.covreport.specs.PatternParts.{part_data, head_data, after_head}
 use Rattle.covreport.specs.declared.pattern.parts.Head.{Head}
 
 -- bytes that belong to the part before are left out
-pub parts_drop : (taken : ℕ) (pattern : List ℕ) → parts_behind taken pattern ≡ parts_of (drop taken pattern)
+pub parts_drop : (taken : ℕ) (pattern : List ℕ) → parts_after taken pattern ≡ parts_of (drop taken pattern)
 parts_drop zero [] = refl
 parts_drop zero (b ∷ rest) = refl
 parts_drop (suc taken) [] = refl
@@ -27,7 +27,7 @@ pub record IsRead (pattern : List ℕ) (part : Part) (rest : List ℕ) : Type 0 
   pub parts : parts_of pattern ≡ part ∷ parts_of rest
   pub less : length rest + 1 ≤ length pattern
 
-read_first : (first : ℕ) (after : List ℕ) (part : Part) (rest : List ℕ) → (part, rest) ≡ behind_head after (head_of first after) → IsRead (first ∷ after) part rest
+read_first : (first : ℕ) (after : List ℕ) (part : Part) (rest : List ℕ) → (part, rest) ≡ after_head after (head_of first after) → IsRead (first ∷ after) part rest
 read_first first after part rest e = record {
   parts = rw (parts_drop (head_of first after).more after) (ap (λ (p : Part × List ℕ). p.0 ∷ parts_of p.1) (sym e));
   less =
@@ -35,7 +35,7 @@ read_first first after part rest e = record {
       omega (arith, ap length same, length-drop (head_of first after).more after);
 }
 
-pub head_read : (pattern : List ℕ) (head : Head) → 1 ≤ length pattern → head_data head ≡ behind_head (tail pattern) (head_of (get_or pattern 0 0) (tail pattern)) →
+pub head_read : (pattern : List ℕ) (head : Head) → 1 ≤ length pattern → head_data head ≡ after_head (tail pattern) (head_of (get_or pattern 0 0) (tail pattern)) →
     IsRead pattern (part_data head.part) head.rest.now
 head_read pattern head some e =
     rw (opened pattern some) (read_first (get_or pattern 0 0) (tail pattern) (part_data head.part) head.rest.now e)

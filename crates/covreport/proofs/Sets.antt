@@ -31,13 +31,13 @@ past_close : (body rest : List ℕ) → drop (suc (length body)) (body ++ 93 ∷
 past_close [] rest = refl
 past_close (b ∷ bs) rest = past_close bs rest
 
-behind_set : (first : ℕ) (body rest : List ℕ) → drop (suc (length body) + 1) (first ∷ (body ++ 93 ∷ rest)) ≡ rest
-behind_set first body rest =
+after_set : (first : ℕ) (body rest : List ℕ) → drop (suc (length body) + 1) (first ∷ (body ++ 93 ∷ rest)) ≡ rest
+after_set first body rest =
     let more : suc (length body) + 1 ≡ suc (suc (length body)) = omega arith in
     ap (λ (n : ℕ). drop n (first ∷ (body ++ 93 ∷ rest))) more ∙ past_close body rest
 
-behind_none : (first : ℕ) (body rest : List ℕ) → drop (suc (length body) + 2) (33 ∷ first ∷ (body ++ 93 ∷ rest)) ≡ rest
-behind_none first body rest =
+after_none : (first : ℕ) (body rest : List ℕ) → drop (suc (length body) + 2) (33 ∷ first ∷ (body ++ 93 ∷ rest)) ≡ rest
+after_none first body rest =
     let more : suc (length body) + 2 ≡ suc (suc (suc (length body))) = omega arith in
     ap (λ (n : ℕ). drop n (33 ∷ first ∷ (body ++ 93 ∷ rest))) more ∙ past_close body rest
 
@@ -45,13 +45,13 @@ pub set_takes : (first b : ℕ) (body rest path : List ℕ) → first ≢ 33 →
 set_takes first b body rest path other none =
     by_head 91 (first ∷ (body ++ 93 ∷ rest)) (b ∷ path) (record { part = OneByte (OneOf (first ∷ body)); more = length (first ∷ body) + 1 })
     (rw (ne_eqb first 33 other, close_found body rest none) refl)
-    ∙ ap (λ (t : List ℕ). in_body b (first ∷ body) && matches t path) (behind_set first body rest)
+    ∙ ap (λ (t : List ℕ). in_body b (first ∷ body) && matches t path) (after_set first body rest)
 
 pub set_takes_none : (first b : ℕ) (body rest path : List ℕ) → HasNoClose body → matches (91 ∷ 33 ∷ first ∷ (body ++ 93 ∷ rest)) (b ∷ path) ≡ (not (in_body b (first ∷ body)) && matches rest path)
 set_takes_none first b body rest path none =
     by_head 91 (33 ∷ first ∷ (body ++ 93 ∷ rest)) (b ∷ path) (record { part = OneByte (NoneOf (first ∷ body)); more = length (first ∷ body) + 2 })
     (rw (close_found body rest none) refl)
-    ∙ ap (λ (t : List ℕ). not (in_body b (first ∷ body)) && matches t path) (behind_none first body rest)
+    ∙ ap (λ (t : List ℕ). not (in_body b (first ∷ body)) && matches t path) (after_none first body rest)
 
 -- if nothing is opened, the bracket is plain
 bracket_plain : (b : ℕ) (after path : List ℕ) → opened_set after ≡ None → matches (91 ∷ after) (b ∷ path) ≡ (eqb b 91 && matches after path)

@@ -55,9 +55,9 @@ end_found parts (b ∷ path) e =
       | inr later ↦ let more = end_found parts path later in (b ∷ more.0, more.1, ap (λ (t : List ℕ). b ∷ t) more.2, more.3)
     ]
 
-found_behind : (parts : List Part) (run end : List ℕ) → fits parts end ≡ true → fits (AnyRun ∷ parts) (run ++ end) ≡ true
-found_behind parts [] end e = fits_now parts end e
-found_behind parts (b ∷ run) end e = or_right (fits parts (b ∷ (run ++ end))) (fits (AnyRun ∷ parts) (run ++ end)) (found_behind parts run end e)
+found_later : (parts : List Part) (run end : List ℕ) → fits parts end ≡ true → fits (AnyRun ∷ parts) (run ++ end) ≡ true
+found_later parts [] end e = fits_now parts end e
+found_later parts (b ∷ run) end e = or_right (fits parts (b ∷ (run ++ end))) (fits (AnyRun ∷ parts) (run ++ end)) (found_later parts run end e)
 
 pub end_fits : (parts : List Part) (path : List ℕ) → SomeEndFits parts path → fits (AnyRun ∷ parts) path ≡ true
-end_fits parts path some = rw some.2 (found_behind parts some.0 some.1 some.3)
+end_fits parts path some = rw some.2 (found_later parts some.0 some.1 some.3)

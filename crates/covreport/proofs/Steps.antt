@@ -2,7 +2,7 @@
 use Rattle.std.proofs.Common.{◌≡◌, ℕ, suc, ◌+◌, ◌*◌, ◌<◌, ◌≤◌, Bool, true, false, ◌||◌, ◌∷◌, length, refl, ap, ◌∙◌, arith, Option, Some, None}
 use Rattle.std.proofs.lemmas.Nat.{mul-le}
 use Rattle.covreport.specs.Pattern.{AnyRun, OneByte, ByteSet, takes, fits, parts_of}
-use Rattle.covreport.specs.PatternSteps.{fits_at, fits_behind, steps_from, GoesOnFrom, Proceeds}
+use Rattle.covreport.specs.PatternSteps.{fits_at, fits_following, steps_from, GoesOnFrom, Proceeds}
 use Rattle.covreport.specs.declared.pattern.steps.Place.{Place}
 use Rattle.covreport.proofs.Heads.{IsRead}
 use Rattle.covreport.proofs.Stars.{fits_run, fits_after, star_over_byte, star_star}
@@ -32,7 +32,7 @@ taken_fewer set b old new (Some star) read path = omega (arith, read.less)
 pub byte_taken : (set : ByteSet) (b : ℕ) (old new : Place) (star : Option Place) → IsRead old.pattern.now (OneByte set) new.pattern.now → old.path.now ≡ b ∷ new.path.now → takes set b ≡ true → GoesOnFrom star old →
     Proceeds (record { here = old; star = star }) (record { here = new; star = star })
 byte_taken set b old new star read path is goes = record {
-  answer = ap (λ (f : Bool). f || fits_behind star) (taken_fits set b old new read.parts path is);
+  answer = ap (λ (f : Bool). f || fits_following star) (taken_fits set b old new read.parts path is);
   goes_on = taken_goes_on set b old new star read path goes;
   fewer = taken_fewer set b old new star read path;
 }
@@ -46,7 +46,7 @@ absorbs false false under = refl
 
 -- what the star before could find, this one finds
 covered : (old new : Place) (star : Option Place) → IsRead old.pattern.now AnyRun new.pattern.now → old.path.now ≡ new.path.now → GoesOnFrom star old →
-    fits_behind star ≡ true → fits (AnyRun ∷ parts_of new.pattern.now) new.path.now ≡ true
+    fits_following star ≡ true → fits (AnyRun ∷ parts_of new.pattern.now) new.path.now ≡ true
 covered old new None read path goes fit = absurd cc
 covered old new (Some star) read path goes fit =
     let before : fits (AnyRun ∷ AnyRun ∷ parts_of new.pattern.now) new.path.now ≡ true = rw (read.parts, path) at (goes.fits_too (fits_after (parts_of star.pattern.now) star.path.now fit)) in
@@ -67,8 +67,8 @@ pub star_seen : (old new : Place) (star : Option Place) → IsRead old.pattern.n
 star_seen old new star read path goes = record {
   answer =
       fits_run (parts_of new.pattern.now) new.path.now
-      ∙ absorbs (fits (AnyRun ∷ parts_of new.pattern.now) new.path.now) (fits_behind star) (covered old new star read path goes)
-      ∙ ap (λ (f : Bool). f || fits_behind star) (rw (read.parts, path) refl);
+      ∙ absorbs (fits (AnyRun ∷ parts_of new.pattern.now) new.path.now) (fits_following star) (covered old new star read path goes)
+      ∙ ap (λ (f : Bool). f || fits_following star) (rw (read.parts, path) refl);
   goes_on = record { pattern = omega arith; path = omega arith; fits_too = λ fit. fit };
   fewer = starred_fewer old new star read path goes;
 }

@@ -19,8 +19,8 @@ is_chosen (Extracted patterns) file = any_matches patterns file
 is_chosen (Removed patterns) file = not (any_matches patterns file)
 
 -- the most patterns in one list, and the most bytes in one pattern
-abbrev pub most_patterns : ℕ
-most_patterns = 64
+abbrev pub max_patterns : ℕ
+max_patterns = 64
 
-abbrev pub most_pattern_bytes : ℕ
-most_pattern_bytes = 1024
+abbrev pub max_pattern_bytes : ℕ
+max_pattern_bytes = 1024

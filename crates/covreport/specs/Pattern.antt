@@ -57,13 +57,13 @@ head_of b rest =
     else plain b
 
 -- the parts of a pattern without its first `taken` bytes, which belong to the part before
-abbrev pub parts_behind : ℕ → List ℕ → List Part
-parts_behind taken [] = []
-parts_behind (suc taken) (b ∷ rest) = parts_behind taken rest
-parts_behind zero (b ∷ rest) = (head_of b rest).part ∷ parts_behind (head_of b rest).more rest
+abbrev pub parts_after : ℕ → List ℕ → List Part
+parts_after taken [] = []
+parts_after (suc taken) (b ∷ rest) = parts_after taken rest
+parts_after zero (b ∷ rest) = (head_of b rest).part ∷ parts_after (head_of b rest).more rest
 
 abbrev pub parts_of : List ℕ → List Part
-parts_of pattern = parts_behind 0 pattern
+parts_of pattern = parts_after 0 pattern
 
 -- a set's body has this byte: three bytes a - b are the range from a to b, each other byte is itself
 abbrev pub in_body : ℕ → List ℕ → Bool

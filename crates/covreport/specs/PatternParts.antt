@@ -29,9 +29,9 @@ abbrev pub head_data : Head → pattern.Part × List ℕ
 head_data head = (part_data head.part, head.rest.now)
 
 -- a set's body, and what follows the ] after it
-abbrev pub behind_body : List ℕ → List ℕ → List ℕ × List ℕ
-behind_body text body = (body, drop (length body + 1) text)
+abbrev pub after_body : List ℕ → List ℕ → List ℕ × List ℕ
+after_body text body = (body, drop (length body + 1) text)
 
 -- a part whose first byte comes right before these, and what follows it
-abbrev pub behind_head : List ℕ → pattern.Head → pattern.Part × List ℕ
-behind_head rest head = (head.part, drop head.more rest)
+abbrev pub after_head : List ℕ → pattern.Head → pattern.Part × List ℕ
+after_head rest head = (head.part, drop head.more rest)

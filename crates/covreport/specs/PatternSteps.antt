@@ -14,13 +14,13 @@ fits_later parts [] = false
 fits_later parts (b ∷ path) = fits (AnyRun ∷ parts) path
 
 -- the parts after the last star fit where its run ends later than it was last taken to
-abbrev pub fits_behind : Option Place → Bool
-fits_behind None = false
-fits_behind (Some star) = fits_later (parts_of star.pattern.now) star.path.now
+abbrev pub fits_following : Option Place → Bool
+fits_following None = false
+fits_following (Some star) = fits_later (parts_of star.pattern.now) star.path.now
 
 -- what the match will answer
 abbrev pub answer_of : Matcher → Bool
-answer_of matcher = fits_at matcher.here || fits_behind matcher.star
+answer_of matcher = fits_at matcher.here || fits_following matcher.star
 
 -- the most steps that a match takes from this place, with this last star
 abbrev pub steps_from : Place → Option Place → ℕ

@@ -7,7 +7,7 @@ use std::marker::Model;
 use thiserror::Error;
 
 /// The most patterns in one list.
-pub const MOST_PATTERNS: usize = 64;
+pub const MAX_PATTERNS: usize = 64;
 
 /// The most bytes in one pattern.
 pub const MOST_PATTERN_BYTES: usize = 1_024;
@@ -58,19 +58,19 @@ pub struct Patterns<A: Allocator = Global> {
 impl<A: Allocator> Model for Patterns<A> {
     ghost use Rattle.std.specs.Prelude.{List, ℕ, ◌≤◌, length};
     ghost use Rattle.std.specs.List.{AllByRecursion};
-    ghost use Rattle.covreport.specs.Choice.{most_patterns, most_pattern_bytes};
+    ghost use Rattle.covreport.specs.Choice.{max_patterns, max_pattern_bytes};
 
     ghost Value = { List (List ℕ) };
 
     ghost view = { λ a. a.patterns.items };
 
-    ghost invariant = { λ a. (length a.patterns.items ≤ most_patterns) × AllByRecursion (λ p. length p ≤ most_pattern_bytes) a.patterns.items };
+    ghost invariant = { λ a. (length a.patterns.items ≤ max_patterns) × AllByRecursion (λ p. length p ≤ max_pattern_bytes) a.patterns.items };
 }
 
 impl<A: Allocator + Copy> Patterns<A> {
     ghost use Rattle.std.specs.Prelude.{◌≡◌, ◌↔◌, ◌<◌, ◌≤◌, ◌++◌, [], ◌∷◌, length, IfOk, OnOk, OnErr, Err};
     ghost use Rattle.covreport.specs.declared.patterns.PatternFault.TheVariants as faults;
-    ghost use Rattle.covreport.specs.Choice.{any_matches, most_patterns, most_pattern_bytes};
+    ghost use Rattle.covreport.specs.Choice.{any_matches, max_patterns, max_pattern_bytes};
 
     /// The empty list. Takes no memory.
     pub fn new(alloc: A) -> Patterns<A>
@@ -85,10 +85,10 @@ impl<A: Allocator + Copy> Patterns<A> {
     pub fn add(&mut self, alloc: A, pattern: &[u8]) -> Result<(), PatternFault>
         ensures ok { OnOk result (self.new ≡ self.old ++ pattern.now ∷ []) }
         ensures err { OnErr result (self.new ≡ self.old) }
-        ensures too_many { (result ≡ Err faults.TooMany) ↔ (length self.old ≡ most_patterns) }
-        ensures too_long { (result ≡ Err faults.TooLong) ↔ ((length self.old < most_patterns) × (most_pattern_bytes < length pattern.now)) }
+        ensures too_many { (result ≡ Err faults.TooMany) ↔ (length self.old ≡ max_patterns) }
+        ensures too_long { (result ≡ Err faults.TooLong) ↔ ((length self.old < max_patterns) × (max_pattern_bytes < length pattern.now)) }
     {
-        if self.patterns.len() == MOST_PATTERNS {
+        if self.patterns.len() == MAX_PATTERNS {
             return Err(PatternFault::TooMany);
         }
         if pattern.len() > MOST_PATTERN_BYTES {
@@ -100,8 +100,8 @@ impl<A: Allocator + Copy> Patterns<A> {
 
     /// Appends a pattern to a list that isn't full.
     fn push(&mut self, pattern: Bytes<A>) -> Result<(), Memory>
-        requires few { length self.old < most_patterns }
-        requires short { length pattern ≤ most_pattern_bytes }
+        requires few { length self.old < max_patterns }
+        requires short { length pattern ≤ max_pattern_bytes }
         ensures ok { OnOk result (self.new ≡ self.old ++ pattern ∷ []) }
         ensures err { OnErr result (self.new ≡ self.old) }
     {

@@ -226,9 +226,9 @@ taking_line m n o fault line one h k =
     (λ bytes none. (let P : List ℕ → Type 0 = λ u. IsLinePart (line ++ u) in subst P (sym none) (subst IsLinePart (sym (append-nil line)) one))) k
 
 -- a line came too late after such pieces
-pub taking_behind : (Such : List (List ℕ) → Type 0) (m n o : Moment) (fault : SessionFault) (pieces : List (List ℕ)) (done : List ℕ) → AreCut Feed done pieces
+pub taking_later : (Such : List (List ℕ) → Type 0) (m n o : Moment) (fault : SessionFault) (pieces : List (List ℕ)) (done : List ℕ) → AreCut Feed done pieces
     → Such pieces → Moves m n done [] → FailsTaking IsLinePart n o fault → FailsTaking (IsPart Such) m o fault
-taking_behind Such m n o fault pieces done cut such h k =
+taking_later Such m n o fault pieces done cut such h k =
     taking_after IsLinePart (IsPart Such) m n o fault done h
     (λ bytes one. record { pieces = pieces; done = done; line = bytes; is = refl; cut = cut; one_line = one; such = such }) k
 

@@ -6,9 +6,9 @@ use Rattle.std.specs.Io.KnownBytes.{Consumes, IsAtEnd}
 use Rattle.covline.specs.Lines.{before_feed, line_feed, strip, line_of, pieces_of}
 use Rattle.covbook.specs.Op.{OpData, RenameOp, SubmitOp}
 use Rattle.covline.specs.Row.{SubmissionData}
-use Rattle.covreport.specs.Choice.{most_pattern_bytes}
-use Rattle.covbook.specs.Step.{answer_of, most_entries, table_of}
-use Rattle.covsession.specs.Broken.{Breaks, Fails, FailsAnswering, FailsBehind, FailsGiven, FailsSaying, FailsTaking, IsBroken, IsCausedBy, IsIdle, IsLinePart, IsOpen, IsPart, StopsAs}
+use Rattle.covreport.specs.Choice.{max_pattern_bytes}
+use Rattle.covbook.specs.Step.{answer_of, max_entries, table_of}
+use Rattle.covsession.specs.Broken.{Breaks, Fails, FailsAnswering, FailsAfter, FailsGiven, FailsSaying, FailsTaking, IsBroken, IsCausedBy, IsIdle, IsLinePart, IsOpen, IsPart, StopsAs}
 use Rattle.covsession.specs.Command.{Command, Format, Announces, IsBody, Ask, RefusePattern, Submit, Unfinished, IsListOf, IsWord, asked_by, chosen_by, ops_asked, ops_of}
 use Rattle.covsession.specs.Run.{IsDone, IsRun, IsSoFar}
 use Rattle.covsession.specs.Session.{answer_text, said, text_after}
@@ -20,7 +20,7 @@ use Rattle.covsession.specs.declared.session.fault.SessionFault.{SessionFault}
 use Rattle.covsession.specs.declared.session.fault.SessionFault.TheVariants.{Read, Write, Memory, Full}
 use Rattle.covsession.specs.declared.session.text.LineEnd.{LineEnd}
 use Rattle.covsession.specs.declared.session.text.LineEnd.TheVariants.{Feed, Input}
-use Rattle.covsession.specs.declared.session.text.Taken.{Taken}
+use Rattle.covsession.specs.declared.session.text.CollectedText.{CollectedText}
 use Rattle.covsession.proofs.SessionBreaks.{IsQuiet, breaks_memory, breaks_more, fails_after, fails_output, fails_sent, fails_write, no_read, taking_after, taking_first}
 use Rattle.covsession.proofs.SessionBytes.{Consumes-trans}
 use Rattle.covsession.proofs.SessionMoves.{consumes_none}
@@ -84,20 +84,20 @@ module _ (o p : OutputData) (before : List OpData) where
       subst P (sym same) (subst Q (sym is) (saying_fails o o before commands Memory (λ e. (let no : ⊥ = cc in no)) (breaks_memory o Memory text refl)))
 
 -- what was taken of a text was answered, but for the fault in the answer
-pub err_given : {A : Type 0} (format : Format) (taken : Taken A) (o p : OutputData) (before : List OpData) (commands : List Command) (r : Result (Unit {0}) SessionFault)
+pub err_given : {A : Type 0} (format : Format) (taken : CollectedText A) (o p : OutputData) (before : List OpData) (commands : List Command) (r : Result (Unit {0}) SessionFault)
     → IsAnsweredAs format taken commands → IfErr r (λ f. FailsSaying o p before commands f) → IfErr r (λ f. FailsGiven format taken o p before f)
 err_given format taken o p before commands (Ok x) answered h = tt
 err_given format taken o p before commands (Err f) answered h = inr (commands, answered, h)
 
 -- a pattern that is too long is refused
-chosen_refused_at : (op : List (List ℕ) → OpData) (pattern : List ℕ) (fits : Bool) → leb (length pattern) most_pattern_bytes ≡ fits → most_pattern_bytes < length pattern
+chosen_refused_at : (op : List (List ℕ) → OpData) (pattern : List ℕ) (fits : Bool) → leb (length pattern) max_pattern_bytes ≡ fits → max_pattern_bytes < length pattern
     → cond fits (Ask (op (pattern ∷ [])) ∷ []) (RefusePattern ∷ []) ≡ RefusePattern ∷ []
-chosen_refused_at op pattern true e long = absurd (let few = leb-true (length pattern) most_pattern_bytes e in omega arith)
+chosen_refused_at op pattern true e long = absurd (let few = leb-true (length pattern) max_pattern_bytes e in omega arith)
 chosen_refused_at op pattern false e long = refl
 
 pub chosen_refused : (op : List (List ℕ) → OpData) (pattern : Option (List ℕ)) → IsListOf pattern None → chosen_by op pattern ≡ RefusePattern ∷ []
 chosen_refused op None h = absurd h
-chosen_refused op (Some pattern) h = chosen_refused_at op pattern (leb (length pattern) most_pattern_bytes) refl h
+chosen_refused op (Some pattern) h = chosen_refused_at op pattern (leb (length pattern) max_pattern_bytes) refl h
 
 -- ---- one command
 
@@ -129,9 +129,9 @@ abbrev pub Opens : (List ℕ → Type 0) → (List (List ℕ) → Type 0) → Ty
 Opens Such Part = (first : List ℕ) (pieces : List (List ℕ)) → Such (line_of first) → Part pieces → IsOpen (first ∷ pieces)
 
 -- a part of it after the line
-part_behind : (Such : List ℕ → Type 0) (Part : List (List ℕ) → Type 0) (line bytes : List ℕ) → before_feed line ≡ line → Such (strip line) → Opens Such Part
+part_after : (Such : List ℕ → Type 0) (Part : List (List ℕ) → Type 0) (line bytes : List ℕ) → before_feed line ≡ line → Such (strip line) → Opens Such Part
     → IsPart Part bytes → IsPart IsOpen ((line ++ line_feed ∷ []) ++ bytes)
-part_behind Such Part line bytes one is opens p = record {
+part_after Such Part line bytes one is opens p = record {
   pieces = (line ++ line_feed ∷ []) ∷ p.pieces;
   done = (line ++ line_feed ∷ []) ++ p.done;
   line = p.line;
@@ -142,17 +142,17 @@ part_behind Such Part line bytes one is opens p = record {
 }
 
 -- a fault while what follows a line is taken
-pub fails_behind_line : (Such : List ℕ → Type 0) (Part : List (List ℕ) → Type 0) (m n o : Moment) (line : List ℕ) (ending : LineEnd) (fault : SessionFault)
+pub fails_after_line : (Such : List ℕ → Type 0) (Part : List (List ℕ) → Type 0) (m n o : Moment) (line : List ℕ) (ending : LineEnd) (fault : SessionFault)
     → TakesLine m n line ending → ending ≡ Feed → Such (strip line) → Opens Such Part → FailsTaking (IsPart Part) n o fault → FailsTaking (IsPart IsOpen) m o fault
-fails_behind_line Such Part m n o line ending fault h feed is opens k =
+fails_after_line Such Part m n o line ending fault h feed is opens k =
     let F : LineEnd → Type 0 = λ u. TakesLine m n line u in
     let taken : TakesLine m n line Feed = subst F feed h in
     taking_after (IsPart Part) (IsPart IsOpen) m n o fault (line ++ line_feed ∷ []) taken.moves
-    (λ bytes p. part_behind Such Part line bytes h.one_line is opens p) k
+    (λ bytes p. part_after Such Part line bytes h.one_line is opens p) k
 
 -- a fault in the answer to a line and what follows it
 pub fails_with_line : (Such : List ℕ → Type 0) (m n o : Moment) (line : List ℕ) (first : LineEnd) (before : List OpData) (fault : SessionFault)
-    → TakesLine m n line first → first ≡ Feed → Such (strip line) → FailsBehind Such n o before fault → FailsAnswering m o before fault
+    → TakesLine m n line first → first ≡ Feed → Such (strip line) → FailsAfter Such n o before fault → FailsAnswering m o before fault
 fails_with_line Such m n o line first before fault h feed is t =
     let F : LineEnd → Type 0 = λ u. TakesLine m n line u in
     let taken : TakesLine m n line Feed = subst F feed h in
@@ -168,15 +168,15 @@ fails_with_line Such m n o line first before fault h feed is t =
     }
 
 pub either_with_line : (Such : List ℕ → Type 0) (Part : List (List ℕ) → Type 0) (m n o : Moment) (line : List ℕ) (first : LineEnd) (before : List OpData) (fault : SessionFault)
-    → TakesLine m n line first → first ≡ Feed → Such (strip line) → Opens Such Part → FailsTaking (IsPart Part) n o fault ⊎ FailsBehind Such n o before fault
+    → TakesLine m n line first → first ≡ Feed → Such (strip line) → Opens Such Part → FailsTaking (IsPart Part) n o fault ⊎ FailsAfter Such n o before fault
     → FailsTaking (IsPart IsOpen) m o fault ⊎ FailsAnswering m o before fault
-either_with_line Such Part m n o line first before fault h feed is opens (inl t) = inl (fails_behind_line Such Part m n o line first fault h feed is opens t)
+either_with_line Such Part m n o line first before fault h feed is opens (inl t) = inl (fails_after_line Such Part m n o line first fault h feed is opens t)
 either_with_line Such Part m n o line first before fault h feed is opens (inr t) = inr (fails_with_line Such m n o line first before fault h feed is t)
 
 -- what was taken of a text is answered in part, or not at all
-pub given_fails : {A : Type 0} (format : Format) (taken : Taken A) (m n o : Moment) (pieces : List (List ℕ)) (ending : LineEnd) (before : List OpData) (fault : SessionFault)
+pub given_fails : {A : Type 0} (format : Format) (taken : CollectedText A) (m n o : Moment) (pieces : List (List ℕ)) (ending : LineEnd) (before : List OpData) (fault : SessionFault)
     → TakesPieces m n pieces ending [] → IsTaken pieces ending taken → o.input ≡ n.input → FailsGiven format taken n.output o.output before fault
-    → FailsTaking (IsPart IsBody) m o fault ⊎ FailsBehind (λ line. Announces format line) m o before fault
+    → FailsTaking (IsPart IsBody) m o fault ⊎ FailsAfter (λ line. Announces format line) m o before fault
 given_fails format taken m n o pieces ending before fault h is same (inl k) =
     inl (record {
       fails = fails_after m n o fault h.bytes [] [] [] h.moves (fails_output n o fault [] same k.0);
@@ -199,7 +199,7 @@ given_fails format taken m n o pieces ending before fault h is same (inr (comman
 pub rename_fails : (m n o : Moment) (old new : List ℕ) (ending : LineEnd) (before : List OpData) (fault : SessionFault)
     → (second : List ℕ) × (third : List ℕ) × TakesPieces m n (second ∷ third ∷ []) ending [] × (line_of second ≡ old) × (line_of third ≡ new)
     → o.input ≡ n.input → Breaks n.output o.output fault (answer_text (answer_of (table_of before) (RenameOp old new)))
-    → FailsBehind (λ line. line ≡ codes "rename") m o before fault
+    → FailsAfter (λ line. line ≡ codes "rename") m o before fault
 rename_fails m n o old new ending before fault (second, third, taken, one, two) same h =
     let R : List Command → Type 0 = λ u. (first : List ℕ) → line_of first ≡ codes "rename" → IsRun ending (first ∷ second ∷ third ∷ []) u in
     record {
@@ -217,7 +217,7 @@ rename_fails m n o old new ending before fault (second, third, taken, one, two) 
 pub unfinished_fails : (m n o : Moment) (before : List OpData) (fault : SessionFault)
     → (pieces : List (List ℕ)) × TakesPieces m n pieces Input [] × (length pieces < 2)
     → o.input ≡ n.input → fault ≢ Full → Breaks n.output o.output fault (said (codes "unfinished"))
-    → FailsBehind (λ line. line ≡ codes "rename") m o before fault
+    → FailsAfter (λ line. line ≡ codes "rename") m o before fault
 unfinished_fails m n o before fault (pieces, taken, few) same other h = record {
   pieces = pieces;
   commands = Unfinished ∷ [];
@@ -282,8 +282,8 @@ module _ (m n o : Moment) (history : List OpData) (fault : SessionFault) (s : Is
       let P : InputData → Type 0 = λ i. IsAtEnd (unread i) in
       subst P (sym a.same_input) (subst E e a.taken.ended)
 
-  full_too : (a : FailsAnswering n o history fault) → (fault ≡ Full → length history ≡ most_entries) → fault ≡ Full
-      → most_entries < length (ops_of (s.commands ++ a.commands))
+  full_too : (a : FailsAnswering n o history fault) → (fault ≡ Full → length history ≡ max_entries) → fault ≡ Full
+      → max_entries < length (ops_of (s.commands ++ a.commands))
   full_too a full is =
       let some = a.says.full is in
       let all = full is in
@@ -294,7 +294,7 @@ module _ (m n o : Moment) (history : List OpData) (fault : SessionFault) (s : Is
       omega arith
 
   -- a fault in the answer to the next command
-  pub answering_breaks : (fault ≡ Full → length history ≡ most_entries) → FailsAnswering n o history fault → IsBroken m o fault
+  pub answering_breaks : (fault ≡ Full → length history ≡ max_entries) → FailsAnswering n o history fault → IsBroken m o fault
   answering_breaks full a = record {
     pieces = s.pieces ++ a.pieces;
     commands = s.commands ++ a.commands;
@@ -314,7 +314,7 @@ module _ (m n o : Moment) (history : List OpData) (fault : SessionFault) (s : Is
     stalled = λ is. absurd (no_read fault a.taken_at.output.failed_writes o.output.failed_writes a.says.breaks.failed is);
   }
 
-  pub either_breaks : (fault ≡ Full → length history ≡ most_entries) → FailsTaking (IsPart IsOpen) n o fault ⊎ FailsAnswering n o history fault → IsBroken m o fault
+  pub either_breaks : (fault ≡ Full → length history ≡ max_entries) → FailsTaking (IsPart IsOpen) n o fault ⊎ FailsAnswering n o history fault → IsBroken m o fault
   either_breaks full (inl h) = taking_breaks h
   either_breaks full (inr a) = answering_breaks full a
 

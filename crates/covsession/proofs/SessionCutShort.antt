@@ -3,7 +3,7 @@ use Rattle.std.proofs.Common.{◌≡◌, ◌≢◌, ℕ, ◌+◌, ◌^◌, ◌<�
 use Rattle.std.proofs.lemmas.List.{append_cancel_left}
 use Rattle.std.proofs.lemmas.List.Concat.{flat_map-append}
 use Rattle.std.specs.Io.KnownBytes.{Consumes, Appends, IsAtEnd, append_known, prepend_known}
-use Rattle.covbook.specs.Step.{most_entries, table_of}
+use Rattle.covbook.specs.Step.{max_entries, table_of}
 use Rattle.covline.specs.Lines.{pieces_of}
 use Rattle.covsession.specs.Broken.{IsBroken, IsCausedBy, IsIdle, IsOpen, IsPart}
 use Rattle.covsession.specs.Command.{Command, AreCommands, ops_asked, ops_of}
@@ -89,8 +89,8 @@ module _ (ending : LineEnd) (whole behind : List ℕ) (pieces : List (List ℕ))
       let m = same_first others are in
       (text_after (table_of (ops_of commands)) m.more, is ∙ ap (λ (u : List Command). text_after [] u) m.is ∙ text_more [] commands m.more)
 
-  pub ops_first : (others : List Command) → AreCommands (pieces_of (whole ++ behind)) others → most_entries < length (ops_of commands)
-      → most_entries < length (ops_of others)
+  pub ops_first : (others : List Command) → AreCommands (pieces_of (whole ++ behind)) others → max_entries < length (ops_of commands)
+      → max_entries < length (ops_of others)
   ops_first others are many =
       let m = same_first others are in
       let all : length (ops_of others) ≡ length (ops_of commands ++ ops_of m.more) =
@@ -156,8 +156,8 @@ module _ (fault : SessionFault) (m n : Moment) (b : IsBroken m n fault) (fresh :
   module _ (pending : List ℕ) (left : Option (List ℕ)) (took : Consumes m.input.left left ((b.whole ++ b.more) ++ pending))
       (drained : fault ≡ Read → pending ≡ [])
       (ends : (more : List ℕ) → MayFollow left more → b.ending ≡ Input → b.more ++ (pending ++ more) ≡ []) where
-    behind_whole : (more : List ℕ) → ((b.whole ++ b.more) ++ pending) ++ more ≡ b.whole ++ (b.more ++ (pending ++ more))
-    behind_whole more = append_assoc (b.whole ++ b.more) pending more ∙ append_assoc b.whole b.more (pending ++ more)
+    after_whole : (more : List ℕ) → ((b.whole ++ b.more) ++ pending) ++ more ≡ b.whole ++ (b.more ++ (pending ++ more))
+    after_whole more = append_assoc (b.whole ++ b.more) pending more ∙ append_assoc b.whole b.more (pending ++ more)
 
     short_of : IsCutShort fault m.input.left left m.output.written n.output.written
     short_of = record {
@@ -168,11 +168,11 @@ module _ (fault : SessionFault) (m n : Moment) (b : IsBroken m n fault) (fresh :
       begins = λ more text follows is.
           let P : List ℕ → Type 0 = λ u. IsSession u text in
           beginning_trans written.0 (text_after [] b.commands) text written.2
-          (text_first b.ending b.whole (b.more ++ (pending ++ more)) b.pieces b.commands (ends more follows) b.cut b.run text (subst P (behind_whole more) is));
+          (text_first b.ending b.whole (b.more ++ (pending ++ more)) b.pieces b.commands (ends more follows) b.cut b.run text (subst P (after_whole more) is));
       full = λ is more others follows are.
           let P : List ℕ → Type 0 = λ u. AreCommands (pieces_of u) others in
           ops_first b.ending b.whole (b.more ++ (pending ++ more)) b.pieces b.commands (ends more follows) b.cut b.run others
-          (subst P (behind_whole more) are) (b.full is);
+          (subst P (after_whole more) are) (b.full is);
     }
 
     answered_of : fault ≢ Write → n.output.waiting ≡ [] → HasAnswered fault m.input.left left m.output.written n.output.written
@@ -184,7 +184,7 @@ module _ (fault : SessionFault) (m n : Moment) (b : IsBroken m n fault) (fresh :
       first = λ more others follows are.
           let P : List ℕ → Type 0 = λ u. AreCommands (pieces_of u) others in
           let f = same_first b.ending b.whole (b.more ++ (pending ++ more)) b.pieces b.commands (ends more follows) b.cut b.run others
-          (subst P (behind_whole more) are) in
+          (subst P (after_whole more) are) in
           (b.last ++ f.more, f.is ∙ ap (λ (u : List Command). u ++ f.more) b.are ∙ append_assoc b.answered b.last f.more);
       filled = b.filled;
       all = λ is commands are.

@@ -102,9 +102,9 @@ good_pieces : (pieces : List (List ℕ)) → AllByRecursion IsGoodTest (map line
 good_pieces [] all = tt
 good_pieces (piece ∷ pieces) all = (all.0, good_pieces pieces all.1)
 
-good_behind : (these rest : List (List ℕ)) → AreGood (these ++ rest) → AreGood rest
-good_behind [] rest all = all
-good_behind (piece ∷ these) rest all = good_behind these rest all.1
+good_after : (these rest : List (List ℕ)) → AreGood (these ++ rest) → AreGood rest
+good_after [] rest all = all
+good_after (piece ∷ these) rest all = good_after these rest all.1
 
 abbrev pub IsNeverRefused : Command → Type 0
 IsNeverRefused command = (command ≢ Refuse faults.BadTest) × (command ≢ Refuse faults.Memory)
@@ -123,7 +123,7 @@ never_refused good_rest pieces [] good h = tt
 never_refused good_rest pieces (command ∷ commands) good (these, rest, is, command_is, ends, more) =
     let P : Command → Type 0 = λ u. IsCommand these u in (
       never command (λ fault same. refused_told pieces these rest fault good_rest good is (subst P same command_is)),
-      never_refused good_rest rest commands (good_behind these rest (subst AreGood is good)) more,
+      never_refused good_rest rest commands (good_after these rest (subst AreGood is good)) more,
     )
 
 pub input_good : GoodLines → (input : List ℕ) → AreGood (pieces_of input)

@@ -6,7 +6,7 @@ use Rattle.covline.specs.Row.{SubmissionData}
 use Rattle.covline.specs.Lines.{line_of, pieces_of}
 use Rattle.covread.specs.declared.fault.ReadFault.{ReadFault}
 use Rattle.covbook.specs.Op.{OpData, SubmitOp, DropTestOp, RenameOp, ReportOp, ExtractOp, RemoveOp, SummaryOp}
-use Rattle.covreport.specs.Choice.{most_pattern_bytes}
+use Rattle.covreport.specs.Choice.{max_pattern_bytes}
 use Rattle.covsession.specs.Command.{Command, Format, Tracefile, Annotated, Announces, IsReadAs, Blank, Ask, RefusePattern, Unknown, Unfinished, AsksFor, IsTooLong, IsBody, AreCommands, space}
 use Rattle.covsession.specs.Session.{IsSession, session_text}
 use Rattle.covsession.specs.Text.{asked_for}
@@ -37,33 +37,33 @@ same [] (y ∷ ys) = inr (λ e. none_some y ys e)
 same (x ∷ xs) [] = inr (λ e. none_some x xs (sym e))
 same (x ∷ xs) (y ∷ ys) = same_cons x y xs ys (eqb x y) refl (same xs ys)
 
-abbrev Behind : List ℕ → List ℕ → Type 0
-Behind word line = (pattern : List ℕ) × (line ≡ word ++ space ∷ pattern)
+abbrev Following : List ℕ → List ℕ → Type 0
+Following word line = (pattern : List ℕ) × (line ≡ word ++ space ∷ pattern)
 
-behind_space : (x : ℕ) (xs : List ℕ) (b : Bool) → eqb x space ≡ b → Behind [] (x ∷ xs) ⊎ (Behind [] (x ∷ xs) → ⊥)
-behind_space x xs true e = inl (xs, ap (λ (u : ℕ). u ∷ xs) (eqb-true x space e))
-behind_space x xs false e = inr (λ h. eqb-false x space e (same_head x space xs h.0 h.1))
+after_space : (x : ℕ) (xs : List ℕ) (b : Bool) → eqb x space ≡ b → Following [] (x ∷ xs) ⊎ (Following [] (x ∷ xs) → ⊥)
+after_space x xs true e = inl (xs, ap (λ (u : ℕ). u ∷ xs) (eqb-true x space e))
+after_space x xs false e = inr (λ h. eqb-false x space e (same_head x space xs h.0 h.1))
 
-behind_cons : (w x : ℕ) (ws xs : List ℕ) (b : Bool) → eqb x w ≡ b → Behind ws xs ⊎ (Behind ws xs → ⊥) → Behind (w ∷ ws) (x ∷ xs) ⊎ (Behind (w ∷ ws) (x ∷ xs) → ⊥)
-behind_cons w x ws xs true e (inl h) = inl (h.0, ap (λ (u : ℕ). u ∷ xs) (eqb-true x w e) ∙ ap (λ (u : List ℕ). w ∷ u) h.1)
-behind_cons w x ws xs true e (inr h) = inr (λ k. h (k.0, same_tail x w xs (ws ++ space ∷ k.0) k.1))
-behind_cons w x ws xs false e h = inr (λ k. eqb-false x w e (same_head x w xs (ws ++ space ∷ k.0) k.1))
+after_cons : (w x : ℕ) (ws xs : List ℕ) (b : Bool) → eqb x w ≡ b → Following ws xs ⊎ (Following ws xs → ⊥) → Following (w ∷ ws) (x ∷ xs) ⊎ (Following (w ∷ ws) (x ∷ xs) → ⊥)
+after_cons w x ws xs true e (inl h) = inl (h.0, ap (λ (u : ℕ). u ∷ xs) (eqb-true x w e) ∙ ap (λ (u : List ℕ). w ∷ u) h.1)
+after_cons w x ws xs true e (inr h) = inr (λ k. h (k.0, same_tail x w xs (ws ++ space ∷ k.0) k.1))
+after_cons w x ws xs false e h = inr (λ k. eqb-false x w e (same_head x w xs (ws ++ space ∷ k.0) k.1))
 
-behind : (word line : List ℕ) → Behind word line ⊎ (Behind word line → ⊥)
+behind : (word line : List ℕ) → Following word line ⊎ (Following word line → ⊥)
 behind [] [] = inr (λ h. none_some space h.0 h.1)
-behind [] (x ∷ xs) = behind_space x xs (eqb x space) refl
+behind [] (x ∷ xs) = after_space x xs (eqb x space) refl
 behind (w ∷ ws) [] = inr (λ h. none_some w (ws ++ space ∷ h.0) h.1)
-behind (w ∷ ws) (x ∷ xs) = behind_cons w x ws xs (eqb x w) refl (behind ws xs)
+behind (w ∷ ws) (x ∷ xs) = after_cons w x ws xs (eqb x w) refl (behind ws xs)
 
 -- a piece is a command of its own, or a line that a text or two names follow
 abbrev Kind : List ℕ → Type 0
 Kind piece = ((commands : List Command) × IsRun Feed (piece ∷ []) commands)
     ⊎ (((format : Format) × Announces format (line_of piece)) ⊎ (line_of piece ≡ codes "rename"))
 
-fit_kind : (piece pattern : List ℕ) (op : OpData) (fits : Bool) → leb (length pattern) most_pattern_bytes ≡ fits
-    → (length pattern ≤ most_pattern_bytes → AsksFor op (line_of piece)) → (most_pattern_bytes < length pattern → IsTooLong (line_of piece)) → Kind piece
-fit_kind piece pattern op true e asks long = inl (Ask op ∷ [], ask_run Feed piece op (asks (leb-true (length pattern) most_pattern_bytes e)))
-fit_kind piece pattern op false e asks long = inl (RefusePattern ∷ [], long_run Feed piece (long (leb-false (length pattern) most_pattern_bytes e)))
+fit_kind : (piece pattern : List ℕ) (op : OpData) (fits : Bool) → leb (length pattern) max_pattern_bytes ≡ fits
+    → (length pattern ≤ max_pattern_bytes → AsksFor op (line_of piece)) → (max_pattern_bytes < length pattern → IsTooLong (line_of piece)) → Kind piece
+fit_kind piece pattern op true e asks long = inl (Ask op ∷ [], ask_run Feed piece op (asks (leb-true (length pattern) max_pattern_bytes e)))
+fit_kind piece pattern op false e asks long = inl (RefusePattern ∷ [], long_run Feed piece (long (leb-false (length pattern) max_pattern_bytes e)))
 
 -- the line isn't one of the words alone
 pub record IsNoWord (line : List ℕ) : Type 0 where
@@ -77,8 +77,8 @@ pub record IsNoWord (line : List ℕ) : Type 0 where
   pub drop : line ≢ codes "drop"
   pub rename : line ≢ codes "rename"
 
-no_op : (line : List ℕ) → IsNoWord line → (Behind (codes "extract") line → ⊥) → (Behind (codes "remove") line → ⊥)
-    → (Behind (codes "drop") line → ⊥) → (op : OpData) → AsksFor op line → ⊥
+no_op : (line : List ℕ) → IsNoWord line → (Following (codes "extract") line → ⊥) → (Following (codes "remove") line → ⊥)
+    → (Following (codes "drop") line → ⊥) → (op : OpData) → AsksFor op line → ⊥
 no_op line n e r d (SubmitOp submission) h = h
 no_op line n e r d (DropTestOp test) (inl h) = n.drop h.0
 no_op line n e r d (DropTestOp test) (inr h) = d (test, h)
@@ -92,25 +92,25 @@ no_op line n e r d (RemoveOp []) h = n.remove h
 no_op line n e r d (RemoveOp (pattern ∷ [])) h = r (pattern, h.0)
 no_op line n e r d (RemoveOp (pattern ∷ other ∷ more)) h = h
 
-no_long : (line : List ℕ) → (Behind (codes "extract") line → ⊥) → (Behind (codes "remove") line → ⊥) → IsTooLong line → ⊥
+no_long : (line : List ℕ) → (Following (codes "extract") line → ⊥) → (Following (codes "remove") line → ⊥) → IsTooLong line → ⊥
 no_long line e r (pattern, long, inl is) = e (pattern, is)
 no_long line e r (pattern, long, inr is) = r (pattern, is)
 
-no_text : (line : List ℕ) → IsNoWord line → (Behind (codes "gcov") line → ⊥) → (format : Format) → Announces format line → ⊥
+no_text : (line : List ℕ) → IsNoWord line → (Following (codes "gcov") line → ⊥) → (format : Format) → Announces format line → ⊥
 no_text line n g Tracefile h = n.trace h
 no_text line n g (Annotated test) (inl h) = n.gcov h.0
 no_text line n g (Annotated test) (inr h) = g (test, h)
 
 -- the word comes before a space, or doesn't
 abbrev May : List ℕ → List ℕ → Type 0
-May word line = Behind word line ⊎ (Behind word line → ⊥)
+May word line = Following word line ⊎ (Following word line → ⊥)
 
 choice_kind : (piece : List ℕ) → IsNoWord (line_of piece) → May (codes "extract") (line_of piece) → May (codes "remove") (line_of piece)
     → May (codes "gcov") (line_of piece) → May (codes "drop") (line_of piece) → Kind piece
 choice_kind piece n (inl e) r g d =
-    fit_kind piece e.0 (ExtractOp (e.0 ∷ [])) (leb (length e.0) most_pattern_bytes) refl (λ fits. (e.1, fits)) (λ long. (e.0, long, inl e.1))
+    fit_kind piece e.0 (ExtractOp (e.0 ∷ [])) (leb (length e.0) max_pattern_bytes) refl (λ fits. (e.1, fits)) (λ long. (e.0, long, inl e.1))
 choice_kind piece n (inr e) (inl r) g d =
-    fit_kind piece r.0 (RemoveOp (r.0 ∷ [])) (leb (length r.0) most_pattern_bytes) refl (λ fits. (r.1, fits)) (λ long. (r.0, long, inr r.1))
+    fit_kind piece r.0 (RemoveOp (r.0 ∷ [])) (leb (length r.0) max_pattern_bytes) refl (λ fits. (r.1, fits)) (λ long. (r.0, long, inr r.1))
 choice_kind piece n (inr e) (inr r) (inl g) d = inr (inl (Annotated g.0, inr g.1))
 choice_kind piece n (inr e) (inr r) (inr g) (inl d) = inl (Ask (DropTestOp d.0) ∷ [], ask_run Feed piece (DropTestOp d.0) (inr d.1))
 choice_kind piece n (inr e) (inr r) (inr g) (inr d) = inl (

@@ -5,7 +5,7 @@ use Rattle.memchr.specs.Find.{FindsNeedle, IsLastByte, Nowhere, OccursAt, is_byt
 use Rattle.std.specs.List.{concat}
 use Rattle.covline.specs.Lines.{line_feed, before_feed}
 use Rattle.covsession.specs.Command.{IsBody}
-use Rattle.covread.specs.Outcome.{most_bytes}
+use Rattle.covread.specs.Outcome.{max_bytes}
 use Rattle.covsession.specs.Streams.{InputData, Moment, Moves, AreCut, moment, turns}
 use Rattle.covsession.specs.Text.{line_after, line_with, starts_with_dot, AreLines, HasCollected, IsCollected}
 use Rattle.covsession.specs.declared.session.text.LineEnd.TheVariants.{Feed}
@@ -90,9 +90,9 @@ occurs bytes j low feed dot = record {
     by (suc zero) l = ap (λ (n : ℕ). get_or bytes n 0) (let e : j + 1 ≡ suc j = omega arith in e) ∙ dot
     by (suc (suc i)) l = absurd (omega arith)
 
-no_dot_behind : (bytes : List ℕ) (j bound : ℕ) → suc j < length bytes → j < bound → Nowhere (OccursAt bytes (line_feed ∷ 46 ∷ [])) 0 bound
+no_dot_after : (bytes : List ℕ) (j bound : ℕ) → suc j < length bytes → j < bound → Nowhere (OccursAt bytes (line_feed ∷ 46 ∷ [])) 0 bound
     → eqb (get_or bytes j 0) line_feed ≡ true → eqb (get_or bytes (suc j) 0) 46 ≡ false
-no_dot_behind bytes j bound low within none feed =
+no_dot_after bytes j bound low within none feed =
     not_true (eqb (get_or bytes (suc j) 0) 46) (λ dot. none j (omega arith) within (occurs bytes j low (eqb-true (get_or bytes j 0) line_feed feed) (eqb-true (get_or bytes (suc j) 0) 46 dot)))
 
 first_byte : (bytes : List ℕ) → starts_with_dot bytes ≡ false → eqb (get_or bytes 0 0) 46 ≡ false
@@ -109,7 +109,7 @@ lines_to_dot bytes feed b is e found =
     let P : ℕ → Type 0 = λ n. AreLines (take n bytes) in
     subst P (let e : suc feed ≡ feed + 1 = omega arith in e)
     (lines_in [] bytes feed Nothing refl refl none_dot (λ n. first_byte bytes (sym is ∙ e)) (omega (arith, low)) is_feed
-    (λ j l f. no_dot_behind bytes j feed (omega (arith, low, l)) l found.0.before f))
+    (λ j l f. no_dot_after bytes j feed (omega (arith, low, l)) l found.0.before f))
 
 -- if none does, up to the last line feed
 pub lines_to_last : (bytes : List ℕ) (last : ℕ) (b : Bool) → b ≡ starts_with_dot bytes → b ≡ false → FindsNeedle bytes (line_feed ∷ 46 ∷ []) 0 None
@@ -119,7 +119,7 @@ lines_to_last bytes last b is e none at =
     let P : ℕ → Type 0 = λ n. AreLines (take n bytes) in
     subst P (let e : suc last ≡ last + 1 = omega arith in e)
     (lines_in [] bytes last Nothing refl refl none_dot (λ n. first_byte bytes (sym is ∙ e)) few at.1
-    (λ j l f. no_dot_behind bytes j (length bytes + 1) (omega (arith, few, l)) (omega (arith, few, l)) none f))
+    (λ j l f. no_dot_after bytes j (length bytes + 1) (omega (arith, few, l)) (omega (arith, few, l)) none f))
 
 -- ---- lines are collected
 
@@ -155,7 +155,7 @@ body_both (x ∷ xs) ys h k = (h.0, body_both xs ys h.1 k)
 abbrev pub IsBegun : {A : Type 0} → Moment → Moment → Text A → Type 0
 IsBegun m n text =
     (body : List (List ℕ)) × IsBody body × AreCut Feed (concat body) body × Moves m n (concat body) []
-    × (turns n.input ≤ turns m.input) × HasCollected text (concat body) [] × (text.limit ≡ most_bytes)
+    × (turns n.input ≤ turns m.input) × HasCollected text (concat body) [] × (text.limit ≡ max_bytes)
 
 pub begun_more : {A : Type 0} (m n : Moment) (j : InputData) (old new : Text A) (lines : List ℕ) → IsBegun m n old → AreLines lines
     → n.input.pending ≡ lines ++ j.pending → j ≡ record n.input { pending = j.pending } → turns j ≤ turns n.input

@@ -43,17 +43,17 @@ open_line = λ tail few commands are. let less = few_commands tail commands are 
 -- ---- a text
 
 -- nothing comes after a line `.` that isn't in the body
-nothing_behind : (body tail before after : List (List ℕ)) (last : List ℕ) → IsBody body → line_of last ≡ codes "."
+nothing_after : (body tail before after : List (List ℕ)) (last : List ℕ) → IsBody body → line_of last ≡ codes "."
     → body ++ tail ≡ before ++ last ∷ after → length tail < 2 → after ≡ []
-nothing_behind [] tail before after last no_last dot e few =
+nothing_after [] tail before after last no_last dot e few =
     let size : length tail ≡ length (before ++ last ∷ after) = ap length e in
     let sum = length-append before (last ∷ after) in
     none_of after (omega arith)
-nothing_behind (x ∷ body) tail [] after last no_last dot e few =
+nothing_after (x ∷ body) tail [] after last no_last dot e few =
     absurd (let same : x ≡ last = cc in no_last.0 (ap line_of same ∙ dot))
-nothing_behind (x ∷ body) tail (b ∷ before) after last no_last dot e few =
+nothing_after (x ∷ body) tail (b ∷ before) after last no_last dot e few =
     let rest : body ++ tail ≡ before ++ last ∷ after = cc in
-    nothing_behind body tail before after last no_last.1 dot rest few
+    nothing_after body tail before after last no_last.1 dot rest few
 
 text_takes : (format : Format) (first : List ℕ) (body tail : List (List ℕ)) → Announces format (line_of first) → IsBody body → length tail < 2
     → (these further : List (List ℕ)) (d : Command) → first ∷ (body ++ tail) ≡ these ++ further → Shape these d → EndsInput d further → further ≡ []
@@ -65,7 +65,7 @@ text_takes format first body tail announces no_last few these further d e (ASing
 text_takes format first body tail announces no_last few these further d e (AWhole s) ends =
     let all : first ∷ (body ++ tail) ≡ s.first ∷ ((s.body ++ s.last ∷ []) ++ further) = e ∙ ap (λ (u : List (List ℕ)). u ++ further) s.is in
     let tails : body ++ tail ≡ (s.body ++ s.last ∷ []) ++ further = cc in
-    nothing_behind body tail s.body further s.last no_last s.dot (tails ∙ append_assoc s.body (s.last ∷ []) further) few
+    nothing_after body tail s.body further s.last no_last s.dot (tails ∙ append_assoc s.body (s.last ∷ []) further) few
 text_takes format first body tail announces no_last few these further d e (AnOpen s) ends = open_ends d further s.asked ends
 text_takes format first body tail announces no_last few these further d e (ARename s) ends =
     absurd (format_no_rename format first (body ++ tail) these further announces e (rename_begins these d s))

@@ -7,8 +7,8 @@ use Rattle.covsession.specs.Command.{IsBody}
 use Rattle.covsession.specs.Streams.{InputData, Moment, Moves, TakesLine, TakesPieces, AreCut, EndsAs, turns, line_bytes, line_pieces}
 use Rattle.covsession.specs.Text.{line_after, line_with, IsTaken, IsTextOf, HasCollected}
 use Rattle.covsession.specs.declared.session.text.Text.{Text}
-use Rattle.covsession.specs.declared.session.text.Taken.{Taken}
-use Rattle.covsession.specs.declared.session.text.Taken.TheVariants.{Whole, TooLong, Unfinished}
+use Rattle.covsession.specs.declared.session.text.CollectedText.{CollectedText}
+use Rattle.covsession.specs.declared.session.text.CollectedText.TheVariants.{Whole, TooLong, Unfinished}
 use Rattle.covsession.specs.declared.session.text.LineEnd.{LineEnd}
 use Rattle.covsession.specs.declared.session.text.LineEnd.TheVariants.{Feed, Input}
 use Rattle.covsession.specs.declared.session.text.LineSoFar.{LineSoFar}
@@ -152,7 +152,7 @@ text_done m n o body line ending cut moves le h dot =
     let P : List (List ℕ) → Type 0 = λ u. TakesPieces m o (body ++ u) ending [] in
     subst P (dot_pieces ending line dot) (takes_more m n o (concat body) line body ending cut moves le h)
 
-pub is_taken : {A : Type 0} (taken : Taken A) (body : List (List ℕ)) (line : List ℕ) (ending : LineEnd) → IsBody body
+pub is_taken : {A : Type 0} (taken : CollectedText A) (body : List (List ℕ)) (line : List ℕ) (ending : LineEnd) → IsBody body
     → before_feed line ≡ line → line_after Nothing line ≡ Dot → IsTextOf (concat body) taken → IsTaken (body ++ line_bytes ending line ∷ []) ending taken
 is_taken (Whole kept) body line ending h one dot t = (body, line_bytes ending line, refl, h, line_of_bytes ending line one ∙ dot_line line dot, t)
 is_taken TooLong body line ending h one dot t = (body, line_bytes ending line, refl, h, line_of_bytes ending line one ∙ dot_line line dot, t)

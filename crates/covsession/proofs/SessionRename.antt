@@ -5,7 +5,7 @@ use Rattle.covbook.specs.Op.{OpData, RenameOp}
 use Rattle.covbook.specs.Step.{answer_of, table_of}
 use Rattle.covsession.specs.Command.{Command, Ask, Unfinished}
 use Rattle.covsession.specs.Rename.{IsThere}
-use Rattle.covsession.specs.Run.{IsRun, TakesBehind}
+use Rattle.covsession.specs.Run.{IsRun, TakesAfter}
 use Rattle.covsession.specs.Session.{answer_text, said, text_after}
 use Rattle.covsession.specs.Streams.{Moment, OutputData, Says, TakesLine, TakesPieces, line_bytes, line_pieces}
 use Rattle.covsession.specs.declared.session.command.word.Word.{Word}
@@ -75,11 +75,11 @@ abbrev IsRenameLine : List ℕ → Type 0
 IsRenameLine line = line ≡ codes "rename"
 
 -- both names were taken, and the rename was answered
-pub renamed_behind : (m n : Moment) (p : OutputData) (old new : List ℕ) (ending : LineEnd) (before after : List OpData)
+pub renamed_after : (m n : Moment) (p : OutputData) (old new : List ℕ) (ending : LineEnd) (before after : List OpData)
     → (second : List ℕ) × (third : List ℕ) × TakesPieces m n (second ∷ third ∷ []) ending [] × (line_of second ≡ old) × (line_of third ≡ new)
     → after ≡ before ++ RenameOp old new ∷ [] → Says n.output p (answer_text (answer_of (table_of before) (RenameOp old new)))
-    → TakesBehind IsRenameLine m (record n { output = p }) before after ending
-renamed_behind m n p old new ending before after (second, third, taken, one, two) asks says =
+    → TakesAfter IsRenameLine m (record n { output = p }) before after ending
+renamed_after m n p old new ending before after (second, third, taken, one, two) asks says =
     let commands = Ask (RenameOp old new) ∷ [] in
     let R : List Command → Type 0 = λ u. (first : List ℕ) → IsRenameLine (line_of first) → IsRun ending (first ∷ second ∷ third ∷ []) u in
     record {
@@ -92,11 +92,11 @@ renamed_behind m n p old new ending before after (second, third, taken, one, two
     }
 
 -- the input ended before both were there
-pub unfinished_behind : (m n : Moment) (p : OutputData) (before after : List OpData)
+pub unfinished_after : (m n : Moment) (p : OutputData) (before after : List OpData)
     → (pieces : List (List ℕ)) × TakesPieces m n pieces Input [] × (length pieces < 2)
     → after ≡ before → Says n.output p (said (codes "unfinished"))
-    → TakesBehind IsRenameLine m (record n { output = p }) before after Input
-unfinished_behind m n p before after (pieces, taken, few) asks says = record {
+    → TakesAfter IsRenameLine m (record n { output = p }) before after Input
+unfinished_after m n p before after (pieces, taken, few) asks says = record {
   pieces = pieces;
   commands = Unfinished ∷ [];
   taken = says_on m n p pieces Input (said (codes "unfinished") ++ []) taken (says_nil n.output p (said (codes "unfinished")) says);

@@ -8,27 +8,27 @@ use Rattle.std.specs.Io.KnownBytes.{Consumes, Appends, IsAtEnd, prepend_known, a
 use Rattle.covline.specs.Row.{SubmissionData}
 use Rattle.covline.specs.Lines.{line_feed, before_feed, strip, line_of, pieces_of}
 use Rattle.covbook.specs.Op.{OpData, SubmitOp, DropTestOp, RenameOp, ReportOp, ExtractOp, RemoveOp, SummaryOp}
-use Rattle.covreport.specs.Choice.{most_pattern_bytes}
+use Rattle.covreport.specs.Choice.{max_pattern_bytes}
 use Rattle.covstore.specs.Table.{Table}
 use Rattle.covbook.specs.Step.{table_of}
 use Rattle.covread.specs.declared.fault.ReadFault.{ReadFault}
 use Rattle.covread.specs.declared.fault.ReadFault.TheVariants as faults
 use Rattle.covsession.specs.declared.session.text.LineEnd.{LineEnd}
 use Rattle.covsession.specs.declared.session.text.LineEnd.TheVariants.{Feed, Input}
-use Rattle.covsession.specs.declared.session.text.Taken.{Taken}
-use Rattle.covsession.specs.declared.session.text.Taken.TheVariants as taken
+use Rattle.covsession.specs.declared.session.text.CollectedText.{CollectedText}
+use Rattle.covsession.specs.declared.session.text.CollectedText.TheVariants as taken
 use Rattle.covsession.specs.declared.session.command.word.Format.{Format as TextFormat}
 use Rattle.covsession.specs.declared.session.command.word.Pick.{Pick}
 use Rattle.covsession.specs.declared.session.command.word.Pick.TheVariants as picks
 use Rattle.covsession.specs.declared.session.command.word.Word.{Word}
 use Rattle.covsession.specs.declared.session.command.word.Word.TheVariants as words
-use Rattle.covread.specs.Outcome.{IsOutcome, most_bytes}
+use Rattle.covread.specs.Outcome.{IsOutcome, max_bytes}
 use Rattle.covread.specs.GcovOutcome as gcov
 use Rattle.covsession.specs.Command.{Command, Format, Tracefile, Annotated, Announces, IsReadAs, format_of, Blank, Ask, RefusePattern, Submit, Refuse, Unknown, Unfinished, AsksFor, IsAskingLine, IsAsked, IsNaming, IsTooLong, IsUnknown, AreCommands, ops_of, ops_asked, IsWord, IsWordWith, pick_name, pick_op, asked_by, chosen_by, IsListOf}
 use Rattle.covsession.specs.Session.{IsSession, IsWholeSession, text_after, Asks}
 use Rattle.covsession.specs.Streams.{InputData, OutputData, Moment, Takes, Says, Moves, TakesLine, TakesPieces, EndsAs, turns, unread, line_bytes, line_pieces}
 use Rattle.covsession.specs.Text.{IsTaken, asked_for, IsAnsweredAs}
-use Rattle.covsession.specs.Run.{IsRun, TakesBehind, TakesCommand, IsSoFar, IsDone}
+use Rattle.covsession.specs.Run.{IsRun, TakesAfter, TakesCommand, IsSoFar, IsDone}
 use Rattle.covsession.proofs.SessionMoves.{Says-trans, Moves-trans, Moves-none}
 use Rattle.covsession.proofs.SessionPieces.{cut_append, cut_ending, line_of_bytes}
 use Rattle.covsession.proofs.SessionRun.{text_more, run_none, run_one, run_one_input, run_more, single_determined, IsWhole, whole_determined, open_determined, rename_determined, open_rename_determined}
@@ -78,27 +78,27 @@ whole_run ending format first body last (Err fault) w read =
     (format, concat body, (first, body, last, refl, w.announces, w.no_last, w.dot, refl), read) (λ rest. tt)
     (λ rest. whole_determined format first body rest last (Err fault) (Refuse fault) w refl)
 
-too_long_read : (format : Format) (text : List ℕ) → most_bytes < length text → IsReadAs format text (Err faults.TooLong)
+too_long_read : (format : Format) (text : List ℕ) → max_bytes < length text → IsReadAs format text (Err faults.TooLong)
 too_long_read Tracefile text long = inl (long, refl)
 too_long_read (Annotated test) text long = inl (long, refl)
 
-too_long_trace : (text : List ℕ) → most_bytes < length text → (other : Result SubmissionData ReadFault) → IsOutcome text other → other ≡ Err faults.TooLong
-too_long_trace text long (Ok submission) h = absurd (let few : length text ≤ most_bytes = h.0 in omega arith)
+too_long_trace : (text : List ℕ) → max_bytes < length text → (other : Result SubmissionData ReadFault) → IsOutcome text other → other ≡ Err faults.TooLong
+too_long_trace text long (Ok submission) h = absurd (let few : length text ≤ max_bytes = h.0 in omega arith)
 too_long_trace text long (Err fault) (inl h) = ap (λ (f : ReadFault). Err f) h.1
-too_long_trace text long (Err fault) (inr h) = absurd (let few : length text ≤ most_bytes = h.0 in omega arith)
+too_long_trace text long (Err fault) (inr h) = absurd (let few : length text ≤ max_bytes = h.0 in omega arith)
 
-too_long_gcov : (test text : List ℕ) → most_bytes < length text → (other : Result SubmissionData ReadFault) → gcov.IsOutcome test text other → other ≡ Err faults.TooLong
-too_long_gcov test text long (Ok submission) h = absurd (let few : length text ≤ most_bytes = h.0 in omega arith)
+too_long_gcov : (test text : List ℕ) → max_bytes < length text → (other : Result SubmissionData ReadFault) → gcov.IsOutcome test text other → other ≡ Err faults.TooLong
+too_long_gcov test text long (Ok submission) h = absurd (let few : length text ≤ max_bytes = h.0 in omega arith)
 too_long_gcov test text long (Err fault) (inl h) = ap (λ (f : ReadFault). Err f) h.1
-too_long_gcov test text long (Err fault) (inr (inl h)) = absurd (let few : length text ≤ most_bytes = h.0 in omega arith)
-too_long_gcov test text long (Err fault) (inr (inr (inl h))) = absurd (let few : length text ≤ most_bytes = h.0 in omega arith)
-too_long_gcov test text long (Err fault) (inr (inr (inr h))) = absurd (let few : length text ≤ most_bytes = h.0 in omega arith)
+too_long_gcov test text long (Err fault) (inr (inl h)) = absurd (let few : length text ≤ max_bytes = h.0 in omega arith)
+too_long_gcov test text long (Err fault) (inr (inr (inl h))) = absurd (let few : length text ≤ max_bytes = h.0 in omega arith)
+too_long_gcov test text long (Err fault) (inr (inr (inr h))) = absurd (let few : length text ≤ max_bytes = h.0 in omega arith)
 
-too_long_only : (format : Format) (text : List ℕ) → most_bytes < length text → (other : Result SubmissionData ReadFault) → IsReadAs format text other → other ≡ Err faults.TooLong
+too_long_only : (format : Format) (text : List ℕ) → max_bytes < length text → (other : Result SubmissionData ReadFault) → IsReadAs format text other → other ≡ Err faults.TooLong
 too_long_only Tracefile text long other h = too_long_trace text long other h
 too_long_only (Annotated test) text long other h = too_long_gcov test text long other h
 
-pub taken_run : {A : Type 0} (format : Format) (taken : Taken A) (pieces : List (List ℕ)) (ending : LineEnd) (commands : List Command)
+pub taken_run : {A : Type 0} (format : Format) (taken : CollectedText A) (pieces : List (List ℕ)) (ending : LineEnd) (commands : List Command)
     → IsTaken pieces ending taken → IsAnsweredAs format taken commands → (first : List ℕ) → Announces format (line_of first) → IsRun ending (first ∷ pieces) commands
 taken_run format (taken.Whole kept) pieces ending commands (body, last, is, no_last, dot, (same, few)) (outcome, asked, read, only) first announces =
     let P : List ℕ → Type 0 = λ u. IsReadAs format u outcome in
@@ -156,21 +156,21 @@ open_rename_run first behind word few =
     run_one_input (first ∷ behind) Unfinished (inr (first, behind, refl, word, few)) refl (open_rename_determined first behind word few)
 
 -- a pattern that fits is asked with, and another one is refused
-fit_run : (ending : LineEnd) (piece pattern : List ℕ) (op : OpData) (fits : Bool) → leb (length pattern) most_pattern_bytes ≡ fits
-    → (length pattern ≤ most_pattern_bytes → AsksFor op (line_of piece)) → (most_pattern_bytes < length pattern → IsTooLong (line_of piece))
+fit_run : (ending : LineEnd) (piece pattern : List ℕ) (op : OpData) (fits : Bool) → leb (length pattern) max_pattern_bytes ≡ fits
+    → (length pattern ≤ max_pattern_bytes → AsksFor op (line_of piece)) → (max_pattern_bytes < length pattern → IsTooLong (line_of piece))
     → IsRun ending (piece ∷ []) (cond fits (Ask op ∷ []) (RefusePattern ∷ []))
-fit_run ending piece pattern op true e asks long = ask_run ending piece op (asks (leb-true (length pattern) most_pattern_bytes e))
-fit_run ending piece pattern op false e asks long = long_run ending piece (long (leb-false (length pattern) most_pattern_bytes e))
+fit_run ending piece pattern op true e asks long = ask_run ending piece op (asks (leb-true (length pattern) max_pattern_bytes e))
+fit_run ending piece pattern op false e asks long = long_run ending piece (long (leb-false (length pattern) max_pattern_bytes e))
 
 -- a choice of files
 choose_run : (ending : LineEnd) (piece : List ℕ) (pick : Pick) (pattern : Option (List ℕ)) → IsWordWith (line_of piece) (pick_name pick) pattern
     → IsRun ending (piece ∷ []) (chosen_by (pick_op pick) pattern)
 choose_run ending piece picks.Extract None h = ask_run ending piece (ExtractOp []) h
 choose_run ending piece picks.Extract (Some pattern) h =
-    fit_run ending piece pattern (ExtractOp (pattern ∷ [])) (leb (length pattern) most_pattern_bytes) refl (λ fits. (h, fits)) (λ long. (pattern, long, inl h))
+    fit_run ending piece pattern (ExtractOp (pattern ∷ [])) (leb (length pattern) max_pattern_bytes) refl (λ fits. (h, fits)) (λ long. (pattern, long, inl h))
 choose_run ending piece picks.Remove None h = ask_run ending piece (RemoveOp []) h
 choose_run ending piece picks.Remove (Some pattern) h =
-    fit_run ending piece pattern (RemoveOp (pattern ∷ [])) (leb (length pattern) most_pattern_bytes) refl (λ fits. (h, fits)) (λ long. (pattern, long, inr h))
+    fit_run ending piece pattern (RemoveOp (pattern ∷ [])) (leb (length pattern) max_pattern_bytes) refl (λ fits. (h, fits)) (λ long. (pattern, long, inr h))
 
 -- a word that a text or names follow is at the end of the input
 pub record IsLast (ending : LineEnd) (word : Word) : Type 0 where
@@ -263,9 +263,9 @@ line_command m n p line ending word before after h is last asks says =
     }
 
 -- such a line with what follows it and the answer are a command
-pub behind_command : (Such : List ℕ → Type 0) (m n o : Moment) (line : List ℕ) (ending first : LineEnd) (before after : List OpData)
-    → TakesLine m n line first → first ≡ Feed → Such (strip line) → TakesBehind Such n o before after ending → TakesCommand m o before after ending
-behind_command Such m n o line ending first before after h feed is t =
+pub after_command : (Such : List ℕ → Type 0) (m n o : Moment) (line : List ℕ) (ending first : LineEnd) (before after : List OpData)
+    → TakesLine m n line first → first ≡ Feed → Such (strip line) → TakesAfter Such n o before after ending → TakesCommand m o before after ending
+after_command Such m n o line ending first before after h feed is t =
     let F : LineEnd → Type 0 = λ u. TakesLine m n line u in
     let taken : TakesLine m n line Feed = subst F feed h in
     record {
@@ -432,8 +432,8 @@ only_at m n p left written written_after e l w wa =
 pub few_reads : (i j : InputData) (most : ℕ) (bytes : List ℕ) → i.reads_left ≡ most → Takes i j bytes → j.reads ≤ i.reads + most
 few_reads i j most bytes e h = let counted = h.counted in omega arith
 
-pub answered : {A : Type 0} (format : Format) (taken other : Taken A) (commands : List Command) → taken ≡ other → IsAnsweredAs format other commands → IsAnsweredAs format taken commands
-answered {A} format taken other commands e h = let P : Taken A → Type 0 = λ t. IsAnsweredAs format t commands in subst P (sym e) h
+pub answered : {A : Type 0} (format : Format) (taken other : CollectedText A) (commands : List Command) → taken ≡ other → IsAnsweredAs format other commands → IsAnsweredAs format taken commands
+answered {A} format taken other commands e h = let P : CollectedText A → Type 0 = λ t. IsAnsweredAs format t commands in subst P (sym e) h
 
 pub says_nil : (o p : OutputData) (text : List ℕ) → Says o p text → Says o p (text ++ [])
 says_nil o p text h = let P : List ℕ → Type 0 = λ u. Says o p u in subst P (sym (append-nil text)) h
@@ -453,4 +453,4 @@ pub chosen_asks : (op : List (List ℕ) → OpData) (pattern : Option (List ℕ)
     → chosen_by op pattern ≡ Ask (op patterns) ∷ []
 chosen_asks op None patterns h = ap (λ (u : List (List ℕ)). Ask (op u) ∷ []) (sym h)
 chosen_asks op (Some pattern) patterns h =
-    rw (le-leb (length pattern) most_pattern_bytes h.1) (ap (λ (u : List (List ℕ)). Ask (op u) ∷ []) (sym h.0))
+    rw (le-leb (length pattern) max_pattern_bytes h.1) (ap (λ (u : List (List ℕ)). Ask (op u) ∷ []) (sym h.0))

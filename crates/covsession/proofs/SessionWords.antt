@@ -5,7 +5,7 @@ use Rattle.std.proofs.lemmas.Bool.{le-leb, lt-leb, false≢true}
 use Rattle.std.proofs.lemmas.List.{take_all}
 use Rattle.memchr.specs.Find.{IsFirstByte, is_byte}
 use Rattle.covbook.specs.Op.{OpData, SubmitOp, DropTestOp, RenameOp, ReportOp, ExtractOp, RemoveOp, SummaryOp}
-use Rattle.covreport.specs.Choice.{most_pattern_bytes}
+use Rattle.covreport.specs.Choice.{max_pattern_bytes}
 use Rattle.covsession.specs.Command.{Command, Format, Tracefile, Annotated, Announces, Blank, Ask, RefusePattern, Submit, Refuse, Unknown, Unfinished, AsksFor, IsNaming, IsTooLong, IsUnknown, before_space}
 use Rattle.covsession.proofs.SessionBytes.{not_true}
 
@@ -31,21 +31,21 @@ front_none xs h =
 -- ---- a line is at most one command
 
 -- a pattern comes after a space
-abbrev behind_space : List ℕ → Option (List ℕ)
-behind_space [] = None
-behind_space (b ∷ pattern) = Some pattern
+abbrev after_space : List ℕ → Option (List ℕ)
+after_space [] = None
+after_space (b ∷ pattern) = Some pattern
 
 -- a choice of files, unless its pattern is too long
 abbrev choice_read : (List (List ℕ) → OpData) → Option (List ℕ) → Command
 choice_read op None = Ask (op [])
-choice_read op (Some pattern) = cond (leb (length pattern) most_pattern_bytes) (Ask (op (pattern ∷ []))) RefusePattern
+choice_read op (Some pattern) = cond (leb (length pattern) max_pattern_bytes) (Ask (op (pattern ∷ []))) RefusePattern
 
 -- the command of the word that the line begins with
 abbrev read_by : (is_report is_summary is_extract is_remove : Bool) → List ℕ → Command
 read_by true s e r line = Ask ReportOp
 read_by false true e r line = Ask SummaryOp
-read_by false false true r line = choice_read ExtractOp (behind_space (drop 7 line))
-read_by false false false true line = choice_read RemoveOp (behind_space (drop 6 line))
+read_by false false true r line = choice_read ExtractOp (after_space (drop 7 line))
+read_by false false false true line = choice_read RemoveOp (after_space (drop 6 line))
 read_by false false false false line = Unfinished
 
 -- the sixth bytes of the words without a test differ: t, r, c, e, and none in `trace`
@@ -59,11 +59,11 @@ read_line [] = Blank
 read_line (b ∷ bs) = cond (eqb b 103) Unfinished (cond (eqb b 100) (Ask (DropTestOp (drop 4 bs)))
     (cond (eqb (get_or bs 1 0) 110) Unfinished (read_at (get_or (b ∷ bs) 5 0) (b ∷ bs))))
 
-short_read : (op : List (List ℕ) → OpData) (pattern : List ℕ) → length pattern ≤ most_pattern_bytes → choice_read op (Some pattern) ≡ Ask (op (pattern ∷ []))
-short_read op pattern h = rw (le-leb (length pattern) most_pattern_bytes h) refl
+short_read : (op : List (List ℕ) → OpData) (pattern : List ℕ) → length pattern ≤ max_pattern_bytes → choice_read op (Some pattern) ≡ Ask (op (pattern ∷ []))
+short_read op pattern h = rw (le-leb (length pattern) max_pattern_bytes h) refl
 
-long_read : (op : List (List ℕ) → OpData) (pattern : List ℕ) → most_pattern_bytes < length pattern → choice_read op (Some pattern) ≡ RefusePattern
-long_read op pattern h = rw (lt-leb (length pattern) most_pattern_bytes h) refl
+long_read : (op : List (List ℕ) → OpData) (pattern : List ℕ) → max_pattern_bytes < length pattern → choice_read op (Some pattern) ≡ RefusePattern
+long_read op pattern h = rw (lt-leb (length pattern) max_pattern_bytes h) refl
 
 drop_read : (test line : List ℕ) → IsNaming (codes "drop") test line → read_line line ≡ Ask (DropTestOp test)
 drop_read test line (inl h) = ap read_line h.0 ∙ ap (λ (u : List ℕ). Ask (DropTestOp u)) (sym h.1)

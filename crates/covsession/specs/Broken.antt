@@ -2,7 +2,7 @@
 use Rattle.std.specs.Io.KnownBytes.{Consumes, Appends, IsAtEnd, append_known}
 use Rattle.std.specs.Prelude.{◌≡◌, ◌≢◌, ◌⊎◌, ◌<◌, ◌≤◌, ℕ, ◌+◌, List, [], ◌∷◌, ◌++◌, length}
 use Rattle.covbook.specs.Op.{OpData}
-use Rattle.covbook.specs.Step.{most_entries, table_of}
+use Rattle.covbook.specs.Step.{max_entries, table_of}
 use Rattle.covline.specs.Lines.{before_feed, line_of}
 use Rattle.covsession.specs.Command.{Command, AreCommands, ops_of}
 use Rattle.covsession.specs.Run.{IsRun}
@@ -14,7 +14,7 @@ use Rattle.covsession.specs.declared.session.fault.SessionFault.{SessionFault}
 use Rattle.covsession.specs.declared.session.fault.SessionFault.TheVariants.{Read, Write, Memory, Full}
 use Rattle.covsession.specs.declared.session.text.LineEnd.{LineEnd}
 use Rattle.covsession.specs.declared.session.text.LineEnd.TheVariants.{Feed, Input}
-use Rattle.covsession.specs.declared.session.text.Taken.{Taken}
+use Rattle.covsession.specs.declared.session.text.CollectedText.{CollectedText}
 
 -- the number of failed writes after an output stopped with this fault
 abbrev pub CountsWrites : SessionFault → (before after : ℕ) → Type 0
@@ -111,13 +111,13 @@ pub record FailsSaying (o p : OutputData) (before : List OpData) (commands : Lis
   pub full : fault ≡ Full → 0 < length (ops_of commands)
 
 -- what was taken of a text of this format was answered in part, or not at all
-abbrev pub FailsGiven : {A : Type 0} → Format → Taken A → (o p : OutputData) → (before : List OpData) → SessionFault → Type 0
+abbrev pub FailsGiven : {A : Type 0} → Format → CollectedText A → (o p : OutputData) → (before : List OpData) → SessionFault → Type 0
 FailsGiven format taken o p before fault =
     (Breaks o p fault [] × (fault ≢ Full))
     ⊎ ((commands : List Command) × IsAnsweredAs format taken commands × FailsSaying o p before commands fault)
 
 -- what follows a line of this kind was taken, and the answer was cut short
-pub record FailsBehind (IsSuch : List ℕ → Type 0) (m n : Moment) (before : List OpData) (fault : SessionFault) : Type 0 where
+pub record FailsAfter (IsSuch : List ℕ → Type 0) (m n : Moment) (before : List OpData) (fault : SessionFault) : Type 0 where
   pub pieces : List (List ℕ)
   pub commands : List Command
   pub ending : LineEnd
@@ -154,6 +154,6 @@ pub record IsBroken (m n : Moment) (fault : SessionFault) : Type 0 where
   pub cut : AreCut ending whole pieces
   pub run : IsRun ending pieces commands
   pub ended : ending ≡ Input → (more ≡ []) × IsAtEnd (unread n.input)
-  pub full : fault ≡ Full → most_entries < length (ops_of commands)
-  pub filled : fault ≡ Full → length (ops_of answered) ≡ most_entries
+  pub full : fault ≡ Full → max_entries < length (ops_of commands)
+  pub filled : fault ≡ Full → length (ops_of answered) ≡ max_entries
   pub stalled : fault ≡ Read → (ending ≡ Feed) × (last ≡ []) × IsPart IsOpen more

@@ -7,7 +7,7 @@ use Rattle.covline.specs.Row.{SubmissionData}
 use Rattle.covread.specs.Outcome.{IsOutcome}
 use Rattle.covread.specs.GcovOutcome as gcov
 use Rattle.covread.specs.declared.fault.ReadFault.{ReadFault}
-use Rattle.covreport.specs.Choice.{most_pattern_bytes}
+use Rattle.covreport.specs.Choice.{max_pattern_bytes}
 use Rattle.covsession.specs.declared.session.command.word.Format.{Format as TextFormat}
 use Rattle.covsession.specs.declared.session.command.word.Format.TheVariants as formats
 use Rattle.covsession.specs.declared.session.command.word.Pick.{Pick}
@@ -36,7 +36,7 @@ IsLine pieces line = (piece : List ℕ) × (pieces ≡ piece ∷ []) × (line_of
 -- a word, and after a space one pattern, which may be empty; or the word alone and no pattern
 abbrev pub IsChoice : List ℕ → List (List ℕ) → List ℕ → Type 0
 IsChoice word [] line = line ≡ word
-IsChoice word (pattern ∷ []) line = (line ≡ word ++ space ∷ pattern) × (length pattern ≤ most_pattern_bytes)
+IsChoice word (pattern ∷ []) line = (line ≡ word ++ space ∷ pattern) × (length pattern ≤ max_pattern_bytes)
 IsChoice word (pattern ∷ other ∷ more) line = ⊥
 
 -- a word, and after a space the name of a test, which may be empty; or the word alone and the empty name
@@ -56,7 +56,7 @@ AsksFor (RemoveOp patterns) line = IsChoice (codes "remove") patterns line
 -- the line has a pattern that no list takes
 abbrev pub IsTooLong : List ℕ → Type 0
 IsTooLong line =
-    (pattern : List ℕ) × (most_pattern_bytes < length pattern)
+    (pattern : List ℕ) × (max_pattern_bytes < length pattern)
     × ((line ≡ codes "extract" ++ space ∷ pattern) ⊎ (line ≡ codes "remove" ++ space ∷ pattern))
 
 -- a line `rename`, and two lines after it: whatever they hold, they are the old name and the new one
@@ -207,14 +207,14 @@ IsWord line words.Other = IsUnknown line
 -- the command that chooses files by a pattern, or by none
 abbrev pub chosen_by : (List (List ℕ) → OpData) → Option (List ℕ) → List Command
 chosen_by op None = Ask (op []) ∷ []
-chosen_by op (Some pattern) = if nat_le (length pattern) most_pattern_bytes then Ask (op (pattern ∷ [])) ∷ [] else RefusePattern ∷ []
+chosen_by op (Some pattern) = if nat_le (length pattern) max_pattern_bytes then Ask (op (pattern ∷ [])) ∷ [] else RefusePattern ∷ []
 
 -- the list of a pattern, or of none; there is no list if the pattern is too long
 abbrev pub IsListOf : Option (List ℕ) → Option (List (List ℕ)) → Type 0
 IsListOf None (Some patterns) = patterns ≡ []
 IsListOf None None = ⊥
-IsListOf (Some pattern) (Some patterns) = (patterns ≡ pattern ∷ []) × (length pattern ≤ most_pattern_bytes)
-IsListOf (Some pattern) None = most_pattern_bytes < length pattern
+IsListOf (Some pattern) (Some patterns) = (patterns ≡ pattern ∷ []) × (length pattern ≤ max_pattern_bytes)
+IsListOf (Some pattern) None = max_pattern_bytes < length pattern
 
 -- the command of a line by itself; a line that a text or names follow is one if the input ends after it
 abbrev pub asked_by : Word → List Command

@@ -1,7 +1,7 @@
 -- What a session leaves that ends in a fault: that a beginning of its session text was written, and which call failed.
 use Rattle.std.specs.Io.KnownBytes.{Consumes, Appends}
 use Rattle.std.specs.Prelude.{◌≡◌, ◌⊎◌, ◌<◌, ◌≤◌, ℕ, ◌+◌, ◌^◌, List, [], ◌++◌, length, Option, Some}
-use Rattle.covbook.specs.Step.{most_entries}
+use Rattle.covbook.specs.Step.{max_entries}
 use Rattle.covline.specs.Lines.{pieces_of}
 use Rattle.covsession.specs.Command.{Command, AreCommands, ops_of}
 use Rattle.covsession.specs.Session.{IsSession, session_text}
@@ -29,7 +29,7 @@ pub record IsCutShort (fault : SessionFault) (left left_after written written_af
   pub wrote : Appends written written_after output
   pub begins : (more whole : List ℕ) → MayFollow left_after more → IsSession (read ++ more) whole → IsBeginning output whole
   pub full : fault ≡ Full → (more : List ℕ) (commands : List Command) → MayFollow left_after more
-      → AreCommands (pieces_of (read ++ more)) commands → most_entries < length (ops_of commands)
+      → AreCommands (pieces_of (read ++ more)) commands → max_entries < length (ops_of commands)
 
 -- the list begins with these commands
 abbrev pub AreFirst : (first all : List Command) → Type 0
@@ -45,7 +45,7 @@ pub record HasAnswered (fault : SessionFault) (left left_after written written_a
   pub wrote : Appends written written_after (session_text answered)
   pub first : (more : List ℕ) (commands : List Command) → MayFollow left_after more
       → AreCommands (pieces_of (read ++ more)) commands → AreFirst answered commands
-  pub filled : fault ≡ Full → length (ops_of answered) ≡ most_entries
+  pub filled : fault ≡ Full → length (ops_of answered) ≡ max_entries
   pub all : fault ≡ Read → (commands : List Command) → AreCommands (pieces_of read) commands → length commands ≤ length answered + 1
 
 -- how many reads were made of a source and how many of them failed, and how many calls of a sink failed

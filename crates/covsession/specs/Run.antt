@@ -26,7 +26,7 @@ pub record IsRun (ending : LineEnd) (pieces : List (List ℕ)) (commands : List 
   pub only : GoOnOnly ending pieces commands
 
 -- what follows a line of this kind was taken and answered
-pub record TakesBehind (IsSuch : List ℕ → Type 0) (m n : Moment) (before after : List OpData) (ending : LineEnd) : Type 0 where
+pub record TakesAfter (IsSuch : List ℕ → Type 0) (m n : Moment) (before after : List OpData) (ending : LineEnd) : Type 0 where
   pub pieces : List (List ℕ)
   pub commands : List Command
   pub taken : TakesPieces m n pieces ending (text_after (table_of before) commands)

@@ -4,7 +4,7 @@ use Rattle.std.specs.Prelude.{◌≡◌, ◌⊎◌, ◌<◌, ◌≤◌, ℕ, Boo
 use Rattle.covline.specs.Lines.{line_of, carriage_return}
 use Rattle.covline.specs.Row.{SubmissionData}
 use Rattle.covread.specs.Fault.{is_memory}
-use Rattle.covread.specs.Outcome.{most_bytes}
+use Rattle.covread.specs.Outcome.{max_bytes}
 use Rattle.covread.specs.declared.fault.ReadFault.{ReadFault}
 use Rattle.covread.specs.declared.fault.ReadFault.TheVariants as faults
 use Rattle.covsession.specs.Command.{Command, Format, IsBody, IsReadAs, Submit, Refuse, Unfinished}
@@ -13,9 +13,9 @@ use Rattle.covsession.specs.declared.session.text.LineEnd.{LineEnd}
 use Rattle.covsession.specs.declared.session.text.LineEnd.TheVariants.{Feed, Input}
 use Rattle.covsession.specs.declared.session.text.LineSoFar.{LineSoFar}
 use Rattle.covsession.specs.declared.session.text.LineSoFar.TheVariants.{Nothing, Dot, Other}
-use Rattle.covsession.specs.declared.session.text.Taken.{Taken}
-use Rattle.covsession.specs.declared.session.text.Taken.TheVariants as taken
-use Rattle.covsession.specs.declared.session.text.Taken.TheVariants.{Whole, TooLong}
+use Rattle.covsession.specs.declared.session.text.CollectedText.{CollectedText}
+use Rattle.covsession.specs.declared.session.text.CollectedText.TheVariants as taken
+use Rattle.covsession.specs.declared.session.text.CollectedText.TheVariants.{Whole, TooLong}
 use Rattle.covsession.specs.declared.session.text.Text.{Text}
 
 -- a line that was begun, after one more byte: it may still be the line that ends a text
@@ -53,22 +53,22 @@ pub record AreLines (bytes : List ℕ) : Type 0 where
   pub cut : AreCut Feed bytes body
 
 -- what was taken is this text, which is kept unless it is too long
-abbrev pub IsTextOf : {A : Type 0} → List ℕ → Taken A → Type 0
-IsTextOf text (Whole kept) = (kept.items ≡ text) × (length text ≤ most_bytes)
-IsTextOf text TooLong = most_bytes < length text
+abbrev pub IsTextOf : {A : Type 0} → List ℕ → CollectedText A → Type 0
+IsTextOf text (Whole kept) = (kept.items ≡ text) × (length text ≤ max_bytes)
+IsTextOf text TooLong = max_bytes < length text
 IsTextOf text taken.Unfinished = ⊥
 
 -- the pieces after a line: a text and its last line
-abbrev pub IsTextTaken : {A : Type 0} → List (List ℕ) → Taken A → Type 0
+abbrev pub IsTextTaken : {A : Type 0} → List (List ℕ) → CollectedText A → Type 0
 IsTextTaken pieces taken =
     (body : List (List ℕ)) × (last : List ℕ) × (pieces ≡ body ++ last ∷ []) × IsBody body × (line_of last ≡ codes ".")
     × IsTextOf (concat body) taken
 
 -- they are a text that was taken so, or all the rest of the input
-abbrev pub IsTaken : {A : Type 0} → List (List ℕ) → LineEnd → Taken A → Type 0
+abbrev pub IsTaken : {A : Type 0} → List (List ℕ) → LineEnd → CollectedText A → Type 0
 IsTaken pieces ending (Whole kept) = IsTextTaken pieces (Whole kept)
 IsTaken pieces ending TooLong = (body : List (List ℕ)) × (last : List ℕ) × (pieces ≡ body ++ last ∷ []) × IsBody body × (line_of last ≡ codes ".")
-    × (most_bytes < length (concat body))
+    × (max_bytes < length (concat body))
 IsTaken pieces ending taken.Unfinished = IsBody pieces × (ending ≡ Input)
 
 -- the command that a text is, by what it is read as
@@ -90,7 +90,7 @@ IsToldAnswer (Ok submission) = Unit {0}
 IsToldAnswer (Err fault) = IsTold fault
 
 -- what was taken of a text of this format is these commands
-abbrev pub IsAnsweredAs : {A : Type 0} → Format → Taken A → List Command → Type 0
+abbrev pub IsAnsweredAs : {A : Type 0} → Format → CollectedText A → List Command → Type 0
 IsAnsweredAs format (Whole kept) commands =
     (outcome : Result SubmissionData ReadFault) × (commands ≡ asked_for outcome) × IsReadAs format kept.items outcome
     × ((other : Result SubmissionData ReadFault) → IsReadAs format kept.items other → other ≡ outcome)

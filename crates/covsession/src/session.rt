@@ -2,7 +2,7 @@
 
 ghost use Rattle.std.specs.Prelude.{◌≡◌, ◌≢◌, ◌↔◌, ◌⊎◌, ℕ, ◌+◌, ◌^◌, ◌<◌, ◌≤◌, length, List, Err, IsTrue, IfOk, IfErr, OnOk, IfSome, IfNone};
 ghost use Rattle.std.specs.Io.KnownBytes.{Appends};
-ghost use Rattle.covbook.specs.Step.{most_entries, ops_in};
+ghost use Rattle.covbook.specs.Step.{max_entries, ops_in};
 ghost use Rattle.covsession.specs.declared.session.command.word.Format.{Format as TextFormat};
 ghost use Rattle.covsession.specs.Broken.{FailsAnswering, FailsTaking, IsBroken, IsIdle, IsOpen, IsPart};
 ghost use Rattle.covsession.specs.Fault.{calls, HasAnswered, HasCause, IsCutShort};
@@ -36,7 +36,7 @@ use std::alloc::Allocator;
 use std::mem;
 
 // The format of the text that follows a line, if one does.
-fn text_behind(word: Word<'_>, ending: LineEnd) -> Option<Format<'_>>
+fn text_following(word: Word<'_>, ending: LineEnd) -> Option<Format<'_>>
     ensures text { IfSome result (λ format. (word.entry ≡ Word.Text format) × (ending ≡ LineEnd.Feed)) }
     ensures no_text { IfNone result ((format : TextFormat) → word.entry ≡ Word.Text format → ending ≡ LineEnd.Input) }
 {
@@ -56,7 +56,7 @@ fn text_behind(word: Word<'_>, ending: LineEnd) -> Option<Format<'_>>
 }
 
 // Whether two names follow a line.
-fn names_behind(word: Word<'_>, ending: LineEnd) -> bool
+fn names_after(word: Word<'_>, ending: LineEnd) -> bool
     ensures { IsTrue result ↔ ((word.entry ≡ Word.Rename) × (ending ≡ LineEnd.Feed)) }
 {
     match word {
@@ -85,20 +85,20 @@ fn answer_command<I: Source, O: Sink, A: Allocator + Copy>(
     requires { CanCall (moment input.old output.old) }
     ensures takes { IfOk result (λ ending. TakesCommand (moment input.old output.old) (moment input.new output.new)
         (ops_in book.old.entries) (ops_in book.new.entries) ending) }
-    ensures full { result ≡ Err faults.Full → length book.old.entries ≡ most_entries }
+    ensures full { result ≡ Err faults.Full → length book.old.entries ≡ max_entries }
     ensures fails { IfErr result (λ f. FailsTaking (IsPart IsOpen) (moment input.old output.old) (moment input.new output.new) f
         ⊎ FailsAnswering (moment input.old output.old) (moment input.new output.new) (ops_in book.old.entries) f) }
 {
     let mut line = Text::new(alloc, usize::MAX);
     let ending = input.take_line(&mut line, output)?;
     let word = word_of(line.whole());
-    if let Some(format) = text_behind(word, ending) {
+    if let Some(format) = text_following(word, ending) {
         let text_room = mem::replace(room, Vec::new(alloc));
         let (taken, ended) = take_text(text_room, input, output)?;
         answer_given(alloc, book, Given { format, taken }, room, output)?;
         return Ok(ended);
     }
-    if names_behind(word, ending) {
+    if names_after(word, ending) {
         let ended = answer_rename(alloc, book, input, output)?;
         return Ok(ended);
     }

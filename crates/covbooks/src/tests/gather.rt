@@ -252,7 +252,7 @@ const EXAMPLES: &[u8] = b"0 000 222 444
 0 000 222 444
 1 111 333 655
 > Stranger 1 2
-= a place behind the last entry
+= a place after the last entry
 0 000 222 444 ^44
 1 111 333 555
 > Stranger 0 3

@@ -213,14 +213,14 @@ fn example_in(line: &str) -> Option<&str> {
 
 /// Checks that the program takes the call, which asks for the subcommand that is its first word.
 fn check_example(rt: &(impl Abort + AllocGlobal), call: &str) -> Result<(), Fail> {
-    let given = told_behind_name(rt.alloc(), call)?;
+    let given = told_after_name(rt.alloc(), call)?;
     let wanted = call.split_whitespace().next().unwrap_or("");
     assert!(rt; given.as_str().starts_with(wanted), "{call} => {given}");
     Ok(())
 }
 
 /// What a call asks for, given without the program's name.
-fn told_behind_name(alloc: Global, call: &str) -> Result<String, Fail> {
+fn told_after_name(alloc: Global, call: &str) -> Result<String, Fail> {
     let call = format!(in alloc; "covcollect {call}")?;
     let words = words_of(alloc, call.as_str())?;
     match asked(alloc, words.as_slice()) {

@@ -32,7 +32,7 @@ extract *.c\r
 > LH:1
 > end_of_record
 > .
-= a carriage return behind it
+= a carriage return after it
 extract /a.h
 > accepted 1 items 3 odd 0
 > TN:t
@@ -75,7 +75,7 @@ extract  *
 extract *\x20
 > accepted 1 items 3 odd 0
 > .
-= a space behind the pattern
+= a space after the pattern
 extract
 > accepted 1 items 3 odd 0
 > .

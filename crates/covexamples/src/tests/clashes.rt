@@ -187,7 +187,7 @@ end_of_record
 .
 > accepted 1 items 2 odd 0
 > clash /a.c 1 x y
-= behind lines that agree
+= after lines that agree
 trace
 TN:t
 SF:/a.c
@@ -204,7 +204,7 @@ end_of_record
 .
 > accepted 1 items 2 odd 0
 > clash /a.c 1 x y
-= behind lines without checksum
+= after lines without checksum
 trace
 TN:t
 SF:/a.c
@@ -223,7 +223,7 @@ end_of_record
 .
 > accepted 1 items 3 odd 0
 > clash /a.c 1 x y
-= behind others
+= after others
 trace
 TN:t
 SF:/a.c

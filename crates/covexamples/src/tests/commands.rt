@@ -18,7 +18,7 @@ report\x20
 report
 > unknown
 > .
-= a space behind a word
+= a space after a word
  report
 report
 > unknown
@@ -28,13 +28,13 @@ trace x
 report
 > unknown
 > .
-= a word behind a word
+= a word after a word
 rep\rort
 > unknown
 = a carriage return in a word
 report\r\r
 > .
-= carriage returns behind a word
+= carriage returns after a word
 .
 > unknown
 = a dot outside of a text
@@ -43,21 +43,21 @@ DA:1,1
 = a record outside of a text
 summary\x20
 > unknown
-= a space behind a summary
+= a space after a summary
 extracts
 removed
 > unknown
 > unknown
-= letters behind a word
+= letters after a word
  extract
 > unknown
 = a space before a choice
 extract\t*
 > unknown
-= a tab behind a choice
+= a tab after a choice
 extract\r *
 > unknown
-= a carriage return behind a choice
+= a carriage return after a choice
 Extract *
 > unknown
 = a capital letter
@@ -99,7 +99,7 @@ trace
 report
 > accepted 1 items 0 odd 0
 > .
-= carriage returns behind the dot
+= carriage returns after the dot
 trace
 report
 .

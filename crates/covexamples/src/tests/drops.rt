@@ -170,7 +170,7 @@ drop\x20
 > LH:1
 > end_of_record
 > .
-= nothing behind the space
+= nothing after the space
 drop\r\r
 > accepted 1 items 2 odd 0
 > dropped 1
@@ -181,7 +181,7 @@ drop\r\r
 > LH:1
 > end_of_record
 > .
-= carriage returns behind the word
+= carriage returns after the word
 drop\x20\r
 > accepted 1 items 2 odd 0
 > dropped 1
@@ -192,7 +192,7 @@ drop\x20\r
 > LH:1
 > end_of_record
 > .
-= a carriage return behind the space
+= a carriage return after the space
 drop t\x20
 > accepted 1 items 2 odd 0
 > dropped 1
@@ -210,7 +210,7 @@ drop
 > dropped 1
 > dropped 1
 > .
-= carriage returns behind the name
+= carriage returns after the name
 drop t
 drop  t\x20
 drop \x20
@@ -294,7 +294,7 @@ report
 > LH:1
 > end_of_record
 > .
-= all behind the first space
+= all after the first space
 trace
 TN:\x00\xff
 SF:/a.c

@@ -174,7 +174,7 @@ report
 > LH:1
 > end_of_record
 > .
-= carriage returns behind a name
+= carriage returns after a name
 gcov  t
 -:0:Source:a.c
 1:1:x
@@ -230,12 +230,12 @@ gcov\tt
 report
 > unknown
 > .
-= a tab behind the word
+= a tab after the word
 gcovx
 report
 > unknown
 > .
-= a letter behind the word
+= a letter after the word
  gcov
 report
 > unknown

@@ -92,11 +92,11 @@ fn ends(rt: HostRuntime) -> Result<(), Fail> {
 SF:a
 end_of_record x
 > accepted 1 items 0 odd 0
-= text behind it
+= text after it
 SF:a
 end_of_recordly
 > accepted 1 items 0 odd 0
-= letters behind it
+= letters after it
 SF:a
  end_of_record
 > refused OpenEnd
@@ -205,7 +205,7 @@ DA:1,-3,a
 > LH:0
 > end_of_record
 > .
-= a checksum behind a count below 0
+= a checksum after a count below 0
 BRDA:1,2,3,4
 > accepted 1 items 1 odd 0
 > TN:

@@ -525,7 +525,7 @@ end_of_record
 > LH:1
 > end_of_record
 > .
-= sections by file and then by test, a name before those that go on behind it, and none without items
+= sections by file and then by test, a name before those that go on after it, and none without items
 ",
         b".\nreport\n",
     )

@@ -286,7 +286,7 @@ LF:2
 
 /// Two functions, three branches and four lines: of each kind one is hit. Some come twice, and they don't ascend.
 #[test]
-fn totals_behind(rt: HostRuntime) -> Result<(), Fail> {
+fn totals_late(rt: HostRuntime) -> Result<(), Fail> {
     check_around(
         &rt,
         b"trace\nSF:a\nFN:1,f\nFN:2,g\nFNDA:3,g\nFNDA:0,f\nFNDA:0,g\nBRDA:7,0,1,0\nBRDA:7,0,0,-\nBRDA:4,0,1,-\nBRDA:4,0,1,2\nDA:9,0\nDA:3,0\nDA:3,5\nDA:5,0\nDA:1,0\nDA:3,0\n",

@@ -1,7 +1,7 @@
 //! A store that is made ready to hold a submission or to rename a test. A refusal leaves its sections and totals.
 
 ghost use Rattle.std.specs.Prelude.{◌<◌, OnErr};
-ghost use Rattle.covstore.specs.Store.{most_members};
+ghost use Rattle.covstore.specs.Store.{max_members};
 
 use super::calls::{printed, read};
 use super::heap::{check_rising, check_rising_by, narrow, widen};
@@ -74,8 +74,8 @@ fn hold<A: Allocator + Copy>(
     store: &mut Store<A>,
     given: &Submission<A>,
 ) -> Result<(), Refuse<A>>
-    requires { store.old.members < most_members }
-    ensures { OnErr result (store.new.members < most_members) }
+    requires { store.old.members < max_members }
+    ensures { OnErr result (store.new.members < max_members) }
 {
     match store.prepare(alloc, given) {
         Ok(plan) => {
@@ -94,7 +94,7 @@ fn holds<'h>(
     mut store: Store<&'h Bump>,
     texts: (&[u8], &[u8]),
 ) -> bool
-    requires { store.members < most_members }
+    requires { store.members < max_members }
 {
     let given = made(rt, read(heap, SMALL));
     let totals = store.totals();
@@ -120,7 +120,7 @@ fn first_text(rt: &impl Abort, heap: &Bump, room: usize) -> bool {
 
 /// A store that holds the text once.
 fn begun<A: Allocator + Copy>(rt: &impl Abort, alloc: A, given: &Submission<A>) -> Store<A>
-    ensures { result.members < most_members }
+    ensures { result.members < max_members }
 {
     let mut store = Store::new(alloc);
     match store.prepare(alloc, given) {

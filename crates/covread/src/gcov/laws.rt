@@ -6,7 +6,7 @@ ghost use Rattle.covline.specs.Lines.{lines_of};
 ghost use Rattle.covline.specs.Lawful.{IsGoodTest};
 ghost use Rattle.covread.specs.declared.fault.ReadFault.{ReadFault as Fault};
 ghost use Rattle.covread.specs.Gcov.{Says, LineSays};
-ghost use Rattle.covread.specs.Outcome.{most_bytes};
+ghost use Rattle.covread.specs.Outcome.{max_bytes};
 ghost use Rattle.covread.specs.GcovOutcome.{IsOutcome, Answers, FaultsEarly, GrowsLate};
 
 /// Each line says exactly one thing, or has exactly one fault; and each text is read as exactly one thing: as a
@@ -22,5 +22,5 @@ pub fn each_gcov_text_has_one_outcome()
 /// run out before it.
 pub fn an_early_fault_is_told()
     ensures { (test text : List ℕ) (answer : Result SubmissionData Fault) (fault : Fault) → Answers test text answer → GrowsLate text answer
-        → length text ≤ most_bytes → IsGoodTest test → FaultsEarly (lines_of text) fault → answer ≡ Err fault }
+        → length text ≤ max_bytes → IsGoodTest test → FaultsEarly (lines_of text) fault → answer ≡ Err fault }
 {}

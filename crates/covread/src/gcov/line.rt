@@ -6,7 +6,8 @@ ghost use Rattle.covread.specs.GcovReading.{shape_of};
 ghost use Rattle.covread.specs.GcovView.{Gives, shape_data};
 
 use crate::gcov::shape::{Shape, shape_of};
-use crate::gcov::text::{are_digits, behind, number, without_last};
+use crate::gcov::text::{are_digits, number, without_last};
+use covline::strip_key;
 
 /// What is wrong with a line by itself.
 #[derive(Clone, Copy)]
@@ -99,7 +100,7 @@ fn read_numbered<'a>(mark: &[u8], line: &[u8], text: &'a [u8]) -> Result<GcovLin
     if number(line) != Some(0) {
         return read_source(mark, line);
     }
-    match behind(text, b"Source:") {
+    match strip_key(text, b"Source:") {
         Some(path) => Ok(GcovLine::Path(path)),
         None => Ok(GcovLine::Skip),
     }

@@ -3,13 +3,13 @@
 ghost use Rattle.std.specs.Prelude.{◌≡◌, ◌≤◌, length, Result};
 ghost use Rattle.covline.specs.Row.{SubmissionData};
 ghost use Rattle.covread.specs.declared.fault.ReadFault.{ReadFault as Fault};
-ghost use Rattle.covread.specs.Outcome.{most_bytes, IsOrMemory};
+ghost use Rattle.covread.specs.Outcome.{max_bytes, IsOrMemory};
 ghost use Rattle.covread.specs.GcovOutcome.{IsOutcome, Answers, GrowsLate};
 ghost use Rattle.covread.specs.Gcov.{says_of};
 ghost use Rattle.covread.specs.GcovReading.{shape_of};
 ghost use Rattle.covread.specs.GcovSteps.{held_data, line_step, line_grows, StepsTo, ReadsTo};
 
-use crate::fault::{MOST_BYTES, ReadFault};
+use crate::fault::{MAX_BYTES, ReadFault};
 use crate::gcov::line::{OwnFault, read_line};
 use crate::gcov::reader::Reader;
 use covline::{LineFault, Submission, good_test, lines};
@@ -29,7 +29,7 @@ pub fn read_gcov<A: Allocator + Copy>(
     // Nothing is kept before the first path or function, so memory runs out only after one.
     ensures memory { GrowsLate text.now result }
 {
-    if text.len() > MOST_BYTES {
+    if text.len() > MAX_BYTES {
         return Err(ReadFault::TooLong);
     }
     if !good_test(test) {
@@ -44,7 +44,7 @@ fn read_lines<'a, A: Allocator + Copy>(
     test: &'a [u8],
     text: &'a [u8],
 ) -> Result<Reader<'a, A>, ReadFault>
-    requires { length text.now ≤ most_bytes }
+    requires { length text.now ≤ max_bytes }
     ensures { ReadsTo test.now text.now result }
 {
     let mut reader = Reader::new(alloc, test);

@@ -25,7 +25,7 @@ pub struct Function<'a> {
 
 /// Where a branch belongs.
 #[derive(Clone, Copy)]
-pub struct Place {
+pub struct BranchAnchor {
     /// The last source line.
     pub line: u64,
     /// The last block of that line, 0 if none was named.
@@ -40,7 +40,7 @@ pub struct OpenSection<A: Allocator> {
     /// Its items so far.
     pub items: Items<A>,
     /// Its last source line.
-    pub place: Option<Place>,
+    pub place: Option<BranchAnchor>,
 }
 
 /// What a reader holds between two lines.
@@ -139,7 +139,7 @@ impl<'a, A: Allocator + Copy> Reader<'a, A> {
         if let Some(section) = &mut self.section {
             push_functions(alloc, &mut section.items, &self.waiting, line)?;
             push_line(&mut section.items, line, count)?;
-            section.place = Some(Place { line, block: 0 });
+            section.place = Some(BranchAnchor { line, block: 0 });
             self.waiting.clear();
             return Ok(());
         }
@@ -161,7 +161,7 @@ impl<'a, A: Allocator + Copy> Reader<'a, A> {
         ensures test { self.new.test.now ≡ self.old.test.now }
     {
         if let Some(section) = &mut self.section {
-            if let Some(Place { line, block }) = section.place {
+            if let Some(BranchAnchor { line, block }) = section.place {
                 section.items.push(Item::Branch {
                     line,
                     block,

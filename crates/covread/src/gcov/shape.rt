@@ -2,12 +2,13 @@
 
 ghost use Rattle.std.specs.Prelude.{◌≡◌, ◌↔◌, option_map, IsTrue};
 ghost use Rattle.covread.specs.Gcov.{IsShapeOf, Other};
-ghost use Rattle.covread.specs.GcovReading.{function_shape, function_of, branch_front, branch_rest, branch_shape, never_of, taken_of, block_of, numbered_rest, behind_mark, numbered_shape, other_shape, any_shape, shape_of};
+ghost use Rattle.covread.specs.GcovReading.{function_shape, function_of, branch_front, branch_rest, branch_shape, never_of, taken_of, block_of, numbered_rest, after_mark, numbered_shape, other_shape, any_shape, shape_of};
 ghost use Rattle.covread.specs.GcovView.{shape_data};
 
 use crate::gcov::text::{
-    Class, behind, behind_all, behind_last_called, behind_spaces, ends_word, is_name, split_some,
+    Class, after_all, after_last_called, after_spaces, ends_word, is_name, split_some,
 };
+use covline::strip_key;
 
 /// What a line looks like, with the texts of its parts.
 #[derive(Clone, Copy)]
@@ -72,10 +73,10 @@ pub(crate) fn shape_of(line: &[u8]) -> Shape<'_>
 fn any_shape(line: &[u8]) -> Option<Shape<'_>>
     ensures { option_map shape_data result ≡ any_shape line.now }
 {
-    if let Some(_) = behind(line, b"-----") {
+    if let Some(_) = strip_key(line, b"-----") {
         return Some(Shape::Instances);
     }
-    if let Some(text) = behind(line, b"function ") {
+    if let Some(text) = strip_key(line, b"function ") {
         return function_shape(text);
     }
     other_shape(line)
@@ -85,7 +86,7 @@ fn any_shape(line: &[u8]) -> Option<Shape<'_>>
 fn other_shape(line: &[u8]) -> Option<Shape<'_>>
     ensures { option_map shape_data result ≡ other_shape line.now }
 {
-    if let Some(text) = behind(line, b"branch") {
+    if let Some(text) = strip_key(line, b"branch") {
         if let Some(shape) = branch_shape(text) {
             return Some(shape);
         }
@@ -97,7 +98,7 @@ fn other_shape(line: &[u8]) -> Option<Shape<'_>>
 fn function_shape(text: &[u8]) -> Option<Shape<'_>>
     ensures { option_map shape_data result ≡ function_shape text.now }
 {
-    let found = behind_last_called(text)?;
+    let found = after_last_called(text)?;
     let (count, rest) = split_some(found, Class::Digit)?;
     let name = &text[..text.len().saturating_sub(found.len() + b" called ".len())];
     if is_name(name) && ends_word(rest) {
@@ -119,9 +120,9 @@ fn branch_shape(text: &[u8]) -> Option<Shape<'_>>
 fn branch_front(text: &[u8]) -> Option<(&[u8], &[u8])>
     ensures { option_map (λ parts. (parts.0.now, parts.1.now)) result ≡ branch_front text.now }
 {
-    let text = behind_spaces(text)?;
+    let text = after_spaces(text)?;
     let (branch, text) = split_some(text, Class::Digit)?;
-    let rest = behind_spaces(text)?;
+    let rest = after_spaces(text)?;
     Some((branch, rest))
 }
 
@@ -129,10 +130,10 @@ fn branch_front(text: &[u8]) -> Option<(&[u8], &[u8])>
 fn branch_rest<'a>(branch: &'a [u8], text: &'a [u8]) -> Option<Shape<'a>>
     ensures { option_map shape_data result ≡ branch_rest branch.now text.now }
 {
-    if let Some(rest) = behind(text, b"never executed") {
+    if let Some(rest) = strip_key(text, b"never executed") {
         return ends_word(rest).then_some(Shape::Never { branch });
     }
-    if let Some(text) = behind(text, b"taken") {
+    if let Some(text) = strip_key(text, b"taken") {
         return taken(branch, text);
     }
     None
@@ -142,7 +143,7 @@ fn branch_rest<'a>(branch: &'a [u8], text: &'a [u8]) -> Option<Shape<'a>>
 fn taken<'a>(branch: &'a [u8], text: &'a [u8]) -> Option<Shape<'a>>
     ensures { option_map shape_data result ≡ taken_of branch.now text.now }
 {
-    let text = behind_spaces(text)?;
+    let text = after_spaces(text)?;
     let (word, _) = split_some(text, Class::Word)?;
     Some(Shape::Taken { branch, word })
 }
@@ -151,17 +152,17 @@ fn taken<'a>(branch: &'a [u8], text: &'a [u8]) -> Option<Shape<'a>>
 fn numbered_shape(text: &[u8]) -> Option<Shape<'_>>
     ensures { option_map shape_data result ≡ numbered_shape text.now }
 {
-    let text = behind_all(text, Class::Space);
+    let text = after_all(text, Class::Space);
     let (mark, text) = split_some(text, Class::Mark)?;
-    behind_mark(mark, text)
+    after_mark(mark, text)
 }
 
 /// What follows a mark.
-fn behind_mark<'a>(mark: &'a [u8], text: &'a [u8]) -> Option<Shape<'a>>
-    ensures { option_map shape_data result ≡ behind_mark mark.now text.now }
+fn after_mark<'a>(mark: &'a [u8], text: &'a [u8]) -> Option<Shape<'a>>
+    ensures { option_map shape_data result ≡ after_mark mark.now text.now }
 {
-    let text = behind(text, b":")?;
-    let text = behind_all(text, Class::Space);
+    let text = strip_key(text, b":")?;
+    let text = after_all(text, Class::Space);
     let (line, text) = split_some(text, Class::Digit)?;
     numbered_rest(mark, line, text)
 }
@@ -170,10 +171,10 @@ fn behind_mark<'a>(mark: &'a [u8], text: &'a [u8]) -> Option<Shape<'a>>
 fn numbered_rest<'a>(mark: &'a [u8], line: &'a [u8], text: &'a [u8]) -> Option<Shape<'a>>
     ensures { option_map shape_data result ≡ numbered_rest mark.now line.now text.now }
 {
-    if let Some(text) = behind(text, b"-block") {
+    if let Some(text) = strip_key(text, b"-block") {
         return block(line, text);
     }
-    if let Some(text) = behind(text, b":") {
+    if let Some(text) = strip_key(text, b":") {
         return Some(Shape::Numbered { mark, line, text });
     }
     None
@@ -183,7 +184,7 @@ fn numbered_rest<'a>(mark: &'a [u8], line: &'a [u8], text: &'a [u8]) -> Option<S
 fn block<'a>(line: &'a [u8], text: &'a [u8]) -> Option<Shape<'a>>
     ensures { option_map shape_data result ≡ block_of line.now text.now }
 {
-    let text = behind_spaces(text)?;
+    let text = after_spaces(text)?;
     let (block, _) = split_some(text, Class::Digit)?;
     Some(Shape::Block { line, block })
 }

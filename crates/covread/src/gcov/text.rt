@@ -2,9 +2,11 @@
 
 ghost use Rattle.std.specs.Prelude.{◌≡◌, ◌+◌, ◌-◌, ◌*◌, option_map};
 ghost use Rattle.std.specs.List.{list_all};
-ghost use Rattle.covline.specs.Reading.{is_digit, behind_key};
+ghost use Rattle.covline.specs.Reading.{is_digit};
 ghost use Rattle.covread.specs.Gcov.{are_digits, without_last};
-ghost use Rattle.covread.specs.GcovReading.{in_class, front_of, rest_of, some_front, behind_spaces, fitting, number_of, ends_word, is_name, last_called};
+ghost use Rattle.covread.specs.GcovReading.{in_class, front_of, rest_of, some_front, after_spaces, fitting, number_of, ends_word, is_name, last_called};
+
+use covline::strip_key;
 
 /// A kind of bytes.
 #[derive(Clone, Copy)]
@@ -34,7 +36,7 @@ impl Class {
 }
 
 /// What follows the bytes of this kind at the front.
-pub(crate) fn behind_all(text: &[u8], class: Class) -> &[u8]
+pub(crate) fn after_all(text: &[u8], class: Class) -> &[u8]
     ensures { result.now ≡ rest_of (in_class class) text.now }
 {
     let mut rest = text;
@@ -51,7 +53,7 @@ pub(crate) fn behind_all(text: &[u8], class: Class) -> &[u8]
 pub(crate) fn split_some(text: &[u8], class: Class) -> Option<(&[u8], &[u8])>
     ensures { option_map (λ parts. (parts.0.now, parts.1.now)) result ≡ some_front (in_class class) text.now }
 {
-    let rest = behind_all(text, class);
+    let rest = after_all(text, class);
     if rest.len() == text.len() {
         return None;
     }
@@ -59,18 +61,11 @@ pub(crate) fn split_some(text: &[u8], class: Class) -> Option<(&[u8], &[u8])>
 }
 
 /// What follows the spaces at the front; `None` if there are none.
-pub(crate) fn behind_spaces(text: &[u8]) -> Option<&[u8]>
-    ensures { option_map (λ rest. rest.now) result ≡ behind_spaces text.now }
+pub(crate) fn after_spaces(text: &[u8]) -> Option<&[u8]>
+    ensures { option_map (λ rest. rest.now) result ≡ after_spaces text.now }
 {
     let (_, rest) = split_some(text, Class::Space)?;
     Some(rest)
-}
-
-/// What follows the key, if the text begins with it.
-pub(crate) fn behind<'a>(text: &'a [u8], key: &[u8]) -> Option<&'a [u8]>
-    ensures { option_map (λ rest. rest.now) result ≡ behind_key key.now text.now }
-{
-    text.strip_prefix(key)
 }
 
 /// Whether the text is one or more digits.
@@ -137,13 +132,13 @@ pub(crate) fn is_name(name: &[u8]) -> bool
 }
 
 /// What follows the ` called ` that begins last.
-pub(crate) fn behind_last_called(text: &[u8]) -> Option<&[u8]>
+pub(crate) fn after_last_called(text: &[u8]) -> Option<&[u8]>
     ensures { option_map (λ rest. rest.now) result ≡ last_called text.now }
 {
     let mut found = None;
     let mut rest = text;
     while let [_, after @ ..] = rest {
-        if let Some(count) = behind(rest, b" called ") {
+        if let Some(count) = strip_key(rest, b" called ") {
             found = Some(count);
         }
         rest = after;

@@ -3,16 +3,16 @@
 ghost use Rattle.std.specs.Prelude.{◌≡◌, ◌≤◌, ◌<◌, ◌∷◌, ℕ, IfOk, length, List, Result, option_map};
 ghost use Rattle.covline.specs.Row.{SubmissionData};
 ghost use Rattle.covread.specs.declared.fault.ReadFault.{ReadFault as Fault};
-ghost use Rattle.covread.specs.Outcome.{most_bytes, IsOutcome, Answers, GrowsLate, IsOrMemory};
+ghost use Rattle.covread.specs.Outcome.{max_bytes, IsOutcome, Answers, GrowsLate, IsOrMemory};
 ghost use Rattle.covline.specs.Lines.{lines_of};
 ghost use Rattle.covline.specs.Spells.{LineData, Branch, Line, Spells};
 ghost use Rattle.covread.specs.TraceSteps.{held_data, HasRoom, IsOpen, ReadsTo, TakesLine, misplaced_at};
 
-use crate::fault::{MOST_BYTES, ReadFault};
+use crate::fault::{MAX_BYTES, ReadFault};
 use crate::trace::misplaced::Misplaced;
 use crate::trace::reader::Reader;
 use covline::{
-    BranchPoint, Submission, each_line_has_one_meaning, first_branch, first_counted, first_line,
+    BranchPoint, Submission, each_line_has_one_meaning, try_branch_line, try_count_line, first_line,
     lines_are_the_text, read_line,
 };
 use std::alloc::Allocator;
@@ -29,7 +29,7 @@ pub fn read_trace<A: Allocator + Copy>(alloc: A, text: &[u8]) -> Result<Submissi
 {
     // The proof cites this law.
     each_line_has_one_meaning();
-    if text.len() > MOST_BYTES {
+    if text.len() > MAX_BYTES {
         return Err(ReadFault::TooLong);
     }
     read_lines(alloc, text)?.finish()
@@ -37,7 +37,7 @@ pub fn read_trace<A: Allocator + Copy>(alloc: A, text: &[u8]) -> Result<Submissi
 
 /// Takes all lines of the text.
 fn read_lines<'a, A: Allocator + Copy>(alloc: A, text: &'a [u8]) -> Result<Reader<'a, A>, ReadFault>
-    requires { length text.now ≤ most_bytes }
+    requires { length text.now ≤ max_bytes }
     ensures { ReadsTo text.now result }
 {
     // The proof cites these laws.
@@ -67,11 +67,11 @@ fn take_first<'a, A: Allocator + Copy>(
     ensures { (line left : List ℕ) × (lines_of text.now ≡ line ∷ lines_of left) × IfOk result (λ rest. rest.now ≡ left)
         × ((inside : List LineData) → IsOpen reader.old.section inside → TakesLine result (held_data reader.old inside) reader.new line at) }
 {
-    if let Some(first) = first_counted(text) {
+    if let Some(first) = try_count_line(text) {
         take_count(reader, alloc, at, first.line, first.count, first.checksum)?;
         return Ok(first.rest);
     }
-    if let Some(first) = first_branch(text) {
+    if let Some(first) = try_branch_line(text) {
         take_branch(reader, at, first.point, first.taken)?;
         return Ok(first.rest);
     }

@@ -7,8 +7,8 @@ ghost use Rattle.covread.specs.TraceSteps.{held_data, empty, IsOpen, HasRoom, St
 
 use crate::fault::ReadFault;
 use crate::trace::misplaced::Misplaced;
-use crate::trace::section::Gathered;
-use crate::trace::settle::{Settled, settle};
+use crate::trace::section::SectionBuilder;
+use crate::trace::settle::{ClosedSection, settle};
 use crate::wide::wide;
 use covline::{BranchPoint, Bytes, Sect, Sects, Submission, TraceLine};
 use std::alloc::Allocator;
@@ -19,7 +19,7 @@ pub struct OpenSection<'a, A: Allocator> {
     /// Its path.
     pub file: Bytes<A>,
     /// What its lines gave so far.
-    pub gathered: Gathered<'a, A>,
+    pub builder: SectionBuilder<'a, A>,
 }
 
 /// What a reader holds between two lines.
@@ -87,7 +87,7 @@ impl<'a, A: Allocator + Copy> Reader<'a, A> {
         }
         self.section = Some(OpenSection {
             file: Bytes::of(alloc, path)?,
-            gathered: Gathered::new(alloc),
+            builder: SectionBuilder::new(alloc),
         });
         Ok(())
     }
@@ -99,7 +99,7 @@ impl<'a, A: Allocator + Copy> Reader<'a, A> {
         ensures { (inside : List LineData) → IsOpen self.old.section inside → Steps result (held_data self.old inside) self.new (line_data line.entry) }
     {
         if let Some(section) = &mut self.section {
-            section.gathered.take(alloc, line)?;
+            section.builder.take(alloc, line)?;
             return Ok(());
         }
         Err(Misplaced::Outside)
@@ -119,7 +119,7 @@ impl<'a, A: Allocator + Copy> Reader<'a, A> {
     {
         if let Some(section) = &mut self.section {
             section
-                .gathered
+                .builder
                 .take_line(alloc, line, u128::from(count), checksum)?;
             return Ok(());
         }
@@ -133,7 +133,7 @@ impl<'a, A: Allocator + Copy> Reader<'a, A> {
         ensures { (inside : List LineData) → IsOpen self.old.section inside → Steps result (held_data self.old inside) self.new (Branch point.line point.block point.branch taken) }
     {
         if let Some(section) = &mut self.section {
-            section.gathered.take_branch(point, wide(taken))?;
+            section.builder.take_branch(point, wide(taken))?;
             return Ok(());
         }
         Err(Misplaced::Outside)
@@ -147,8 +147,8 @@ impl<'a, A: Allocator + Copy> Reader<'a, A> {
         let Some(section) = self.section.take() else {
             return Err(Misplaced::Outside);
         };
-        let OpenSection { file, gathered } = section;
-        let Settled { items, odd } = settle(alloc, gathered)?;
+        let OpenSection { file, builder } = section;
+        let ClosedSection { items, odd } = settle(alloc, builder)?;
         self.odd += odd;
         let test = Bytes::of(alloc, self.test)?;
         self.sects.push(Sect { test, file, items })?;

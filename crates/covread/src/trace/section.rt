@@ -6,14 +6,14 @@ ghost use Rattle.covline.specs.Spells.{LineData};
 
 use crate::trace::functions::{Functions, take_start};
 use crate::trace::points::{Ascent, Points};
-use crate::trace::tally::Stated;
+use crate::trace::tally::StatedTotal;
 use covline::{BranchPoint, Bytes, Item, Items, Memory, TraceLine};
 use std::alloc::Allocator;
 use std::collections::BTreeMap;
 
 /// A count of a function, which waits for the least start line of the function.
 #[derive(Clone, Copy, Drop)]
-pub struct Waiting<'a> {
+pub struct PendingCount<'a> {
     /// The place of its item.
     pub at: usize,
     /// The function's name.
@@ -25,33 +25,33 @@ pub struct Waiting<'a> {
 /// What the lines of an open section gave so far. Counts of functions, and totals, depend on later lines, so they wait
 /// for the section's end.
 #[derive(Drop)]
-pub struct Gathered<'a, A: Allocator> {
+pub struct SectionBuilder<'a, A: Allocator> {
     /// The items, in the order of their lines. Those of functions' counts have the start line 0.
     pub items: Items<A>,
     /// The functions with a start line.
     pub functions: Functions<'a, A>,
     /// The counts of functions.
-    pub waiting: Vec<Waiting<'a>, A>,
+    pub waiting: Vec<PendingCount<'a>, A>,
     /// The lines.
     pub lines: Points<u64>,
     /// The branches.
     pub branches: Points<BranchPoint>,
     /// The totals.
-    pub totals: Vec<Stated, A>,
+    pub totals: Vec<StatedTotal, A>,
 }
 
-impl<'a, A: Allocator + Copy> Gathered<'a, A> {
+impl<'a, A: Allocator + Copy> SectionBuilder<'a, A> {
     ghost use Rattle.std.specs.Prelude.{◌≡◌, ◌+◌, ◌<◌, ◌^◌, ◌++◌, ◌∷◌, [], List, None, Some, OnOk, length, option_map};
     ghost use Rattle.covline.specs.Row.{BranchItem, item_data};
     ghost use Rattle.covline.specs.Spells.{LineData, FuncStart, FuncCount, Branch, Line, line_data};
-    ghost use Rattle.covread.specs.TraceSection.{IsGathered, IsKept};
+    ghost use Rattle.covread.specs.TraceSection.{IsBuiltOf, IsKept};
     ghost use Rattle.covread.specs.TraceTally.{stated_record};
 
     /// Nothing gathered, before the section's first line.
-    pub fn new(alloc: A) -> Gathered<'a, A>
-        ensures { IsGathered result [] }
+    pub fn new(alloc: A) -> SectionBuilder<'a, A>
+        ensures { IsBuiltOf result [] }
     {
-        Gathered {
+        SectionBuilder {
             items: Items::new(alloc),
             functions: BTreeMap::new(alloc),
             waiting: Vec::new(alloc),
@@ -63,9 +63,9 @@ impl<'a, A: Allocator + Copy> Gathered<'a, A> {
 
     /// Takes what a line says that an open section keeps.
     pub fn take(&mut self, alloc: A, line: TraceLine<'a>) -> Result<(), Memory>
-        requires room { (inside : List LineData) × IsGathered self.old inside × length inside + 1 < 2 ^ 64 }
+        requires room { (inside : List LineData) × IsBuiltOf self.old inside × length inside + 1 < 2 ^ 64 }
         requires kept { IsKept (line_data line) }
-        ensures { OnOk result ((inside : List LineData) → IsGathered self.old inside → IsGathered self.new (inside ++ line_data line.entry ∷ [])) }
+        ensures { OnOk result ((inside : List LineData) → IsBuiltOf self.old inside → IsBuiltOf self.new (inside ++ line_data line.entry ∷ [])) }
     {
         match line {
             TraceLine::FuncStart { line, name } => self.take_start(alloc, line, name),
@@ -88,7 +88,7 @@ impl<'a, A: Allocator + Copy> Gathered<'a, A> {
                 count,
                 checksum,
             } => self.take_line(alloc, line, count, checksum),
-            TraceLine::Total { kind, value } => self.take_total(Stated { kind, value }),
+            TraceLine::Total { kind, value } => self.take_total(StatedTotal { kind, value }),
             TraceLine::Test(_) | TraceLine::Path(_) | TraceLine::End | TraceLine::Skip => {
                 unreachable!()
             }
@@ -97,7 +97,7 @@ impl<'a, A: Allocator + Copy> Gathered<'a, A> {
 
     /// Takes a start line of a function.
     fn take_start(&mut self, alloc: A, line: u64, name: &'a [u8]) -> Result<(), Memory>
-        ensures { OnOk result ((inside : List LineData) → IsGathered self.old inside → IsGathered self.new (inside ++ FuncStart line name.now ∷ [])) }
+        ensures { OnOk result ((inside : List LineData) → IsBuiltOf self.old inside → IsBuiltOf self.new (inside ++ FuncStart line name.now ∷ [])) }
     {
         take_start(&mut self.functions, name, line)?;
         self.items.push(func_item(alloc, name, line, 0)?)?;
@@ -106,9 +106,9 @@ impl<'a, A: Allocator + Copy> Gathered<'a, A> {
 
     /// Takes a count of a function.
     fn take_count(&mut self, alloc: A, count: u128, name: &'a [u8]) -> Result<(), Memory>
-        ensures { OnOk result ((inside : List LineData) → IsGathered self.old inside → IsGathered self.new (inside ++ FuncCount count name.now ∷ [])) }
+        ensures { OnOk result ((inside : List LineData) → IsBuiltOf self.old inside → IsBuiltOf self.new (inside ++ FuncCount count name.now ∷ [])) }
     {
-        self.waiting.push(Waiting {
+        self.waiting.push(PendingCount {
             at: self.items.len(),
             name,
             is_hit: count > 0,
@@ -120,8 +120,8 @@ impl<'a, A: Allocator + Copy> Gathered<'a, A> {
     /// Takes how often a branch was taken. Only the list of items may allocate.
     #[inline]
     pub fn take_branch(&mut self, branch: BranchPoint, taken: Option<u128>) -> Result<(), Memory>
-        requires { (inside : List LineData) × IsGathered self.old inside × length inside + 1 < 2 ^ 64 }
-        ensures { OnOk result ((inside : List LineData) → IsGathered self.old inside → IsGathered self.new (inside ++ Branch branch.line branch.block branch.branch taken ∷ [])) }
+        requires { (inside : List LineData) × IsBuiltOf self.old inside × length inside + 1 < 2 ^ 64 }
+        ensures { OnOk result ((inside : List LineData) → IsBuiltOf self.old inside → IsBuiltOf self.new (inside ++ Branch branch.line branch.block branch.branch taken ∷ [])) }
     {
         let item = Item::Branch {
             line: branch.line,
@@ -137,8 +137,8 @@ impl<'a, A: Allocator + Copy> Gathered<'a, A> {
     /// Takes the execution count of a line without a checksum. Only the list of items may allocate.
     #[inline]
     fn take_plain(&mut self, line: u64, count: u128) -> Result<(), Memory>
-        requires { (inside : List LineData) × IsGathered self.old inside × length inside + 1 < 2 ^ 64 }
-        ensures { OnOk result ((inside : List LineData) → IsGathered self.old inside → IsGathered self.new (inside ++ Line line count None ∷ [])) }
+        requires { (inside : List LineData) × IsBuiltOf self.old inside × length inside + 1 < 2 ^ 64 }
+        ensures { OnOk result ((inside : List LineData) → IsBuiltOf self.old inside → IsBuiltOf self.new (inside ++ Line line count None ∷ [])) }
     {
         let item = Item::Line {
             line,
@@ -159,8 +159,8 @@ impl<'a, A: Allocator + Copy> Gathered<'a, A> {
         count: u128,
         checksum: Option<&[u8]>,
     ) -> Result<(), Memory>
-        requires { (inside : List LineData) × IsGathered self.old inside × length inside + 1 < 2 ^ 64 }
-        ensures { OnOk result ((inside : List LineData) → IsGathered self.old inside → IsGathered self.new (inside ++ Line line count (option_map (λ c. c.now) checksum.entry) ∷ [])) }
+        requires { (inside : List LineData) × IsBuiltOf self.old inside × length inside + 1 < 2 ^ 64 }
+        ensures { OnOk result ((inside : List LineData) → IsBuiltOf self.old inside → IsBuiltOf self.new (inside ++ Line line count (option_map (λ c. c.now) checksum.entry) ∷ [])) }
     {
         match checksum {
             Some(text) => self.take_checked(line, count, Bytes::of(alloc, text)?),
@@ -170,8 +170,8 @@ impl<'a, A: Allocator + Copy> Gathered<'a, A> {
 
     /// Takes the execution count of a line with a checksum.
     fn take_checked(&mut self, line: u64, count: u128, checksum: Bytes<A>) -> Result<(), Memory>
-        requires { (inside : List LineData) × IsGathered self.old inside × length inside + 1 < 2 ^ 64 }
-        ensures { OnOk result ((inside : List LineData) → IsGathered self.old inside → IsGathered self.new (inside ++ Line line count (Some checksum) ∷ [])) }
+        requires { (inside : List LineData) × IsBuiltOf self.old inside × length inside + 1 < 2 ^ 64 }
+        ensures { OnOk result ((inside : List LineData) → IsBuiltOf self.old inside → IsBuiltOf self.new (inside ++ Line line count (Some checksum) ∷ [])) }
     {
         let item = Item::Line {
             line,
@@ -184,8 +184,8 @@ impl<'a, A: Allocator + Copy> Gathered<'a, A> {
     }
 
     /// Takes a total.
-    fn take_total(&mut self, stated: Stated) -> Result<(), Memory>
-        ensures { OnOk result ((inside : List LineData) → IsGathered self.old inside → IsGathered self.new (inside ++ stated_record stated ∷ [])) }
+    fn take_total(&mut self, stated: StatedTotal) -> Result<(), Memory>
+        ensures { OnOk result ((inside : List LineData) → IsBuiltOf self.old inside → IsBuiltOf self.new (inside ++ stated_record stated ∷ [])) }
     {
         self.totals.push(stated)?;
         Ok(())

@@ -4,18 +4,18 @@ ghost use Rattle.std.specs.Prelude.{◌≡◌, ℕ, ◌+◌, ◌<◌, ◌^◌, L
 ghost use Rattle.covline.specs.Spells.{LineData};
 ghost use Rattle.covread.specs.Reads.{items_of, is_odd};
 ghost use Rattle.covread.specs.TraceFunctions.{AreFunctions};
-ghost use Rattle.covread.specs.TraceSection.{IsGathered, mark};
+ghost use Rattle.covread.specs.TraceSection.{IsBuiltOf, mark};
 ghost use Rattle.covread.specs.TraceSettle.{HavePlaces, IsSettled, left, names_in, starts_with};
 
 use crate::trace::functions::{Functions, take_count};
-use crate::trace::section::{Gathered, Waiting};
-use crate::trace::tally::{FunctionTotals, Has, odd_totals};
+use crate::trace::section::{SectionBuilder, PendingCount};
+use crate::trace::tally::{FunctionTotals, SectionPoints, odd_totals};
 use covline::{Items, Memory};
 use std::alloc::Allocator;
 
 /// What a section gives.
 #[derive(Drop)]
-pub struct Settled<A: Allocator> {
+pub struct ClosedSection<A: Allocator> {
     /// Its items, in the order of their lines. Room that they don't use is freed.
     pub items: Items<A>,
     /// How many of its lines are odd: counts of functions without a start line, and totals that differ from the
@@ -36,20 +36,20 @@ pub struct Counts<A: Allocator> {
 /// the totals are compared. Takes time n log n for n lines.
 pub fn settle<'a, A: Allocator + Copy>(
     alloc: A,
-    gathered: Gathered<'a, A>,
-) -> Result<Settled<A>, Memory>
-    requires { (inside : List LineData) × IsGathered gathered inside × length inside + 1 < 2 ^ 64 }
-    ensures items { IfOk result (λ s. (inside : List LineData) → IsGathered gathered.entry inside → s.items ≡ items_of inside) }
-    ensures odd { IfOk result (λ s. (inside : List LineData) → IsGathered gathered.entry inside → s.odd ≡ count_by (is_odd inside) inside) }
+    builder: SectionBuilder<'a, A>,
+) -> Result<ClosedSection<A>, Memory>
+    requires { (inside : List LineData) × IsBuiltOf builder inside × length inside + 1 < 2 ^ 64 }
+    ensures items { IfOk result (λ s. (inside : List LineData) → IsBuiltOf builder.entry inside → s.items ≡ items_of inside) }
+    ensures odd { IfOk result (λ s. (inside : List LineData) → IsBuiltOf builder.entry inside → s.odd ≡ count_by (is_odd inside) inside) }
 {
-    let Gathered {
+    let SectionBuilder {
         mut items,
         mut functions,
         waiting,
         lines,
         branches,
         totals,
-    } = gathered;
+    } = builder;
     let Counts { hit, unstarted } = settle_counts(
         alloc,
         waiting.as_slice(),
@@ -58,7 +58,7 @@ pub fn settle<'a, A: Allocator + Copy>(
     )?;
     let mut items = without(alloc, items, unstarted.as_slice())?;
     let found = functions.len() as u64;
-    let has = Has {
+    let has = SectionPoints {
         functions: FunctionTotals { found, hit },
         branches,
         lines,
@@ -66,13 +66,13 @@ pub fn settle<'a, A: Allocator + Copy>(
     let others = odd_totals(alloc, totals.as_slice(), has, items.get())?;
     let odd = unstarted.len() as u64 + others;
     items.shrink();
-    Ok(Settled { items, odd })
+    Ok(ClosedSection { items, odd })
 }
 
 /// Gives each count of a function the least start line of the function.
 fn settle_counts<'a, A: Allocator + Copy>(
     alloc: A,
-    waiting: &[Waiting<'a>],
+    waiting: &[PendingCount<'a>],
     functions: &mut Functions<'a, A>,
     items: &mut Items<A>,
 ) -> Result<Counts<A>, Memory>
@@ -102,7 +102,7 @@ impl<A: Allocator + Copy> Counts<A> {
         &mut self,
         functions: &mut Functions<'a, A>,
         items: &mut Items<A>,
-        count: &Waiting<'a>,
+        count: &PendingCount<'a>,
     ) -> Result<(), Memory>
         requires place { count.now.at < length items.old }
         requires fits { self.old.hit + 1 < 2 ^ 64 }
@@ -143,7 +143,7 @@ fn without<A: Allocator + Copy>(
     let mut places = places;
     let mut at: usize = 0;
     for item in items.into_vec() {
-        match behind(places, at) {
+        match skip_place(places, at) {
             Some(rest) => places = rest,
             None => left.push(item)?,
         }
@@ -153,7 +153,7 @@ fn without<A: Allocator + Copy>(
 }
 
 /// The places after this one, if it is the first of them.
-fn behind(places: &[usize], at: usize) -> Option<&[usize]>
+fn skip_place(places: &[usize], at: usize) -> Option<&[usize]>
     ensures { MatchOption result (starts_with at places.entry.now ≡ false) (λ rest. places.entry.now ≡ at ∷ rest.now) }
 {
     match places {

@@ -13,14 +13,14 @@ use std::alloc::Allocator;
 
 /// A total that a line states.
 #[derive(Clone, Copy, Drop)]
-pub struct Stated {
+pub struct StatedTotal {
     pub kind: TotalKind,
     pub value: u64,
 }
 
 /// What a total counts.
 #[derive(Clone, Copy)]
-enum Sort {
+enum PointKind {
     Functions,
     Branches,
     Lines,
@@ -37,7 +37,7 @@ pub struct FunctionTotals {
 
 /// What a section has: its functions, and the points of its branches and lines.
 #[derive(Clone, Copy, Drop)]
-pub struct Has {
+pub struct SectionPoints {
     pub functions: FunctionTotals,
     pub branches: Points<BranchPoint>,
     pub lines: Points<u64>,
@@ -45,7 +45,7 @@ pub struct Has {
 
 /// A section's own totals. Those of a sort that no line of the section states aren't counted.
 #[derive(Clone, Copy)]
-struct Own {
+struct OwnTotals {
     functions: FunctionTotals,
     branches: Tally,
     lines: Tally,
@@ -54,18 +54,18 @@ struct Own {
 /// How many of the totals that a section states differ from its own, which follow from what it has.
 pub fn odd_totals<A: Allocator + Copy>(
     alloc: A,
-    totals: &[Stated],
-    has: Has,
+    totals: &[StatedTotal],
+    has: SectionPoints,
     items: &[Item<A>],
 ) -> Result<u64, Memory>
     requires totals { (inside : List LineData) × HasTotals totals.now has (map item_data items.now) inside }
     requires few { AreFew (map item_data items.now) }
     ensures { IfOk result (λ odd. (inside : List LineData) → HasTotals totals.now has (map item_data items.now) inside → odd ≡ count_by (is_other inside) inside) }
 {
-    let own = Own {
+    let own = OwnTotals {
         functions: has.functions,
-        branches: stated_totals(alloc, totals, Sort::Branches, has.branches, items)?,
-        lines: stated_totals(alloc, totals, Sort::Lines, has.lines, items)?,
+        branches: stated_totals(alloc, totals, PointKind::Branches, has.branches, items)?,
+        lines: stated_totals(alloc, totals, PointKind::Lines, has.lines, items)?,
     };
     Ok(count_odd(totals, &own))
 }
@@ -73,8 +73,8 @@ pub fn odd_totals<A: Allocator + Copy>(
 /// The totals of points, if a line states a total of their sort.
 fn stated_totals<P: Point, A: Allocator + Copy>(
     alloc: A,
-    totals: &[Stated],
-    sort: Sort,
+    totals: &[StatedTotal],
+    sort: PointKind,
     points: Points<P>,
     items: &[Item<A>],
 ) -> Result<Tally, Memory>
@@ -90,7 +90,7 @@ fn stated_totals<P: Point, A: Allocator + Copy>(
 }
 
 /// Whether one of the totals is of this sort.
-fn any_states(totals: &[Stated], sort: Sort) -> bool
+fn any_states(totals: &[StatedTotal], sort: PointKind) -> bool
     ensures { result ≡ list_any (states sort) (map stated_record totals.now) }
 {
     for stated in totals {
@@ -101,20 +101,20 @@ fn any_states(totals: &[Stated], sort: Sort) -> bool
     false
 }
 
-impl Sort {
+impl PointKind {
     /// Whether a total of this kind counts this.
     fn has(self, kind: TotalKind) -> bool
         ensures { result ≡ has self kind }
     {
         match self {
-            Sort::Functions => matches!(kind, TotalKind::FuncFound | TotalKind::FuncHit),
-            Sort::Branches => matches!(kind, TotalKind::BranchFound | TotalKind::BranchHit),
-            Sort::Lines => matches!(kind, TotalKind::LineFound | TotalKind::LineHit),
+            PointKind::Functions => matches!(kind, TotalKind::FuncFound | TotalKind::FuncHit),
+            PointKind::Branches => matches!(kind, TotalKind::BranchFound | TotalKind::BranchHit),
+            PointKind::Lines => matches!(kind, TotalKind::LineFound | TotalKind::LineHit),
         }
     }
 }
 
-impl Own {
+impl OwnTotals {
     /// The section's own total of this kind.
     fn total(&self, kind: TotalKind) -> u64
         ensures { result ≡ own_value self.now kind }
@@ -130,7 +130,7 @@ impl Own {
     }
 
     /// Whether the stated total differs from the section's own.
-    fn differs(&self, stated: Stated) -> bool
+    fn differs(&self, stated: StatedTotal) -> bool
         ensures { result ≡ differs self.now (stated_record stated) }
     {
         stated.value != self.total(stated.kind)
@@ -138,7 +138,7 @@ impl Own {
 }
 
 /// How many of the totals differ from these.
-fn count_odd(totals: &[Stated], own: &Own) -> u64
+fn count_odd(totals: &[StatedTotal], own: &OwnTotals) -> u64
     ensures { result ≡ count_by (differs own.now) (map stated_record totals.now) }
 {
     let mut odd: u64 = 0;

@@ -2,7 +2,7 @@
 
 ghost use Rattle.std.specs.Prelude.{◌≡◌, [], MatchOption, option_map};
 ghost use Rattle.covreport.specs.Pattern.{OneByte, in_body, takes as set_takes, body_of, opened_set, quoted, head_of};
-ghost use Rattle.covreport.specs.PatternParts.{set_data, BeginsWithRange, head_data, behind_body, behind_head};
+ghost use Rattle.covreport.specs.PatternParts.{set_data, BeginsWithRange, head_data, after_body, after_head};
 
 use memchr::memchr;
 
@@ -86,7 +86,7 @@ fn one_byte<'a>(set: ByteSet<'a>, rest: &'a [u8]) -> Head<'a>
 
 /// The body of the set whose `[` comes right before these bytes, if they close it, and what follows the set.
 fn read_body(text: &[u8]) -> Option<(&[u8], &[u8])>
-    ensures { option_map (λ read. (read.0.now, read.1.now)) result ≡ option_map (behind_body text.now) (body_of text.now) }
+    ensures { option_map (λ read. (read.0.now, read.1.now)) result ≡ option_map (after_body text.now) (body_of text.now) }
 {
     let (_, behind) = text.split_first()?;
     let close = memchr(b']', behind)?;
@@ -95,7 +95,7 @@ fn read_body(text: &[u8]) -> Option<(&[u8], &[u8])>
 
 /// The set whose `[` comes right before these bytes, if they close it.
 fn read_set(rest: &[u8]) -> Option<Head<'_>>
-    ensures { option_map head_data result ≡ option_map (behind_head rest.now) (opened_set rest.now) }
+    ensures { option_map head_data result ≡ option_map (after_head rest.now) (opened_set rest.now) }
 {
     if let [b'!', text @ ..] = rest {
         let (body, behind) = read_body(text)?;
@@ -107,7 +107,7 @@ fn read_set(rest: &[u8]) -> Option<Head<'_>>
 
 /// The part of a `\` right before these bytes: it takes the first of them as itself, or `\` itself if there is none.
 fn read_quoted(rest: &[u8]) -> Head<'_>
-    ensures { head_data result ≡ behind_head rest.now (quoted rest.now) }
+    ensures { head_data result ≡ after_head rest.now (quoted rest.now) }
 {
     match rest {
         [byte, behind @ ..] => one_byte(ByteSet::Exactly(*byte), behind),
@@ -117,7 +117,7 @@ fn read_quoted(rest: &[u8]) -> Head<'_>
 
 /// The part that begins with this byte, which these bytes follow.
 pub(crate) fn read_head(first: u8, rest: &[u8]) -> Head<'_>
-    ensures { head_data result ≡ behind_head rest.now (head_of first rest.now) }
+    ensures { head_data result ≡ after_head rest.now (head_of first rest.now) }
 {
     match first {
         b'*' => Head {

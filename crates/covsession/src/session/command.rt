@@ -2,9 +2,9 @@
 
 ghost use Rattle.std.specs.Prelude.{◌≡◌, ◌↔◌, ◌^◌, ◌<◌, [], ◌∷◌, ◌++◌, length, ◌≤◌, Err, IfOk, IfErr, IfSome, OnOk, OnErr, option_map};
 ghost use Rattle.covbook.specs.Op.{DropTestOp};
-ghost use Rattle.covbook.specs.Step.{answer_of, most_entries, next_entry, table_of, ops_in};
+ghost use Rattle.covbook.specs.Step.{answer_of, max_entries, next_entry, table_of, ops_in};
 ghost use Rattle.covbook.specs.View.{op_data};
-ghost use Rattle.covreport.specs.Choice.{most_pattern_bytes};
+ghost use Rattle.covreport.specs.Choice.{max_pattern_bytes};
 ghost use Rattle.covsession.specs.Command.{asked_by, pick_op, IsListOf};
 ghost use Rattle.covsession.specs.Session.{answer_text, text_after, Asks};
 ghost use Rattle.covsession.specs.Broken.{Breaks, FailsSaying};
@@ -37,7 +37,7 @@ pub fn step<O: Sink, A: Allocator + Copy>(
     ensures said { OnOk result (Says output.old output.new (answer_text (answer_of (table_of (ops_in book.old.entries)) (op_data op.now)))) }
     ensures asked { OnOk result (ops_in book.new.entries ≡ ops_in book.old.entries ++ op_data op.now ∷ []) }
     ensures entry { OnOk result (book.new.entries ≡ book.old.entries ++ next_entry book.old.entries 0 (op_data op.now) ∷ []) }
-    ensures full { (result ≡ Err session_faults.Full) ↔ (length book.old.entries ≡ most_entries) }
+    ensures full { (result ≡ Err session_faults.Full) ↔ (length book.old.entries ≡ max_entries) }
     ensures breaks { IfErr result (λ f. Breaks output.old output.new f (answer_text (answer_of (table_of (ops_in book.old.entries)) (op_data op.now)))) }
 {
     let receipt = book.step(alloc, SESSION_JOB, op)?;
@@ -52,7 +52,7 @@ fn patterns_of<A: Allocator + Copy>(
     ensures list { IfOk result (λ r. IsListOf (option_map (λ p. p.now) pattern.entry) r) }
     ensures fault { IfErr result (λ f. f ≡ session_faults.Memory) }
     // Memory runs out only while a pattern is copied, and so after the test of its length.
-    ensures short { OnErr result (IfSome pattern.entry (λ p. length p.now ≤ most_pattern_bytes)) }
+    ensures short { OnErr result (IfSome pattern.entry (λ p. length p.now ≤ max_pattern_bytes)) }
 {
     let mut patterns = Patterns::new(alloc);
     let Some(pattern) = pattern else {
@@ -93,7 +93,7 @@ pub fn answer_word<O: Sink, A: Allocator + Copy>(
     requires { output.old.failed_writes < 2 ^ 63 }
     ensures asks { OnOk result (Asks (asked_by word.entry) (ops_in book.old.entries) (ops_in book.new.entries)) }
     ensures says { OnOk result (Says output.old output.new (text_after (table_of (ops_in book.old.entries)) (asked_by word.entry))) }
-    ensures full { result ≡ Err session_faults.Full → length book.old.entries ≡ most_entries }
+    ensures full { result ≡ Err session_faults.Full → length book.old.entries ≡ max_entries }
     ensures fails { IfErr result (λ f. FailsSaying output.old output.new (ops_in book.old.entries) (asked_by word.entry) f) }
 {
     match word {

@@ -21,7 +21,7 @@ use std::marker::Model;
 const BLOCK_BYTES: usize = 65_536;
 
 /// The most reads that a session makes.
-const MOST_READS: u64 = 4_294_967_296;
+const MAX_READS: u64 = 4_294_967_296;
 
 /// Room for a block to read into.
 pub fn block<A: Allocator>(alloc: A) -> Result<Vec<u8, A>, SessionFault>
@@ -75,7 +75,7 @@ impl<'s, I: Source, A: Allocator> SessionInput<'s, I, A> {
             bytes: block,
             from: 0,
             to: 0,
-            reads_left: MOST_READS,
+            reads_left: MAX_READS,
             source,
         }
     }

@@ -13,7 +13,7 @@ use std::alloc::Allocator;
 use std::marker::Model;
 
 /// The most bytes that wait before they are written.
-const MOST_WAITING: usize = 65_536;
+const MAX_WAITING: usize = 65_536;
 
 /// Bytes that wait to be written, and the sink that they are written to. Contracts see both, how many bytes the sink
 /// holds back, and how many of its calls failed.
@@ -109,13 +109,13 @@ impl<'s, O: Sink, A: Allocator> Output<'s, O, A> {
         ensures write { IfErr result (λ f. f ≡ session_faults.Write) }
         ensures breaks { IfErr result (λ f. Breaks self.old self.new f bytes.now) }
     {
-        if bytes.len() >= MOST_WAITING {
+        if bytes.len() >= MAX_WAITING {
             return self.put_through(bytes);
         }
         if self.waiting.extend_from_slice(bytes).is_err() {
             return self.put_through(bytes);
         }
-        if self.waiting.len() > MOST_WAITING {
+        if self.waiting.len() > MAX_WAITING {
             return self.put_out();
         }
         Ok(())

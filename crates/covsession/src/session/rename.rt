@@ -2,12 +2,12 @@
 
 ghost use Rattle.std.specs.Prelude.{◌≡◌, ◌≢◌, ◌⊎◌, [], codes, length, Err, IfOk, IfErr};
 ghost use Rattle.covbook.specs.Op.{RenameOp};
-ghost use Rattle.covbook.specs.Step.{most_entries, ops_in};
+ghost use Rattle.covbook.specs.Step.{max_entries, ops_in};
 ghost use Rattle.covbook.specs.View.{op_data};
-ghost use Rattle.covsession.specs.Broken.{FailsBehind, FailsTaking, IsLinePart, IsPart};
+ghost use Rattle.covsession.specs.Broken.{FailsAfter, FailsTaking, IsLinePart, IsPart};
 ghost use Rattle.covsession.specs.Streams.{moment, CanCall};
 ghost use Rattle.covsession.specs.Rename.{HasNames, IsThere, TakesName, TakesNames};
-ghost use Rattle.covsession.specs.Run.{TakesBehind};
+ghost use Rattle.covsession.specs.Run.{TakesAfter};
 ghost use Rattle.covsession.specs.declared.session.fault.SessionFault.TheVariants as session_faults;
 
 use crate::session::command::step;
@@ -100,11 +100,11 @@ pub fn answer_rename<I: Source, O: Sink, A: Allocator + Copy>(
     output: &mut Output<'_, O, A>,
 ) -> Result<LineEnd, SessionFault>
     requires { CanCall (moment input.old output.old) }
-    ensures takes { IfOk result (λ ending. TakesBehind (λ line. line ≡ codes "rename")
+    ensures takes { IfOk result (λ ending. TakesAfter (λ line. line ≡ codes "rename")
         (moment input.old output.old) (moment input.new output.new) (ops_in book.old.entries) (ops_in book.new.entries) ending) }
-    ensures full { result ≡ Err session_faults.Full → length book.old.entries ≡ most_entries }
+    ensures full { result ≡ Err session_faults.Full → length book.old.entries ≡ max_entries }
     ensures fails { IfErr result (λ f. FailsTaking (IsPart HasNames) (moment input.old output.old) (moment input.new output.new) f
-        ⊎ FailsBehind (λ line. line ≡ codes "rename") (moment input.old output.old) (moment input.new output.new) (ops_in book.old.entries) f) }
+        ⊎ FailsAfter (λ line. line ≡ codes "rename") (moment input.old output.old) (moment input.new output.new) (ops_in book.old.entries) f) }
 {
     let Some(names) = take_names(alloc, input, output)? else {
         output.say(b"unfinished\n")?;

@@ -2,7 +2,7 @@
 
 ghost use Rattle.std.specs.Prelude.{◌≡◌, ◌≢◌, ◌⊎◌, ℕ, ◌^◌, ◌<◌, length, List, [], Result, Err, IfOk, IfErr, OnOk};
 ghost use Rattle.covline.specs.Row.{SubmissionData};
-ghost use Rattle.covbook.specs.Step.{most_entries, table_of, ops_in};
+ghost use Rattle.covbook.specs.Step.{max_entries, table_of, ops_in};
 ghost use Rattle.covread.specs.declared.fault.ReadFault.{ReadFault as Fault};
 ghost use Rattle.covread.specs.declared.fault.ReadFault.TheVariants as read_faults;
 ghost use Rattle.covread.specs.Outcome.{IsOrMemory};
@@ -18,22 +18,22 @@ use crate::session::command::{Format, step};
 use crate::session::fault::SessionFault;
 use crate::session::input::SessionInput;
 use crate::session::output::Output;
-use crate::session::text::{LineEnd, Taken, Text};
+use crate::session::text::{LineEnd, CollectedText, Text};
 use crate::stream::{Sink, Source};
 use covbook::{Book, Op, SubRef};
 use covline::Submission;
-use covread::{MOST_BYTES, ReadFault, read_gcov, read_trace};
+use covread::{MAX_BYTES, ReadFault, read_gcov, read_trace};
 use std::alloc::Allocator;
 
 /// The longest text whose room is kept for the next one.
-const MOST_KEPT_BYTES: usize = 8_388_608;
+const MAX_KEPT_BYTES: usize = 8_388_608;
 
 /// Takes the lines of a text, up to a line `.`, into this room. Returns what they are and how the last line ended.
 pub fn take_text<I: Source, O: Sink, A: Allocator>(
     room: Vec<u8, A>,
     input: &mut SessionInput<'_, I, A>,
     output: &mut Output<'_, O, A>,
-) -> Result<(Taken<A>, LineEnd), SessionFault>
+) -> Result<(CollectedText<A>, LineEnd), SessionFault>
     requires { CanCall (moment input.old output.old) }
     ensures taken { IfOk result (λ r. (pieces : List (List ℕ))
         × TakesPieces (moment input.old output.old) (moment input.new output.new) pieces r.1 []
@@ -41,7 +41,7 @@ pub fn take_text<I: Source, O: Sink, A: Allocator>(
     ensures fault { IfErr result (λ f. f ≢ session_faults.Full) }
     ensures fails { IfErr result (λ f. FailsTaking (IsPart IsBody) (moment input.old output.old) (moment input.new output.new) f) }
 {
-    let mut text = Text::in_room(room, MOST_BYTES);
+    let mut text = Text::in_room(room, MAX_BYTES);
     loop {
         input.take_lines(&mut text)?;
         let ending = input.take_line(&mut text, output)?;
@@ -50,7 +50,7 @@ pub fn take_text<I: Source, O: Sink, A: Allocator>(
         }
         match ending {
             LineEnd::Feed => text.next_line()?,
-            LineEnd::Input => return Ok((Taken::Unfinished, LineEnd::Input)),
+            LineEnd::Input => return Ok((CollectedText::Unfinished, LineEnd::Input)),
         }
     }
 }
@@ -107,7 +107,7 @@ fn submit<O: Sink, A: Allocator + Copy>(
     ensures told { OnOk result (IsToldAnswer read) }
     ensures asks { OnOk result (Asks (asked_for read) (ops_in book.old.entries) (ops_in book.new.entries)) }
     ensures says { OnOk result (Says output.old output.new (text_after (table_of (ops_in book.old.entries)) (asked_for read))) }
-    ensures full { result ≡ Err session_faults.Full → length book.old.entries ≡ most_entries }
+    ensures full { result ≡ Err session_faults.Full → length book.old.entries ≡ max_entries }
     ensures fails { IfErr result (λ f. (Breaks output.old output.new f [] × (f ≢ session_faults.Full))
         ⊎ (IsToldAnswer read × FailsSaying output.old output.new (ops_in book.old.entries) (asked_for read) f)) }
 {
@@ -129,13 +129,13 @@ pub struct Given<'a, A: Allocator> {
     /// The text's format.
     pub format: Format<'a>,
     /// What was taken.
-    pub taken: Taken<A>,
+    pub taken: CollectedText<A>,
 }
 
 /// Keeps the room of a text that was read, unless it is large: to touch a page for the first time costs more than to
 /// read what is on it.
 fn keep_room<A: Allocator>(room: &mut Vec<u8, A>, text: Vec<u8, A>) {
-    if text.len() <= MOST_KEPT_BYTES {
+    if text.len() <= MAX_KEPT_BYTES {
         *room = text;
     }
 }
@@ -152,17 +152,17 @@ pub fn answer_given<O: Sink, A: Allocator + Copy>(
     ensures answered { OnOk result ((commands : List Command) × IsAnsweredAs (format_of given.entry.format) given.entry.taken commands
         × Asks commands (ops_in book.old.entries) (ops_in book.new.entries)
         × Says output.old output.new (text_after (table_of (ops_in book.old.entries)) commands)) }
-    ensures full { result ≡ Err session_faults.Full → length book.old.entries ≡ most_entries }
+    ensures full { result ≡ Err session_faults.Full → length book.old.entries ≡ max_entries }
     ensures fails { IfErr result (λ f. FailsGiven (format_of given.entry.format) given.entry.taken output.old output.new (ops_in book.old.entries) f) }
 {
     let Given { format, taken } = given;
     match taken {
-        Taken::Whole(text) => {
+        CollectedText::Whole(text) => {
             let read = read_as(alloc, format, text.as_slice());
             keep_room(room, text);
             submit(alloc, book, read, output)
         }
-        Taken::TooLong => refuse(alloc, ReadFault::TooLong, output),
-        Taken::Unfinished => output.say(b"unfinished\n"),
+        CollectedText::TooLong => refuse(alloc, ReadFault::TooLong, output),
+        CollectedText::Unfinished => output.say(b"unfinished\n"),
     }
 }

@@ -2,7 +2,7 @@
 
 ghost use Rattle.std.specs.Prelude.{◌≡◌, ◌↔◌, ℕ, List, [], ◌∷◌, ◌++◌, take, IsTrue, IfErr, OnOk};
 ghost use Rattle.covline.specs.Lines.{line_feed};
-ghost use Rattle.covread.specs.Outcome.{most_bytes};
+ghost use Rattle.covread.specs.Outcome.{max_bytes};
 ghost use Rattle.covsession.specs.Text.{line_after, line_with, HasCollected, IsTextOf};
 ghost use Rattle.covsession.specs.declared.session.fault.SessionFault.TheVariants as session_faults;
 
@@ -68,7 +68,7 @@ pub fn with_bytes(so_far: LineSoFar, bytes: &[u8]) -> LineSoFar
 
 /// What was taken of a text.
 #[derive(Drop)]
-pub enum Taken<A: Allocator> {
+pub enum CollectedText<A: Allocator> {
     /// The whole text, up to its last line.
     Whole(Vec<u8, A>),
     /// It has more bytes than a text may have, and isn't kept.
@@ -193,8 +193,8 @@ impl<A: Allocator> Text<A> {
     }
 
     /// The text: all that comes before the line that was begun.
-    pub fn body(self) -> Taken<A>
-        requires { self.limit ≡ most_bytes }
+    pub fn body(self) -> CollectedText<A>
+        requires { self.limit ≡ max_bytes }
         ensures { (before : List ℕ) → (now : List ℕ) → HasCollected self before now → IsTextOf before result }
     {
         let Text {
@@ -204,10 +204,10 @@ impl<A: Allocator> Text<A> {
             ..
         } = self;
         if begins > limit as u64 {
-            return Taken::TooLong;
+            return CollectedText::TooLong;
         }
         let mut text = kept;
         text.truncate(begins as usize);
-        Taken::Whole(text)
+        CollectedText::Whole(text)
     }
 }

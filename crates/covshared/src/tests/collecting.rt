@@ -51,7 +51,7 @@ fn answered<R: Threads + Wait + Sync + AllocGlobal, G: Gate + Sync>(
 }
 
 /// What `jobs` jobs do collect of the inputs, with this last operation.
-fn collected_behind<R: Threads + Wait + Sync + AllocGlobal + Abort, G: Gate + Sync>(
+fn collected_after<R: Threads + Wait + Sync + AllocGlobal + Abort, G: Gate + Sync>(
     rt: &R,
     inputs: &[Input],
     last: &Op,
@@ -71,14 +71,14 @@ pub(super) fn collected_of<R: Threads + Wait + Sync + AllocGlobal + Abort, G: Ga
     jobs: u32,
     gate: &G,
 ) -> Collected {
-    collected_behind(rt, inputs, &Op::Report, jobs, gate)
+    collected_after(rt, inputs, &Op::Report, jobs, gate)
 }
 
 /// The last operation may rename what the inputs brought.
 fn rename_at_the_end<R: Threads + Wait + Sync + AllocGlobal + Abort>(rt: &R) -> Result<(), Fail> {
     let inputs = traces(rt.alloc(), &[SMALL])?;
     let last = op_of(rt, rt.alloc(), b"rename");
-    let collected = collected_behind(rt, inputs.as_slice(), &last, 1, &NoGate);
+    let collected = collected_after(rt, inputs.as_slice(), &last, 1, &NoGate);
     let wanted = b"0 submit: accepted 1 2 0 \n0 rename: renamed 1 \n";
     check_entries(rt, collected.entries.get(), wanted);
     Ok(())

@@ -11,7 +11,7 @@ use std::test::*;
 use std::thread::Threads;
 
 /// How often a flag is looked at until a worker gives up.
-const MOST_TURNS: u64 = 1_000_000_000;
+const MAX_TURNS: u64 = 1_000_000_000;
 
 /// A flag that goes up once.
 #[derive(Drop)]
@@ -36,7 +36,7 @@ impl Flag {
 
     /// Turns until the flag is up, or gives up.
     fn is_seen(&self) -> bool {
-        for _turn in 0..MOST_TURNS {
+        for _turn in 0..MAX_TURNS {
             if self.is_up() {
                 return true;
             }

@@ -27,14 +27,14 @@ pub(super) fn put_line(record: &TraceLine<'_>, text: &mut Bytes) -> Result<(), M
 
 /// The numbers of a first line that counts, its checksum (empty if there is none), and how many bytes follow it.
 pub(super) fn counted_first(text: &[u8]) -> Option<(u64, u64, &[u8], usize)> {
-    let first = covline::first_counted(text)?;
+    let first = covline::try_count_line(text)?;
     let checksum = first.checksum.unwrap_or(b"");
     Some((first.line, first.count, checksum, first.rest.len()))
 }
 
 /// What a first line says of a branch, and how many bytes follow it.
 pub(super) fn branch_first(text: &[u8]) -> Option<(BranchPoint, Option<u64>, usize)> {
-    let first = covline::first_branch(text)?;
+    let first = covline::try_branch_line(text)?;
     Some((first.point, first.taken, first.rest.len()))
 }
 

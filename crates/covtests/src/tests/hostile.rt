@@ -153,7 +153,7 @@ SF:/a.c
 DA:1,+x
 end_of_record
 > BadLine at 2
-= a letter behind nines",
+= a letter after nines",
     )
 }
 

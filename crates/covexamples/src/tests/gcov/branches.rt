@@ -111,25 +111,25 @@ fn no_branches(rt: HostRuntime) -> Result<(), Fail> {
         b"\
 branch 0 taken
 > accepted 1 items 1 odd 0
-= no space behind taken
+= no space after taken
 branch 0 taken\x20\x20
 > accepted 1 items 1 odd 0
-= no word behind taken
+= no word after taken
 branch 0 taken1
 > accepted 1 items 1 odd 0
-= a digit behind taken
+= a digit after taken
 branch 0 taken\t1
 > accepted 1 items 1 odd 0
-= a tab behind taken
+= a tab after taken
 branch 0 Taken 1
 > accepted 1 items 1 odd 0
 = a capital letter in taken
 branch 0 never executedly
 > accepted 1 items 1 odd 0
-= a letter behind executed
+= a letter after executed
 branch 0 never executed\t(BB 3)
 > accepted 1 items 1 odd 0
-= a tab behind executed
+= a tab after executed
 branch 0 never  executed
 > accepted 1 items 1 odd 0
 = two spaces in never executed
@@ -138,7 +138,7 @@ branch 0 never
 = the word never alone
 branch 0
 > accepted 1 items 1 odd 0
-= nothing behind the number
+= nothing after the number
 branch taken 1
 > accepted 1 items 1 odd 0
 = no number
@@ -147,7 +147,7 @@ branch x taken 1
 = a letter as number
 branch 0x taken 1
 > accepted 1 items 1 odd 0
-= a letter behind the number
+= a letter after the number
 branch -1 taken 1
 > accepted 1 items 1 odd 0
 = a number below 0
@@ -159,7 +159,7 @@ branch\t0 taken 1
 = a tab before the number
 branch 0\ttaken 1
 > accepted 1 items 1 odd 0
-= a tab behind the number
+= a tab after the number
  branch 0 taken x%
 > accepted 1 items 1 odd 0
 = a space before branch
@@ -168,13 +168,13 @@ Branch 0 taken x%
 = a capital letter in branch
 branches 0 taken x%
 > accepted 1 items 1 odd 0
-= letters behind branch
+= letters after branch
 unconditional  0 taken 3
 > accepted 1 items 1 odd 0
 = an unconditional branch
 branch 18446744073709551616 taken\x20
 > accepted 1 items 1 odd 0
-= no word behind a number that is too large
+= no word after a number that is too large
 branch:2:x
 > refused BadMark at 3
 = the word branch as a mark
@@ -203,7 +203,7 @@ branch 0 taken 99999999999999999999%
 = a percentage that is too large
 branch 18446744073709551616 taken 9%
 > refused Percent at 3
-= a percentage behind a number that is too large
+= a percentage after a number that is too large
 branch 0 taken %
 > refused BadMark at 3
 = a percent sign alone
@@ -221,7 +221,7 @@ branch 0 taken x%
 = a letter before a percent sign
 branch 0 taken 9%x
 > refused BadMark at 3
-= a letter behind a percent sign
+= a letter after a percent sign
 branch 0 taken 1.5k
 > refused BadMark at 3
 = a rounded count
@@ -245,7 +245,7 @@ branch 0 taken 1\r2
 = a carriage return belongs to the word
 branch 18446744073709551616 taken x
 > refused BadMark at 3
-= a word of another form behind a number that is too large
+= a word of another form after a number that is too large
 branch 18446744073709551616 taken 9
 > refused NumberTooLarge at 3
 = a number that is too large, of a branch with a count
@@ -464,7 +464,7 @@ branch 0 taken 1
 > LH:1
 > end_of_record
 > .
-= a source line, and other forms behind it
+= a source line, and other forms after it
 1:18446744073709551616-block 1
 > refused NumberTooLarge at 3
 > .

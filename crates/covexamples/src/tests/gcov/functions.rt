@@ -273,10 +273,10 @@ function f called 1.5k returned 100% blocks executed 100%
 = a rounded count
 function f called 1\treturned
 > accepted 1 items 1 odd 0
-= a tab behind the count
+= a tab after the count
 function f called 1\rreturned
 > accepted 1 items 1 odd 0
-= a carriage return behind the count
+= a carriage return after the count
 function f called -1
 > accepted 1 items 1 odd 0
 = a count below 0
@@ -288,10 +288,10 @@ function f called\x20
 = no count
 function f called
 > accepted 1 items 1 odd 0
-= no space behind called
+= no space after called
 function f called 1 called x
 > accepted 1 items 1 odd 0
-= no count behind the last called
+= no count after the last called
 function f Called 1
 > accepted 1 items 1 odd 0
 = a capital letter in called
@@ -300,10 +300,10 @@ function f Called 1
 = a space before function
 function\tf called 1
 > accepted 1 items 1 odd 0
-= a tab behind function
+= a tab after function
 functions f called 1
 > accepted 1 items 1 odd 0
-= a letter behind function
+= a letter after function
 function f called 18446744073709551616 times
 > refused NumberTooLarge at 3
 = a count that is too large

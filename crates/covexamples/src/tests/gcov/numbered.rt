@@ -20,7 +20,7 @@ x:00:Source:a.c
 > LH:1
 > end_of_record
 > .
-= the number 00 behind some mark
+= the number 00 after some mark
    \t%*:   00000000000000000000000:Source:a.c
 > accepted 1 items 1 odd 0
 > TN:t
@@ -88,10 +88,10 @@ fn no_paths(rt: HostRuntime) -> Result<(), Fail> {
 = a small letter
 -:0:Source
 > refused NoSource at 2
-= no colon behind the word
+= no colon after the word
 -:0:Sources:a.c
 > refused NoSource at 2
-= a letter behind the word
+= a letter after the word
 -:Source:a.c
 > refused NoSource at 2
 = no number
@@ -103,10 +103,10 @@ Source:a.c
 = no mark
 - :0:Source:a.c
 > refused NoSource at 2
-= a space behind the mark
+= a space after the mark
 -:0 :Source:a.c
 > refused NoSource at 2
-= a space behind the number
+= a space after the number
 -:\t0:Source:a.c
 > refused NoSource at 2
 = a tab before the number
@@ -125,7 +125,7 @@ Source:a.c
 -:0:Source:a.c
 -:0:Source:
 > refused NoSource at 2
-= an empty path behind another one
+= an empty path after another one
 -:1:Source:a.c
 > refused NoSource at 1
 = the number 1
@@ -134,7 +134,7 @@ Source:a.c
 = a number that is too large
 x:1:Source:a.c
 > refused BadMark at 1
-= the number 1 behind another mark
+= the number 1 after another mark
 ",
         b"1:1:x\n.\n",
     )
@@ -285,10 +285,10 @@ $$$$$:2:x
 = a tab before the count
 1\t:2:x
 > refused BadMark at 3
-= a tab behind the count
+= a tab after the count
 1\r:2:x
 > refused BadMark at 3
-= a carriage return behind the count
+= a carriage return after the count
 function f called 1
 x:2:y
 > refused BadMark at 4
@@ -343,13 +343,13 @@ unconditional  1 never executed
 = no mark
 1 :2:x
 > accepted 1 items 1 odd 0
-= a space behind the mark
+= a space after the mark
 1 2:3:x
 > accepted 1 items 1 odd 0
 = a space in the mark
 1;2:x
 > accepted 1 items 1 odd 0
-= a semicolon behind the mark
+= a semicolon after the mark
 1::x
 > accepted 1 items 1 odd 0
 = no number
@@ -367,16 +367,16 @@ unconditional  1 never executed
 = a tab before the number
 1:2x:y
 > accepted 1 items 1 odd 0
-= a letter behind the number
+= a letter after the number
 1:2 :x
 > accepted 1 items 1 odd 0
-= a space behind the number
+= a space after the number
 1:2
 > accepted 1 items 1 odd 0
-= nothing behind the number
+= nothing after the number
 x:99999999999999999999
 > accepted 1 items 1 odd 0
-= nothing behind a number that is too large
+= nothing after a number that is too large
 #####
 > accepted 1 items 1 odd 0
 = a mark alone

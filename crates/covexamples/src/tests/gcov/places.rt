@@ -20,7 +20,7 @@ fn no_source(rt: HostRuntime) -> Result<(), Fail> {
 -:0:Runs:1
 1:1:x
 > refused NoSource at 4
-= a source line behind others
+= a source line after others
 function f called 1
 1:1:x
 > refused NoSource at 2
@@ -64,7 +64,7 @@ branch 0 never executed
 -:0:Source:a.c
 branch 0 taken 1
 > refused Misplaced at 2
-= a branch behind a path
+= a branch after a path
 -:0:Source:a.c
 -:0:Runs:1
 1:1-block 0
@@ -72,13 +72,13 @@ call 0 returned 1
 
 branch 0 never executed
 > refused Misplaced at 6
-= a branch behind other lines
+= a branch after other lines
 -:0:Source:a.c
 1:1:x
 -:0:Source:b.c
 branch 0 taken 1
 > refused Misplaced at 4
-= a branch behind the next path
+= a branch after the next path
 -:0:Source:a.c
 function f called 1
 branch 0 taken 1
@@ -119,7 +119,7 @@ function f called 1
 -:0:Source:a.c
 function f called 1
 > refused LostFunction
-= a function behind a path
+= a function after a path
 -:0:Source:a.c
 1:1:x
 function f called 1
@@ -128,7 +128,7 @@ function f called 1
 branch 0 taken 1
 call 0 returned 1
 > refused LostFunction
-= a function behind the last source line
+= a function after the last source line
 function f called 1
 -:0:Source:a.c
 1:1:x
@@ -152,7 +152,7 @@ function f called 1
 -:0:Source:b.c
 1.5k:1:x
 > refused LostFunction
-= nothing behind a lost function is read
+= nothing after a lost function is read
 -:0:Source:a.c
 1:1:x
 function f called 1
@@ -189,7 +189,7 @@ branch 0 taken 1%
 branch 0 taken 1
 2:18446744073709551616:x
 > refused Misplaced at 4
-= a branch behind a path, then a number that is too large
+= a branch after a path, then a number that is too large
 2:2:y
 \r
 

@@ -4,7 +4,7 @@ use Rattle.covjobs.specs.Collect.{HasTaken}
 use Rattle.covjobs.specs.InputView.{input_data}
 use Rattle.covlock.specs.Seat.{SeatData}
 use Rattle.covjobs.specs.declared.input.Input.{Input}
-use Rattle.covjobs.proofs.ReadBehind.{none_read}
+use Rattle.covjobs.proofs.ReadAfter.{none_read}
 use Rattle.covjobs.proofs.Taken.{none_taken, step_taken, step_past}
 use Rattle.covjobs.proofs.worker.work.Goals.{then-is_of_job+in_ok-take, else-is_of_job}
 use Rattle.covjobs.proofs.worker.work.Goals as goal

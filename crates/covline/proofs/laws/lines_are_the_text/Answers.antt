@@ -1,4 +1,4 @@
-use Rattle.covline.proofs.LineLaws.{joined_again, good_lines, good_rest, few_lines, few_bytes, only_returns_off, one_behind_other, made_of_lines}
+use Rattle.covline.proofs.LineLaws.{joined_again, good_lines, good_rest, few_lines, few_bytes, only_returns_off, one_after_other, made_of_lines}
 use Rattle.covline.proofs.laws.lines_are_the_text.Goals as goal
 
 pub returns : goal.returns
@@ -9,6 +9,6 @@ returns c = record {
   few_lines = few_lines;
   few_bytes = few_bytes;
   only_returns_off = only_returns_off;
-  one_behind_other = one_behind_other;
+  one_after_other = one_after_other;
   made_of_lines = made_of_lines;
 }

@@ -2,15 +2,15 @@ use Rattle.std.proofs.Common.{◌≡◌, [], ◌∙◌, subst, List, ℕ, codes}
 use Rattle.covline.specs.Lines.{strip}
 use Rattle.covbook.specs.Step.{ops_in}
 use Rattle.covsession.specs.Command.{Announces, IsBody, IsWord, format_of}
-use Rattle.covsession.specs.Run.{TakesBehind}
+use Rattle.covsession.specs.Run.{TakesAfter}
 use Rattle.covsession.specs.Streams.{moment}
 use Rattle.covsession.specs.declared.session.command.word.Word.{Word}
 use Rattle.covsession.proofs.SessionRename.{names_last}
-use Rattle.covsession.proofs.SessionSteps.{line_command, says_on, taken_run, behind_command}
+use Rattle.covsession.proofs.SessionSteps.{line_command, says_on, taken_run, after_command}
 use Rattle.std.proofs.Common.{inl, inr, refl}
 use Rattle.std.proofs.lemmas.Result.{err_from_is_err_and}
 use Rattle.covsession.specs.Rename.{HasNames}
-use Rattle.covsession.proofs.SessionBroken.{either_with_line, fails_behind_line, fails_in_line, fails_line, given_fails}
+use Rattle.covsession.proofs.SessionBroken.{either_with_line, fails_after_line, fails_in_line, fails_line, given_fails}
 use Rattle.covsession.proofs.SessionOpen.{open_rename, open_text}
 use Rattle.covsession.proofs.session.answer_command.Goals as goal
 
@@ -29,14 +29,14 @@ returns-in-Some-clause-takes g c =
     let format = format_of c.in-Some.format in
     let s = c.in_ok-taken.ensures.taken in
     let a = c.in_ok-answer_given.ensures.answered in
-    let text : TakesBehind (λ line. Announces format line) n p (ops_in c.args.book.now.entries) (ops_in c.answer_given.new.book.entries) c.in_ok-taken.ended = record {
+    let text : TakesAfter (λ line. Announces format line) n p (ops_in c.args.book.now.entries) (ops_in c.answer_given.new.book.entries) c.in_ok-taken.ended = record {
       pieces = s.0;
       commands = a.0;
       taken = says_on n o c.answer_given.new.output s.0 c.in_ok-taken.ended _ s.1 a.3;
       asks = a.2;
       run = taken_run format c.in_ok-taken.taken s.0 c.in_ok-taken.ended a.0 s.2 a.1;
     } in
-    behind_command (λ line. Announces format line) m n p t.0 c.in_ok-taken.ended c.in_ok-ending.ending (ops_in c.args.book.now.entries) (ops_in c.answer_given.new.book.entries)
+    after_command (λ line. Announces format line) m n p t.0 c.in_ok-taken.ended c.in_ok-ending.ending (ops_in c.args.book.now.entries) (ops_in c.answer_given.new.book.entries)
     t.1 follows.1 (subst Q follows.0 word) text
 
 pub returns-clause-takes : goal.returns-clause-takes
@@ -49,11 +49,11 @@ returns-clause-takes g c =
     let word : IsWord (strip t.0) c.word_of-word.result = subst P same c.word_of-word.ensures in
     line_command m n c.answer_word.new.output t.0 c.in_ok-ending.ending c.word_of-word.result
     (ops_in c.args.book.now.entries) (ops_in c.answer_word.new.book.entries)
-    t.1 word (record { text = c.in_default.ensures.no_text; names = names_last _ _ _ c.names_behind.ensures c.if-names_behind.false })
+    t.1 word (record { text = c.in_default.ensures.no_text; names = names_last _ _ _ c.names_after.ensures c.if-names_after.false })
     c.in_ok-answer_word.ensures.asks c.in_ok-answer_word.ensures.says
 
-pub returns-then-names_behind-clause-takes : goal.returns-then-names_behind-clause-takes
-returns-then-names_behind-clause-takes g c =
+pub returns-then-names_after-clause-takes : goal.returns-then-names_after-clause-takes
+returns-then-names_after-clause-takes g c =
     let m = moment c.args.input.now c.args.output.now in
     let n = moment c.take_line.new.self c.take_line.new.output in
     let o = moment c.answer_rename.new.input c.answer_rename.new.output in
@@ -61,9 +61,9 @@ returns-then-names_behind-clause-takes g c =
     let same : c.whole.result.now ≡ t.0 = c.whole.ensures [] t.0 (c.in_ok-ending.ensures.limit ∙ c.new-line.ensures.limit) (t.2 [] [] c.new-line.ensures.empty) in
     let P : List ℕ → Type 0 = λ u. IsWord (strip u) c.word_of-word.result in
     let word : IsWord (strip t.0) c.word_of-word.result = subst P same c.word_of-word.ensures in
-    let follows = c.names_behind.ensures.0 c.if-names_behind.true in
+    let follows = c.names_after.ensures.0 c.if-names_after.true in
     let Q : Word → Type 0 = λ u. IsWord (strip t.0) u in
-    behind_command (λ line. line ≡ codes "rename") m n o t.0 c.in_ok-ended.ended c.in_ok-ending.ending (ops_in c.args.book.now.entries) (ops_in c.answer_rename.new.book.entries)
+    after_command (λ line. line ≡ codes "rename") m n o t.0 c.in_ok-ended.ended c.in_ok-ending.ending (ops_in c.args.book.now.entries) (ops_in c.answer_rename.new.book.entries)
     t.1 follows.1 (subst Q follows.0 word) c.in_ok-ended.ensures.takes
 
 pub returns-in_err-taken-clause-fails : goal.returns-in_err-taken-clause-fails
@@ -79,7 +79,7 @@ returns-in_err-taken-clause-fails g c =
     let follows = c.in-Some.ensures.text in
     let format = format_of c.in-Some.format in
     let p = err_from_is_err_and c.from_residual-in_err-taken.result c.from_residual-in_err-taken.ensures.1 in
-    rw (p.1, p.2) (inl (fails_behind_line (λ line. Announces format line) IsBody m n o t.0 c.in_ok-ending.ending c.in_err-taken.field-0.0 t.1 follows.1 (subst Q follows.0 word)
+    rw (p.1, p.2) (inl (fails_after_line (λ line. Announces format line) IsBody m n o t.0 c.in_ok-ending.ending c.in_err-taken.field-0.0 t.1 follows.1 (subst Q follows.0 word)
     (λ first pieces is part. open_text format first pieces is part) c.in_err-taken.ensures.fails))
 
 pub returns-in_err-ending-clause-fails : goal.returns-in_err-ending-clause-fails
@@ -119,7 +119,7 @@ returns-in_err-ended-clause-fails g c =
     let Q : Word → Type 0 = λ u. IsWord (strip t.0) u in
     let before = ops_in c.args.book.now.entries in
     let o = moment c.answer_rename.new.input c.answer_rename.new.output in
-    let follows = c.names_behind.ensures.0 c.if-names_behind.true in
+    let follows = c.names_after.ensures.0 c.if-names_after.true in
     let p = err_from_is_err_and c.from_residual-in_err-ended.result c.from_residual-in_err-ended.ensures.1 in
     rw (p.1, p.2) (either_with_line (λ line. line ≡ codes "rename") HasNames m n o t.0 c.in_ok-ending.ending before c.in_err-ended.field-0.0
     t.1 follows.1 (subst Q follows.0 word) (λ first pieces is part. open_rename first pieces is part) c.in_err-ended.ensures.fails)
@@ -137,4 +137,4 @@ returns-in_err-answer_word-clause-fails g c =
     let o = moment c.take_line.new.self c.answer_word.new.output in
     let p = err_from_is_err_and c.from_residual-in_err-answer_word.result c.from_residual-in_err-answer_word.ensures.1 in
     rw (p.1, p.2) (inr (fails_line m n o t.0 c.in_ok-ending.ending c.word_of-word.result before c.in_err-answer_word.field-0.0
-    t.1 word (record { text = c.in_default.ensures.no_text; names = names_last _ _ _ c.names_behind.ensures c.if-names_behind.false }) refl c.in_err-answer_word.ensures.fails))
+    t.1 word (record { text = c.in_default.ensures.no_text; names = names_last _ _ _ c.names_after.ensures c.if-names_after.false }) refl c.in_err-answer_word.ensures.fails))

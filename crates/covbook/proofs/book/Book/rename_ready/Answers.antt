@@ -6,8 +6,8 @@ use Rattle.covbook.specs.Step.{has_test, ops_in, table_of}
 use Rattle.covbook.proofs.Halves.{renamed_next, renaming_planned}
 use Rattle.covbook.proofs.book.Book.rename_ready.Goals as goal
 
-pub changing-requires-clause-next : goal.changing-requires-clause-next
-changing-requires-clause-next g c =
+pub ready_to_change-requires-clause-next : goal.ready_to_change-requires-clause-next
+ready_to_change-requires-clause-next g c =
     let entries = c.self.inside.history.entries in
     let table = table_of (ops_in entries) in
     let old = c.in_ok-copy.field-0 in
@@ -19,8 +19,8 @@ changing-requires-clause-next g c =
     renamed_next entries c.args.job old new (RenamedAnswer c.sections.result) c.totals.result there (ap RenamedAnswer sections)
     (c.totals.ensures.value ∙ ap totals_of content ∙ sym (c.renaming_keeps_totals.ensures.totals old new table))
 
-pub changing-requires-clause-planned : goal.changing-requires-clause-planned
-changing-requires-clause-planned g c =
+pub ready_to_change-requires-clause-planned : goal.ready_to_change-requires-clause-planned
+ready_to_change-requires-clause-planned g c =
     let table = table_of (ops_in c.self.inside.history.entries) in
     let there = ap (has_test table) (c.in_ok-copy.ensures ∙ sym c.get.ensures) ∙ sym (c.if-not-has_test.ensures.rows table c.self.invariant.stands) in
     renaming_planned c.prepare_rename.new.self table c.get-2.result.now c.get-3.result.now c.in_ok-copy.field-0 c.in_ok-copy-2.field-0 c.in_ok-renaming.renaming there

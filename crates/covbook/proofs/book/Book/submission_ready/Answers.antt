@@ -17,8 +17,8 @@ invariant_of-self-in-Err g c = kept_book c.self.inside.store c.prepare.new.self 
 pub invariant_of-self-in_err-answer-in-Err : goal.invariant_of-self-in_err-answer-in-Err
 invariant_of-self-in_err-answer-in-Err g c = kept_book c.self.inside.store c.prepare.new.self c.self.inside.accepted c.self.inside.history.entries c.self.invariant c.prepare.ensures.content
 
-pub changing-requires-clause-next : goal.changing-requires-clause-next
-changing-requires-clause-next g c =
+pub ready_to_change-requires-clause-next : goal.ready_to_change-requires-clause-next
+ready_to_change-requires-clause-next g c =
     let book = c.self.inside in
     let own = c.in_ok-copy.field-0 in
     let given = c.get-given.result.now in
@@ -27,14 +27,14 @@ changing-requires-clause-next g c =
     let after = c.in-Ok.ensures.after table c.self.invariant.stands ∙ ap totals_at (sym (table_with book.store table own given c.self.invariant.stands c.in-Ok.ensures.agrees same)) in
     let number = length table + 1 in
     let answer =
-    c.accepting-answer.ensures
+    c.accepted_answer-answer.ensures
     ∙ ap (λ (n : ℕ). AcceptedAnswer number n c.odd.result) c.items-items.ensures.count
     ∙ ap (λ (n : ℕ). AcceptedAnswer number (items_in given.sects) n) c.odd.ensures
     ∙ answer_with book.store table own given c.self.invariant.stands c.in-Ok.ensures.agrees same in
-    next_with book.history.entries c.args.job (SubmitOp own) (answer_data c.accepting-answer.result) c.after-after.result answer (c.after-after.ensures.value ∙ after)
+    next_with book.history.entries c.args.job (SubmitOp own) (answer_data c.accepted_answer-answer.result) c.after-after.result answer (c.after-after.ensures.value ∙ after)
 
-pub changing-requires-clause-lawful : goal.changing-requires-clause-lawful
-changing-requires-clause-lawful g c = subst IsLawful (c.get-given.ensures ∙ sym c.in_ok-copy.ensures) c.items-items.ensures.lawful
+pub ready_to_change-requires-clause-lawful : goal.ready_to_change-requires-clause-lawful
+ready_to_change-requires-clause-lawful g c = subst IsLawful (c.get-given.ensures ∙ sym c.in_ok-copy.ensures) c.items-items.ensures.lawful
 
-pub noting-requires-clause-lawful : goal.noting-requires-clause-lawful
-noting-requires-clause-lawful g c = subst IsLawful (c.get-given.ensures ∙ sym c.in_ok-copy.ensures) c.items-items.ensures.lawful
+pub ready_to_note-requires-clause-lawful : goal.ready_to_note-requires-clause-lawful
+ready_to_note-requires-clause-lawful g c = subst IsLawful (c.get-given.ensures ∙ sym c.in_ok-copy.ensures) c.items-items.ensures.lawful

@@ -1,7 +1,7 @@
 use Rattle.std.proofs.Common.{◌∙◌, List, ap}
 use Rattle.covbook.specs.Op.{ReceiptData, SubmitOp}
 use Rattle.covjobs.specs.Collect.{ops_in}
-use Rattle.covjobs.proofs.ReadBehind.{submitted_read}
+use Rattle.covjobs.proofs.ReadAfter.{submitted_read}
 use Rattle.covjobs.proofs.Submitted.{asked_more}
 use Rattle.covjobs.proofs.worker.Worker.submit.Goals as goal
 

@@ -10,7 +10,7 @@ pub returns-in_ok-push-in-Err-clause-taken : goal.returns-in_ok-push-in-Err-clau
 returns-in_ok-push-in-Err-clause-taken g c =
     let told : RefusedInput = record { index = c.args.index; fault = c.in-Err.fault } in
     record {
-      fate = Err c.in-Err.fault;
+      outcome = Err c.in-Err.fault;
       is_fate = c.in-Err.ensures;
       submits = ap (λ (w : WorkerData). ops_in w.receipts) c.self.view_is ∙ sym (append-nil (ops_in c.args.self.now.receipts));
       tells = c.in_ok-push-in-Err.ensures.ok ∙ ap (λ (w : WorkerData). w.refused ++ told ∷ []) c.self.view_is;

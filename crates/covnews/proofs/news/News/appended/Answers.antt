@@ -12,7 +12,7 @@ compare_exchange-found-requires g c =
     let again = c.again-seen.ensures in
     let offer = c.plain-offer.ensures in
     let pen = c.no_pen-pen.ensures in
-    let history = c.self.inside.mark.seen.log in
+    let history = c.self.inside.snapshot.seen.log in
     let entry = entry_data c.args.entry.now in
     let next : ComesNext history entry = rw c.self.view_is c.requires.next in
     let book = ap (λ s. s.book) again ∙ (c.self.invariant.0 ∙ sym (ap (λ w. w.book) is)) in (
@@ -20,24 +20,24 @@ compare_exchange-found-requires g c =
       book,
       pen.0 ∙ book,
       offer.0,
-      rw (ap (λ w. w.key) is, pen.1, offer.1, offer.3, again) (may_append history entry c.self.inside.mark.upto (sym c.self.inside.mark.describes.upto) next),
+      rw (ap (λ w. w.key) is, pen.1, offer.1, offer.3, again) (may_append history entry c.self.inside.snapshot.upto (sym c.self.inside.snapshot.describes.upto) next),
     )
 
-pub invariant_of-mark : goal.invariant_of-mark
-invariant_of-mark g c =
-    let before = c.self.inside.mark.seen.log in
+pub invariant_of-snapshot : goal.invariant_of-snapshot
+invariant_of-snapshot g c =
+    let before = c.self.inside.snapshot.seen.log in
     let entry = entry_data c.args.entry.now in
     let after = c.compare_exchange-found.new.seen.log in
     let grown : after ≡ before ++ entry ∷ [] = search rules in record {
       describes = record {
-        upto = omega (arith, ap (λ (es : List EntryData). length es) grown, length-append before (entry ∷ []), c.self.inside.mark.describes.upto);
+        upto = omega (arith, ap (λ (es : List EntryData). length es) grown, length-append before (entry ∷ []), c.self.inside.snapshot.describes.upto);
         totals = sym (ap last_totals grown ∙ last_totals-next before entry);
       };
     }
 
 pub invariant_of-result : goal.invariant_of-result
 invariant_of-result g c =
-    let before = c.self.inside.mark.seen.log in
+    let before = c.self.inside.snapshot.seen.log in
     let entry = entry_data c.args.entry.now in
     let after = c.compare_exchange-found.new.seen.log in
     let grown : after ≡ before ++ entry ∷ [] = search rules in

@@ -4,7 +4,7 @@ use Rattle.covread.proofs.trace.read.take_first.Goals as goal
 
 pub returns-in_err-take_branch : goal.returns-in_err-take_branch
 returns-in_err-take_branch g c =
-    let says = c.in-Some-first_branch.ensures.says in
+    let says = c.in-Some-try_branch_line.ensures.says in
     let p = err_from_is_err_and c.from_residual-in_err-take_branch.result c.from_residual-in_err-take_branch.ensures.1 in
     rw (p.1, p.2)
-    (says.line, c.in-Some-first_branch.first.rest.now, says.cut, tt, λ inside is. stopped _ _ _ _ _ _ c.in_err-take_branch.was (c.take_branch.ensures says.line says.spells inside is))
+    (says.line, c.in-Some-try_branch_line.first.rest.now, says.cut, tt, λ inside is. stopped _ _ _ _ _ _ c.in_err-take_branch.was (c.take_branch.ensures says.line says.spells inside is))

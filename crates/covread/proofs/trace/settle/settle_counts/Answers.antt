@@ -1,6 +1,6 @@
 use Rattle.std.proofs.Common.{◌≤◌, List, [], false, length, map, take, refl, ap, sym, subst, ◌∙◌, arith}
 use Rattle.std.proofs.lemmas.List.{take_all, take_more, map_push}
-use Rattle.covread.specs.declared.trace.section.Waiting.{Waiting}
+use Rattle.covread.specs.declared.trace.section.PendingCount.{PendingCount}
 use Rattle.covread.specs.TraceFunctions.{AreFunctions}
 use Rattle.covread.specs.TraceSection.{Mark, mark}
 use Rattle.covread.specs.TraceSettle.{IsSettled, names_in}
@@ -35,9 +35,9 @@ loop-count-preserved g c =
 pub returns-clause-counts : goal.returns-clause-counts
 returns-clause-counts g c = λ starts k.
     let end : length c.args.waiting.now ≤ c.loop-count.count-index = omega arith in
-    subst (λ (ws : List Waiting). IsSettled starts (map mark ws) c.loop-count.counts.hit c.loop-count.counts.unstarted.items c.args.items.now c.loop-count.items) (take_all c.loop-count.count-index c.args.waiting.now end) (c.loop-count.invariant.settled starts k)
+    subst (λ (ws : List PendingCount). IsSettled starts (map mark ws) c.loop-count.counts.hit c.loop-count.counts.unstarted.items c.args.items.now c.loop-count.items) (take_all c.loop-count.count-index c.args.waiting.now end) (c.loop-count.invariant.settled starts k)
 
 pub returns-clause-functions : goal.returns-clause-functions
 returns-clause-functions g c = λ starts k.
     let end : length c.args.waiting.now ≤ c.loop-count.count-index = omega arith in
-    subst (λ (ws : List Waiting). AreFunctions c.loop-count.functions starts (names_in starts (map mark ws))) (take_all c.loop-count.count-index c.args.waiting.now end) (c.loop-count.invariant.marked starts k)
+    subst (λ (ws : List PendingCount). AreFunctions c.loop-count.functions starts (names_in starts (map mark ws))) (take_all c.loop-count.count-index c.args.waiting.now end) (c.loop-count.invariant.marked starts k)

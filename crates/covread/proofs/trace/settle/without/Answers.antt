@@ -4,7 +4,7 @@ use Rattle.covline.specs.Row.{ItemData, item_data}
 use Rattle.covread.specs.TraceSettle.{left}
 use Rattle.covread.proofs.TraceSection.{left_first, left_other, left_none, empty_stays}
 use Rattle.covread.proofs.trace.settle.without.Goals as goal
-use Rattle.covread.proofs.trace.settle.without.Goals.{in-Some-behind, in-None-behind+in_ok-push-in-None-behind}
+use Rattle.covread.proofs.trace.settle.without.Goals.{in-Some-skip_place, in-None-skip_place+in_ok-push-in-None-skip_place}
 
 pub returns-then-is_empty : goal.returns-then-is_empty
 returns-then-is_empty g c = sym (empty_stays c.args.items c.args.places.now c.is_empty.result c.if-is_empty.true c.is_empty.ensures)
@@ -30,8 +30,8 @@ returns g c =
     let none = nil_from_length c.loop-item.item-iterator.rest.items (omega (arith, c.in-None.ensures.steps.0, c.loop-item.item-iterator.rest.ok.0)) in
     sym (c.loop-item.invariant.same ∙ ap (λ (x : List ItemData). c.loop-item.left ++ x) (left_none c.loop-item.at c.loop-item.places.now (view c.loop-item.item-iterator.rest.items) (ap view none)) ∙ append-nil c.loop-item.left)
 
-pub loop-item-preserved-after-behind : goal.loop-item-preserved-after-behind
-loop-item-preserved-after-behind g c =
+pub loop-item-preserved-after-skip_place : goal.loop-item-preserved-after-skip_place
+loop-item-preserved-after-skip_place g c =
     let view = map (item_data {A = g.row.A.Denot}) in
     let old = c.loop-item.left in
     let at = c.loop-item.at in
@@ -40,17 +40,17 @@ loop-item-preserved-after-behind g c =
     let item = item_data {A = g.row.A.Denot} c.in-Some.item in
     let so_far = c.loop-item.invariant.same ∙ ap (λ (x : List ItemData). old ++ left at places x) (ap view c.in-Some.ensures.steps.0) in
     record {
-      same = elim c.match-behind.branch [
-        | in-Some-behind w ↦ rw (w.left-is, w.places-is) (so_far ∙ ap (λ (x : List ItemData). old ++ x) (left_first at places _ item rest w.in-Some-behind.ensures))
-        | in-None-behind+in_ok-push-in-None-behind w ↦ rw (w.left-is, w.places-is)
-            (so_far ∙ ap (λ (x : List ItemData). old ++ x) (left_other at places item rest w.in-None-behind.ensures) ∙ sym (append_assoc old (item ∷ []) (left (at + 1) places rest))
-            ∙ ap (λ (x : List ItemData). x ++ left (at + 1) places rest) (sym w.in_ok-push-in-None-behind.ensures.ok))
+      same = elim c.match-skip_place.branch [
+        | in-Some-skip_place w ↦ rw (w.left-is, w.places-is) (so_far ∙ ap (λ (x : List ItemData). old ++ x) (left_first at places _ item rest w.in-Some-skip_place.ensures))
+        | in-None-skip_place+in_ok-push-in-None-skip_place w ↦ rw (w.left-is, w.places-is)
+            (so_far ∙ ap (λ (x : List ItemData). old ++ x) (left_other at places item rest w.in-None-skip_place.ensures) ∙ sym (append_assoc old (item ∷ []) (left (at + 1) places rest))
+            ∙ ap (λ (x : List ItemData). x ++ left (at + 1) places rest) (sym w.in_ok-push-in-None-skip_place.ensures.ok))
       ];
       bound = omega (arith, c.loop-item.invariant.bound, c.in-Some.ensures.steps.1);
     }
 
-pub loop-item-preserved-after-behind-2 : goal.loop-item-preserved-after-behind-2
-loop-item-preserved-after-behind-2 g c =
+pub loop-item-preserved-after-skip_place-2 : goal.loop-item-preserved-after-skip_place-2
+loop-item-preserved-after-skip_place-2 g c =
     let view = map (item_data {A = g.row.A.Denot}) in
     let old = c.loop-item.left in
     let at = c.loop-item.at in
@@ -59,17 +59,17 @@ loop-item-preserved-after-behind-2 g c =
     let item = item_data {A = g.row.A.Denot} c.in-Some.item in
     let so_far = c.loop-item.invariant.same ∙ ap (λ (x : List ItemData). old ++ left at places x) (ap view c.in-Some.ensures.steps.0) in
     record {
-      same = elim c.match-behind.branch [
-        | in-Some-behind w ↦ rw (w.left-is, w.places-is) (so_far ∙ ap (λ (x : List ItemData). old ++ x) (left_first at places _ item rest w.in-Some-behind.ensures))
-        | in-None-behind+in_ok-push-in-None-behind w ↦ rw (w.left-is, w.places-is)
-            (so_far ∙ ap (λ (x : List ItemData). old ++ x) (left_other at places item rest w.in-None-behind.ensures) ∙ sym (append_assoc old (item ∷ []) (left (at + 1) places rest))
-            ∙ ap (λ (x : List ItemData). x ++ left (at + 1) places rest) (sym w.in_ok-push-in-None-behind.ensures.ok))
+      same = elim c.match-skip_place.branch [
+        | in-Some-skip_place w ↦ rw (w.left-is, w.places-is) (so_far ∙ ap (λ (x : List ItemData). old ++ x) (left_first at places _ item rest w.in-Some-skip_place.ensures))
+        | in-None-skip_place+in_ok-push-in-None-skip_place w ↦ rw (w.left-is, w.places-is)
+            (so_far ∙ ap (λ (x : List ItemData). old ++ x) (left_other at places item rest w.in-None-skip_place.ensures) ∙ sym (append_assoc old (item ∷ []) (left (at + 1) places rest))
+            ∙ ap (λ (x : List ItemData). x ++ left (at + 1) places rest) (sym w.in_ok-push-in-None-skip_place.ensures.ok))
       ];
       bound = omega (arith, c.loop-item.invariant.bound, c.in-Some.ensures.steps.1);
     }
 
-pub loop-item-preserved-after-behind-3 : goal.loop-item-preserved-after-behind-3
-loop-item-preserved-after-behind-3 g c =
+pub loop-item-preserved-after-skip_place-3 : goal.loop-item-preserved-after-skip_place-3
+loop-item-preserved-after-skip_place-3 g c =
     let view = map (item_data {A = g.row.A.Denot}) in
     let old = c.loop-item.left in
     let at = c.loop-item.at in
@@ -78,17 +78,17 @@ loop-item-preserved-after-behind-3 g c =
     let item = item_data {A = g.row.A.Denot} c.in-Some.item in
     let so_far = c.loop-item.invariant.same ∙ ap (λ (x : List ItemData). old ++ left at places x) (ap view c.in-Some.ensures.steps.0) in
     record {
-      same = elim c.match-behind.branch [
-        | in-Some-behind w ↦ rw (w.left-is, w.places-is) (so_far ∙ ap (λ (x : List ItemData). old ++ x) (left_first at places _ item rest w.in-Some-behind.ensures))
-        | in-None-behind+in_ok-push-in-None-behind w ↦ rw (w.left-is, w.places-is)
-            (so_far ∙ ap (λ (x : List ItemData). old ++ x) (left_other at places item rest w.in-None-behind.ensures) ∙ sym (append_assoc old (item ∷ []) (left (at + 1) places rest))
-            ∙ ap (λ (x : List ItemData). x ++ left (at + 1) places rest) (sym w.in_ok-push-in-None-behind.ensures.ok))
+      same = elim c.match-skip_place.branch [
+        | in-Some-skip_place w ↦ rw (w.left-is, w.places-is) (so_far ∙ ap (λ (x : List ItemData). old ++ x) (left_first at places _ item rest w.in-Some-skip_place.ensures))
+        | in-None-skip_place+in_ok-push-in-None-skip_place w ↦ rw (w.left-is, w.places-is)
+            (so_far ∙ ap (λ (x : List ItemData). old ++ x) (left_other at places item rest w.in-None-skip_place.ensures) ∙ sym (append_assoc old (item ∷ []) (left (at + 1) places rest))
+            ∙ ap (λ (x : List ItemData). x ++ left (at + 1) places rest) (sym w.in_ok-push-in-None-skip_place.ensures.ok))
       ];
       bound = omega (arith, c.loop-item.invariant.bound, c.in-Some.ensures.steps.1);
     }
 
-pub loop-item-preserved-after-behind-4 : goal.loop-item-preserved-after-behind-4
-loop-item-preserved-after-behind-4 g c =
+pub loop-item-preserved-after-skip_place-4 : goal.loop-item-preserved-after-skip_place-4
+loop-item-preserved-after-skip_place-4 g c =
     let view = map (item_data {A = g.row.A.Denot}) in
     let old = c.loop-item.left in
     let at = c.loop-item.at in
@@ -97,11 +97,11 @@ loop-item-preserved-after-behind-4 g c =
     let item = item_data {A = g.row.A.Denot} c.in-Some.item in
     let so_far = c.loop-item.invariant.same ∙ ap (λ (x : List ItemData). old ++ left at places x) (ap view c.in-Some.ensures.steps.0) in
     record {
-      same = elim c.match-behind.branch [
-        | in-Some-behind w ↦ rw (w.left-is, w.places-is) (so_far ∙ ap (λ (x : List ItemData). old ++ x) (left_first at places _ item rest w.in-Some-behind.ensures))
-        | in-None-behind+in_ok-push-in-None-behind w ↦ rw (w.left-is, w.places-is)
-            (so_far ∙ ap (λ (x : List ItemData). old ++ x) (left_other at places item rest w.in-None-behind.ensures) ∙ sym (append_assoc old (item ∷ []) (left (at + 1) places rest))
-            ∙ ap (λ (x : List ItemData). x ++ left (at + 1) places rest) (sym w.in_ok-push-in-None-behind.ensures.ok))
+      same = elim c.match-skip_place.branch [
+        | in-Some-skip_place w ↦ rw (w.left-is, w.places-is) (so_far ∙ ap (λ (x : List ItemData). old ++ x) (left_first at places _ item rest w.in-Some-skip_place.ensures))
+        | in-None-skip_place+in_ok-push-in-None-skip_place w ↦ rw (w.left-is, w.places-is)
+            (so_far ∙ ap (λ (x : List ItemData). old ++ x) (left_other at places item rest w.in-None-skip_place.ensures) ∙ sym (append_assoc old (item ∷ []) (left (at + 1) places rest))
+            ∙ ap (λ (x : List ItemData). x ++ left (at + 1) places rest) (sym w.in_ok-push-in-None-skip_place.ensures.ok))
       ];
       bound = omega (arith, c.loop-item.invariant.bound, c.in-Some.ensures.steps.1);
     }
@@ -116,11 +116,11 @@ loop-item-preserved g c =
     let item = item_data {A = g.row.A.Denot} c.in-Some.item in
     let so_far = c.loop-item.invariant.same ∙ ap (λ (x : List ItemData). old ++ left at places x) (ap view c.in-Some.ensures.steps.0) in
     record {
-      same = elim c.match-behind.branch [
-        | in-Some-behind w ↦ rw (w.left-is, w.places-is) (so_far ∙ ap (λ (x : List ItemData). old ++ x) (left_first at places _ item rest w.in-Some-behind.ensures))
-        | in-None-behind+in_ok-push-in-None-behind w ↦ rw (w.left-is, w.places-is)
-            (so_far ∙ ap (λ (x : List ItemData). old ++ x) (left_other at places item rest w.in-None-behind.ensures) ∙ sym (append_assoc old (item ∷ []) (left (at + 1) places rest))
-            ∙ ap (λ (x : List ItemData). x ++ left (at + 1) places rest) (sym w.in_ok-push-in-None-behind.ensures.ok))
+      same = elim c.match-skip_place.branch [
+        | in-Some-skip_place w ↦ rw (w.left-is, w.places-is) (so_far ∙ ap (λ (x : List ItemData). old ++ x) (left_first at places _ item rest w.in-Some-skip_place.ensures))
+        | in-None-skip_place+in_ok-push-in-None-skip_place w ↦ rw (w.left-is, w.places-is)
+            (so_far ∙ ap (λ (x : List ItemData). old ++ x) (left_other at places item rest w.in-None-skip_place.ensures) ∙ sym (append_assoc old (item ∷ []) (left (at + 1) places rest))
+            ∙ ap (λ (x : List ItemData). x ++ left (at + 1) places rest) (sym w.in_ok-push-in-None-skip_place.ensures.ok))
       ];
       bound = omega (arith, c.loop-item.invariant.bound, c.in-Some.ensures.steps.1);
     }

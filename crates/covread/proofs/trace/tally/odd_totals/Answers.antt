@@ -4,15 +4,15 @@ use Rattle.covline.specs.Points.{line_point}
 use Rattle.covline.specs.Row.{ItemData}
 use Rattle.covread.specs.TracePoints.{AreTotals, branch_key}
 use Rattle.covread.specs.TraceTally.{AreOwn, branch_cmp, stated_record}
-use Rattle.covread.specs.declared.trace.tally.Own.{Own}
-use Rattle.covread.specs.declared.trace.tally.Sort.TheVariants.{Branches, Lines}
+use Rattle.covread.specs.declared.trace.tally.OwnTotals.{OwnTotals}
+use Rattle.covread.specs.declared.trace.tally.PointKind.TheVariants.{Branches, Lines}
 use Rattle.covread.proofs.TraceTally.{stated_is, odd_totals_are}
 use Rattle.covread.proofs.trace.tally.odd_totals.Goals as goal
 
 pub returns : goal.returns
 returns g c = λ inside h.
     let totals = map stated_record c.args.totals.now in
-    let own : Own = record { functions = c.args.has.functions; branches = c.in_ok-stated_totals.field-0; lines = c.in_ok-stated_totals-2.field-0 } in
+    let own : OwnTotals = record { functions = c.args.has.functions; branches = c.in_ok-stated_totals.field-0; lines = c.in_ok-stated_totals-2.field-0 } in
     let are : AreOwn own inside = record {
       functions = h.functions;
       branches = λ e. subst (λ (items : List ItemData). AreTotals branch_cmp branch_key own.branches items) h.items (c.in_ok-stated_totals.ensures (stated_is Branches totals inside h.totals ∙ e));

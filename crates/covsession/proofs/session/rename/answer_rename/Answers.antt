@@ -5,7 +5,7 @@ use Rattle.covsession.specs.Rename.{TakesNames}
 use Rattle.covsession.specs.Session.{answer_text}
 use Rattle.covsession.specs.Streams.{Says, moment}
 use Rattle.covsession.specs.declared.session.rename.Names.{Names}
-use Rattle.covsession.proofs.SessionRename.{renamed_behind, unfinished_behind}
+use Rattle.covsession.proofs.SessionRename.{renamed_after, unfinished_after}
 use Rattle.std.proofs.Common.{inr}
 use Rattle.std.proofs.lemmas.Result.{err_from_is_err_and}
 use Rattle.covsession.specs.Broken.{Breaks}
@@ -17,7 +17,7 @@ returns-in_default-clause-takes g c =
     let m = moment c.args.input.now c.args.output.now in
     let n = moment c.take_names.new.input c.take_names.new.output in
     let P : Option (Names _) → Type 0 = λ u. TakesNames m n u in
-    unfinished_behind m n c.say.new.self (ops_in c.args.book.now.entries) (ops_in c.args.book.now.entries)
+    unfinished_after m n c.say.new.self (ops_in c.args.book.now.entries) (ops_in c.args.book.now.entries)
     (subst P c.in_default.is c.in_ok-names.ensures.taken) refl c.in_ok-say.ensures.says
 
 pub returns-clause-takes : goal.returns-clause-takes
@@ -29,7 +29,7 @@ returns-clause-takes g c =
     let after = ops_in c.step.new.book.entries in
     let A : OpData → Type 0 = λ u. after ≡ before ++ u ∷ [] in
     let S : OpData → Type 0 = λ u. Says n.output c.step.new.output (answer_text (answer_of (table_of before) u)) in
-    renamed_behind m n c.step.new.output c.in-Some.names.old c.in-Some.names.new c.in-Some.names.ending before after
+    renamed_after m n c.step.new.output c.in-Some.names.old c.in-Some.names.new c.in-Some.names.ending before after
     (subst P c.in-Some.is c.in_ok-names.ensures.taken) (subst A c.rename_op-op.ensures c.in_ok-step.ensures.asked) (subst S c.rename_op-op.ensures c.in_ok-step.ensures.said)
 
 pub returns-in_err-say-clause-fails : goal.returns-in_err-say-clause-fails

@@ -5,7 +5,7 @@ use Rattle.covsession.specs.declared.session.text.LineEnd.{LineEnd}
 use Rattle.covsession.proofs.SessionRename.{names_short, names_both}
 use Rattle.std.proofs.Common.{[], ◌∷◌, arith}
 use Rattle.std.proofs.lemmas.Result.{err_from_is_err_and}
-use Rattle.covsession.proofs.SessionBreaks.{taking_behind, taking_first}
+use Rattle.covsession.proofs.SessionBreaks.{taking_later, taking_first}
 use Rattle.covsession.proofs.session.rename.take_names.Goals as goal
 
 pub returns-in_default-2-clause-taken : goal.returns-in_default-2-clause-taken
@@ -36,7 +36,7 @@ returns-in_err-new-clause-fails g c =
     let name = subst P c.in-Some.is c.in_ok-old.ensures.taken in
     let Q : LineEnd → Type 0 = λ e. AreCut e name.1.bytes (name.0 ∷ []) in
     let p = err_from_is_err_and c.from_residual-in_err-new.result c.from_residual-in_err-new.ensures.1 in
-    rw (p.1, p.2) (taking_behind HasNames m n o c.in_err-new.field-0.0 (name.0 ∷ []) name.1.bytes (subst Q c.in-Feed.is name.1.cut) (omega arith) name.1.moves
+    rw (p.1, p.2) (taking_later HasNames m n o c.in_err-new.field-0.0 (name.0 ∷ []) name.1.bytes (subst Q c.in-Feed.is name.1.cut) (omega arith) name.1.moves
     c.in_err-new.ensures.fails)
 
 pub returns-in_err-old-clause-fails : goal.returns-in_err-old-clause-fails

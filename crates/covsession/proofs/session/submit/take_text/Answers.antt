@@ -12,7 +12,7 @@ use Rattle.covsession.specs.declared.session.text.LineEnd.TheVariants.{Feed, Inp
 use Rattle.covsession.proofs.SessionLines.{begun_more}
 use Rattle.covsession.proofs.SessionPieces.{takes_more, text_done, text_rest, is_taken, body_more, not_last, more_cut, more_moves, more_turns, more_collected, same_line}
 use Rattle.std.proofs.lemmas.Result.{err_from_is_err_and}
-use Rattle.covsession.proofs.SessionBreaks.{taking_behind, taking_taken}
+use Rattle.covsession.proofs.SessionBreaks.{taking_later, taking_taken}
 use Rattle.covsession.proofs.SessionMoves.{Moves-trans}
 use Rattle.covsession.proofs.session.submit.take_text.Goals as goal
 
@@ -84,7 +84,7 @@ returns-in_err-ending-clause-fails g c =
     let i = begun_more m (moment c.loop-text.input c.loop-text.output) c.take_lines.new.self c.loop-text.text c.take_lines.new.text lines.taken.0 c.loop-text.invariant
     lines.taken.1 lines.taken.2 lines.kept lines.fewer lines.taken.3 lines.limit in
     let p = err_from_is_err_and c.from_residual-in_err-ending.result c.from_residual-in_err-ending.ensures.1 in
-    rw (p.1, p.2) (taking_behind IsBody m n o c.in_err-ending.field-0.0 i.0 (concat i.0) i.2 i.1 i.3 c.in_err-ending.ensures.fails)
+    rw (p.1, p.2) (taking_later IsBody m n o c.in_err-ending.field-0.0 i.0 (concat i.0) i.2 i.1 i.3 c.in_err-ending.ensures.fails)
 
 pub returns-in_err-next_line-in-Feed-clause-fails : goal.returns-in_err-next_line-in-Feed-clause-fails
 returns-in_err-next_line-in-Feed-clause-fails g c =

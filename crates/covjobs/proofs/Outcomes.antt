@@ -1,0 +1,29 @@
+-- What a reader answers is what becomes of the input.
+use Rattle.std.proofs.Common.{◌≡◌, inl, inr, ℕ, List, Result, Ok, Err, refl}
+use Rattle.covline.specs.Row.{SubmissionData}
+use Rattle.covread.specs.declared.fault.ReadFault.{ReadFault}
+use Rattle.covread.specs.declared.fault.ReadFault.TheVariants as faults
+use Rattle.covread.specs.Outcome as trace
+use Rattle.covread.specs.GcovOutcome as gcov
+use Rattle.covjobs.specs.Collect.{InputData, TraceInput, GcovInput, IsOutcomeOf}
+
+pub trace_outcome : (text : List ℕ) (answer : Result SubmissionData ReadFault) → trace.Answers text answer → IsOutcomeOf (TraceInput text) answer
+trace_outcome text answer (inl (few, refused)) = inr (few, refused)
+trace_outcome text answer (inr is) = inl is
+
+pub gcov_outcome : (test text : List ℕ) (answer : Result SubmissionData ReadFault) → gcov.Answers test text answer → IsOutcomeOf (GcovInput test text) answer
+gcov_outcome test text answer (inl (few, good, refused)) = inr ((few, good), refused)
+gcov_outcome test text answer (inr is) = inl is
+
+-- a submission is no fault
+abbrev answered : SubmissionData → Result SubmissionData ReadFault
+answered submission = Ok submission
+
+no_fault : (submission : SubmissionData) → answered submission ≡ Err faults.Memory → ⊥
+no_fault submission is = cc
+
+-- memory may run out for an input that can be read
+pub late_outcome : (input : InputData) (submission : SubmissionData) → IsOutcomeOf input (Ok submission) → IsOutcomeOf input (Err faults.Memory)
+late_outcome (TraceInput text) submission (inl (few, reads)) = inr (few, refl)
+late_outcome (GcovInput test text) submission (inl (few, good, reads)) = inr ((few, good), refl)
+late_outcome input submission (inr (may, none)) = absurd (no_fault submission none)

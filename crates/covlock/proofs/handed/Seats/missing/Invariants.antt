@@ -1,6 +1,0 @@
-use Rattle.covlock.specs.Handed.{AllAreSeated}
-use Rattle.covlock.proofs.handed.Seats.missing.Given as goal
-
--- each job so far has its seat
-abbrev pub invariant-loop-job : goal.invariant-loop-job
-invariant-loop-job g l = AllAreSeated l.job l.self

@@ -1,0 +1,157 @@
+use Rattle.std.proofs.Common.{◌≡◌, ◌∙◌, inr, List, [], ◌∷◌, ◌++◌, length, map, arith, ap, sym, refl, subst}
+use Rattle.std.proofs.lemmas.List.{length-map, length-append}
+use Rattle.std.proofs.lemmas.Result.{err_from_is_err_and}
+use Rattle.covbook.specs.declared.book.BookFault.TheVariants as faults
+use Rattle.covbook.specs.Op.{EntryData, ReceiptData}
+use Rattle.covbook.specs.EntryView.{entry_data, receipt_data}
+use Rattle.covbook.specs.Step.{IsLegal, next_entry}
+use Rattle.covbook.specs.View.{op_data}
+use Rattle.covnews.specs.Publisher.{PublisherData}
+use Rattle.covlock.proofs.Steps.{comes_next, entry_after, is_not_full, news_of, no_room_is_not_full, noted_is, ok_is_no_err, told_later}
+use Rattle.covlock.proofs.shared_state.SharedState.step.Goals as goal
+
+pub returns-clause-entry : goal.returns-clause-entry
+returns-clause-entry g c =
+    let made = c.in_ok-ready.ready in
+    let for = c.in_ok-ready.ensures.ready in
+    entry_after c.args.self.now c.ready.new.self.entries c.finish-receipt.new.self.entries made.entry.job c.args.seat.now.job made.entry.op (op_data c.args.op.now)
+    (c.in_ok-ready.ensures.same.entries ∙ c.self.view_is) (for.job ∙ c.job.ensures) for.op c.finish-receipt.ensures.entry
+
+pub returns-clause-seen : goal.returns-clause-seen
+returns-clause-seen g c =
+    let place : c.finish-receipt.result.place ≡ length c.ready.new.self.entries = ap (λ (r : ReceiptData). r.place) c.finish-receipt.ensures.receipt in
+    let same : length c.ready.new.self.entries ≡ length c.self.inside.book.entries = ap (λ (xs : List EntryData). length xs) c.in_ok-ready.ensures.same.entries in
+    let shown : length (map (entry_data {A = g.row.A.Denot}) c.entries.result.now) ≡ length c.self.inside.book.entries = ap (λ (xs : List EntryData). length xs) c.entries.ensures.entries in
+    omega (arith, place, same, shown, length-map c.entries.result.now (entry_data {A = g.row.A.Denot}), c.seen.ensures, c.if-entries-seen.false)
+
+pub count_call-requires-clause-few : goal.count_call-requires-clause-few
+count_call-requires-clause-few g c =
+    let same : length c.ready.new.self.entries ≡ length c.self.inside.book.entries = ap (λ (xs : List EntryData). length xs) c.in_ok-ready.ensures.same.entries in
+    omega (arith, same, c.self.invariant.counted, c.in_ok-ready.ensures.ready.ready.room.few)
+
+pub count_call-requires-clause-place : goal.count_call-requires-clause-place
+count_call-requires-clause-place g c =
+    let place : c.finish-receipt.result.place ≡ length c.ready.new.self.entries = ap (λ (r : ReceiptData). r.place) c.finish-receipt.ensures.receipt in
+    omega (arith, place, c.in_ok-ready.ensures.ready.ready.room.few)
+
+pub finish-receipt-requires : goal.finish-receipt-requires
+finish-receipt-requires g c = c.in_ok-ready.ensures.ready.ready
+
+pub returns-clause-seat : goal.returns-clause-seat
+returns-clause-seat g c = c.count_call.ensures.seat
+
+pub returns-then-entries-seen-clause-seat : goal.returns-then-entries-seen-clause-seat
+returns-then-entries-seen-clause-seat g c = refl
+
+pub returns-clause-told : goal.returns-clause-told
+returns-clause-told g c =
+    let made = c.in_ok-ready.ready in
+    let for = c.in_ok-ready.ensures.ready in
+    let lay : length c.self.inside.book.entries ≡ length c.args.self.now = ap (λ (xs : List EntryData). length xs) c.self.view_is in
+    let same : length c.ready.new.self.entries ≡ length c.self.inside.book.entries = ap (λ (xs : List EntryData). length xs) c.in_ok-ready.ensures.same.entries in
+    record {
+      legal = subst (λ (h : List EntryData). IsLegal h) c.self.view_is c.self.invariant.legal;
+      few = omega (arith, lay, same, for.ready.room.few);
+      receipt = told_later c.args.self.now c.ready.new.self.entries made.entry.job made.entry.op (op_data c.args.op.now) (receipt_data c.finish-receipt.result)
+          (c.in_ok-ready.ensures.same.entries ∙ c.self.view_is) for.op c.finish-receipt.ensures.receipt;
+    }
+
+pub returns-in_err-ready-clause-told : goal.returns-in_err-ready-clause-told
+returns-in_err-ready-clause-told g c = let p = err_from_is_err_and c.from_residual.result c.from_residual.ensures.1 in rw p.1 tt
+
+pub returns-in_err-ready-clause-entry : goal.returns-in_err-ready-clause-entry
+returns-in_err-ready-clause-entry g c = let p = err_from_is_err_and c.from_residual.result c.from_residual.ensures.1 in rw p.1 tt
+
+pub returns-in_err-ready-clause-seat : goal.returns-in_err-ready-clause-seat
+returns-in_err-ready-clause-seat g c = let p = err_from_is_err_and c.from_residual.result c.from_residual.ensures.1 in rw p.1 refl
+
+pub returns-in_err-ready-clause-seen : goal.returns-in_err-ready-clause-seen
+returns-in_err-ready-clause-seen g c = let p = err_from_is_err_and c.from_residual.result c.from_residual.ensures.1 in rw p.1 tt
+
+pub returns-in_err-ready-clause-refused : goal.returns-in_err-ready-clause-refused
+returns-in_err-ready-clause-refused g c =
+    let p = err_from_is_err_and c.from_residual.result c.from_residual.ensures.1 in
+    rw p.1 (c.in_err-ready.ensures.same.entries ∙ c.self.view_is)
+
+pub returns-clause-full : goal.returns-clause-full
+returns-clause-full g c =
+    let lay : length c.self.inside.book.entries ≡ length c.args.self.now = ap (λ (xs : List EntryData). length xs) c.self.view_is in
+    let same : length c.ready.new.self.entries ≡ length c.self.inside.book.entries = ap (λ (xs : List EntryData). length xs) c.in_ok-ready.ensures.same.entries in
+    let shown : length (map (entry_data {A = g.row.A.Denot}) c.entries.result.now) ≡ length c.self.inside.book.entries = ap (λ (xs : List EntryData). length xs) c.entries.ensures.entries in
+    is_not_full _ faults.Full (length c.args.self.now) c.args.seat.now.seen (ok_is_no_err _ faults.Full)
+    (omega (arith, lay, same, c.in_ok-ready.ensures.ready.ready.room.few))
+    (omega (arith, lay, shown, length-map c.entries.result.now (entry_data {A = g.row.A.Denot}), c.seen.ensures, c.if-entries-seen.false))
+
+-- if the entry isn't noted, the history takes more
+pub returns-in_default-clause-full : goal.returns-in_default-clause-full
+returns-in_default-clause-full g c =
+    let lay : length c.self.inside.book.entries ≡ length c.args.self.now = ap (λ (xs : List EntryData). length xs) c.self.view_is in
+    let same : length c.ready.new.self.entries ≡ length c.self.inside.book.entries = ap (λ (xs : List EntryData). length xs) c.in_ok-ready.ensures.same.entries in
+    let shown : length (map (entry_data {A = g.row.A.Denot}) c.entries.result.now) ≡ length c.self.inside.book.entries = ap (λ (xs : List EntryData). length xs) c.entries.ensures.entries in
+    is_not_full _ faults.Full (length c.args.self.now) c.args.seat.now.seen no_room_is_not_full
+    (omega (arith, lay, same, c.in_ok-ready.ensures.ready.ready.room.few))
+    (omega (arith, lay, shown, length-map c.entries.result.now (entry_data {A = g.row.A.Denot}), c.seen.ensures, c.if-entries-seen.false))
+
+pub returns-then-entries-seen-clause-full : goal.returns-then-entries-seen-clause-full
+returns-then-entries-seen-clause-full g c =
+    let lay : length c.self.inside.book.entries ≡ length c.args.self.now = ap (λ (xs : List EntryData). length xs) c.self.view_is in
+    let shown : length (map (entry_data {A = g.row.A.Denot}) c.entries.result.now) ≡ length c.self.inside.book.entries = ap (λ (xs : List EntryData). length xs) c.entries.ensures.entries in
+    ((λ is. inr (omega (arith, lay, shown, length-map c.entries.result.now (entry_data {A = g.row.A.Denot}), c.seen.ensures, c.if-entries-seen.true))), (λ it. refl))
+
+pub invariant_of-self : goal.invariant_of-self
+invariant_of-self g c = record {
+  legal = c.in_err-ready.ensures.legal;
+  all_noted = c.self.invariant.all_noted ∙ sym c.in_err-ready.ensures.same.entries;
+  all_published = c.self.invariant.all_published ∙ sym c.in_err-ready.ensures.same.entries;
+  counted = c.self.invariant.counted ∙ sym (ap (λ (xs : List EntryData). length xs) c.in_err-ready.ensures.same.entries);
+  no_part = c.self.invariant.no_part;
+  no_amount = c.self.invariant.no_amount;
+}
+
+pub note-requires-clause-few : goal.note-requires-clause-few
+note-requires-clause-few g c =
+    let same : length c.self.inside.publisher.noted ≡ length c.self.inside.book.entries = ap (λ (xs : List EntryData). length xs) c.self.invariant.all_noted in
+    let ready : length c.ready.new.self.entries ≡ length c.self.inside.book.entries = ap (λ (xs : List EntryData). length xs) c.in_ok-ready.ensures.same.entries in
+    omega (arith, same, ready, c.in_ok-ready.ensures.ready.ready.room.few)
+
+pub note-requires-clause-next : goal.note-requires-clause-next
+note-requires-clause-next g c =
+    comes_next c.self.inside.publisher.noted c.ready.new.self.entries (entry_data c.entry.result.now) c.in_ok-ready.ready.entry
+    (c.self.invariant.all_noted ∙ sym c.in_ok-ready.ensures.same.entries) c.entry.ensures c.in_ok-ready.ensures.ready.ready.next
+
+-- if the entry isn't noted, the history is as it was
+pub invariant_of-self-in_default : goal.invariant_of-self-in_default
+invariant_of-self-in_default g c = record {
+  legal = c.in_ok-ready.ensures.legal;
+  all_noted = ap (λ (p : PublisherData). p.noted) c.in_default.ensures.none ∙ c.self.invariant.all_noted ∙ sym c.in_ok-ready.ensures.same.entries;
+  all_published = ap (λ (p : PublisherData). p.published) c.in_default.ensures.none ∙ c.self.invariant.all_published ∙ sym c.in_ok-ready.ensures.same.entries;
+  counted = c.self.invariant.counted ∙ sym (ap (λ (xs : List EntryData). length xs) c.in_ok-ready.ensures.same.entries);
+  no_part = c.self.invariant.no_part;
+  no_amount = c.self.invariant.no_amount;
+}
+
+pub returns-clause-published : goal.returns-clause-published
+returns-clause-published g c =
+    noted_is c.self.inside.publisher.noted c.ready.new.self.entries c.finish-receipt.new.self.entries c.in-Some.news (entry_data c.entry.result.now) c.in_ok-ready.ready.entry
+    (c.self.invariant.all_noted ∙ sym c.in_ok-ready.ensures.same.entries) c.entry.ensures c.in_ok-ready.ensures.ready.ready.next c.finish-receipt.ensures.entry c.in-Some.ensures.news
+
+pub returns-clause-news : goal.returns-clause-news
+returns-clause-news g c =
+    news_of c.args.seat.now.job (op_data c.args.op.now) (receipt_data c.finish-receipt.result) c.args.self.now c.finish-receipt.new.self.entries c.in-Some.news
+    (returns-clause-published g c) c.finish-receipt.ensures.legal (returns-clause-entry g c) (returns-clause-told g c).receipt
+
+pub invariant_of-self-2 : goal.invariant_of-self-2
+invariant_of-self-2 g c =
+    let made = c.in_ok-ready.ready in
+    let behind = next_entry c.ready.new.self.entries made.entry.job made.entry.op ∷ [] in
+    let same : length c.ready.new.self.entries ≡ length c.self.inside.book.entries = ap (λ (xs : List EntryData). length xs) c.in_ok-ready.ensures.same.entries in
+    let grown : length c.finish-receipt.new.self.entries ≡ length (c.ready.new.self.entries ++ behind) = ap (λ (xs : List EntryData). length xs) c.finish-receipt.ensures.entry in
+    let noted : c.note.new.self.noted ≡ c.finish-receipt.new.self.entries = ap (λ (p : PublisherData). p.noted) c.in-Some.ensures.noted ∙ returns-clause-published g c in
+    record {
+      legal = c.finish-receipt.ensures.legal;
+      all_noted = ap (λ (p : PublisherData). p.noted) c.publish.ensures ∙ noted;
+      all_published = ap (λ (p : PublisherData). p.published) c.publish.ensures ∙ noted;
+      counted = omega (arith, same, grown, length-append c.ready.new.self.entries behind, c.self.invariant.counted, c.count_call.ensures.total);
+      no_part = c.self.invariant.no_part;
+      no_amount = c.self.invariant.no_amount;
+    }

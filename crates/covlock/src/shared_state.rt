@@ -1,0 +1,137 @@
+//! What lies under the lock of a shared book, and the step that is taken there.
+
+use crate::seat_list::Seats;
+use crate::seat::Seat;
+use covbook::{Book, BookFault, Entries, Op, Receipt};
+use covnews::{Live, Name, News, Publisher, ReaderFault};
+use std::alloc::Allocator;
+use std::marker::Model;
+use std::sync::Wait;
+use std::sync::ledger::{Book as Count, Share};
+
+/// The book, the count of its calls, whose shares the seats have, and the publisher of its history. Contracts see the history.
+#[derive(Drop)]
+pub(crate) struct SharedState<L: Name, A: Allocator> {
+    book: Book<A>,
+    count: Count<L>,
+    /// A share without a part. `close` adds those of the seats to it.
+    rest: Share<L>,
+    publisher: Publisher<L, A>,
+}
+
+impl<L: Name, A: Allocator> Model for SharedState<L, A> {
+    ghost use Rattle.std.specs.Prelude.{List};
+    ghost use Rattle.covbook.specs.Op.{EntryData};
+    ghost use Rattle.covlock.specs.SharedState.{IsLocked};
+
+    ghost Value = { List EntryData };
+
+    ghost view = { λ a. a.book.entries };
+
+    ghost invariant = { λ a. IsLocked a.book.entries a.publisher.noted a.publisher.published a.count.total a.rest.parts a.rest.amount };
+}
+
+impl<L: Name, A: Allocator + Copy> SharedState<L, A> {
+    ghost use Rattle.std.specs.Prelude.{◌≡◌, ◌↔◌, ◌⊎◌, ◌<◌, ◌≤◌, ◌++◌, [], ◌∷◌, length, IfOk, OnOk, OnErr, Err, MatchResult};
+    ghost use Rattle.covbook.specs.declared.book.BookFault.TheVariants as faults;
+    ghost use Rattle.covbook.specs.View.{op_data};
+    ghost use Rattle.covbook.specs.EntryView.{receipt_data};
+    ghost use Rattle.covbook.specs.Step.{next_entry, max_entries};
+    ghost use Rattle.covlock.specs.Call.{IsToldAfter, IsNewsOf};
+    ghost use Rattle.covlock.specs.Seat.{after_call};
+
+    /// An empty book: no call is counted yet, and nothing is published.
+    pub(crate) fn new(
+        book: Book<A>,
+        count: Count<L>,
+        rest: Share<L>,
+        publisher: Publisher<L, A>,
+    ) -> SharedState<L, A>
+        requires book { book.entries ≡ [] }
+        requires count { count.total ≡ 0 }
+        requires parts { rest.parts ≡ 0 }
+        requires amount { rest.amount ≡ 0 }
+        requires noted { publisher.noted ≡ [] }
+        requires published { publisher.published ≡ [] }
+        ensures { result ≡ [] }
+    {
+        SharedState {
+            book,
+            count,
+            rest,
+            publisher,
+        }
+    }
+
+    /// Takes one step of the book for the seat's job, and publishes the history with its entry. All that can be refused comes
+    /// first, so after a refusal the history, what is published of it, and the seat are as they were. Waits for readers that
+    /// still read what was published two steps ago.
+    pub(crate) fn step<R: Wait>(
+        &mut self,
+        rt: &R,
+        alloc: A,
+        seat: &mut Seat<L>,
+        op: &Op<A>,
+    ) -> Result<(Receipt<A>, News<L>), BookFault>
+        ensures told { IfOk result (λ r. IsToldAfter self.old (op_data op.now) (receipt_data r.0)) }
+        ensures entry { OnOk result (self.new ≡ self.old ++ next_entry self.old seat.old.job (op_data op.now) ∷ []) }
+        ensures news { IfOk result (λ r. IsNewsOf seat.old.job (op_data op.now) (receipt_data r.0) r.1) }
+        ensures published { IfOk result (λ r. r.1 ≡ self.new) }
+        ensures seat { MatchResult result (λ r. seat.new ≡ after_call seat.old r.0.place) (λ _. seat.new ≡ seat.old) }
+        ensures seen { IfOk result (λ r. seat.old.seen ≤ r.0.place) }
+        ensures refused { OnErr result (self.new ≡ self.old) }
+        ensures full { (result ≡ Err faults.Full) ↔ ((length self.old ≡ max_entries) ⊎ (length self.old < seat.old.seen)) }
+    {
+        if (self.book.entries().len() as u64) < seat.seen() {
+            return Err(BookFault::Full);
+        }
+        let ready = self.book.ready(alloc, seat.job(), op)?;
+        // `None` doesn't happen, since no other publisher has this history; no contract says so. Nothing is changed yet, so the
+        // step is refused. It isn't refused as `Full`, which has a cause that callers can see.
+        let Some(news) = self.publisher.note(ready.entry()) else {
+            return Err(BookFault::Memory);
+        };
+        let receipt = self.book.finish(ready);
+        seat.count_call(&mut self.count, receipt.place);
+        self.publisher.publish(rt);
+        Ok((receipt, news))
+    }
+}
+
+impl<L: Name, A: Allocator> SharedState<L, A> {
+    ghost use Rattle.std.specs.Prelude.{◌≡◌, ◌≤◌, length, IfOk, IfErr};
+    ghost use Rattle.covbook.specs.Op.{AreLawfulOps};
+    ghost use Rattle.covbook.specs.Step.{IsLegal, ops_in};
+    ghost use Rattle.covlock.specs.Seat.{calls_in};
+    ghost use Rattle.covnews.specs.declared.fault.ReaderFault.TheVariants as reader_faults;
+
+    /// Makes one more reader of what is published, which is the history.
+    pub(crate) fn reader(&mut self) -> Result<Live<L, A>, ReaderFault>
+        ensures live { IfOk result (λ live. live ≡ self.old) }
+        ensures fault { IfErr result (λ fault. fault ≡ reader_faults.NoPlace) }
+        ensures legal { IsLegal self.old }
+        ensures same { self.new ≡ self.old }
+    {
+        self.publisher.reader()
+    }
+
+    /// Takes all seats, and returns the history with news of it. Waits for readers to leave.
+    pub(crate) fn close<R: Wait>(self, rt: &R, seats: Seats<L, A>) -> (Entries<A>, News<L>)
+        requires { L.parts ≤ length seats }
+        ensures history { result.0 ≡ self }
+        ensures news { result.1 ≡ self }
+        ensures legal { IsLegal self }
+        ensures lawful { AreLawfulOps (ops_in self) }
+        ensures calls { length self ≡ calls_in seats }
+    {
+        let SharedState {
+            book,
+            mut count,
+            mut rest,
+            publisher,
+        } = self;
+        seats.give_shares(&mut rest);
+        count.audit(&mut rest);
+        (book.into_entries(), publisher.close(rt))
+    }
+}

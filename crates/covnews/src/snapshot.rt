@@ -1,0 +1,76 @@
+//! What readers are shown.
+ghost use Rattle.std.specs.Prelude.{◌≡◌};
+ghost use Rattle.covnews.specs.Snapshot.{Describes};
+
+use crate::history::SeenHistory;
+use crate::name::Name;
+use covstore::Totals;
+use crossbeam_utils::rule::{Outcome, Protocol};
+use left_right::Absorb;
+use left_right::reader::Reader;
+use left_right::writer::Writer;
+use std::alloc::AllocError;
+use std::marker::PhantomData;
+
+/// How many entries a noted history has, and the totals after the last of them. The token says which history: contracts
+/// see its entries as `seen.log`.
+#[derive(Drop)]
+pub struct Snapshot {
+    pub upto: u64,
+    pub totals: Totals,
+    pub seen: SeenHistory,
+    pub ghost describes: { Describes upto totals seen.log },
+}
+
+impl Snapshot {
+    /// An equal mark.
+    pub(crate) fn copy(&self) -> Snapshot
+        ensures { result ≡ self.now }
+    {
+        Snapshot {
+            upto: self.upto,
+            totals: self.totals,
+            seen: self.seen.again(),
+        }
+    }
+}
+
+impl Absorb<Snapshot> for Snapshot {
+    type State = Snapshot;
+
+    ghost state = { λ snapshot. snapshot };
+
+    ghost applied = { λ _ next. next };
+
+    ghost never_fails = { Unit {0} };
+
+    fn absorb_first(&mut self, next: &Snapshot, _other: &Snapshot) -> Result<(), AllocError> {
+        *self = next.copy();
+        Ok(())
+    }
+}
+
+/// The rule of what readers are shown: each mark is of the book of this name.
+pub struct OfBook<L> {
+    name: PhantomData<L>,
+}
+
+impl<L: Name> Protocol<Snapshot, ()> for OfBook<L> {
+    ghost use Rattle.std.specs.Prelude.{◌≡◌};
+
+    ghost holds = { λ snapshot _. snapshot.seen.book ≡ L.book };
+
+    ghost first = { tt };
+}
+
+impl<L: Name> Outcome<Snapshot, ()> for OfBook<L> {
+    ghost use Rattle.std.specs.Prelude.{◌≡◌};
+
+    ghost then = { λ _ _ shown _. shown.seen.book ≡ L.book };
+}
+
+/// The writer that shows marks to readers.
+pub(crate) type SnapshotWriter<L, A> = Writer<Snapshot, Snapshot, (), OfBook<L>, A>;
+
+/// The reader of the mark that is shown.
+pub(crate) type SnapshotReader<L, A> = Reader<Snapshot, (), OfBook<L>, A>;

@@ -1,0 +1,100 @@
+//! What shows marks to readers.
+ghost use Rattle.std.specs.Prelude.{◌≡◌, ◌++◌, ◌∷◌, [], drop};
+
+use crate::snapshot::{Snapshot, SnapshotReader, SnapshotWriter, OfBook};
+use crate::name::Name;
+use crate::news::News;
+use core::mem::{ManuallyDrop, replace_with};
+use std::alloc::{AllocError, Allocator};
+use std::marker::Model;
+use std::sync::{Wait, WaitMethods};
+
+/// What shows readers one noted history. Contracts see the history that is shown.
+pub(crate) struct SnapshotCell<L: Name, A: Allocator> {
+    writer: SnapshotWriter<L, A>,
+}
+
+impl<L: Name, A: Allocator> Model for SnapshotCell<L, A> {
+    ghost use Rattle.std.specs.Prelude.{◌≡◌, List};
+    ghost use Rattle.covbook.specs.Op.{EntryData};
+
+    ghost Value = { List EntryData };
+
+    ghost view = { λ snapshot_cell. snapshot_cell.writer.desk.shown.value.seen.log };
+
+    ghost invariant = { λ snapshot_cell. snapshot_cell.writer.desk.shown.value.seen.book ≡ L.book };
+}
+
+/// The memory of a writer that isn't closed is never freed, some 17 KB for 64 readers: to free it the writer would have to wait
+/// for readers to leave, and a drop has no runtime to wait with. The readers go on with what was shown last.
+impl<L: Name, A: Allocator> Drop for SnapshotCell<L, A> {
+    fn drop(self) {
+        let SnapshotCell { writer } = self;
+        // Sound, since nothing is freed: the table that the readers share stays where it is.
+        let _left = unsafe { ManuallyDrop::new_unchecked(writer) };
+    }
+}
+
+/// Appends a mark to those that are to be shown. There is room for it since the opening, so the first try succeeds. No contract
+/// of `left_right` says so, hence the loop: should a try be refused, it tries again until there is memory.
+fn append<L: Name, A: Allocator, R: Wait>(rt: &R, writer: &mut SnapshotWriter<L, A>, snapshot: &Snapshot)
+    ensures desk { writer.new.desk ≡ writer.old.desk }
+    ensures pending { drop writer.new.behind writer.new.log.items ≡ drop writer.old.behind writer.old.log.items ++ snapshot.now ∷ [] }
+{
+    for _ in rt.forever() {
+        if writer.append(snapshot.copy()).is_ok() {
+            return;
+        }
+    }
+    unreachable!()
+}
+
+impl<L: Name, A: Allocator + Copy> SnapshotCell<L, A> {
+    ghost use Rattle.std.specs.Prelude.{◌≡◌, ◌<◌, IfOk};
+
+    /// Shows the history that the news are of, to at most `readers` readers at once.
+    pub(crate) fn new(alloc: A, news: &News<L>, readers: u32) -> Result<SnapshotCell<L, A>, AllocError>
+        requires { 0 < readers }
+        ensures { IfOk result (λ snapshot_cell. snapshot_cell ≡ news.now) }
+    {
+        let snapshot = news.snapshot();
+        let writer = SnapshotWriter::new(alloc, snapshot.copy(), snapshot.copy(), readers as usize)?;
+        let mut snapshot_cell = SnapshotCell { writer };
+        // The first mark that is appended makes room for four, and there are never more than three: those that were shown
+        // the last time, two of them at first, and the next one.
+        snapshot_cell.writer.append(snapshot.copy()).map_err(|_| AllocError)?;
+        Ok(snapshot_cell)
+    }
+}
+
+impl<L: Name, A: Allocator> SnapshotCell<L, A> {
+    ghost use Rattle.std.specs.Prelude.{◌≡◌};
+
+    /// Makes one more reader: it is given a free place, or refused.
+    pub(crate) fn reader(&self) -> Result<SnapshotReader<L, A>, AllocError> {
+        self.writer.factory().reader()
+    }
+
+    /// News of the history that is shown.
+    pub(crate) fn news(&self) -> News<L>
+        ensures { result ≡ self.now }
+    {
+        News::of(self.writer.published())
+    }
+
+    /// Shows what the news are of, in place of what is shown now. Waits for readers that still read the mark before that.
+    pub(crate) fn show<R: Wait>(&mut self, rt: &R, news: &News<L>)
+        ensures { self.new ≡ news.now }
+    {
+        append(rt, &mut self.writer, news.snapshot());
+        let _never_fails = replace_with(&mut self.writer, rt, |writer, rt| {
+            writer.publish_as::<OfBook<L>, R>(rt)
+        });
+    }
+
+    /// Closes the writer. Waits for readers to leave; those that come later are given no view.
+    pub(crate) fn close<R: Wait>(self, rt: &R) {
+        let SnapshotCell { writer } = self;
+        writer.take(rt);
+    }
+}
