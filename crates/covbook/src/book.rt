@@ -305,7 +305,12 @@ impl<A: Allocator + Copy> Book<A> {
     }
 
     /// The step that appends this entry and does this to the store.
-    fn ready_to_change(&self, alloc: A, entry: Entry<A>, change: Change<A>) -> Result<Ready<A>, Memory>
+    fn ready_to_change(
+        &self,
+        alloc: A,
+        entry: Entry<A>,
+        change: Change<A>,
+    ) -> Result<Ready<A>, Memory>
         requires room { HasRoom self.now }
         requires next { IsNextOf self.now (entry_data entry) }
         requires planned { IsPlanned self.now.store (table_of (ops_in self.now.entries)) (op_data entry.op) (change_data change) }
@@ -318,7 +323,13 @@ impl<A: Allocator + Copy> Book<A> {
     }
 
     /// The step that appends the entry of this answer and leaves the table as it is.
-    fn ready_to_note(&self, alloc: A, job: u32, op: Op<A>, answer: Answer<A>) -> Result<Ready<A>, Memory>
+    fn ready_to_note(
+        &self,
+        alloc: A,
+        job: u32,
+        op: Op<A>,
+        answer: Answer<A>,
+    ) -> Result<Ready<A>, Memory>
         requires room { HasRoom self.now }
         requires answer { answer_data answer ≡ answer_of (table_of (ops_in self.now.entries)) (op_data op) }
         requires still { table_after (table_of (ops_in self.now.entries)) (op_data op) ≡ table_of (ops_in self.now.entries) }

@@ -43,8 +43,8 @@ pub use collected::{Collected, collect};
 // Readings of a reader that is no job are gathered too: as a log with a job number that no seat has, and no receipts.
 pub use covbook::{BookFault, Entries, JobLog, Op, Reading, Receipt, gather};
 pub use covlock::{
-    CloseFault, Done, Live, MAX_JOBS, MAX_READERS, Name, News, OpenFault, ReaderFault, Seat,
-    Seats, Shared, Start, open_book,
+    CloseFault, Done, Live, MAX_JOBS, MAX_READERS, Name, News, OpenFault, ReaderFault, Seat, Seats,
+    Shared, Start, open_book,
 };
 pub use gate::{Gate, NoGate};
 pub use input::Input;

@@ -1,9 +1,9 @@
 //! The book that threads share.
 
-use crate::seat_list::{Seats, seats_for};
-use crate::shared_state::SharedState;
 use crate::name::Start;
 use crate::seat::Seat;
+use crate::seat_list::{Seats, seats_for};
+use crate::shared_state::SharedState;
 use covbook::{BookFault, Entries, Op, Receipt};
 use covline::Memory;
 use covnews::{Live, Name, News, Publisher, ReaderFault};

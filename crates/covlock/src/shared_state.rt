@@ -1,7 +1,7 @@
 //! What lies under the lock of a shared book, and the step that is taken there.
 
-use crate::seat_list::Seats;
 use crate::seat::Seat;
+use crate::seat_list::Seats;
 use covbook::{Book, BookFault, Entries, Op, Receipt};
 use covnews::{Live, Name, News, Publisher, ReaderFault};
 use std::alloc::Allocator;

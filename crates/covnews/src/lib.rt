@@ -40,17 +40,17 @@ mod fault;
 mod history;
 pub mod laws;
 mod live;
-mod snapshot;
 mod name;
 mod news;
 mod noted;
 mod publisher;
+mod snapshot;
 mod snapshot_cell;
 #[cfg(test)]
 mod tests;
 
 pub use fault::ReaderFault;
 pub use live::Live;
-pub use name::{Name, HistorySeed};
+pub use name::{HistorySeed, Name};
 pub use news::News;
 pub use publisher::Publisher;

@@ -1,8 +1,8 @@
 //! Readers that wait for nobody.
 
-use crate::snapshot::{SnapshotReader, OfBook};
 use crate::name::Name;
 use crate::news::News;
+use crate::snapshot::{OfBook, SnapshotReader};
 use core::mem::replace_with;
 use covbook::Reading;
 use std::alloc::{Allocator, Global};
@@ -27,7 +27,9 @@ impl<L: Name, A: Allocator> Model for Live<L, A> {
 }
 
 /// News of what is published, if the reader is given a view.
-fn look<L: Name, A: Allocator>(reader: SnapshotReader<L, A>) -> (SnapshotReader<L, A>, Option<News<L>>) {
+fn look<L: Name, A: Allocator>(
+    reader: SnapshotReader<L, A>,
+) -> (SnapshotReader<L, A>, Option<News<L>>) {
     match reader.enter_as::<OfBook<L>>() {
         Ok(reading) => {
             let news = News::of(reading.get());

@@ -1,9 +1,9 @@
 //! News of a noted history.
 
 use crate::history::{Append, Length, NoGain, SeenHistory};
-use crate::snapshot::Snapshot;
 use crate::name::Name;
 use crate::noted::NotedEntry;
+use crate::snapshot::Snapshot;
 use covbook::{Entry, Reading};
 use covstore::Totals;
 use logbook::Offer;

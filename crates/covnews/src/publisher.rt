@@ -3,7 +3,7 @@
 use crate::fault::ReaderFault;
 use crate::history::Length;
 use crate::live::Live;
-use crate::name::{Name, HistorySeed};
+use crate::name::{HistorySeed, Name};
 use crate::news::News;
 use crate::snapshot_cell::SnapshotCell;
 use covbook::Entry;

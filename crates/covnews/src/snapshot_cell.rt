@@ -1,9 +1,9 @@
 //! What shows marks to readers.
 ghost use Rattle.std.specs.Prelude.{◌≡◌, ◌++◌, ◌∷◌, [], drop};
 
-use crate::snapshot::{Snapshot, SnapshotReader, SnapshotWriter, OfBook};
 use crate::name::Name;
 use crate::news::News;
+use crate::snapshot::{OfBook, Snapshot, SnapshotReader, SnapshotWriter};
 use core::mem::{ManuallyDrop, replace_with};
 use std::alloc::{AllocError, Allocator};
 use std::marker::Model;
@@ -37,7 +37,11 @@ impl<L: Name, A: Allocator> Drop for SnapshotCell<L, A> {
 
 /// Appends a mark to those that are to be shown. There is room for it since the opening, so the first try succeeds. No contract
 /// of `left_right` says so, hence the loop: should a try be refused, it tries again until there is memory.
-fn append<L: Name, A: Allocator, R: Wait>(rt: &R, writer: &mut SnapshotWriter<L, A>, snapshot: &Snapshot)
+fn append<L: Name, A: Allocator, R: Wait>(
+    rt: &R,
+    writer: &mut SnapshotWriter<L, A>,
+    snapshot: &Snapshot,
+)
     ensures desk { writer.new.desk ≡ writer.old.desk }
     ensures pending { drop writer.new.behind writer.new.log.items ≡ drop writer.old.behind writer.old.log.items ++ snapshot.now ∷ [] }
 {
@@ -53,16 +57,28 @@ impl<L: Name, A: Allocator + Copy> SnapshotCell<L, A> {
     ghost use Rattle.std.specs.Prelude.{◌≡◌, ◌<◌, IfOk};
 
     /// Shows the history that the news are of, to at most `readers` readers at once.
-    pub(crate) fn new(alloc: A, news: &News<L>, readers: u32) -> Result<SnapshotCell<L, A>, AllocError>
+    pub(crate) fn new(
+        alloc: A,
+        news: &News<L>,
+        readers: u32,
+    ) -> Result<SnapshotCell<L, A>, AllocError>
         requires { 0 < readers }
         ensures { IfOk result (λ snapshot_cell. snapshot_cell ≡ news.now) }
     {
         let snapshot = news.snapshot();
-        let writer = SnapshotWriter::new(alloc, snapshot.copy(), snapshot.copy(), readers as usize)?;
+        let writer = SnapshotWriter::new(
+            alloc,
+            snapshot.copy(),
+            snapshot.copy(),
+            readers as usize,
+        )?;
         let mut snapshot_cell = SnapshotCell { writer };
         // The first mark that is appended makes room for four, and there are never more than three: those that were shown
         // the last time, two of them at first, and the next one.
-        snapshot_cell.writer.append(snapshot.copy()).map_err(|_| AllocError)?;
+        snapshot_cell
+            .writer
+            .append(snapshot.copy())
+            .map_err(|_| AllocError)?;
         Ok(snapshot_cell)
     }
 }

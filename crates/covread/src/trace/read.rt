@@ -12,8 +12,8 @@ use crate::fault::{MAX_BYTES, ReadFault};
 use crate::trace::misplaced::Misplaced;
 use crate::trace::reader::Reader;
 use covline::{
-    BranchPoint, Submission, each_line_has_one_meaning, try_branch_line, try_count_line, first_line,
-    lines_are_the_text, read_line,
+    BranchPoint, Submission, each_line_has_one_meaning, first_line, lines_are_the_text, read_line,
+    try_branch_line, try_count_line,
 };
 use std::alloc::Allocator;
 

@@ -8,7 +8,7 @@ ghost use Rattle.covread.specs.TraceSection.{IsBuiltOf, mark};
 ghost use Rattle.covread.specs.TraceSettle.{HavePlaces, IsSettled, left, names_in, starts_with};
 
 use crate::trace::functions::{Functions, take_count};
-use crate::trace::section::{SectionBuilder, PendingCount};
+use crate::trace::section::{PendingCount, SectionBuilder};
 use crate::trace::tally::{FunctionTotals, SectionPoints, odd_totals};
 use covline::{Items, Memory};
 use std::alloc::Allocator;

@@ -18,7 +18,7 @@ use crate::session::command::{Format, step};
 use crate::session::fault::SessionFault;
 use crate::session::input::SessionInput;
 use crate::session::output::Output;
-use crate::session::text::{LineEnd, CollectedText, Text};
+use crate::session::text::{CollectedText, LineEnd, Text};
 use crate::stream::{Sink, Source};
 use covbook::{Book, Op, SubRef};
 use covline::Submission;
