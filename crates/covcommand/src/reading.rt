@@ -34,13 +34,13 @@ pub fn command(alloc: Global, words: &[String]) -> Result<Command, CommandFault>
         Err(error) => return Err(CommandFault::of(alloc, &error)),
     };
     match matches.subcommand() {
-        Some((name, found)) => asked_by(alloc, name, found),
+        Some((name, found)) => command_from(alloc, name, found),
         None => Ok(Command::Session),
     }
 }
 
 /// What the subcommand asks for, by what clap found for its arguments.
-fn asked_by(alloc: Global, name: &str, found: &ArgMatches<'_>) -> Result<Command, CommandFault>
+fn command_from(alloc: Global, name: &str, found: &ArgMatches<'_>) -> Result<Command, CommandFault>
     requires { Fits name.now (rows_of (found_of found.now)) }
     ensures asks { IfOk result (AsksFor (Some (name.now, rows_of (found_of found.now)))) }
     ensures bounds { IfOk result IsInBounds }

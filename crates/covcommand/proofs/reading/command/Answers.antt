@@ -30,8 +30,8 @@ returns-clause-fits c =
     ap (λ (a : App). fault_of a (map string_bytes c.args.words.now)) (sym c.in_ok-described.ensures)
     ∙ c.in-Ok.ensures.kinds (ap is_simple_and_free c.in_ok-described.ensures ∙ simple_and_free)
 
-pub asked_by-requires : goal.asked_by-requires
-asked_by-requires c =
+pub command_from-requires : goal.command_from-requires
+command_from-requires c =
     let words = map string_bytes c.args.words.now in
     let none = ap (λ (a : App). fault_of a words) (sym c.in_ok-described.ensures)
     ∙ c.in-Ok.ensures.kinds (ap is_simple_and_free c.in_ok-described.ensures ∙ simple_and_free) in
@@ -47,11 +47,11 @@ returns-in-Some-clause-asks c =
     ∙ ap (λ (a : App). subcommand_of a words) c.in_ok-described.ensures in
     let rows = rows_of (found_of c.in-Some.found.now) in
     let is = sym met ∙ both_halves (subcommand_rows_of c.in-Ok.matches) c.in-Some.name.now rows (c.in-Some.ensures.name ∙ same_name c.in-Ok.matches) c.in-Some.ensures.rows in
-    subst (λ (m : Option (Text × List Row)). IfOk c.asked_by.result (AsksFor m)) (sym is) c.asked_by.ensures.asks
+    subst (λ (m : Option (Text × List Row)). IfOk c.command_from.result (AsksFor m)) (sym is) c.command_from.ensures.asks
 
 pub returns-in-Some-clause-fits : goal.returns-in-Some-clause-fits
 returns-in-Some-clause-fits c =
     let words = map string_bytes c.args.words.now in
     let none = ap (λ (a : App). fault_of a words) (sym c.in_ok-described.ensures)
     ∙ c.in-Ok.ensures.kinds (ap is_simple_and_free c.in_ok-described.ensures ∙ simple_and_free) in
-    IfOk-weaker c.asked_by.result _ _ (λ _ _. none) c.asked_by.ensures.asks
+    IfOk-weaker c.command_from.result _ _ (λ _ _. none) c.command_from.ensures.asks
