@@ -1,4 +1,4 @@
--- What a mark says of a noted history.
+-- What a snapshot says of a noted history.
 use Rattle.std.specs.Prelude.{◌≡◌, ℕ, List, length}
 use Rattle.covstore.specs.declared.totals.Totals.{Totals}
 use Rattle.covbook.specs.Op.{EntryData}

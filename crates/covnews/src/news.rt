@@ -74,7 +74,7 @@ impl<L: Name> News<L> {
         }
     }
 
-    /// News of the history that a mark is of.
+    /// News of the history that a snapshot is of.
     pub(crate) fn of(snapshot: &Snapshot) -> News<L>
         requires { snapshot.now.seen.book ≡ L.book }
         ensures { result ≡ snapshot.now.seen.log }
@@ -87,7 +87,7 @@ impl<L: Name> News<L> {
         }
     }
 
-    /// The mark of the history.
+    /// The snapshot of the history.
     pub(crate) fn snapshot(&self) -> &Snapshot
         ensures book { result.now.seen.book ≡ L.book }
         ensures history { result.now.seen.log ≡ self.now }

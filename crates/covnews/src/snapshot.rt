@@ -23,7 +23,7 @@ pub struct Snapshot {
 }
 
 impl Snapshot {
-    /// An equal mark.
+    /// An equal snapshot.
     pub(crate) fn copy(&self) -> Snapshot
         ensures { result ≡ self.now }
     {
@@ -50,7 +50,7 @@ impl Absorb<Snapshot> for Snapshot {
     }
 }
 
-/// The rule of what readers are shown: each mark is of the book of this name.
+/// The rule of what readers are shown: each snapshot is of the book of this name.
 pub struct OfBook<L> {
     name: PhantomData<L>,
 }
@@ -69,8 +69,8 @@ impl<L: Name> Outcome<Snapshot, ()> for OfBook<L> {
     ghost then = { λ _ _ shown _. shown.seen.book ≡ L.book };
 }
 
-/// The writer that shows marks to readers.
+/// The writer that shows snapshots to readers.
 pub(crate) type SnapshotWriter<L, A> = Writer<Snapshot, Snapshot, (), OfBook<L>, A>;
 
-/// The reader of the mark that is shown.
+/// The reader of the snapshot that is shown.
 pub(crate) type SnapshotReader<L, A> = Reader<Snapshot, (), OfBook<L>, A>;

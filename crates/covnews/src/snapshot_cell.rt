@@ -1,4 +1,4 @@
-//! What shows marks to readers.
+//! What shows snapshots to readers.
 ghost use Rattle.std.specs.Prelude.{◌≡◌, ◌++◌, ◌∷◌, [], drop};
 
 use crate::name::Name;
@@ -35,7 +35,7 @@ impl<L: Name, A: Allocator> Drop for SnapshotCell<L, A> {
     }
 }
 
-/// Appends a mark to those that are to be shown. There is room for it since the opening, so the first try succeeds. No contract
+/// Appends a snapshot to those that are to be shown. There is room for it since the opening, so the first try succeeds. No contract
 /// of `left_right` says so, hence the loop: should a try be refused, it tries again until there is memory.
 fn append<L: Name, A: Allocator, R: Wait>(
     rt: &R,
@@ -73,7 +73,7 @@ impl<L: Name, A: Allocator + Copy> SnapshotCell<L, A> {
             readers as usize,
         )?;
         let mut snapshot_cell = SnapshotCell { writer };
-        // The first mark that is appended makes room for four, and there are never more than three: those that were shown
+        // The first snapshot that is appended makes room for four, and there are never more than three: those that were shown
         // the last time, two of them at first, and the next one.
         snapshot_cell
             .writer
@@ -98,7 +98,7 @@ impl<L: Name, A: Allocator> SnapshotCell<L, A> {
         News::of(self.writer.published())
     }
 
-    /// Shows what the news are of, in place of what is shown now. Waits for readers that still read the mark before that.
+    /// Shows what the news are of, in place of what is shown now. Waits for readers that still read the snapshot before that.
     pub(crate) fn show<R: Wait>(&mut self, rt: &R, news: &News<L>)
         ensures { self.new ≡ news.now }
     {
