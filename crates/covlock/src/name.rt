@@ -45,14 +45,14 @@ impl From<Memory> for OpenFault {
     }
 }
 
-/// What a shared book is made of: an empty book, the count of its calls, and the opening of what is published of it. Contracts
+/// What a shared book is made of: an empty book, the count of its calls, and the seed of its published history. Contracts
 /// see the name of the count, how many jobs share the book, and the name of the book.
 #[derive(Drop)]
 pub struct Start<A: Allocator = Global> {
     jobs: u32,
     count: Blank,
     book: Book<A>,
-    opening: HistorySeed,
+    seed: HistorySeed,
 }
 
 impl<A: Allocator> Model for Start<A> {
@@ -60,7 +60,7 @@ impl<A: Allocator> Model for Start<A> {
 
     ghost Value = { StartData };
 
-    ghost view = { λ a. record { name = a.count.name; jobs = a.jobs; book = a.opening.book } };
+    ghost view = { λ a. record { name = a.count.name; jobs = a.jobs; book = a.seed.book } };
 
     ghost invariant = { λ a. IsStart a.jobs a.count.parts a.book.entries };
 }
@@ -83,7 +83,7 @@ impl<A: Allocator + Copy> Start<A> {
             jobs,
             count: Blank::new(u64::from(jobs)),
             book: Book::new(alloc),
-            opening: HistorySeed::new(),
+            seed: HistorySeed::new(),
         })
     }
 }
@@ -92,7 +92,7 @@ impl<A: Allocator> Start<A> {
     ghost use Rattle.std.specs.Prelude.{◌≡◌, []};
     ghost use Rattle.covlock.specs.Start.{AreJobs};
 
-    /// How many jobs there are, the count without a call, the empty book, and the opening of what is published of it.
+    /// How many jobs there are, the count without a call, the empty book, and the seed of its published history.
     pub(crate) fn into_parts(self) -> (u32, Blank, Book<A>, HistorySeed)
         ensures jobs { result.0 ≡ self.jobs }
         ensures bounds { AreJobs self.jobs }
@@ -101,6 +101,6 @@ impl<A: Allocator> Start<A> {
         ensures entries { result.2.entries ≡ [] }
         ensures book { result.3.book ≡ self.book }
     {
-        (self.jobs, self.count, self.book, self.opening)
+        (self.jobs, self.count, self.book, self.seed)
     }
 }

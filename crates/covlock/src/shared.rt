@@ -77,10 +77,10 @@ pub fn open_book<L: Name, A: Allocator + Copy>(
     ensures jobs { IfOk result (λ r. r.0.jobs ≡ start.jobs) }
     ensures seats { IfOk result (λ r. r.1 ≡ first_seats start.jobs) }
 {
-    let (jobs, count, book, opening) = start.into_parts();
+    let (jobs, count, book, seed) = start.into_parts();
     let (count, mut all) = count.open::<L>();
     let seats = seats_for(alloc, jobs, &mut all)?;
-    let publisher = Publisher::new(alloc, opening, MAX_READERS)?;
+    let publisher = Publisher::new(alloc, seed, MAX_READERS)?;
     let shared_state = Mutex::new(SharedState::new(book, count, all, publisher));
     Ok((Shared { jobs, shared_state }, seats))
 }

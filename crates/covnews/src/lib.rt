@@ -15,11 +15,11 @@
 //! A sketch, which no test runs:
 //!
 //! ```text
-//! fn run<L: Name>(rt: &impl Wait, alloc: Global, opening: Opening, mut book: Book) -> Result<(), Fail>
-//!     requires book { opening.book ≡ L.book }
+//! fn run<L: Name>(rt: &impl Wait, alloc: Global, seed: HistorySeed, mut book: Book) -> Result<(), Fail>
+//!     requires book { seed.book ≡ L.book }
 //!     requires empty { book.entries ≡ [] }
 //! {
-//!     let mut publisher = Publisher::<L>::new(alloc, opening, 64)?;
+//!     let mut publisher = Publisher::<L>::new(alloc, seed, 64)?;
 //!     let mut live = publisher.reader()?; // may go to another thread
 //!     let ready = book.ready(alloc, 0, &Op::Summary)?;
 //!     let Some(news) = publisher.note(ready.entry()) else {

@@ -33,16 +33,16 @@ impl Model for HistorySeed {
 
     ghost Value = { HistorySeedData };
 
-    ghost view = { λ opening. record { book = opening.seen.book } };
+    ghost view = { λ seed. record { book = seed.seen.book } };
 
-    ghost invariant = { λ opening. (opening.seen.log ≡ []) × (opening.length ≡ length_of opening.seen.book) };
+    ghost invariant = { λ seed. (seed.seen.log ≡ []) × (seed.length ≡ length_of seed.seen.book) };
 }
 
 impl HistorySeed {
     ghost use Rattle.std.specs.Prelude.{◌≡◌, []};
     ghost use Rattle.covnews.specs.History.{length_of};
 
-    /// The opening of one book. Takes no memory.
+    /// The seed of one book's history. Takes no memory.
     pub fn new() -> HistorySeed {
         let (seen, mut first, _second) = Seen::open(Start::alone(), 0, 0);
         HistorySeed {

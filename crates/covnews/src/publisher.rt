@@ -42,14 +42,14 @@ impl<L: Name, A: Allocator + Copy> Publisher<L, A> {
 
     /// Publishes the history without an entry, for at most `readers` readers. Allocates all that publishing needs later, so
     /// nothing is refused then.
-    pub fn new(alloc: A, opening: HistorySeed, readers: u32) -> Result<Publisher<L, A>, Memory>
-        requires book { opening.book ≡ L.book }
+    pub fn new(alloc: A, seed: HistorySeed, readers: u32) -> Result<Publisher<L, A>, Memory>
+        requires book { seed.book ≡ L.book }
         requires readers { 0 < readers }
         ensures noted { IfOk result (λ publisher. publisher.noted ≡ []) }
         ensures published { IfOk result (λ publisher. publisher.published ≡ []) }
         ensures places { IfOk result (λ publisher. publisher.places ≡ readers) }
     {
-        let (history, seen) = opening.into_parts();
+        let (history, seen) = seed.into_parts();
         let noted = News::first(seen);
         let snapshot_cell = SnapshotCell::new(alloc, &noted, readers)?;
         Ok(Publisher {

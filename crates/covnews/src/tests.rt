@@ -15,14 +15,14 @@ use std::thread::{Threads, join};
 fn opened<L: Name, A: Allocator + Copy>(
     rt: &impl Abort,
     alloc: A,
-    opening: HistorySeed,
+    seed: HistorySeed,
     readers: u32,
 ) -> Publisher<L, A>
-    requires book { opening.book ≡ L.book }
+    requires book { seed.book ≡ L.book }
     requires readers { 0 < readers }
     ensures { result.noted ≡ [] }
 {
-    match Publisher::new(alloc, opening, readers) {
+    match Publisher::new(alloc, seed, readers) {
         Ok(publisher) => publisher,
         Err(_refused) => panic!(rt; "no publisher"),
     }
@@ -74,10 +74,10 @@ fn check_no_place<L: Name, A: Allocator>(rt: &impl Abort, publisher: &mut Publis
 }
 
 /// A reader sees what it didn't learn, another one begins with it, and what is learned after the end counts.
-fn follow<L: Name, R: Wait + Abort>(rt: &R, alloc: Global, opening: HistorySeed)
-    requires { opening.book ≡ L.book }
+fn follow<L: Name, R: Wait + Abort>(rt: &R, alloc: Global, seed: HistorySeed)
+    requires { seed.book ≡ L.book }
 {
-    let mut publisher = opened::<L, Global>(rt, alloc, opening, 3);
+    let mut publisher = opened::<L, Global>(rt, alloc, seed, 3);
     let mut book = Book::new(alloc);
     let mut early = reader(rt, &mut publisher);
     let mut asleep = reader(rt, &mut publisher);
@@ -119,11 +119,11 @@ fn fill<A: Allocator + Copy, R: Abort + AllocGlobal>(rt: &R, alloc: A) -> Vec<Ve
 fn publish_without_room<L: Name, A: Allocator + Copy, R: Wait + Abort + AllocGlobal>(
     rt: &R,
     alloc: A,
-    opening: HistorySeed,
+    seed: HistorySeed,
 )
-    requires { opening.book ≡ L.book }
+    requires { seed.book ≡ L.book }
 {
-    let mut publisher = opened::<L, A>(rt, alloc, opening, 2);
+    let mut publisher = opened::<L, A>(rt, alloc, seed, 2);
     let mut live = reader(rt, &mut publisher);
     let blocks = fill(rt, alloc);
     for _ in 0..100 {
@@ -171,11 +171,11 @@ fn read_often<L: Name>(rt: &impl Abort, mut live: Live<L>) -> Live<L> {
 fn read_meanwhile<L: Name + Send + Sync, R: Threads + Wait + Abort + Sync>(
     rt: &R,
     alloc: Global,
-    opening: HistorySeed,
+    seed: HistorySeed,
 )
-    requires { opening.book ≡ L.book }
+    requires { seed.book ≡ L.book }
 {
-    let mut publisher = opened::<L, Global>(rt, alloc, opening, 64);
+    let mut publisher = opened::<L, Global>(rt, alloc, seed, 64);
     let live = reader(rt, &mut publisher);
     let (news, mut live) = join(
         rt,

@@ -2,4 +2,4 @@ use Rattle.covnews.proofs.tests.readings_rise.Given as goal
 
 -- the book whose history is about to be published
 abbrev pub ghosts-read_meanwhile-L-Name : goal.ghosts-read_meanwhile-L-Name
-ghosts-read_meanwhile-L-Name g a = record { book = a.opening.book }
+ghosts-read_meanwhile-L-Name g a = record { book = a.seed.book }
