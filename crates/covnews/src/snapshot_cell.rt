@@ -35,8 +35,9 @@ impl<L: Name, A: Allocator> Drop for SnapshotCell<L, A> {
     }
 }
 
-/// Appends a snapshot to those that are to be shown. There is room for it since the book was opened, so the first try succeeds. No contract
-/// of `left_right` says so, hence the loop: should a try be refused, it tries again until there is memory.
+/// Appends a snapshot to those that are to be shown. There is room for it since the book was opened, so the first try
+/// succeeds. No contract of `left_right` says so, hence the loop: should a try be refused, it tries again until there is
+/// memory.
 fn append<L: Name, A: Allocator, R: Wait>(
     rt: &R,
     writer: &mut SnapshotWriter<L, A>,
