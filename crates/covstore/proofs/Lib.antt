@@ -66,6 +66,7 @@ pub mod StepsTally
 pub mod StepsTexts
 pub mod StepsCounts
 pub mod StepsKept
+pub mod StepsRun
 pub mod StepsMore
 pub mod StepsItems
 pub mod Assigned

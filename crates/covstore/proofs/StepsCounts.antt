@@ -1,12 +1,10 @@
 -- The numbers that the code changes are those that one item more asks for.
-use Rattle.std.proofs.Common.{◌≡◌, ℕ, Bool, true, false, ◌&&◌, ◌||◌, not, cond, Option, Some, None, List, refl, ap, ◌∙◌}
+use Rattle.std.proofs.Common.{◌≡◌, ℕ, Bool, true, false, ◌||◌, if◌then◌else◌, Option, Some, None, List, refl}
 use Rattle.std.specs.declared.cmp.Ordering.{Ordering}
-use Rattle.std.specs.Option.{is_some}
-use Rattle.covstore.specs.declared.kind_index.PointChange.{PointChange}
 use Rattle.covstore.specs.declared.sums.LineSum.{LineSum}
 use Rattle.covstore.specs.declared.sums.Tests.{Tests}
-use Rattle.covstore.specs.KindIndex.{change_by, change_of, changed}
-use Rattle.covstore.specs.KindIndexCounts.{counts_with, is_above_at, tests_more}
+use Rattle.covstore.specs.KindIndex.{changed}
+use Rattle.covstore.specs.KindIndexCounts.{change_by, change_of, counts_with, is_above_at, is_new, is_newly_hit, tests_more}
 use Rattle.covmap.specs.Puts.{put, value_of}
 use Rattle.covstore.specs.State.{has_checksum}
 use Rattle.covstore.specs.Sums.{line_with}
@@ -14,24 +12,14 @@ use Rattle.covstore.specs.Sums.{line_with}
 -- ---- the change of a point's numbers
 
 module _ {K V : Type 0} (cmp : K → K → Ordering) (is_above : V → Bool) (key : K) (counts : List (K × Tests)) where
-  changed_new : (newly : Bool) → changed cmp key (change_by false newly) counts ≡ put cmp key (tests_more true newly (value_of cmp key counts)) counts
-  changed_new true = refl
-  changed_new false = refl
+  changed_by : (new newly : Bool) → changed cmp key (change_by new newly) counts
+      ≡ (if new then put cmp key (tests_more true newly (value_of cmp key counts)) counts else if newly then put cmp key (tests_more false true (value_of cmp key counts)) counts else counts)
+  changed_by true newly = refl
+  changed_by false true = refl
+  changed_by false false = refl
 
-  changed_old : (newly : Bool) → changed cmp key (change_by true newly) counts ≡ cond newly (put cmp key (tests_more false true (value_of cmp key counts)) counts) counts
-  changed_old true = refl
-  changed_old false = refl
-
-  pub changed_is : (before : Option V) (after : V) → changed cmp key (change_of (is_some before) (is_above_at is_above before) (is_above after)) counts ≡ counts_with cmp is_above key before after counts
-  changed_is None after = changed_new (is_above after && true)
-  changed_is (Some committed) after = changed_old (is_above after && not (is_above committed))
-
-  -- by what the code asks of the value before
-  pub changed_as : (change : PointChange) (some was : Bool) (given before : Option V) (after : V) → change ≡ change_of some was (is_above after) → some ≡ is_some given → was ≡ is_above_at is_above given
-      → given ≡ before → changed cmp key change counts ≡ counts_with cmp is_above key before after counts
-  changed_as change some was given before after e there above same =
-      ap (λ (c : PointChange). changed cmp key c counts) (e ∙ ap (λ (b : Bool). change_of b was (is_above after)) there ∙ ap (λ (b : Bool). change_of (is_some given) b (is_above after)) above)
-      ∙ changed_is given after ∙ ap (λ (committed : Option V). counts_with cmp is_above key committed after counts) same
+  pub changed_is : (before : Option V) (after : V) → changed cmp key (change_of is_above before after) counts ≡ counts_with cmp is_above key before after counts
+  changed_is before after = changed_by (is_new before) (is_newly_hit is_above before after)
 
 -- ---- a line's checksum
 

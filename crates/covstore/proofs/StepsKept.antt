@@ -38,9 +38,13 @@ within_few : (value : Option Tests) (tests : ℕ) → tests ≤ 2 ^ 63 → ((com
 within_few None tests few within = tt
 within_few (Some committed) tests few within = let is = within committed refl in (omega (arith, is.all), omega (arith, is.all, is.hit))
 
+pub numbers_few : {K V : Type 0} {cmp : K → K → Ordering} {is_above : V → Bool} {tests : List (List (K × V))} {counts : List (K × Tests)} → AreCounts cmp is_above tests counts → length tests ≤ 2 ^ 63
+    → (key : K) → IfSome (value_of cmp key counts) (λ committed. (committed.tests ≤ 2 ^ 63) × (committed.hit ≤ 2 ^ 63))
+numbers_few {cmp = cmp} {tests = tests} {counts = counts} are few key = within_few (value_of cmp key counts) (length tests) few (counts_within are key)
+
 pub room_at : {K V : Type 0} {cmp : K → K → Ordering} {is_above : V → Bool} (points : List (K × V)) (counts : List (K × Tests)) → HasRoomOfKind cmp is_above points counts
     → (key : K) → IfSome (value_of cmp key counts) (λ committed. (committed.tests ≤ 2 ^ 63) × (committed.hit ≤ 2 ^ 63))
-room_at {cmp = cmp} points counts room key = within_few (value_of cmp key counts) (length (room.front ++ points ∷ room.back)) room.few_tests (counts_within room.kept key)
+room_at points counts room = numbers_few room.kept room.few_tests
 
 -- ---- how many tests hold a checksum of a line
 

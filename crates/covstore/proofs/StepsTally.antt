@@ -1,14 +1,19 @@
 -- How many points there are, and how many of them are hit, where the numbers of one point are put in.
-use Rattle.std.proofs.Common.{◌≡◌, ◌+◌, nat_lt, Option, List, sym, ap, ◌∙◌, subst, arith}
+use Rattle.std.proofs.Common.{◌≡◌, ℕ, ◌+◌, ◌≤◌, Bool, true, false, ◌&&◌, not, cond, nat_lt, Option, Some, None, List, [], ◌∷◌, ◌++◌, length, refl, sym, ap, ◌∙◌, subst, arith}
 use Rattle.std.specs.declared.cmp.Ordering.{Ordering}
+use Rattle.std.specs.List.{count_by}
+use Rattle.std.proofs.lemmas.Bool.{false≢true, lt-ltb, ltb-true}
+use Rattle.std.proofs.lemmas.List.Sums.{sum_by-append}
 use Rattle.covstore.specs.declared.kind_index.KindTotals.{KindTotals}
 use Rattle.covstore.specs.declared.sums.Tests.{Tests}
+use Rattle.covstore.specs.declared.sums.TestsAddend.{TestsAddend}
 use Rattle.covstore.specs.KindIndex.{IsTallyOf}
-use Rattle.covstore.specs.KindIndexCounts.{is_above_at, is_new, one_if}
+use Rattle.covstore.specs.KindIndexCounts.{change_by, change_of, found_of, hit_of, is_above_at, is_hit_by_some, is_new, is_newly_hit, one_if, tests_with}
 use Rattle.covmap.specs.MapData.{MapData}
 use Rattle.covmap.specs.Puts.{ArePairs, put, value_of}
+use Rattle.covmap.specs.Run.{sum_put, summed, told_one, told_run}
 use Rattle.covstore.proofs.Ascend.{IsExactOrder}
-use Rattle.covstore.proofs.Puts.{count_by-put, length-put}
+use Rattle.covstore.proofs.Puts.{ArePairs-put, count_by-put, length-put}
 
 module _ {K : Type 0} {cmp : K → K → Ordering} (o : IsExactOrder cmp) (key : K) (after : Tests) (counts : List (K × Tests)) (sorted : ArePairs cmp counts) where
   -- the numbers move with the point
@@ -30,3 +35,90 @@ module _ {K : Type 0} {cmp : K → K → Ordering} (o : IsExactOrder cmp) (key :
       let first = subst (λ (points : List (K × Tests)). IsTallyOf points committed) (sym (stays ∙ ap (λ (points : MapData K Tests). points.committed) same)) are.0 in
       let there = tally_put before (e ∙ ap (value_of cmp key) (sym own)) staged more (subst (λ (points : List (K × Tests)). IsTallyOf points staged) (sym own) are.1) found hit in
       (first, subst (λ (points : List (K × Tests)). IsTallyOf points more) (sym (puts ∙ ap (put cmp key after) (ap (λ (points : MapData K Tests). points.staged) same ∙ sym own))) there)
+
+-- ---- a run of numbers
+
+told_new : (new hit : Bool) {Q : Type 0} (query : Q) → count_by (λ (item : Q × TestsAddend). item.1.is_new) (told_one query (change_by new hit)) ≡ one_if new
+told_new true hit query = refl
+told_new false true query = refl
+told_new false false query = refl
+
+told_hit : (new hit : Bool) {Q : Type 0} (query : Q) → count_by (λ (item : Q × TestsAddend). item.1.is_hit) (told_one query (change_by new hit)) ≡ one_if hit
+told_hit true true query = refl
+told_hit true false query = refl
+told_hit false true query = refl
+told_hit false false query = refl
+
+-- numbers only rise, so what is above 0 afterwards was so before, or is so for the first time
+rises : (before after : Bool) → (before ≡ true → after ≡ true) → one_if after ≡ one_if before + one_if (after && not before)
+rises true true stays = refl
+rises true false stays = absurd (false≢true (stays refl))
+rises false true stays = refl
+rises false false stays = refl
+
+numbers_stay : (more : TestsAddend) (before : Option Tests) → is_above_at is_hit_by_some before ≡ true → is_hit_by_some (tests_with more before) ≡ true
+numbers_stay more None e = absurd (false≢true e)
+numbers_stay more (Some tests) e = lt-ltb 0 (tests.hit + one_if more.is_hit) (omega (arith, ltb-true 0 tests.hit e))
+
+-- what a run tells of the file's numbers
+abbrev pub told_of_counts : {K Q : Type 0} → (K → K → Ordering) → (Q → K) → List (Q × TestsAddend) → List (K × Tests) → List (Q × TestsAddend)
+told_of_counts cmp named run counts = told_run cmp named tests_with (λ more before after. change_of is_hit_by_some before after) run counts
+
+module _ {K Q : Type 0} {cmp : K → K → Ordering} (o : IsExactOrder cmp) (named : Q → K) where
+  -- what the run tells of the file's numbers
+  pub found_run : (run : List (Q × TestsAddend)) (counts : List (K × Tests)) → ArePairs cmp counts
+      → found_of (summed cmp named tests_with run counts) ≡ found_of counts + count_by (λ item. item.1.is_new) (told_of_counts cmp named run counts)
+  found_run [] counts sorted = omega arith
+  found_run (item ∷ run) counts sorted =
+      let key = named item.0 in
+      let before = value_of cmp key counts in
+      let after = tests_with item.1 before in
+      let next = put cmp key after counts in
+      let change = change_of is_hit_by_some before after in
+      omega (
+        arith,
+        found_run run next (ArePairs-put o key after counts sorted),
+        length-put o key after counts sorted,
+        sum_by-append (λ (item : Q × TestsAddend). cond item.1.is_new 1 0) (told_one item.0 change) (told_of_counts cmp named run next),
+        told_new (is_new before) (is_newly_hit is_hit_by_some before after) item.0,
+      )
+
+  pub hit_run : (run : List (Q × TestsAddend)) (counts : List (K × Tests)) → ArePairs cmp counts
+      → hit_of (summed cmp named tests_with run counts) ≡ hit_of counts + count_by (λ item. item.1.is_hit) (told_of_counts cmp named run counts)
+  hit_run [] counts sorted = omega arith
+  hit_run (item ∷ run) counts sorted =
+      let key = named item.0 in
+      let before = value_of cmp key counts in
+      let after = tests_with item.1 before in
+      let next = put cmp key after counts in
+      let change = change_of is_hit_by_some before after in
+      omega (
+        arith,
+        hit_run run next (ArePairs-put o key after counts sorted),
+        count_by-put o (λ pair. nat_lt 0 pair.1.hit) key after counts sorted,
+        rises (is_above_at is_hit_by_some before) (is_hit_by_some after) (numbers_stay item.1 before),
+        sum_by-append (λ (item : Q × TestsAddend). cond item.1.is_hit 1 0) (told_one item.0 change) (told_of_counts cmp named run next),
+        told_hit (is_new before) (is_newly_hit is_hit_by_some before after) item.0,
+      )
+
+  pub tally_run : (run : List (Q × TestsAddend)) (counts : List (K × Tests)) → ArePairs cmp counts → (tally more : KindTotals) → IsTallyOf counts tally
+      → more.found ≡ tally.found + count_by (λ item. item.1.is_new) (told_of_counts cmp named run counts) → more.hit ≡ tally.hit + count_by (λ item. item.1.is_hit) (told_of_counts cmp named run counts)
+      → IsTallyOf (summed cmp named tests_with run counts) more
+  tally_run run counts sorted tally more is found hit = record {
+    found = omega (arith, found_run run counts sorted, found, is.found);
+    hit = omega (arith, hit_run run counts sorted, hit, is.hit);
+  }
+
+-- ---- how much a run tells
+
+told_few : {Q N : Type 0} (query : Q) (note : Option N) (rest : List (Q × N)) (n : ℕ) → length rest ≤ n → length (told_one query note ++ rest) ≤ n + 1
+told_few query None rest n few = omega (arith, few)
+told_few query (Some note) rest n few = omega (arith, few)
+
+pub length_told : {K V Q M N : Type 0} (cmp : K → K → Ordering) (named : Q → K) (sum : M → Option V → V) (told : M → Option V → V → Option N) (run : List (Q × M)) (pairs : List (K × V))
+    → length (told_run cmp named sum told run pairs) ≤ length run
+length_told cmp named sum told [] pairs = omega arith
+length_told cmp named sum told (item ∷ run) pairs =
+    let before = value_of cmp (named item.0) pairs in
+    let next = sum_put cmp named sum item pairs in
+    omega (arith, told_few item.0 (told item.1 before (sum item.1 before)) (told_run cmp named sum told run next) (length run) (length_told cmp named sum told run next))

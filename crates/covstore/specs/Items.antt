@@ -1,5 +1,5 @@
 -- What an item more needs, and what it does to what is kept of its file.
-use Rattle.std.specs.Prelude.{◌≡◌, ℕ, ◌<◌, ◌≤◌, ◌^◌, Bool, true, Some, None, List, ◌∷◌, ◌++◌, length}
+use Rattle.std.specs.Prelude.{◌≡◌, ℕ, ◌+◌, ◌<◌, ◌≤◌, ◌^◌, Bool, true, Some, None, List, ◌∷◌, ◌++◌, length}
 use Rattle.std.specs.declared.cmp.Ordering.{Ordering}
 use Rattle.std.specs.Option.{is_some}
 use Rattle.std.specs.Ordering.{nat_cmp}
@@ -24,6 +24,14 @@ pub record HasRoomOfKind {K V : Type 0} (cmp : K → K → Ordering) (is_above :
   pub kept : AreCounts cmp is_above (front ++ points ∷ back) counts
   pub few_tests : length (front ++ points ∷ back) ≤ 2 ^ 63
   pub few : length counts < 2 ^ 63
+
+-- the counts are those of tests, of which one has these points, and there is room for so many items more
+pub record HasRoomForRun {K V : Type 0} (cmp : K → K → Ordering) (is_above : V → Bool) (points : List (K × V)) (counts : List (K × Tests)) (items : ℕ) : Type 0 where
+  pub front : List (List (K × V))
+  pub back : List (List (K × V))
+  pub kept : AreCounts cmp is_above (front ++ points ∷ back) counts
+  pub few_tests : length (front ++ points ∷ back) ≤ 2 ^ 63
+  pub few : length counts + items ≤ 2 ^ 63
 
 -- whatever the other tests are: counts of the tests are those of the tests with the changed one
 abbrev pub KeepsCountsOfKind : {K V : Type 0} → (K → K → Ordering) → (V → Bool) → List (K × V) → List (K × V) → List (K × Tests) → List (K × Tests) → Type 0

@@ -1,8 +1,9 @@
 -- How many tests of a file have a point, and how many have it above 0: each number counts the tests alone.
-use Rattle.std.specs.Prelude.{◌≡◌, ℕ, ◌+◌, Bool, true, false, nat_lt, ◌&&◌, not, if◌then◌else◌, Option, Some, None, List, length, count_by}
+use Rattle.std.specs.Prelude.{◌≡◌, ℕ, ◌+◌, ◌≤◌, ◌^◌, Bool, true, false, nat_lt, ◌&&◌, ◌||◌, not, if◌then◌else◌, IfSome, Option, Some, None, List, length, count_by}
 use Rattle.std.specs.declared.cmp.Ordering.{Ordering}
 use Rattle.std.specs.Option.{is_some}
 use Rattle.covstore.specs.declared.sums.Tests.{Tests}
+use Rattle.covstore.specs.declared.sums.TestsAddend.{TestsAddend}
 use Rattle.covmap.specs.Puts.{ArePairs, put, value_of}
 
 -- there is a value, and it is above 0
@@ -27,6 +28,10 @@ pub record AreCounts {K V : Type 0} (cmp : K → K → Ordering) (is_above : V �
   pub ascending : ArePairs cmp counts
   pub counted : (key : K) → value_of cmp key counts ≡ tests_at cmp is_above key tests
 
+-- some test has the point above 0
+abbrev pub is_hit_by_some : Tests → Bool
+is_hit_by_some numbers = nat_lt 0 numbers.hit
+
 -- how many points some test has, and how many of these some test has above 0
 abbrev pub found_of : {K : Type 0} → List (K × Tests) → ℕ
 found_of counts = length counts
@@ -43,7 +48,7 @@ one_if false = 0
 
 abbrev pub tests_more : Bool → Bool → Option Tests → Tests
 tests_more is_new is_newly_hit None = record { tests = one_if is_new; hit = one_if is_newly_hit }
-tests_more is_new is_newly_hit (Some committed) = record { tests = committed.tests + one_if is_new; hit = committed.hit + one_if is_newly_hit }
+tests_more is_new is_newly_hit (Some numbers) = record { tests = numbers.tests + one_if is_new; hit = numbers.hit + one_if is_newly_hit }
 
 -- the point had no value before; it is above 0, and wasn't before
 abbrev pub is_new : {V : Type 0} → Option V → Bool
@@ -57,3 +62,19 @@ abbrev pub counts_with : {K V : Type 0} → (K → K → Ordering) → (V → Bo
 counts_with cmp is_above key before after counts =
     if is_new before then put cmp key (tests_more true (is_newly_hit is_above before after) (value_of cmp key counts)) counts else
     if is_newly_hit is_above before after then put cmp key (tests_more false true (value_of cmp key counts)) counts else counts
+
+-- ---- what a test adds to the numbers of a point
+
+abbrev pub tests_with : TestsAddend → Option Tests → Tests
+tests_with more before = tests_more more.is_new more.is_hit before
+
+-- one more can be counted
+abbrev pub tests_fit : TestsAddend → Option Tests → Type 0
+tests_fit more before = IfSome before (λ numbers. (numbers.tests ≤ 2 ^ 63) × (numbers.hit ≤ 2 ^ 63))
+
+abbrev pub change_by : Bool → Bool → Option TestsAddend
+change_by is_new is_hit = if is_new || is_hit then Some (record { is_new = is_new; is_hit = is_hit }) else None
+
+-- nothing where the point is in the test as it was, and not above 0 for the first time
+abbrev pub change_of : {V : Type 0} → (V → Bool) → Option V → V → Option TestsAddend
+change_of is_above before after = change_by (is_new before) (is_newly_hit is_above before after)

@@ -16,11 +16,11 @@ use Rattle.covstore.specs.Sums.{TestData}
 
 -- a test less has the point, above 0 or not; none where it was the only one
 abbrev pub fewer_tests : Bool → Tests → Option Tests
-fewer_tests was_above committed = if nat_lt 1 committed.tests then Some (record { tests = committed.tests - 1; hit = committed.hit - one_if was_above }) else None
+fewer_tests was_above numbers = if nat_lt 1 numbers.tests then Some (record { tests = numbers.tests - 1; hit = numbers.hit - one_if was_above }) else None
 
 abbrev pub fewer_of : Bool → Option Tests → Option Tests
 fewer_of was_above None = None
-fewer_of was_above (Some committed) = fewer_tests was_above committed
+fewer_of was_above (Some numbers) = fewer_tests was_above numbers
 
 -- the counts where a test less has the point
 abbrev pub counts_without : {K : Type 0} → (K → K → Ordering) → K → Bool → List (K × Tests) → List (K × Tests)
@@ -28,11 +28,11 @@ counts_without cmp key was_above counts = assigned cmp key (fewer_of was_above (
 
 -- some test has the point, above 0 or not, and of the others no more have it above 0 than have it
 abbrev pub HaveOne : Bool → Tests → Type 0
-HaveOne was_above committed = (one_if was_above ≤ committed.hit) × (committed.hit < committed.tests + one_if was_above)
+HaveOne was_above numbers = (one_if was_above ≤ numbers.hit) × (numbers.hit < numbers.tests + one_if was_above)
 
 abbrev pub CanLose : Bool → Option Tests → Type 0
 CanLose was_above None = ⊥
-CanLose was_above (Some committed) = HaveOne was_above committed
+CanLose was_above (Some numbers) = HaveOne was_above numbers
 
 -- the counts are those of a test with these points, and of others
 abbrev pub AreWith : {K V : Type 0} → (K → K → Ordering) → (V → Bool) → List (K × V) → List (K × Tests) → Type 0
@@ -59,7 +59,7 @@ totals_by lines functions branches = record { lf = lines.found; lh = lines.hit; 
 
 -- some test has the point above 0
 abbrev pub is_hit : Option Tests → Bool
-is_hit committed = is_above_at (λ tests. nat_lt 0 tests.hit) committed
+is_hit numbers = is_above_at (λ tests. nat_lt 0 tests.hit) numbers
 
 -- a point's numbers go from these to those: it is found and hit no more where it was
 pub record IsLess (tally : KindTotals) (before : Tests) (after : Option Tests) (less : KindTotals) : Type 0 where

@@ -11,11 +11,9 @@ ghost use Rattle.covstore.specs.FileIndexView.{KeepsCommitted};
 ghost use Rattle.covstore.specs.declared.stop.Stop.TheVariants as stops;
 
 use crate::index::FileIndex;
-use crate::kind_index::{KindIndex, PointChange};
+use crate::kind_index::KindIndex;
 use crate::stop::Stop;
-use crate::sums::{
-    BranchAddend, FunctionAddend, LineAddend, LineSum, PointAddend, PointSum, is_hit,
-};
+use crate::sums::{BranchAddend, FunctionAddend, LineAddend, LineSum, PointAddend, PointSum};
 use crate::test::Test;
 use covline::{BranchPoint, Item};
 use covmap::{Key, Query, StagedMap};
@@ -170,8 +168,7 @@ fn add_to_point<K: Key + Drop, S: PointSum, A: Allocator + Copy, Q: Query<K, A>,
     ensures counts { OnOk result (KeepsCountsOfKind K.cmp S.above points.old.staged points.new.staged kept.old.staged kept.new.staged) }
 {
     let added = points.stage_sum(alloc, query, addend, points.cursor())?;
-    let was_above = is_hit(&added.before);
-    let change = PointChange::of(added.before.is_some(), was_above, added.after.is_above());
+    let change = addend.tell(&added.before, &added.after);
     kept.add(alloc, query, change, added.place)?;
     Ok(added.before)
 }

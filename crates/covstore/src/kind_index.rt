@@ -1,43 +1,15 @@
 //! In how many tests of a file the points of a kind are, and how many points there are.
 
-ghost use Rattle.std.specs.Prelude.{◌≡◌, ◌<◌, ◌≤◌, ◌^◌, [], IfSome, OnOk, length};
+ghost use Rattle.std.specs.Prelude.{◌≡◌, ◌+◌, ◌<◌, ◌≤◌, ◌^◌, [], IfSome, OnOk, length};
 ghost use Rattle.covstore.specs.KindIndex.{changed};
-ghost use Rattle.covstore.specs.KindIndexCounts.{found_of, hit_of};
-ghost use Rattle.covmap.specs.Puts.{value_of};
+ghost use Rattle.covstore.specs.KindIndexCounts.{found_of, hit_of, tests_fit, tests_with};
+ghost use Rattle.covmap.specs.Puts.{ArePairs, value_of};
+ghost use Rattle.covmap.specs.Run.{FitRun, summed};
 
 use crate::sums::{Tests, TestsAddend};
 use covmap::{Key, Place, Query, StagedMap};
 use std::alloc::{AllocError, Allocator};
 use std::marker::Model;
-
-/// What a count more of a point does in its test.
-#[derive(Clone, Copy)]
-pub(crate) enum PointChange {
-    /// The test had the point, and it is as much above 0 as it was.
-    Same,
-    /// The test had the point, which is above 0 now.
-    Hit,
-    /// The test has the point now, and not above 0.
-    Found,
-    /// The test has the point now, above 0.
-    FoundAndHit,
-}
-
-impl PointChange {
-    ghost use Rattle.covstore.specs.KindIndex.{change_of};
-
-    /// The change of a point that was there or not, above 0 or not.
-    pub(crate) fn of(was_there: bool, was_above: bool, is_above: bool) -> PointChange
-        ensures { result ≡ change_of was_there was_above is_above }
-    {
-        match (was_there, is_above && !was_above) {
-            (true, false) => PointChange::Same,
-            (true, true) => PointChange::Hit,
-            (false, false) => PointChange::Found,
-            (false, true) => PointChange::FoundAndHit,
-        }
-    }
-}
 
 /// How many points are found, and how many of them hit.
 #[derive(Clone, Copy)]
@@ -47,7 +19,7 @@ pub(crate) struct KindTotals {
 }
 
 impl KindTotals {
-    ghost use Rattle.std.specs.Prelude.{◌+◌, nat_lt};
+    ghost use Rattle.std.specs.Prelude.{nat_lt, count_by};
     ghost use Rattle.covstore.specs.KindIndexCounts.{is_above_at, is_new, one_if};
     ghost use Rattle.covstore.specs.KindIndexDrops.{CanBeLess, IsLess};
 
@@ -55,9 +27,9 @@ impl KindTotals {
     fn more(self, before: &Option<Tests>, after: &Tests) -> KindTotals
         requires found { self.found < 2 ^ 63 }
         requires hit { self.hit < 2 ^ 63 }
-        requires rises { IfSome before.now (λ committed. committed.hit ≤ after.now.hit) }
+        requires rises { IfSome before.now (λ numbers. numbers.hit ≤ after.now.hit) }
         ensures found { result.found ≡ self.found + one_if (is_new before.now) }
-        ensures hit { result.hit + one_if (is_above_at (λ committed. nat_lt 0 committed.hit) before.now) ≡ self.hit + one_if (nat_lt 0 after.now.hit) }
+        ensures hit { result.hit + one_if (is_above_at (λ numbers. nat_lt 0 numbers.hit) before.now) ≡ self.hit + one_if (nat_lt 0 after.now.hit) }
     {
         let was_hit = Tests::is_hit(before);
         let is_new = before.is_none();
@@ -65,6 +37,21 @@ impl KindTotals {
             found: self.found + u64::from(is_new),
             hit: self.hit + u64::from(after.hit.get() > 0 && !was_hit),
         }
+    }
+
+    /// The tally where the numbers of a run of points rise, by what these tell.
+    fn with_told<Q>(self, told: &[(Q, TestsAddend)]) -> KindTotals
+        requires found { self.found + length told.now ≤ 2 ^ 63 }
+        requires hit { self.hit + length told.now ≤ 2 ^ 63 }
+        ensures found { result.found ≡ self.found + count_by (λ item. item.1.is_new) told.now }
+        ensures hit { result.hit ≡ self.hit + count_by (λ item. item.1.is_hit) told.now }
+    {
+        let mut tally = self;
+        for item in told {
+            tally.found += u64::from(item.1.is_new);
+            tally.hit += u64::from(item.1.is_hit);
+        }
+        tally
     }
 
     /// The tally where a point's numbers fall: it is found and hit no more where it was.
@@ -93,8 +80,8 @@ pub(crate) struct Walk {
 #[derive(Drop)]
 pub(crate) struct KindIndex<K: Key, A: Allocator> {
     counts: StagedMap<K, Tests, A>,
-    committed: KindTotals,
-    staged: KindTotals,
+    totals: KindTotals,
+    staged_totals: KindTotals,
 }
 
 impl<K: Key, A: Allocator> Model for KindIndex<K, A> {
@@ -106,7 +93,7 @@ impl<K: Key, A: Allocator> Model for KindIndex<K, A> {
 
     ghost view = { λ k. k.counts };
 
-    ghost invariant = { λ k. IsTallyOf k.counts.committed k.committed × IsTallyOf k.counts.staged k.staged };
+    ghost invariant = { λ k. IsTallyOf k.counts.committed k.totals × IsTallyOf k.counts.staged k.staged_totals };
 }
 
 impl<K: Key + Drop, A: Allocator + Copy> KindIndex<K, A> {
@@ -118,49 +105,59 @@ impl<K: Key + Drop, A: Allocator + Copy> KindIndex<K, A> {
         let none = KindTotals { found: 0, hit: 0 };
         KindIndex {
             counts: StagedMap::new(alloc),
-            committed: none,
-            staged: none,
+            totals: none,
+            staged_totals: none,
         }
     }
 
-    /// Counts the change of a point in one test. It costs no search where the guess is the point's place, as it is where
-    /// no other test has other points: both have their pages cut alike then.
+    /// Adds what a test adds to the numbers of a point, if anything. It costs no search where the guess is the point's
+    /// place, as it is where no other test has other points: both have their pages cut alike then.
     pub(crate) fn add<Q: Query<K, A>>(
         &mut self,
         alloc: A,
         query: Q,
-        change: PointChange,
+        change: Option<TestsAddend>,
         guess: Place,
     ) -> Result<(), AllocError>
         requires few { length self.old.staged < 2 ^ 63 }
-        requires room { IfSome (value_of K.cmp (Q.named query) self.old.staged) (λ committed. (committed.tests ≤ 2 ^ 63) × (committed.hit ≤ 2 ^ 63)) }
+        requires room { IfSome (value_of K.cmp (Q.named query) self.old.staged) (λ numbers. (numbers.tests ≤ 2 ^ 63) × (numbers.hit ≤ 2 ^ 63)) }
         ensures committed { self.new.committed ≡ self.old.committed }
         ensures ok { OnOk result (self.new.staged ≡ changed K.cmp (Q.named query) change self.old.staged) }
     {
-        let more = match change {
-            PointChange::Same => return Ok(()),
-            PointChange::Hit => TestsAddend {
-                is_new: false,
-                is_hit: true,
-            },
-            PointChange::Found => TestsAddend {
-                is_new: true,
-                is_hit: false,
-            },
-            PointChange::FoundAndHit => TestsAddend {
-                is_new: true,
-                is_hit: true,
-            },
+        let Some(more) = change else {
+            return Ok(());
         };
         let added = match self.counts.stage_sum(alloc, query, more, guess) {
             Ok(added) => added,
             Err(refused) => {
                 self.counts.rollback();
-                self.staged = self.committed;
+                self.staged_totals = self.totals;
                 return Err(refused);
             }
         };
-        self.staged = self.staged.more(&added.before, &added.after);
+        self.staged_totals = self.staged_totals.more(&added.before, &added.after);
+        Ok(())
+    }
+
+    /// Adds what a test adds to the numbers of a run of points.
+    pub(crate) fn add_run<Q: Query<K, A>>(
+        &mut self,
+        alloc: A,
+        changes: &[(Q, TestsAddend)],
+    ) -> Result<(), AllocError>
+        requires few { length self.old.staged + length changes.now ≤ 2 ^ 63 }
+        requires ascending { ArePairs K.cmp self.old.staged }
+        requires fits { FitRun K.cmp Q.named tests_fit tests_with changes.now self.old.staged }
+        ensures committed { self.new.committed ≡ self.old.committed }
+        ensures ok { OnOk result (self.new.staged ≡ summed K.cmp Q.named tests_with changes.now self.old.staged) }
+    {
+        let mut told = Vec::new(alloc);
+        if let Err(refused) = self.counts.stage_run(alloc, changes, &mut told) {
+            self.counts.rollback();
+            self.staged_totals = self.totals;
+            return Err(refused);
+        }
+        self.staged_totals = self.staged_totals.with_told(told.as_slice());
         Ok(())
     }
 
@@ -170,7 +167,7 @@ impl<K: Key + Drop, A: Allocator + Copy> KindIndex<K, A> {
         ensures staged { self.new.staged ≡ self.old.staged }
     {
         self.counts.commit();
-        self.committed = self.staged;
+        self.totals = self.staged_totals;
     }
 
     /// Forgets what is staged. Takes no memory.
@@ -179,7 +176,7 @@ impl<K: Key + Drop, A: Allocator + Copy> KindIndex<K, A> {
         ensures staged { self.new.staged ≡ self.old.committed }
     {
         self.counts.rollback();
-        self.staged = self.committed;
+        self.staged_totals = self.totals;
     }
 
     /// How many points are staged, and how many of them hit.
@@ -187,7 +184,7 @@ impl<K: Key + Drop, A: Allocator + Copy> KindIndex<K, A> {
         ensures found { result.found ≡ found_of self.now.staged }
         ensures hit { result.hit ≡ hit_of self.now.staged }
     {
-        self.staged
+        self.staged_totals
     }
 
     /// How many points are committed, and how many of them hit.
@@ -195,7 +192,7 @@ impl<K: Key + Drop, A: Allocator + Copy> KindIndex<K, A> {
         ensures found { result.found ≡ found_of self.now.committed }
         ensures hit { result.hit ≡ hit_of self.now.committed }
     {
-        self.committed
+        self.totals
     }
 }
 
@@ -213,8 +210,8 @@ impl<K: Key, A: Allocator> KindIndex<K, A> {
     {
         if let Some(before) = self.counts.lookup(query) {
             let after = before.fewer(was_above);
-            self.committed = self.committed.less(&before, &after);
-            self.staged = self.committed;
+            self.totals = self.totals.less(&before, &after);
+            self.staged_totals = self.totals;
             self.counts.replace(query, after);
         }
     }
@@ -224,7 +221,7 @@ impl<K: Key, A: Allocator> KindIndex<K, A> {
         ensures { IsTallyOf self.now.committed result.tally }
     {
         Walk {
-            tally: self.committed,
+            tally: self.totals,
             place: Place::first(),
         }
     }
@@ -235,8 +232,8 @@ impl<K: Key, A: Allocator> KindIndex<K, A> {
         requires at { (others : List (K × Tests)) × IsTallyAt K.cmp (Q.named query) self.now.committed others walk.tally }
         ensures { (others : List (K × Tests)) → IsTallyAt K.cmp (Q.named query) self.now.committed others walk.tally → IsTallyOf (counts_without K.cmp (Q.named query) was_above others) result.tally }
     {
-        let (committed, place) = self.counts.lookup_at(query, walk.place);
-        let Some(before) = committed else {
+        let (numbers, place) = self.counts.lookup_at(query, walk.place);
+        let Some(before) = numbers else {
             return walk;
         };
         let after = before.fewer(was_above);

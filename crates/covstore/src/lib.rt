@@ -42,6 +42,7 @@ mod kind_index;
 pub mod laws;
 mod order;
 mod plan;
+mod points;
 mod refuse;
 mod renaming;
 mod section;

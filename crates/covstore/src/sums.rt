@@ -1,8 +1,8 @@
 //! What the items of a file and a test add up to at a point, and in how many tests a file has a point. A sum stops at
 //! 2^128 - 1.
 
-ghost use Rattle.std.specs.Prelude.{◌≡◌, ◌^◌, ◌≤◌, Bool, true, IfSome, Option};
-ghost use Rattle.covstore.specs.KindIndexCounts.{is_above_at, tests_more};
+ghost use Rattle.std.specs.Prelude.{◌≡◌, Bool, true, Option};
+ghost use Rattle.covstore.specs.KindIndexCounts.{change_of, is_above_at, is_hit_by_some, tests_fit, tests_with};
 ghost use Rattle.covstore.specs.Kinds.{branch_above, function_above, line_above};
 ghost use Rattle.covstore.specs.State.{has_checksum};
 ghost use Rattle.covstore.specs.Stays.{branch_stays, function_stays, line_stays};
@@ -11,7 +11,7 @@ ghost use Rattle.covstore.specs.Sums.{branch_with, function_with, line_with};
 use crate::split::Split;
 use crate::times::Times;
 use crate::wide::Wide;
-use covmap::{Addend, Value};
+use covmap::{Addend, Telling, Value};
 
 /// What the items of a test add up to at a point.
 pub(crate) trait PointSum: Value {
@@ -22,11 +22,13 @@ pub(crate) trait PointSum: Value {
         ensures { result ≡ above self.now };
 }
 
-/// What an item adds at a point. No sum falls back to 0 by it.
-pub(crate) trait PointAddend<S: PointSum>: Addend<S> {
+/// What an item adds at a point. No sum falls back to 0 by it. It tells what its test adds to the numbers of the point then.
+pub(crate) trait PointAddend<S: PointSum>: Telling<S, TestsAddend> {
     ghost always_fits: { (more : Self) (before : Option S) → Self.fits more before };
 
     ghost stays: { (more : Self) (before : Option S) → is_above_at S.above before ≡ true → S.above (Self.sum more before) ≡ true };
+
+    ghost tells: { (more : Self) (before : Option S) (after : S) → Self.told more before after ≡ change_of S.above before after };
 }
 
 /// Whether the point is there, above 0.
@@ -96,10 +98,20 @@ impl Addend<LineSum> for LineAddend {
     }
 }
 
+impl Telling<LineSum, TestsAddend> for LineAddend {
+    ghost told = { λ more before after. change_of line_above before after };
+
+    fn tell(self, before: &Option<LineSum>, after: &LineSum) -> Option<TestsAddend> {
+        TestsAddend::of(before, after)
+    }
+}
+
 impl PointAddend<LineSum> for LineAddend {
     ghost always_fits = { λ more before. tt };
 
     ghost stays = { line_stays };
+
+    ghost tells = { λ more before after. refl };
 }
 
 /// A function's item: its start line and its count.
@@ -128,10 +140,20 @@ impl Addend<FunctionSum> for FunctionAddend {
     }
 }
 
+impl Telling<FunctionSum, TestsAddend> for FunctionAddend {
+    ghost told = { λ more before after. change_of function_above before after };
+
+    fn tell(self, before: &Option<FunctionSum>, after: &FunctionSum) -> Option<TestsAddend> {
+        TestsAddend::of(before, after)
+    }
+}
+
 impl PointAddend<FunctionSum> for FunctionAddend {
     ghost always_fits = { λ more before. tt };
 
     ghost stays = { function_stays };
+
+    ghost tells = { λ more before after. refl };
 }
 
 /// A branch's item: how often it was taken, none where its block was never executed.
@@ -156,10 +178,20 @@ impl Addend<BranchSum> for BranchAddend {
     }
 }
 
+impl Telling<BranchSum, TestsAddend> for BranchAddend {
+    ghost told = { λ more before after. change_of branch_above before after };
+
+    fn tell(self, before: &Option<BranchSum>, after: &BranchSum) -> Option<TestsAddend> {
+        TestsAddend::of(before, after)
+    }
+}
+
 impl PointAddend<BranchSum> for BranchAddend {
     ghost always_fits = { λ more before. tt };
 
     ghost stays = { branch_stays };
+
+    ghost tells = { λ more before after. refl };
 }
 
 /// What a test adds to the numbers of a point: whether it has the point now, and whether it has it above 0 for the first
@@ -170,14 +202,30 @@ pub(crate) struct TestsAddend {
     pub is_hit: bool,
 }
 
-impl Addend<Tests> for TestsAddend {
-    ghost fits = { λ more value. IfSome value (λ tests. (tests.tests ≤ 2 ^ 63) × (tests.hit ≤ 2 ^ 63)) };
+impl TestsAddend {
+    /// What a test adds where its sum of a point was one and is another: nothing where the point isn't new there, and is as
+    /// much above 0 as it was.
+    pub(crate) fn of<S: PointSum>(before: &Option<S>, after: &S) -> Option<TestsAddend>
+        ensures { result ≡ change_of S.above before.now after.now }
+    {
+        let is_new = before.is_none();
+        let is_hit = after.is_above() && !is_hit(before);
+        if is_new || is_hit {
+            Some(TestsAddend { is_new, is_hit })
+        } else {
+            None
+        }
+    }
+}
 
-    ghost sum = { λ more value. tests_more more.is_new more.is_hit value };
+impl Addend<Tests> for TestsAddend {
+    ghost fits = { tests_fit };
+
+    ghost sum = { tests_with };
 
     fn plus(self, value: &Option<Tests>) -> Tests
-        requires { IfSome value.now (λ tests. (tests.tests ≤ 2 ^ 63) × (tests.hit ≤ 2 ^ 63)) }
-        ensures { result ≡ tests_more self.is_new self.is_hit value.now }
+        requires { tests_fit self value.now }
+        ensures { result ≡ tests_with self value.now }
     {
         let (tests, hit) = match value {
             Some(value) => (value.tests.get(), value.hit.get()),
@@ -187,6 +235,15 @@ impl Addend<Tests> for TestsAddend {
             tests: Split::of(if self.is_new { tests + 1 } else { tests }),
             hit: Split::of(if self.is_hit { hit + 1 } else { hit }),
         }
+    }
+}
+
+/// It tells whether the point is new in the file, and whether a test has it above 0 for the first time.
+impl Telling<Tests, TestsAddend> for TestsAddend {
+    ghost told = { λ more before after. change_of is_hit_by_some before after };
+
+    fn tell(self, before: &Option<Tests>, after: &Tests) -> Option<TestsAddend> {
+        TestsAddend::of(before, after)
     }
 }
 
@@ -290,6 +347,14 @@ impl PointSum for BranchSum {
 
     fn is_above(&self) -> bool {
         self.times.is_above()
+    }
+}
+
+impl PointSum for Tests {
+    ghost above = { is_hit_by_some };
+
+    fn is_above(&self) -> bool {
+        self.hit.get() > 0
     }
 }
 

@@ -1,8 +1,8 @@
-use Rattle.std.proofs.Common.{ap, ◌∙◌}
+use Rattle.std.proofs.Common.{Option, ap, ◌∙◌}
 use Rattle.covmap.specs.Puts.{put, value_of}
-use Rattle.covstore.specs.KindIndex.{change_of}
+use Rattle.covstore.specs.KindIndex.{changed}
 use Rattle.covstore.specs.KindIndexCounts.{counts_with}
-use Rattle.covstore.proofs.StepsCounts.{changed_as}
+use Rattle.covstore.proofs.StepsCounts.{changed_is}
 use Rattle.covstore.proofs.StepsKept.{put_keeps, room_at}
 use Rattle.covstore.proofs.items.add_to_point.Goals as goal
 
@@ -22,6 +22,7 @@ returns-clause-counts g c =
     put_keeps g.S.PointSum.above points counts (record { total = g.K.Key.total; exact = g.K.Key.exact }) named sum c.stage_sum.new.self.staged c.add.new.self.staged
     (told.ok ∙ ap (λ (own : g.row.S.Denot). put g.K.Key.cmp named own points) is) (g.met.M.PointAddend.stays c.args.addend before)
     (c.in_ok-add.ensures.ok
-    ∙ changed_as g.K.Key.cmp g.S.PointSum.above named counts c.of-change.result c.is_some.result c.is_hit-was_above.result added.before before added.after
-    (c.of-change.ensures ∙ ap (change_of c.is_some.result c.is_hit-was_above.result) c.is_above.ensures) c.is_some.ensures c.is_hit-was_above.ensures told.before
+    ∙ ap (λ change. changed g.K.Key.cmp named change counts) (c.tell-change.ensures ∙ g.met.M.PointAddend.tells c.args.addend added.before added.after)
+    ∙ changed_is g.K.Key.cmp g.S.PointSum.above named counts added.before added.after
+    ∙ ap (λ (own : Option g.row.S.Denot). counts_with g.K.Key.cmp g.S.PointSum.above named own added.after counts) told.before
     ∙ ap (λ (own : g.row.S.Denot). counts_with g.K.Key.cmp g.S.PointSum.above named before own counts) is)

@@ -13,7 +13,7 @@ less-self-inside-requires g c =
     let named = g.Q.Query.named c.args.query in
     let counts = c.self.inside.counts.committed in
     let there : value_of g.K.Key.cmp named counts ≡ Some c.in-Some.before = sym c.lookup.ensures.value ∙ c.in-Some.is in
-    can_be_less_at (record { total = g.K.Key.total; exact = g.K.Key.exact }) named c.args.was_above counts counts c.self.inside.committed
+    can_be_less_at (record { total = g.K.Key.total; exact = g.K.Key.exact }) named c.args.was_above counts counts c.self.inside.totals
     (record { ascending = c.lookup.ensures.whole; same = refl; tallied = c.self.invariant.0 }) c.in-Some.before there c.fewer-after.result c.fewer-after.ensures
 
 pub invariant_of-self : goal.invariant_of-self
@@ -23,7 +23,7 @@ invariant_of-self g c =
     let less = c.less-self-inside.result in
     let there : value_of g.K.Key.cmp named counts ≡ Some c.in-Some.before = sym c.lookup.ensures.value ∙ c.in-Some.is in
     let own : IsTallyOf (counts_without g.K.Key.cmp named c.args.was_above counts) less =
-    tally_less_at (record { total = g.K.Key.total; exact = g.K.Key.exact }) named c.args.was_above counts counts c.self.inside.committed
+    tally_less_at (record { total = g.K.Key.total; exact = g.K.Key.exact }) named c.args.was_above counts counts c.self.inside.totals
     (record { ascending = c.lookup.ensures.whole; same = refl; tallied = c.self.invariant.0 }) c.in-Some.before there c.fewer-after.result c.fewer-after.ensures
     less c.less-self-inside.ensures in
     let after : c.replace.new.self.committed ≡ counts_without g.K.Key.cmp named c.args.was_above counts =

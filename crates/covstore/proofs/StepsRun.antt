@@ -1,0 +1,70 @@
+-- A run of items at points of a kind: what they tell in their test is a run for the file's numbers, which count the tests then.
+use Rattle.std.proofs.Common.{◌≡◌, ◌+◌, ◌≤◌, ◌^◌, Bool, true, Option, Some, None, List, [], ◌∷◌, ◌++◌, length, refl, sym, ap, ◌∙◌, subst, arith}
+use Rattle.std.specs.declared.cmp.Ordering.{Ordering}
+use Rattle.std.specs.Option.{IfSome}
+use Rattle.std.proofs.lemmas.List.{length-append}
+use Rattle.covmap.specs.Puts.{value_of}
+use Rattle.covmap.specs.Run.{FitRun, sum_put, summed, told_one, told_run}
+use Rattle.covstore.specs.declared.sums.Tests.{Tests}
+use Rattle.covstore.specs.declared.sums.TestsAddend.{TestsAddend}
+use Rattle.covstore.specs.Items.{HasRoomForRun, KeepsCountsOfKind}
+use Rattle.covstore.specs.KindIndex.{changed}
+use Rattle.covstore.specs.KindIndexCounts.{AreCounts, change_of, is_above_at, tests_fit, tests_with}
+use Rattle.covstore.proofs.Ascend.{IsExactOrder}
+use Rattle.covstore.proofs.StepsCounts.{changed_is}
+use Rattle.covstore.proofs.StepsKept.{numbers_few, put_keeps}
+
+-- ---- what one item tells, before the rest of the run
+
+module _ {K Q : Type 0} (cmp : K → K → Ordering) (named : Q → K) (query : Q) (rest : List (Q × TestsAddend)) (counts : List (K × Tests)) where
+  pub summed_told : (change : Option TestsAddend) → summed cmp named tests_with (told_one query change ++ rest) counts ≡ summed cmp named tests_with rest (changed cmp (named query) change counts)
+  summed_told None = refl
+  summed_told (Some more) = refl
+
+  pub fits_told : (change : Option TestsAddend) → IfSome (value_of cmp (named query) counts) (λ tests. (tests.tests ≤ 2 ^ 63) × (tests.hit ≤ 2 ^ 63))
+      → FitRun cmp named tests_fit tests_with rest (changed cmp (named query) change counts) → FitRun cmp named tests_fit tests_with (told_one query change ++ rest) counts
+  fits_told None fits left = left
+  fits_told (Some more) fits left = (fits, left)
+
+-- ---- the run
+
+module _ {K V Q M : Type 0} {cmp : K → K → Ordering} (o : IsExactOrder cmp) (is_above : V → Bool) (named : Q → K) (sum : M → Option V → V) (told : M → Option V → V → Option TestsAddend)
+    (stays : (more : M) (before : Option V) → is_above_at is_above before ≡ true → is_above (sum more before) ≡ true)
+    (tells : (more : M) (before : Option V) (after : V) → told more before after ≡ change_of is_above before after) where
+  abbrev told_of : Q × M → List (K × V) → Option TestsAddend
+  told_of item points = told item.1 (value_of cmp (named item.0) points) (sum item.1 (value_of cmp (named item.0) points))
+
+  one_keeps : (item : Q × M) (points : List (K × V)) (counts : List (K × Tests))
+      → KeepsCountsOfKind cmp is_above points (sum_put cmp named sum item points) counts (changed cmp (named item.0) (told_of item points) counts)
+  one_keeps item points counts =
+      let key = named item.0 in
+      let before = value_of cmp key points in
+      let after = sum item.1 before in
+      put_keeps is_above points counts o key after (sum_put cmp named sum item points) (changed cmp key (told_of item points) counts) refl (stays item.1 before)
+      (ap (λ (change : Option TestsAddend). changed cmp key change counts) (tells item.1 before after) ∙ changed_is cmp is_above key counts before after)
+
+  -- the file's numbers count the tests, of which one has the run's points
+  pub run_keeps : (run : List (Q × M)) (points : List (K × V)) (counts : List (K × Tests))
+      → KeepsCountsOfKind cmp is_above points (summed cmp named sum run points) counts (summed cmp named tests_with (told_run cmp named sum told run points) counts)
+  run_keeps [] points counts front back are = are
+  run_keeps (item ∷ run) points counts front back are =
+      let next = sum_put cmp named sum item points in
+      let more = changed cmp (named item.0) (told_of item points) counts in
+      subst (λ (kept : List (K × Tests)). AreCounts cmp is_above (front ++ summed cmp named sum run next ∷ back) kept)
+      (sym (summed_told cmp named item.0 (told_run cmp named sum told run next) counts (told_of item points)))
+      (run_keeps run next more front back (one_keeps item points counts front back are))
+
+  -- each number can be raised, as no more tests have a point than there are
+  runs_fit : (front back : List (List (K × V))) → length front + (length back + 1) ≤ 2 ^ 63 → (run : List (Q × M)) (points : List (K × V)) (counts : List (K × Tests)) → AreCounts cmp is_above (front ++ points ∷ back) counts
+      → FitRun cmp named tests_fit tests_with (told_run cmp named sum told run points) counts
+  runs_fit front back few [] points counts are = tt
+  runs_fit front back few (item ∷ run) points counts are =
+      let next = sum_put cmp named sum item points in
+      let more = changed cmp (named item.0) (told_of item points) counts in
+      fits_told cmp named item.0 (told_run cmp named sum told run next) counts (told_of item points)
+      (numbers_few are (omega (arith, length-append front (points ∷ back), few)) (named item.0))
+      (runs_fit front back few run next more (one_keeps item points counts front back are))
+
+  pub run_fits : (run : List (Q × M)) (points : List (K × V)) (counts : List (K × Tests)) → HasRoomForRun cmp is_above points counts (length run)
+      → FitRun cmp named tests_fit tests_with (told_run cmp named sum told run points) counts
+  run_fits run points counts room = runs_fit room.front room.back (omega (arith, length-append room.front (points ∷ room.back), room.few_tests)) run points counts room.kept

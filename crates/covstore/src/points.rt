@@ -1,0 +1,34 @@
+//! A run of items of one kind: of their points in a test, and of what is kept of these in the file.
+
+ghost use Rattle.std.specs.Prelude.{◌≡◌, length, OnOk};
+ghost use Rattle.covmap.specs.Run.{summed};
+ghost use Rattle.covstore.specs.Items.{HasRoomForRun, KeepsCountsOfKind};
+
+use crate::kind_index::KindIndex;
+use crate::sums::{PointAddend, PointSum};
+use covmap::{Key, Query, StagedMap};
+use std::alloc::{AllocError, Allocator};
+
+/// Stages a run of items at their points of a kind, in their test and in the file's numbers of these points.
+pub(crate) fn add_to_points<
+    K: Key + Drop,
+    S: PointSum,
+    A: Allocator + Copy,
+    Q: Query<K, A>,
+    M: PointAddend<S>,
+>(
+    points: &mut StagedMap<K, S, A>,
+    kept: &mut KindIndex<K, A>,
+    alloc: A,
+    run: &[(Q, M)],
+) -> Result<(), AllocError>
+    requires { HasRoomForRun K.cmp S.above points.old.staged kept.old.staged (length run.now) }
+    ensures test_committed { points.new.committed ≡ points.old.committed }
+    ensures index_committed { kept.new.committed ≡ kept.old.committed }
+    ensures test { OnOk result (points.new.staged ≡ summed K.cmp Q.named M.sum run.now points.old.staged) }
+    ensures counts { OnOk result (KeepsCountsOfKind K.cmp S.above points.old.staged points.new.staged kept.old.staged kept.new.staged) }
+{
+    let mut changes = Vec::new(alloc);
+    points.stage_run(alloc, run, &mut changes)?;
+    kept.add_run(alloc, changes.as_slice())
+}
