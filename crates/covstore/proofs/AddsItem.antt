@@ -1,11 +1,12 @@
--- What one item does where its test and the index of its file stand.
+-- What items do where their test and the index of its file stand.
 use Rattle.std.proofs.Common.{◌≡◌, ℕ, Some, None, List, [], ◌∷◌, ◌++◌, sym, ap, ◌∙◌, subst, inl, inr, ⊎_elim}
 use Rattle.std.specs.Prelude.{Contains}
 use Rattle.std.specs.Cmp.Lexicographic.{slice_cmp}
 use Rattle.std.specs.Ordering.{nat_cmp}
 use Rattle.std.proofs.lemmas.List.Concat.{flat_map-append}
-use Rattle.covline.specs.Row.{ItemData, LineItem, FuncItem, BranchItem, Row}
-use Rattle.covstore.specs.Section.{Adds, IsIn}
+use Rattle.covline.specs.Row.{ItemData, LineItem, FuncItem, BranchItem, Row, rows_of_sect}
+use Rattle.covstore.specs.Section.{Adds, IsIn, section_of_items}
+use Rattle.covstore.specs.Runs.{with_items}
 use Rattle.covstore.specs.Clash.{Agree, Checksum, checksum_of, checksum_of_row, checksums_in, first_clash}
 use Rattle.covstore.specs.FileIndex.{FileIndexData}
 use Rattle.covmap.specs.Puts.{put, value_of}
@@ -15,11 +16,10 @@ use Rattle.covstore.specs.Sums.{TestData, with_item}
 use Rattle.covstore.proofs.AddsPlace.{checksum_held, state_agrees, text_kept, whole_after}
 use Rattle.covstore.proofs.Clashes.{agree_none}
 use Rattle.covstore.proofs.ContentsLists.{In-unflat}
-use Rattle.covstore.proofs.Members.{In, In-from, In-parts}
+use Rattle.covstore.proofs.Members.{In, In-from, In-parts, In-unmap}
 use Rattle.covstore.proofs.Orders.{names_order}
 use Rattle.covstore.proofs.Puts.{value_of-put}
-use Rattle.covstore.proofs.StateRows.{row_more}
-use Rattle.covstore.proofs.SumsMore.{sums_more}
+use Rattle.covstore.proofs.StateRows.{rows_more}
 
 -- the item's own checksum is the text of its line
 own_text : (file : List ℕ) (item : ItemData) (index : FileIndexData) (c : Checksum) → IsTextOf item index → In c (checksum_of file item) → value_of nat_cmp c.line index.texts ≡ Some c.checksum
@@ -29,37 +29,36 @@ own_text file (LineItem line count None) index c own i = absurd i
 own_text file (FuncItem name line count) index c own i = absurd i
 own_text file (BranchItem line block branch taken) index c own i = absurd i
 
-module _ (item : ItemData) (test test_after : TestData) (index index_after : FileIndexData) (more : test_after ≡ with_item item test) (counts : KeepsCounts test test_after index index_after)
-    (own : IsTextOf item index_after) (texts : KeepsTextsOf index index_after) (rows : List Row) (files : List (List ℕ × FileData)) (file name : List ℕ) (tests : List (List ℕ × TestData))
-    (is : IsIn rows files file name tests test index) where
-  abbrev its_row : Row
-  its_row = record { test = name; file = file; item = item }
+module _ (items : List ItemData) (test test_after : TestData) (index index_after : FileIndexData) (more : test_after ≡ with_items items test) (counts : KeepsCounts test test_after index index_after)
+    (own : (item : ItemData) → In item items → IsTextOf item index_after) (texts : KeepsTextsOf index index_after) (rows : List Row) (files : List (List ℕ × FileData)) (file name : List ℕ)
+    (tests : List (List ℕ × TestData)) (is : IsIn rows files file name tests test index) where
+  abbrev its_rows : List Row
+  its_rows = rows_of_sect (section_of_items file name items)
 
   abbrev file_after : FileData
   file_after = file_with (put (slice_cmp nat_cmp) name test_after tests) index_after
 
-  texts_after : (c : Checksum) → Contains (checksums_in (rows ++ its_row ∷ [])) c → c.file ≡ file → value_of nat_cmp c.line index_after.texts ≡ Some c.checksum
+  texts_after : (c : Checksum) → Contains (checksums_in (rows ++ its_rows)) c → c.file ≡ file → value_of nat_cmp c.line index_after.texts ≡ Some c.checksum
   texts_after c i same =
       ⊎_elim {C = value_of nat_cmp c.line index_after.texts ≡ Some c.checksum}
       (λ (before : In c (checksums_in rows)). texts.texts_stay c.line (checksum_held is c before (sym same)) ∙ text_kept is c before (sym same))
-      (λ (now : In c (checksums_in (its_row ∷ []))). let from = In-unflat checksum_of_row (its_row ∷ []) c now in by from.0 from.1 from.2)
-      (In-parts (checksums_in rows) (checksums_in (its_row ∷ [])) c
-      (subst (In c) (flat_map-append checksum_of_row rows (its_row ∷ [])) (In-from (checksums_in (rows ++ its_row ∷ [])) c i)))
-    where
-      by : (row : Row) → In row (its_row ∷ []) → In c (checksum_of_row row) → value_of nat_cmp c.line index_after.texts ≡ Some c.checksum
-      by row (inl is_it) j = own_text file item index_after c own (subst (λ (r : Row). In c (checksum_of_row r)) (sym is_it) j)
-      by row (inr none) j = absurd none
+      (λ (now : In c (checksums_in its_rows)).
+      let said = In-unflat checksum_of_row its_rows c now in
+      let from = In-unmap {Y = Row} (λ (item : ItemData). record { test = name; file = file; item = item }) items said.0 said.1 in
+      own_text file from.0 index_after c (own from.0 from.1) (subst (λ (r : Row). In c (checksum_of_row r)) (sym from.2) said.2))
+      (In-parts (checksums_in rows) (checksums_in its_rows) c
+      (subst (In c) (flat_map-append checksum_of_row rows its_rows) (In-from (checksums_in (rows ++ its_rows)) c i)))
 
-  state_after : IsStateOf (rows ++ its_row ∷ []) (put (slice_cmp nat_cmp) file file_after files)
+  state_after : IsStateOf (rows ++ its_rows) (put (slice_cmp nat_cmp) file file_after files)
   state_after =
-      row_more sums_more rows its_row files (file_with tests index) file_after test is.state is.its_file is.its_test
+      rows_more file name rows items files (file_with tests index) file_after test is.state is.its_file is.its_test
       (ap (λ (t : TestData). put (slice_cmp nat_cmp) name t tests) more) (whole_after is test_after index_after counts) texts_after
 
-  item_adds_at : (first_clash (checksums_in rows) (checksums_in (its_row ∷ [])) ≡ None)
-      × IsIn (rows ++ its_row ∷ []) (put (slice_cmp nat_cmp) file file_after files) file name (put (slice_cmp nat_cmp) name test_after tests) test_after index_after
-  item_adds_at =
-      let agree = state_agrees (rows ++ its_row ∷ []) (put (slice_cmp nat_cmp) file file_after files) state_after in (
-        agree_none (checksums_in rows) (checksums_in (its_row ∷ [])) is.agree (subst Agree (flat_map-append checksum_of_row rows (its_row ∷ [])) agree),
+  items_add_at : (first_clash (checksums_in rows) (checksums_in its_rows) ≡ None)
+      × IsIn (rows ++ its_rows) (put (slice_cmp nat_cmp) file file_after files) file name (put (slice_cmp nat_cmp) name test_after tests) test_after index_after
+  items_add_at =
+      let agree = state_agrees (rows ++ its_rows) (put (slice_cmp nat_cmp) file file_after files) state_after in (
+        agree_none (checksums_in rows) (checksums_in its_rows) is.agree (subst Agree (flat_map-append checksum_of_row rows its_rows) agree),
         record {
           state = state_after;
           agree = agree;
@@ -68,8 +67,16 @@ module _ (item : ItemData) (test test_after : TestData) (index index_after : Fil
         },
       )
 
--- where the numbers of the file count the test with the item, and the texts have its checksum, the item is added
+-- where the numbers of the file count the test with the items, and the texts have their checksums, the items are added
+pub items_add : (items : List ItemData) (test test_after : TestData) (index index_after : FileIndexData) → test_after ≡ with_items items test → KeepsCounts test test_after index index_after
+    → ((item : ItemData) → In item items → IsTextOf item index_after) → KeepsTextsOf index index_after → Adds items test index test_after index_after
+items_add items test test_after index index_after more counts own texts rows files file name tests is =
+    items_add_at items test test_after index index_after more counts own texts rows files file name tests is
+
 pub item_adds : (item : ItemData) (test test_after : TestData) (index index_after : FileIndexData) → test_after ≡ with_item item test → KeepsCounts test test_after index index_after → IsTextOf item index_after
     → KeepsTextsOf index index_after → Adds (item ∷ []) test index test_after index_after
-item_adds item test test_after index index_after more counts own texts rows files file name tests is =
-    item_adds_at item test test_after index index_after more counts own texts rows files file name tests is
+item_adds item test test_after index index_after more counts own texts = items_add (item ∷ []) test test_after index index_after more counts (λ other i. by other i) texts
+  where
+    by : (other : ItemData) → In other (item ∷ []) → IsTextOf other index_after
+    by other (inl is) = subst (λ (one : ItemData). IsTextOf one index_after) is own
+    by other (inr none) = absurd none

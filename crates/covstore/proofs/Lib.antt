@@ -32,6 +32,7 @@ pub mod StateSame
 pub mod StateSeen
 pub mod StateOrder
 pub mod StateSections
+pub mod RunsSums
 pub mod StateRows
 pub mod MapKeys
 pub mod MapNames
@@ -61,6 +62,8 @@ pub mod AddsSome
 pub mod AddsMaps
 pub mod AddsReady
 pub mod AddsWritten
+pub mod RunsKept
+pub mod RunsAdds
 pub mod AddsOrder
 pub mod StepsTally
 pub mod StepsTexts

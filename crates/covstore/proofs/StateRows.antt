@@ -1,5 +1,5 @@
--- What a state is after one row more, a file more, or a test more in a file.
-use Rattle.std.proofs.Common.{◌≡◌, ℕ, false, Option, Some, List, [], ◌∷◌, ◌++◌, map, refl, sym, ap, ◌∙◌, subst, inl, inr, ⊎_elim}
+-- What a state is after more rows of a file and a test, a file more, or a test more in a file.
+use Rattle.std.proofs.Common.{◌≡◌, ℕ, false, Option, Some, List, [], ◌∷◌, ◌++◌, filter, map, refl, sym, ap, ◌∙◌, subst, inl, inr, ⊎_elim}
 use Rattle.std.specs.Prelude.{◌⊎◌, Contains}
 use Rattle.std.specs.Cmp.Lexicographic.{slice_cmp}
 use Rattle.std.specs.Ordering.{nat_cmp}
@@ -8,18 +8,21 @@ use Rattle.std.proofs.lemmas.Bool.{cond-true, cond-false, false_from_ne_true}
 use Rattle.std.proofs.lemmas.List.{append-nil}
 use Rattle.std.proofs.lemmas.List.Concat.{flat_map-append}
 use Rattle.std.proofs.lemmas.Slice.Eq.{bytes_eq-Decides}
-use Rattle.covline.specs.Row.{ItemData, Row}
+use Rattle.covline.specs.Row.{ItemData, Row, rows_of_sect}
 use Rattle.covstore.specs.Clash.{Checksum, checksum_of_row, checksums_in}
 use Rattle.covmap.specs.Puts.{put, value_of}
+use Rattle.covstore.specs.Runs.{with_items}
+use Rattle.covstore.specs.Section.{section_of_items}
 use Rattle.covstore.specs.State.{FileData, IsStateOf, IsWholeFile, points_at, points_in, text_in}
-use Rattle.covstore.specs.Sums.{TestData, test_of, with_item}
+use Rattle.covstore.specs.Sums.{TestData, test_of}
 use Rattle.covstore.specs.Value.{Key, has_key, items_at}
 use Rattle.covstore.proofs.ContentsChecksums.{line_of_said, own_row}
 use Rattle.covstore.proofs.ContentsLists.{same_or_not, In-unflat}
 use Rattle.covstore.proofs.ContentsSections.{both, items_at-append}
-use Rattle.covstore.proofs.Members.{All-in, In, In-from, Contains-from, In-parts}
+use Rattle.covstore.proofs.Members.{All-in, In, In-from, In-unmap, Contains-from, In-parts}
 use Rattle.covstore.proofs.Orders.{names_order}
 use Rattle.covstore.proofs.Puts.{All-put, ArePairs-put, pair_in, value_of-put, value_of-put_other}
+use Rattle.covstore.proofs.RunsSums.{sums_more_items}
 use Rattle.covstore.proofs.StateSections.{points_same, points_there}
 
 pub name_or_not : (one other : List ℕ) → (one ≡ other) ⊎ (one ≡ other → ⊥)
@@ -83,66 +86,85 @@ same_rows rows files state name after whole points texts = state_changed rows ro
   held_before = λ committed i other. i;
 })
 
--- ---- one row more
+-- ---- more rows of one file and test
 
--- the row's own key, and others
-not_has_key : (key : Key) (row : Row) → (row.file ≡ key.file → row.test ≡ key.test → ⊥) → has_key key row ≡ false
-not_has_key key row other =
-    false_from_ne_true (has_key key row)
-    (λ e.
-    let parts = both (bytes_eq row.file key.file) (bytes_eq row.test key.test) e in
-    other ((bytes_eq-Decides row.file key.file).0 parts.0) ((bytes_eq-Decides row.test key.test).0 parts.1))
+module _ (name test : List ℕ) where
+  abbrev row_with : ItemData → Row
+  row_with item = record { test = test; file = name; item = item }
 
-items_as_before : (key : Key) (rows : List Row) (row : Row) → (row.file ≡ key.file → row.test ≡ key.test → ⊥) → items_at key (rows ++ row ∷ []) ≡ items_at key rows
-items_as_before key rows row other =
-    items_at-append key rows (row ∷ [])
-    ∙ ap (λ (own : List Row). items_at key rows ++ map (λ (r : Row). r.item) own) (cond-false (has_key key row) (row ∷ []) [] (not_has_key key row other))
-    ∙ append-nil (items_at key rows)
+  abbrev more_rows : List ItemData → List Row
+  more_rows items = rows_of_sect (section_of_items name test items)
 
-item_more : (rows : List Row) (row : Row) → items_at (record { file = row.file; test = row.test }) (rows ++ row ∷ []) ≡ items_at (record { file = row.file; test = row.test }) rows ++ row.item ∷ []
-item_more rows row =
-    let key : Key = record { file = row.file; test = row.test } in
-    items_at-append key rows (row ∷ []) ∙ ap (λ (own : List Row). items_at key rows ++ map (λ (r : Row). r.item) own) (cond-true (has_key key row) (row ∷ []) [] (own_row row))
+  -- the rows' own key, and others
+  not_has_key : (key : Key) (item : ItemData) → (name ≡ key.file → test ≡ key.test → ⊥) → has_key key (row_with item) ≡ false
+  not_has_key key item other =
+      false_from_ne_true (has_key key (row_with item))
+      (λ e.
+      let parts = both (bytes_eq name key.file) (bytes_eq test key.test) e in
+      other ((bytes_eq-Decides name key.file).0 parts.0) ((bytes_eq-Decides test key.test).0 parts.1))
 
--- the checksums of other files are those of the rows before
-held_of_others : (rows : List Row) (row : Row) (committed : Checksum) → Contains (checksums_in (rows ++ row ∷ [])) committed → (row.file ≡ committed.file → ⊥) → Contains (checksums_in rows) committed
-held_of_others rows row committed i other =
-    ⊎_elim {C = Contains (checksums_in rows) committed}
-    (λ (before : In committed (checksums_in rows)). Contains-from (checksums_in rows) committed before)
-    (λ (now : In committed (checksums_in (row ∷ []))). let own = In-unflat checksum_of_row (row ∷ []) committed now in absurd (by own.0 own.1 own.2))
-    (In-parts (checksums_in rows) (checksums_in (row ∷ [])) committed (subst (In committed) (flat_map-append checksum_of_row rows (row ∷ [])) (In-from (checksums_in (rows ++ row ∷ [])) committed i)))
-  where
-    by : (from : Row) → In from (row ∷ []) → In committed (checksum_of_row from) → ⊥
-    by from (inl is) j = other (ap (λ (r : Row). r.file) is ∙ (line_of_said from.file committed from.item j).0)
-    by from (inr none) j = none
+  none_more : (key : Key) (items : List ItemData) → (name ≡ key.file → test ≡ key.test → ⊥) → filter (has_key key) (more_rows items) ≡ []
+  none_more key [] other = refl
+  none_more key (item ∷ items) other =
+      let rest = filter (has_key key) (more_rows items) in
+      cond-false (has_key key (row_with item)) (row_with item ∷ rest) rest (not_has_key key item other) ∙ none_more key items other
 
-module _ (sums_more : (items : List ItemData) (item : ItemData) → test_of (items ++ item ∷ []) ≡ with_item item (test_of items)) (rows : List Row) (row : Row) (files : List (List ℕ × FileData))
-    (file after : FileData) (points : TestData) where
-  points_more : IsStateOf rows files → value_of (slice_cmp nat_cmp) row.file files ≡ Some file → value_of (slice_cmp nat_cmp) row.test file.tests ≡ Some points
-      → after.tests ≡ put (slice_cmp nat_cmp) row.test (with_item row.item points) file.tests → (test : List ℕ) → (row.test ≡ test) ⊎ (row.test ≡ test → ⊥)
-      → points_in (Some after) test ≡ test_of (items_at (record { file = row.file; test = test }) (rows ++ row ∷ []))
-  points_more state in_files in_tests more test (inl is) =
-      let key : Key = record { file = row.file; test = row.test } in
-      let found : value_of (slice_cmp nat_cmp) row.test after.tests ≡ Some (with_item row.item points) =
-      ap (value_of (slice_cmp nat_cmp) row.test) more ∙ value_of-put names_order row.test (with_item row.item points) file.tests in
-      let before : points ≡ test_of (items_at key rows) =
-      sym (points_there file row.test points in_tests) ∙ ap (λ (kept : Option FileData). points_in kept row.test) (sym in_files) ∙ state.points key in
-      ap (points_in (Some after)) (sym is) ∙ points_there after row.test (with_item row.item points) found ∙ ap (with_item row.item) before ∙ sym (sums_more (items_at key rows) row.item)
-      ∙ ap test_of (sym (item_more rows row)) ∙ ap (λ (name : List ℕ). test_of (items_at (record { file = row.file; test = name }) (rows ++ row ∷ []))) is
-  points_more state in_files in_tests more test (inr other) =
-      let key : Key = record { file = row.file; test = test } in
-      points_same after file test (ap (value_of (slice_cmp nat_cmp) test) more ∙ value_of-put_other names_order row.test test (with_item row.item points) file.tests other)
-      ∙ ap (λ (kept : Option FileData). points_in kept test) (sym in_files) ∙ state.points key ∙ ap test_of (sym (items_as_before key rows row (λ same is. other is)))
+  own_more : (items : List ItemData) → items_at (record { file = name; test = test }) (more_rows items) ≡ items
+  own_more [] = refl
+  own_more (item ∷ items) =
+      let key : Key = record { file = name; test = test } in
+      let rest = filter (has_key key) (more_rows items) in
+      ap (map (λ (row : Row). row.item)) (cond-true (has_key key (row_with item)) (row_with item ∷ rest) rest (own_row (row_with item))) ∙ ap (λ (others : List ItemData). item ∷ others) (own_more items)
 
-  -- the state with the file as it is with the row
-  pub row_more : IsStateOf rows files → value_of (slice_cmp nat_cmp) row.file files ≡ Some file → value_of (slice_cmp nat_cmp) row.test file.tests ≡ Some points
-      → after.tests ≡ put (slice_cmp nat_cmp) row.test (with_item row.item points) file.tests → IsWholeFile after
-      → ((committed : Checksum) → Contains (checksums_in (rows ++ row ∷ [])) committed → committed.file ≡ row.file → value_of nat_cmp committed.line after.index.texts ≡ Some committed.checksum)
-      → IsStateOf (rows ++ row ∷ []) (put (slice_cmp nat_cmp) row.file after files)
-  row_more state in_files in_tests more whole texts = state_changed rows (rows ++ row ∷ []) files state row.file after (record {
-    whole = whole;
-    points = λ test. points_more state in_files in_tests more test (name_or_not row.test test);
-    others = λ key other. items_as_before key rows row (λ file test. other file);
-    texts = λ committed i is. texts committed i (sym is);
-    held_before = held_of_others rows row;
-  })
+  items_as_before : (key : Key) (rows : List Row) (items : List ItemData) → (name ≡ key.file → test ≡ key.test → ⊥) → items_at key (rows ++ more_rows items) ≡ items_at key rows
+  items_as_before key rows items other =
+      items_at-append key rows (more_rows items)
+      ∙ ap (λ (own : List Row). items_at key rows ++ map (λ (r : Row). r.item) own) (none_more key items other)
+      ∙ append-nil (items_at key rows)
+
+  items_more : (rows : List Row) (items : List ItemData) → items_at (record { file = name; test = test }) (rows ++ more_rows items) ≡ items_at (record { file = name; test = test }) rows ++ items
+  items_more rows items =
+      let key : Key = record { file = name; test = test } in
+      items_at-append key rows (more_rows items) ∙ ap (λ (own : List ItemData). items_at key rows ++ own) (own_more items)
+
+  -- the checksums of other files are those of the rows before
+  held_of_others : (rows : List Row) (items : List ItemData) (committed : Checksum) → Contains (checksums_in (rows ++ more_rows items)) committed → (name ≡ committed.file → ⊥) → Contains (checksums_in rows) committed
+  held_of_others rows items committed i other =
+      ⊎_elim {C = Contains (checksums_in rows) committed}
+      (λ (before : In committed (checksums_in rows)). Contains-from (checksums_in rows) committed before)
+      (λ (now : In committed (checksums_in (more_rows items))).
+      let own = In-unflat checksum_of_row (more_rows items) committed now in
+      let from = In-unmap row_with items own.0 own.1 in
+      absurd (other (ap (λ (r : Row). r.file) from.2 ∙ (line_of_said own.0.file committed own.0.item own.2).0)))
+      (In-parts (checksums_in rows) (checksums_in (more_rows items)) committed
+      (subst (In committed) (flat_map-append checksum_of_row rows (more_rows items)) (In-from (checksums_in (rows ++ more_rows items)) committed i)))
+
+  module _ (rows : List Row) (items : List ItemData) (files : List (List ℕ × FileData)) (file after : FileData) (points : TestData) where
+    points_more : IsStateOf rows files → value_of (slice_cmp nat_cmp) name files ≡ Some file → value_of (slice_cmp nat_cmp) test file.tests ≡ Some points
+        → after.tests ≡ put (slice_cmp nat_cmp) test (with_items items points) file.tests → (other : List ℕ) → (test ≡ other) ⊎ (test ≡ other → ⊥)
+        → points_in (Some after) other ≡ test_of (items_at (record { file = name; test = other }) (rows ++ more_rows items))
+    points_more state in_files in_tests more other (inl is) =
+        let key : Key = record { file = name; test = test } in
+        let found : value_of (slice_cmp nat_cmp) test after.tests ≡ Some (with_items items points) =
+        ap (value_of (slice_cmp nat_cmp) test) more ∙ value_of-put names_order test (with_items items points) file.tests in
+        let before : points ≡ test_of (items_at key rows) =
+        sym (points_there file test points in_tests) ∙ ap (λ (kept : Option FileData). points_in kept test) (sym in_files) ∙ state.points key in
+        ap (points_in (Some after)) (sym is) ∙ points_there after test (with_items items points) found ∙ ap (with_items items) before ∙ sym (sums_more_items (items_at key rows) items)
+        ∙ ap test_of (sym (items_more rows items)) ∙ ap (λ (t : List ℕ). test_of (items_at (record { file = name; test = t }) (rows ++ more_rows items))) is
+    points_more state in_files in_tests more other (inr apart) =
+        let key : Key = record { file = name; test = other } in
+        points_same after file other (ap (value_of (slice_cmp nat_cmp) other) more ∙ value_of-put_other names_order test other (with_items items points) file.tests apart)
+        ∙ ap (λ (kept : Option FileData). points_in kept other) (sym in_files) ∙ state.points key ∙ ap test_of (sym (items_as_before key rows items (λ same is. apart is)))
+
+    -- the state with the file as it is with the rows
+    pub rows_more : IsStateOf rows files → value_of (slice_cmp nat_cmp) name files ≡ Some file → value_of (slice_cmp nat_cmp) test file.tests ≡ Some points
+        → after.tests ≡ put (slice_cmp nat_cmp) test (with_items items points) file.tests → IsWholeFile after
+        → ((committed : Checksum) → Contains (checksums_in (rows ++ more_rows items)) committed → committed.file ≡ name → value_of nat_cmp committed.line after.index.texts ≡ Some committed.checksum)
+        → IsStateOf (rows ++ more_rows items) (put (slice_cmp nat_cmp) name after files)
+    rows_more state in_files in_tests more whole texts = state_changed rows (rows ++ more_rows items) files state name after (record {
+      whole = whole;
+      points = λ other. points_more state in_files in_tests more other (name_or_not test other);
+      others = λ key other. items_as_before key rows items (λ file test. other file);
+      texts = λ committed i is. texts committed i (sym is);
+      held_before = held_of_others rows items;
+    })

@@ -25,6 +25,8 @@ pub mod FileIndexView
 pub mod Items
 pub mod Section
 pub mod Order
+pub mod Runs
+pub mod RunsView
 pub mod FileView
 pub mod FileSection
 pub mod StoreSection

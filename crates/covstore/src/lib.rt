@@ -45,6 +45,7 @@ mod plan;
 mod points;
 mod refuse;
 mod renaming;
+mod runs;
 mod section;
 mod split;
 mod stop;

@@ -1,17 +1,17 @@
 //! The items of a section in the order of their lines: a walk along lines costs no search, and moves no points.
 
-ghost use Rattle.std.specs.Prelude.{◌≡◌, ◌↔◌, map, IfErr, IfOk, IsTrue, OnOk};
+ghost use Rattle.std.specs.Prelude.{◌≡◌, ◌↔◌, map, IfOk, IsTrue, OnOk};
 ghost use Rattle.std.specs.List.{All};
 ghost use Rattle.covline.specs.Row.{item_data};
 ghost use Rattle.covstore.specs.Order.{AreSpotsOf, HasNoChecksum, picked};
 ghost use Rattle.covstore.specs.Section.{Adds, HasRoomFor};
 ghost use Rattle.covstore.specs.FileIndexView.{KeepsCommitted, index_staged};
 ghost use Rattle.covstore.specs.TestView.{test_staged, test_committed};
-ghost use Rattle.covstore.specs.declared.stop.Stop.TheVariants as stops;
+ghost use Rattle.covstore.specs.Runs.{runs_of};
+ghost use Rattle.covstore.specs.RunsView.{runs_seen};
 
 use crate::index::FileIndex;
-use crate::items::add_item;
-use crate::stop::Stop;
+use crate::runs::{Runs, add_as_they_stand, add_runs};
 use crate::test::Test;
 use covline::Item;
 use std::alloc::{AllocError, Allocator};
@@ -32,12 +32,23 @@ struct Spot {
     index: usize,
 }
 
-/// Whether items are staged in less time in the order of their lines. Where one has a checksum they aren't, as the first
-/// that clashes is told.
-pub(crate) fn is_shuffled<A: Allocator>(items: &[Item<A>]) -> bool
-    ensures { IsTrue result → All (λ item. HasNoChecksum (item_data item)) items.now }
+/// Stages the items, of which none has a checksum: in the order of their lines where these fall often, else as they stand.
+pub(crate) fn add_plain<A: Allocator + Copy>(
+    test: &mut Test<A>,
+    index: &mut FileIndex<A>,
+    alloc: A,
+    items: &[Item<A>],
+) -> Result<(), AllocError>
+    requires room { HasRoomFor (map item_data items.now) (test_staged test.old) (index_staged index.old) }
+    requires plain { All (λ item. HasNoChecksum (item_data item)) items.now }
+    ensures test_committed { test_committed test.new ≡ test_committed test.old }
+    ensures index_committed { KeepsCommitted index.old index.new }
+    ensures ok { OnOk result (Adds (map item_data items.now) (test_staged test.old) (index_staged index.old) (test_staged test.new) (index_staged index.new)) }
 {
-    items.len() >= MANY && falls_often(items) && have_no_checksum(items)
+    if items.len() >= MANY && falls_often(items) {
+        return add_in_order(test, index, alloc, items);
+    }
+    add_as_they_stand(test, index, alloc, items)
 }
 
 /// Whether the lines of the items fall often.
@@ -58,7 +69,7 @@ fn falls_often<A: Allocator>(items: &[Item<A>]) -> bool {
 }
 
 /// Whether none of the items has a checksum.
-fn have_no_checksum<A: Allocator>(items: &[Item<A>]) -> bool
+pub(crate) fn have_no_checksum<A: Allocator>(items: &[Item<A>]) -> bool
     ensures { IsTrue result ↔ All (λ item. HasNoChecksum (item_data item)) items.now }
 {
     items.iter().all(|item| has_no_checksum(item))
@@ -85,26 +96,40 @@ fn line_of<A: Allocator>(item: &Item<A>) -> u64 {
 }
 
 /// Stages the items, of which none has a checksum, in the order of their lines.
-pub(crate) fn add_in_order<A: Allocator + Copy>(
+fn add_in_order<A: Allocator + Copy>(
     test: &mut Test<A>,
     index: &mut FileIndex<A>,
     alloc: A,
     items: &[Item<A>],
-) -> Result<(), Stop<A>>
+) -> Result<(), AllocError>
     requires room { HasRoomFor (map item_data items.now) (test_staged test.old) (index_staged index.old) }
     requires plain { All (λ item. HasNoChecksum (item_data item)) items.now }
     ensures test_committed { test_committed test.new ≡ test_committed test.old }
     ensures index_committed { KeepsCommitted index.old index.new }
     ensures ok { OnOk result (Adds (map item_data items.now) (test_staged test.old) (index_staged index.old) (test_staged test.new) (index_staged index.new)) }
-    ensures err { IfErr result (λ stop. stop ≡ stops.Memory) }
 {
     let spots = sorted_spots(alloc, items)?;
-    for spot in &spots {
+    let runs = runs_at(alloc, items, &spots)?;
+    drop(spots);
+    add_runs(test, index, alloc, &runs)?;
+    Ok(())
+}
+
+/// The runs of the items at these spots.
+fn runs_at<'a, A: Allocator + Copy>(
+    alloc: A,
+    items: &'a [Item<A>],
+    spots: &[Spot],
+) -> Result<Runs<'a, A>, AllocError>
+    ensures { IfOk result (λ runs. runs_seen runs ≡ runs_of (map item_data (picked items.now spots.now))) }
+{
+    let mut runs = Runs::new(alloc);
+    for spot in spots {
         if let Some(item) = items.get(spot.index) {
-            add_item(test, index, alloc, item)?;
+            runs.take(item)?;
         }
     }
-    Ok(())
+    Ok(runs)
 }
 
 /// The spots of items, ascending.

@@ -8,13 +8,13 @@ ghost use Rattle.covstore.specs.TestView.{test_staged, test_committed};
 
 use crate::index::FileIndex;
 use crate::items::add_item;
-use crate::order::{add_in_order, is_shuffled};
+use crate::order::{add_plain, have_no_checksum};
 use crate::stop::Stop;
 use crate::test::Test;
 use covline::Item;
 use std::alloc::Allocator;
 
-/// Stages the items, up to the first that clashes. Shuffled ones are staged in the order of their lines.
+/// Stages the items, up to the first that clashes. Where none has a checksum, those of one kind are staged at once.
 pub(crate) fn add_items<A: Allocator + Copy>(
     test: &mut Test<A>,
     index: &mut FileIndex<A>,
@@ -27,8 +27,9 @@ pub(crate) fn add_items<A: Allocator + Copy>(
     ensures ok { OnOk result (Adds (map item_data items.now) (test_staged test.old) (index_staged index.old) (test_staged test.new) (index_staged index.new)) }
     ensures clash { IfErr result (Clashes (map item_data items.now) (test_staged test.old) (index_staged index.old)) }
 {
-    if is_shuffled(items) {
-        return add_in_order(test, index, alloc, items);
+    if have_no_checksum(items) {
+        add_plain(test, index, alloc, items)?;
+        return Ok(());
     }
     for item in items {
         add_item(test, index, alloc, item)?;

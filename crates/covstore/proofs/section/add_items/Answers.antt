@@ -37,7 +37,7 @@ returns-in_err-add_item-clause-clash g c =
     let rest = map item_data (drop (l.item-index + 1) items) in
     let left = left_at item_data items l.item-index item c.loop-item-test.true c.item-item.is in
     let all = all_at item_data items l.item-index item c.loop-item-test.true c.item-item.is in
-    let p = err_from_is_err_and c.from_residual.result c.from_residual.ensures.1 in
+    let p = err_from_is_err_and c.from_residual-in_err-add_item.result c.from_residual-in_err-add_item.ensures.1 in
     rw (p.1, p.2)
     (subst (λ (xs : List ItemData). Clashes xs (test_staged c.args.test.now) (index_staged c.args.index.now) c.in_err-add_item.field-0.0) (sym all)
     (next_clashes taken (item_data item) rest c.args.test.now c.args.index.now l.test l.index

@@ -1,0 +1,88 @@
+-- Items without a checksum: the numbers that are kept count the tests also with these items, where those of each kind do.
+use Rattle.std.proofs.Common.{◌≡◌, ℕ, Bool, false, Some, None, inl, inr, List, [], ◌∷◌, ◌++◌, length, map, refl, sym, ap, ◌∙◌, subst, arith}
+use Rattle.std.specs.declared.cmp.Ordering.{Ordering}
+use Rattle.covstore.specs.declared.sums.Tests.{Tests}
+use Rattle.std.specs.Ordering.{nat_cmp}
+use Rattle.std.specs.List.{flat_map}
+use Rattle.covline.specs.Row.{ItemData, LineItem, FuncItem, BranchItem}
+use Rattle.covmap.specs.Puts.{value_of}
+use Rattle.covstore.specs.FileIndex.{FileIndexData}
+use Rattle.covstore.specs.Items.{HasRoomForRun, KeepsCounts}
+use Rattle.covstore.specs.KindIndexCounts.{AreCounts, is_above_at}
+use Rattle.covstore.specs.Kinds.{Branch, Function, Kind, Line, PointsOf, above_of, at, cmp_of}
+use Rattle.covstore.specs.Order.{HasNoChecksum}
+use Rattle.covstore.specs.Runs.{HasRoomForRuns, KeepsCountsOfKinds, KeepsHeld, run_of, runs_of, with_items}
+use Rattle.covstore.specs.Section.{HasRoomFor}
+use Rattle.covstore.specs.State.{file_with, has_checksum}
+use Rattle.covstore.specs.Sums.{TestData, line_with, with_item}
+use Rattle.covstore.specs.declared.sums.LineSum.{LineSum}
+use Rattle.covstore.proofs.AddsFew.{kept_few}
+use Rattle.covstore.proofs.AddsPlace.{as_many, its_back, its_front, its_kept}
+use Rattle.covstore.proofs.Assigned.{any_key}
+use Rattle.covstore.proofs.Axis.{map_between}
+use Rattle.covstore.proofs.Members.{In}
+use Rattle.covstore.proofs.Orders.{lines_order}
+use Rattle.covstore.proofs.Puts.{value_of-put, value_of-put_apart}
+use Rattle.covstore.proofs.RunsSums.{run_few}
+use Rattle.covstore.proofs.StepsCounts.{line_bare}
+use Rattle.covstore.proofs.StepsKept.{holders_same, is_holding}
+use Rattle.std.proofs.lemmas.List.{length-map}
+
+-- ---- a test holds no other checksums
+
+plain_holds : (item : ItemData) → HasNoChecksum item → (test : TestData) (line : ℕ) → is_holding line (with_item item test) ≡ is_holding line test
+plain_holds (LineItem line count (Some checksum)) plain test other = absurd plain
+plain_holds (FuncItem name line count) plain test other = refl
+plain_holds (BranchItem line block branch taken) plain test other = refl
+plain_holds (LineItem line count None) plain test other =
+    let value : LineSum = line_with count false (value_of nat_cmp line test.lines) in
+    any_key lines_order (λ (l : ℕ). is_holding l (with_item (LineItem line count None) test) ≡ is_holding l test) line
+    (ap (is_above_at has_checksum) (value_of-put lines_order line value test.lines) ∙ line_bare count (value_of nat_cmp line test.lines))
+    (λ l apart. ap (is_above_at has_checksum) (value_of-put_apart lines_order line l value test.lines apart)) other
+
+pub plain_hold : (items : List ItemData) → ((item : ItemData) → In item items → HasNoChecksum item) → (test : TestData) (line : ℕ) → is_holding line (with_items items test) ≡ is_holding line test
+plain_hold [] plain test line = refl
+plain_hold (item ∷ items) plain test line =
+    plain_hold items (λ other i. plain other (inr i)) (with_item item test) line ∙ plain_holds item (plain item (inl refl)) test line
+
+-- ---- the numbers
+
+counts_between : (kind : Kind) (before after : TestData) (index more : FileIndexData) → KeepsCountsOfKinds before after index more → (front back : List TestData)
+    → AreCounts (cmp_of kind) (above_of kind) (map (at kind) (front ++ before ∷ back)) (at kind index.counts) → AreCounts (cmp_of kind) (above_of kind) (map (at kind) (front ++ after ∷ back)) (at kind more.counts)
+counts_between kind before after index more keeps front back are =
+    subst (λ (tests : List (PointsOf kind)). AreCounts (cmp_of kind) (above_of kind) tests (at kind more.counts)) (sym (map_between (at kind) front after back))
+    (keeps kind (map (at kind) front) (map (at kind) back)
+    (subst (λ (tests : List (PointsOf kind)). AreCounts (cmp_of kind) (above_of kind) tests (at kind index.counts)) (map_between (at kind) front before back) are))
+
+pub plain_keep : (items : List ItemData) → ((item : ItemData) → In item items → HasNoChecksum item) → (test after : TestData) (index more : FileIndexData) → after ≡ with_items items test
+    → KeepsCountsOfKinds test after index more → KeepsHeld index more → KeepsCounts test after index more
+plain_keep items plain test after index more is keeps held front back are = record {
+  counts = λ kind. counts_between kind test after index more keeps front back (are.counts kind);
+  holders = holders_same front test after back index.holders more.holders (λ line. ap (is_holding line) is ∙ plain_hold items plain test line) held.holders are.holders;
+}
+
+-- ---- the room
+
+pub runs_have_room : (items : List ItemData) (test : TestData) (index : FileIndexData) → HasRoomFor items test index → HasRoomForRuns (runs_of items) test index
+runs_have_room items test index room kind =
+    let kept = kept_few room.rows room.files room.stands.state room.file (file_with room.tests index) room.stands.its_file in
+    let front = its_front room.stands in
+    let back = its_back room.stands in
+    let some = run_few kind items in
+    record {
+      front = map (at kind) front;
+      back = map (at kind) back;
+      kept = subst (λ (tests : List (PointsOf kind)). AreCounts (cmp_of kind) (above_of kind) tests (at kind index.counts)) (map_between (at kind) front test back) ((its_kept room.stands).counts kind);
+      few_tests = omega (arith, ap (λ (tests : List (PointsOf kind)). length tests) (map_between (at kind) front test back), length-map (front ++ test ∷ back) (at kind), as_many room.stands, room.few_tests);
+      few = omega (arith, kept kind, room.few, some, run_at kind);
+    }
+  where
+    run_at : (own : Kind) → length (at own (runs_of items)) ≡ length (flat_map (run_of own) items)
+    run_at Line = refl
+    run_at Function = refl
+    run_at Branch = refl
+
+-- the same for a run that is as long
+pub room_as_long : {K V : Type 0} {cmp : K → K → Ordering} {is_above : V → Bool} {points : List (K × V)} {counts : List (K × Tests)} (some run : ℕ) → some ≡ run → HasRoomForRun cmp is_above points counts run
+    → HasRoomForRun cmp is_above points counts some
+room_as_long {cmp = cmp} {is_above} {points} {counts} some run same room = subst (HasRoomForRun cmp is_above points counts) (sym same) room

@@ -1,0 +1,141 @@
+//! The items of a section as runs: what is said of one kind of points is staged at once.
+
+ghost use Rattle.std.specs.Prelude.{◌≡◌, [], map, IfOk, OnOk};
+ghost use Rattle.std.specs.List.{All};
+ghost use Rattle.covline.specs.Row.{item_data};
+ghost use Rattle.covstore.specs.Order.{HasNoChecksum};
+ghost use Rattle.covstore.specs.Runs.{HasRoomForRuns, KeepsCountsOfKinds, KeepsHeld, runs_of, runs_with, with_runs};
+ghost use Rattle.covstore.specs.RunsView.{runs_seen};
+ghost use Rattle.covstore.specs.Section.{Adds, HasRoomFor};
+ghost use Rattle.covstore.specs.FileIndexView.{KeepsCommitted, index_staged};
+ghost use Rattle.covstore.specs.TestView.{test_staged, test_committed};
+
+use crate::index::FileIndex;
+use crate::points::add_to_points;
+use crate::sums::{BranchAddend, FunctionAddend, LineAddend};
+use crate::test::Test;
+use covline::{BranchPoint, Item};
+use std::alloc::{AllocError, Allocator};
+
+/// The items of a section, none of which has a checksum, cut into a run for each kind of point.
+#[derive(Drop)]
+pub(crate) struct Runs<'a, A: Allocator> {
+    lines: Vec<(u64, LineAddend), A>,
+    functions: Vec<(&'a [u8], FunctionAddend), A>,
+    branches: Vec<(BranchPoint, BranchAddend), A>,
+}
+
+impl<'a, A: Allocator + Copy> Runs<'a, A> {
+    /// No items. Takes no memory.
+    pub(crate) fn new(alloc: A) -> Runs<'a, A>
+        ensures { runs_seen result ≡ runs_of [] }
+    {
+        Runs {
+            lines: Vec::new(alloc),
+            functions: Vec::new(alloc),
+            branches: Vec::new(alloc),
+        }
+    }
+
+    /// Appends an item to the run of its kind.
+    pub(crate) fn take(&mut self, item: &'a Item<A>) -> Result<(), AllocError>
+        ensures { OnOk result (runs_seen self.new ≡ runs_with (item_data item.now) (runs_seen self.old)) }
+    {
+        match item {
+            Item::Line {
+                line,
+                count,
+                checksum,
+            } => {
+                let addend = LineAddend {
+                    count: *count,
+                    has_checksum: checksum.is_some(),
+                };
+                self.lines.push((*line, addend))?;
+            }
+            Item::Func { name, line, count } => {
+                let addend = FunctionAddend {
+                    line: *line,
+                    count: *count,
+                };
+                self.functions.push((name.get(), addend))?;
+            }
+            Item::Branch {
+                line,
+                block,
+                branch,
+                taken,
+            } => {
+                let point = BranchPoint {
+                    line: *line,
+                    block: *block,
+                    branch: *branch,
+                };
+                self.branches.push((point, BranchAddend { times: *taken }))?;
+            }
+        }
+        Ok(())
+    }
+}
+
+/// The runs of items.
+fn runs_in<'a, A: Allocator + Copy>(
+    alloc: A,
+    items: &'a [Item<A>],
+) -> Result<Runs<'a, A>, AllocError>
+    ensures { IfOk result (λ runs. runs_seen runs ≡ runs_of (map item_data items.now)) }
+{
+    let mut runs = Runs::new(alloc);
+    for item in items {
+        runs.take(item)?;
+    }
+    Ok(runs)
+}
+
+/// Stages runs, each at the points of its kind.
+pub(crate) fn add_runs<'a, A: Allocator + Copy>(
+    test: &mut Test<A>,
+    index: &mut FileIndex<A>,
+    alloc: A,
+    runs: &Runs<'a, A>,
+) -> Result<(), AllocError>
+    requires room { HasRoomForRuns (runs_seen runs.now) (test_staged test.old) (index_staged index.old) }
+    ensures test_committed { test_committed test.new ≡ test_committed test.old }
+    ensures index_committed { KeepsCommitted index.old index.new }
+    ensures test { OnOk result (test_staged test.new ≡ with_runs (runs_seen runs.now) (test_staged test.old)) }
+    ensures counts { OnOk result (KeepsCountsOfKinds (test_staged test.old) (test_staged test.new) (index_staged index.old) (index_staged index.new)) }
+    ensures held { OnOk result (KeepsHeld (index_staged index.old) (index_staged index.new)) }
+{
+    add_to_points(&mut test.lines, &mut index.lines, alloc, &runs.lines)?;
+    add_to_points(
+        &mut test.functions,
+        &mut index.functions,
+        alloc,
+        &runs.functions,
+    )?;
+    add_to_points(
+        &mut test.branches,
+        &mut index.branches,
+        alloc,
+        &runs.branches,
+    )?;
+    Ok(())
+}
+
+/// Stages the items, of which none has a checksum, as they stand.
+pub(crate) fn add_as_they_stand<A: Allocator + Copy>(
+    test: &mut Test<A>,
+    index: &mut FileIndex<A>,
+    alloc: A,
+    items: &[Item<A>],
+) -> Result<(), AllocError>
+    requires room { HasRoomFor (map item_data items.now) (test_staged test.old) (index_staged index.old) }
+    requires plain { All (λ item. HasNoChecksum (item_data item)) items.now }
+    ensures test_committed { test_committed test.new ≡ test_committed test.old }
+    ensures index_committed { KeepsCommitted index.old index.new }
+    ensures ok { OnOk result (Adds (map item_data items.now) (test_staged test.old) (index_staged index.old) (test_staged test.new) (index_staged index.new)) }
+{
+    let runs = runs_in(alloc, items)?;
+    add_runs(test, index, alloc, &runs)?;
+    Ok(())
+}
