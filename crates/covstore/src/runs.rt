@@ -17,7 +17,10 @@ use crate::test::Test;
 use covline::{BranchPoint, Item};
 use std::alloc::{AllocError, Allocator};
 
-/// The items of a section, none of which has a checksum, cut into a run for each kind of point.
+/// How many items are staged at once at most. Their runs take memory beside them, and are to stay in the processor's caches.
+pub(crate) const MOST: usize = 1024;
+
+/// Items of a section, none of which has a checksum, cut into a run for each kind of point.
 #[derive(Drop)]
 pub(crate) struct Runs<'a, A: Allocator> {
     lines: Vec<(u64, LineAddend), A>,
@@ -135,7 +138,9 @@ pub(crate) fn add_as_they_stand<A: Allocator + Copy>(
     ensures index_committed { KeepsCommitted index.old index.new }
     ensures ok { OnOk result (Adds (map item_data items.now) (test_staged test.old) (index_staged index.old) (test_staged test.new) (index_staged index.new)) }
 {
-    let runs = runs_in(alloc, items)?;
-    add_runs(test, index, alloc, &runs)?;
+    for some in items.chunks(MOST) {
+        let runs = runs_in(alloc, some)?;
+        add_runs(test, index, alloc, &runs)?;
+    }
     Ok(())
 }
