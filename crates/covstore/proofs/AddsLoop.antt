@@ -13,7 +13,7 @@ use Rattle.covstore.specs.Sums.{with_item}
 use Rattle.covstore.specs.TestView.{test_staged, test_committed}
 use Rattle.covstore.proofs.AddsItem.{item_adds}
 use Rattle.covstore.proofs.AddsMore.{adds_more, adds_none, clash_front, clash_later, item_clashes}
-use Rattle.covstore.proofs.AddsRoom.{has_room, room_later}
+use Rattle.covstore.proofs.AddsRoom.{has_room, room_later, room_of_some}
 use Rattle.covstore.proofs.StepsMore.{held_both}
 
 -- these items are taken, and there is room for those that are left
@@ -31,6 +31,20 @@ none_taken left test index room = record {
   same_index = record { counts = refl; holders = refl; texts = λ line committed. refl };
 }
 
+module _ {A : Type 0} (taken some left : List ItemData) (test : Test A) (index : FileIndex A) (test_now : Test A) (index_now : FileIndex A)
+    (so_far : HasTaken taken (some ++ left) test index test_now index_now) where
+  pub some_have_room : HasRoomFor some (test_staged test_now) (index_staged index_now)
+  some_have_room = room_of_some some left (test_staged test_now) (index_staged index_now) so_far.room
+
+  pub some_taken : (test_later : Test A) (index_later : FileIndex A) → test_committed test_later ≡ test_committed test_now → KeepsCommitted index_now index_later
+      → Adds some (test_staged test_now) (index_staged index_now) (test_staged test_later) (index_staged index_later) → HasTaken (taken ++ some) left test index test_later index_later
+  some_taken test_later index_later same keeps adds = record {
+    adds = adds_more taken some (test_staged test) (test_staged test_now) (test_staged test_later) (index_staged index) (index_staged index_now) (index_staged index_later) so_far.adds adds;
+    room = room_later some left (test_staged test_now) (index_staged index_now) so_far.room (test_staged test_later) (index_staged index_later) adds;
+    same_test = same ∙ so_far.same_test;
+    same_index = held_both index index_now index_later so_far.same_index keeps;
+  }
+
 module _ {A : Type 0} (taken : List ItemData) (item : ItemData) (left : List ItemData) (test : Test A) (index : FileIndex A) (test_now : Test A) (index_now : FileIndex A)
     (so_far : HasTaken taken (item ∷ left) test index test_now index_now) where
   pub next_has_room : HasRoom (test_staged test_now) (index_staged index_now)
@@ -40,13 +54,8 @@ module _ {A : Type 0} (taken : List ItemData) (item : ItemData) (left : List Ite
       → KeepsCounts (test_staged test_now) (test_staged test_later) (index_staged index_now) (index_staged index_later) → IsTextOf item (index_staged index_later)
       → KeepsTextsOf (index_staged index_now) (index_staged index_later) → HasTaken (taken ++ item ∷ []) left test index test_later index_later
   one_taken test_later index_later same keeps more counts own texts =
-      let one = item_adds item (test_staged test_now) (test_staged test_later) (index_staged index_now) (index_staged index_later) more counts own texts in
-      record {
-        adds = adds_more taken (item ∷ []) (test_staged test) (test_staged test_now) (test_staged test_later) (index_staged index) (index_staged index_now) (index_staged index_later) so_far.adds one;
-        room = room_later item left (test_staged test_now) (test_staged test_later) (index_staged index_now) (index_staged index_later) so_far.room one;
-        same_test = same ∙ so_far.same_test;
-        same_index = held_both index index_now index_later so_far.same_index keeps;
-      }
+      some_taken taken (item ∷ []) left test index test_now index_now so_far test_later index_later same keeps
+      (item_adds item (test_staged test_now) (test_staged test_later) (index_staged index_now) (index_staged index_later) more counts own texts)
 
   pub next_clashes : (stop : Stop A) → IsClashOf item (index_staged index_now) stop → Clashes (taken ++ item ∷ left) (test_staged test) (index_staged index) stop
   next_clashes Memory clash = tt

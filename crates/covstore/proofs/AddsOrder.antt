@@ -1,12 +1,12 @@
 -- Items that are taken by their spots, in any order: they do what they do as they stand.
-use Rattle.std.proofs.Common.{◌≡◌, ℕ, ◌+◌, ◌<◌, ◌≤◌, ◌^◌, Option, Some, None, List, [], ◌∷◌, ◌++◌, get_or, length, map, take, sym, ap, ◌∙◌, subst, inl, inr}
+use Rattle.std.proofs.Common.{◌≡◌, ℕ, ◌+◌, ◌<◌, ◌≤◌, ◌^◌, Option, Some, None, List, [], ◌∷◌, ◌++◌, get_or, length, map, take, sym, ap, ◌∙◌, subst, inl, inr, refl}
 use Rattle.std.specs.List.{sum_by}
 use Rattle.std.specs.Option.{option_to_list}
 use Rattle.std.specs.Prelude.{◌⊎◌, slice_get}
 use Rattle.std.specs.Borrow.{Bor}
 use Rattle.std.specs.Slice.{IsItemAt}
 use Rattle.std.proofs.lemmas.List.{append-nil, length-map, map-append, take_more}
-use Rattle.std.proofs.lemmas.Option.{slice_get-get_or, slice_get_past}
+use Rattle.std.proofs.lemmas.Option.{get_or_from_slice_get, slice_get-get_or, slice_get_past, slice_get_within}
 use Rattle.std.proofs.lemmas.List.Concat.{flat_map-append, length-flat_map}
 use Rattle.std.proofs.lemmas.List.Sorted.{IsPermutation-sym, sum_by-IsPermutation}
 use Rattle.std.proofs.lemmas.List.Sums.{sum_by-append}
@@ -17,15 +17,16 @@ use Rattle.covstore.specs.Clash.{Agree, checksum_of_row, checksums_in}
 use Rattle.covstore.specs.FileIndex.{FileIndexData}
 use Rattle.covstore.specs.Kinds.{Each}
 use Rattle.covstore.specs.Order.{AreSpotsOf, HasNoChecksum, picked}
-use Rattle.covstore.specs.Runs.{HasRoomForRuns, KeepsCountsOfKinds, KeepsHeld, RunOf, runs_of, runs_with, with_runs}
+use Rattle.covstore.specs.Runs.{RunOf, runs_of, runs_with}
 use Rattle.covstore.specs.Section.{Adds, HasRoomFor, files_with, section_of_items}
 use Rattle.covstore.specs.Sums.{TestData}
-use Rattle.covstore.proofs.RunsAdds.{all_plain, room_of_runs, runs_add}
+use Rattle.covstore.proofs.RunsAdds.{all_plain}
 use Rattle.covstore.proofs.RunsSums.{runs_more}
 use Rattle.covstore.proofs.Alike.{AreAlike, alike_mapped, alike_permuted, alike_said}
 use Rattle.covstore.proofs.AlikeContents.{agree_alike}
 use Rattle.covstore.proofs.Clashes.{agree_none}
-use Rattle.covstore.proofs.Members.{In, In-joined, In-parts}
+use Rattle.covstore.proofs.Members.{In, In-from, In-joined, In-parts}
+use Rattle.covstore.proofs.ContentsLists.{In-unflat}
 use Rattle.covstore.proofs.RenamedTablesState.{state_alike}
 
 -- ---- alike items
@@ -140,15 +141,34 @@ module _ {D : Type 0} (items : List D) (spots : List Spot) (k : ℕ) (spot : Spo
   none_at_spot f found runs so_far =
       so_far ∙ ap (λ (some : List D). runs_of (map f some)) (sym (at_taken None found ∙ append-nil (picked items (take k spots))))
 
-module _ {D : Type 0} (f : D → ItemData) (items : List D) (spots : List Spot) (are : AreSpotsOf items spots) (runs : Each RunOf) (cut : runs ≡ runs_of (map f (picked items spots))) (test : TestData) (index : FileIndexData) where
-  pub spots_have_room : HasRoomFor (map f items) test index → HasRoomForRuns runs test index
-  spots_have_room room =
-      room_of_runs f (picked items spots) runs cut test index
-      (room_alike (map f items) (map f (picked items spots)) test index (length-map (picked items spots) f ∙ as_many items spots are ∙ sym (length-map items f)) room)
+-- ---- what spots say
 
-  pub spots_add : All (λ (item : D). HasNoChecksum (f item)) items → (after : TestData) (more : FileIndexData) → after ≡ with_runs runs test → KeepsCountsOfKinds test after index more → KeepsHeld index more
-      → Adds (map f items) test index after more
-  spots_add plain after more is counts held =
-      let alike = spots_alike items spots are in
-      adds_alike (map f (picked items spots)) (map f items) test after index more (alike_mapped f (picked items spots) items alike)
-      (runs_add f (picked items spots) runs cut test index (all_plain f items (picked items spots) alike.there plain) after more is counts held)
+-- the items at spots
+abbrev pub said_at : {D : Type 0} → (D → ItemData) → List D → List Spot → List ItemData
+said_at f items spots = map f (picked items spots)
+
+pub said_joined : {D : Type 0} (f : D → ItemData) (items : List D) (xs ys : List Spot) → said_at f items (xs ++ ys) ≡ said_at f items xs ++ said_at f items ys
+unfolding at_spot
+said_joined f items xs ys = ap (map f) (flat_map-append (at_spot items) xs ys) ∙ map-append f (picked items xs) (picked items ys)
+
+got_there : {D : Type 0} (items : List D) (i : ℕ) (item : D) (here : Option D) → slice_get items i ≡ here → In item (option_to_list here) → In item items
+got_there items i item None found there = absurd there
+got_there {D} items i item (Some got) found (inr none) = absurd none
+got_there {D} items i item (Some got) found (inl same) =
+    subst (λ (d : D). In d items) same (In-from items got (i, slice_get_within items i got found, get_or_from_slice_get items i got got found))
+
+-- where none of the items has a checksum, none at a spot has one
+pub spots_plain : {D : Type 0} (f : D → ItemData) (items : List D) (spots : List Spot) → All (λ (item : D). HasNoChecksum (f item)) items → (item : ItemData) → In item (said_at f items spots) → HasNoChecksum item
+unfolding at_spot
+spots_plain f items spots plain =
+    all_plain f items (picked items spots)
+    (λ item i. let from = In-unflat (at_spot items) spots item i in got_there items from.0.index item (slice_get items from.0.index) refl from.2) plain
+
+module _ {D : Type 0} (f : D → ItemData) (items : List D) (spots : List Spot) (are : AreSpotsOf items spots) where
+  pub spots_have_room : (test : TestData) (index : FileIndexData) → HasRoomFor (map f items) test index → HasRoomFor (said_at f items spots) test index
+  spots_have_room test index room =
+      room_alike (map f items) (said_at f items spots) test index (length-map (picked items spots) f ∙ as_many items spots are ∙ sym (length-map items f)) room
+
+  pub spots_add : (test after : TestData) (index more : FileIndexData) → Adds (said_at f items spots) test index after more → Adds (map f items) test index after more
+  spots_add test after index more adds =
+      adds_alike (said_at f items spots) (map f items) test after index more (alike_mapped f (picked items spots) items (spots_alike items spots are)) adds

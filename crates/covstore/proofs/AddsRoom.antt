@@ -1,11 +1,11 @@
 -- Where there is room for items, there is room for the first, and for the others afterwards.
-use Rattle.std.proofs.Common.{List, [], ◌∷◌, ◌++◌, arith}
+use Rattle.std.proofs.Common.{List, ◌++◌, arith}
 use Rattle.std.specs.Cmp.Lexicographic.{slice_cmp}
 use Rattle.std.specs.Ordering.{nat_cmp}
-use Rattle.std.proofs.lemmas.List.{length-append}
-use Rattle.covline.specs.Row.{ItemData, Row}
+use Rattle.std.proofs.lemmas.List.{length-append, length-map}
+use Rattle.covline.specs.Row.{ItemData, Row, rows_of_sect}
 use Rattle.covstore.specs.State.{file_with}
-use Rattle.covstore.specs.Section.{Adds, HasRoomFor, files_with}
+use Rattle.covstore.specs.Section.{Adds, HasRoomFor, files_with, section_of_items}
 use Rattle.covstore.specs.FileIndex.{FileIndexData}
 use Rattle.covmap.specs.Puts.{put}
 use Rattle.covstore.specs.Items.{HasRoom}
@@ -26,18 +26,31 @@ has_room items test index room =
       few = λ kind. omega (arith, kept kind, room.few);
     }
 
-pub room_later : (item : ItemData) (items : List ItemData) (test test_after : TestData) (index index_after : FileIndexData) → HasRoomFor (item ∷ items) test index → Adds (item ∷ []) test index test_after index_after
-    → HasRoomFor items test_after index_after
-room_later item items test test_after index index_after room adds =
-    let row : Row = record { test = room.name; file = room.file; item = item } in
-    let there = adds room.rows room.files room.file room.name room.tests room.stands in
-    record {
-      rows = room.rows ++ row ∷ [];
-      files = files_with room.file room.name room.tests test_after index_after room.files;
-      file = room.file;
-      name = room.name;
-      tests = put (slice_cmp nat_cmp) room.name test_after room.tests;
-      stands = there.1;
-      few = omega (arith, length-append room.rows (row ∷ []), room.few);
-      few_tests = omega (arith, length-put_there names_order room.name test test_after room.tests (its_whole room.stands).ascending room.stands.its_test, room.few_tests);
-    }
+-- of some items and others there is room for the some, and for the others afterwards
+module _ (some items : List ItemData) (test : TestData) (index : FileIndexData) (room : HasRoomFor (some ++ items) test index) where
+  pub room_of_some : HasRoomFor some test index
+  room_of_some = record {
+    rows = room.rows;
+    files = room.files;
+    file = room.file;
+    name = room.name;
+    tests = room.tests;
+    stands = room.stands;
+    few = omega (arith, length-append some items, room.few);
+    few_tests = room.few_tests;
+  }
+
+  pub room_later : (test_after : TestData) (index_after : FileIndexData) → Adds some test index test_after index_after → HasRoomFor items test_after index_after
+  room_later test_after index_after adds =
+      let more = rows_of_sect (section_of_items room.file room.name some) in
+      let there = adds room.rows room.files room.file room.name room.tests room.stands in
+      record {
+        rows = room.rows ++ more;
+        files = files_with room.file room.name room.tests test_after index_after room.files;
+        file = room.file;
+        name = room.name;
+        tests = put (slice_cmp nat_cmp) room.name test_after room.tests;
+        stands = there.1;
+        few = omega (arith, length-append room.rows more, length-map {B = Row} some (λ item. record { test = room.name; file = room.file; item = item }), length-append some items, room.few);
+        few_tests = omega (arith, length-put_there names_order room.name test test_after room.tests (its_whole room.stands).ascending room.stands.its_test, room.few_tests);
+      }

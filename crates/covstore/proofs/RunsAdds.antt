@@ -1,5 +1,5 @@
 -- Items without a checksum whose runs are staged: they are added.
-use Rattle.std.proofs.Common.{◌≡◌, ℕ, Some, None, List, map, sym, ap, ◌∙◌, subst}
+use Rattle.std.proofs.Common.{◌≡◌, ℕ, Some, None, List, [], ◌++◌, length, map, refl, sym, ap, ◌∙◌, subst, inl, inr}
 use Rattle.std.specs.List.{All}
 use Rattle.std.specs.Option.{is_some}
 use Rattle.std.specs.Ordering.{nat_cmp}
@@ -14,7 +14,13 @@ use Rattle.covstore.specs.Runs.{HasRoomForRuns, KeepsCountsOfKinds, KeepsHeld, R
 use Rattle.covstore.specs.Section.{Adds, HasRoomFor}
 use Rattle.covstore.specs.Sums.{TestData}
 use Rattle.covstore.proofs.AddsItem.{items_add}
-use Rattle.covstore.proofs.Members.{Contains-from, In, In-unmap}
+use Rattle.covstore.proofs.Members.{Contains-from, In, In-joined, In-unmap}
+use Rattle.covstore.proofs.AddsLoop.{HasTaken, none_taken, some_have_room, some_taken}
+use Rattle.covstore.specs.FileIndexView.{KeepsCommitted, index_staged}
+use Rattle.covstore.specs.TestView.{test_staged, test_committed}
+use Rattle.covstore.specs.declared.index.FileIndex.{FileIndex}
+use Rattle.covstore.specs.declared.test.Test.{Test}
+use Rattle.std.proofs.lemmas.List.{append-nil, append_assoc, nil_from_length}
 use Rattle.covstore.proofs.RunsKept.{plain_keep, runs_have_room}
 use Rattle.covstore.proofs.RunsSums.{runs_sum}
 
@@ -30,21 +36,70 @@ texts_kept index more held = record {
   texts_stay = λ line e. ap (value_of nat_cmp line) held.texts;
 }
 
-module _ {D : Type 0} (f : D → ItemData) (items : List D) (runs : Each RunOf) (are : runs ≡ runs_of (map f items)) (test : TestData) (index : FileIndexData) where
-  pub room_of_runs : HasRoomFor (map f items) test index → HasRoomForRuns runs test index
-  room_of_runs room = subst (λ (some : Each RunOf). HasRoomForRuns some test index) (sym are) (runs_have_room (map f items) test index room)
+module _ (items : List ItemData) (runs : Each RunOf) (are : runs ≡ runs_of items) (test : TestData) (index : FileIndexData) where
+  pub room_of_runs : HasRoomFor items test index → HasRoomForRuns runs test index
+  room_of_runs room = subst (λ (some : Each RunOf). HasRoomForRuns some test index) (sym are) (runs_have_room items test index room)
 
-  pub runs_add : ((item : D) → In item items → HasNoChecksum (f item)) → (after : TestData) (more : FileIndexData) → after ≡ with_runs runs test → KeepsCountsOfKinds test after index more → KeepsHeld index more
-      → Adds (map f items) test index after more
+  pub runs_add : ((item : ItemData) → In item items → HasNoChecksum item) → (after : TestData) (more : FileIndexData) → after ≡ with_runs runs test → KeepsCountsOfKinds test after index more → KeepsHeld index more
+      → Adds items test index after more
   runs_add plain after more is counts held =
-      let all = ap (λ (some : Each RunOf). with_runs some test) are ∙ runs_sum (map f items) test in
-      items_add (map f items) test after index more (is ∙ all) (plain_keep (map f items) each test after index more (is ∙ all) counts held)
-      (λ item i. plain_text item more (each item i)) (texts_kept index more held)
-    where
-      each : (item : ItemData) → In item (map f items) → HasNoChecksum item
-      each item i = let from = In-unmap f items item i in subst HasNoChecksum from.2 (plain from.0 from.1)
+      let all = is ∙ ap (λ (some : Each RunOf). with_runs some test) are ∙ runs_sum items test in
+      items_add items test after index more all (plain_keep items plain test after index more all counts held) (λ item i. plain_text item more (plain item i)) (texts_kept index more held)
 
 -- where none of the items has a checksum, none of some of them has one
 pub all_plain : {D : Type 0} (f : D → ItemData) (items others : List D) → ((item : D) → In item others → In item items) → All (λ (item : D). HasNoChecksum (f item)) items
-    → (item : D) → In item others → HasNoChecksum (f item)
-all_plain {D} f items others there plain item i = All-contains (λ (one : D). HasNoChecksum (f one)) items item plain (Contains-from items item (there item i))
+    → (item : ItemData) → In item (map f others) → HasNoChecksum item
+all_plain {D} f items others there plain item i =
+    let from = In-unmap f others item i in
+    subst HasNoChecksum from.2 (All-contains (λ (one : D). HasNoChecksum (f one)) items from.0 plain (Contains-from items from.0 (there from.0 from.1)))
+
+-- ---- some at a time
+
+-- of what says items, so much is left, and the items of all before it are taken
+pub record HasTakenTo {A X : Type 0} (say : List X → List ItemData) (all left : List X) (test : Test A) (index : FileIndex A) (test_now : Test A) (index_now : FileIndex A) : Type 0 where
+  pub taken : List X
+  pub parts : all ≡ taken ++ left
+  pub so_far : HasTaken (say taken) (say left) test index test_now index_now
+
+module _ {A X : Type 0} (say : List X → List ItemData) (joins : (xs ys : List X) → say (xs ++ ys) ≡ say xs ++ say ys) (all : List X) (test : Test A) (index : FileIndex A) where
+  pub none_to : say [] ≡ [] → HasRoomFor (say all) (test_staged test) (index_staged index) → HasTakenTo say all all test index test index
+  none_to nothing room = record {
+    taken = [];
+    parts = refl;
+    so_far = subst (λ (some : List ItemData). HasTaken some (say all) test index test index) (sym nothing) (none_taken (say all) test index room);
+  }
+
+  pub taken_to_end : (left : List X) (test_now : Test A) (index_now : FileIndex A) → length left ≡ 0 → HasTakenTo say all left test index test_now index_now
+      → Adds (say all) (test_staged test) (index_staged index) (test_staged test_now) (index_staged index_now)
+  taken_to_end left test_now index_now none is =
+      let same : is.taken ≡ all = sym (is.parts ∙ ap (λ (xs : List X). is.taken ++ xs) (nil_from_length left none) ∙ append-nil is.taken) in
+      subst (λ (xs : List X). Adds (say xs) (test_staged test) (index_staged index) (test_staged test_now) (index_staged index_now)) same is.so_far.adds
+
+  module _ (left some later : List X) (cut : left ≡ some ++ later) (test_now : Test A) (index_now : FileIndex A) (is : HasTakenTo say all left test index test_now index_now) (runs : Each RunOf)
+      (are : runs ≡ runs_of (say some)) where
+    before_some : HasTaken (say is.taken) (say some ++ say later) test index test_now index_now
+    before_some = subst (λ (items : List ItemData). HasTaken (say is.taken) items test index test_now index_now) (ap say cut ∙ joins some later) is.so_far
+
+    pub next_runs_have_room : HasRoomForRuns runs (test_staged test_now) (index_staged index_now)
+    next_runs_have_room =
+        room_of_runs (say some) runs are (test_staged test_now) (index_staged index_now) (some_have_room (say is.taken) (say some) (say later) test index test_now index_now before_some)
+
+    all_parts : all ≡ (is.taken ++ some) ++ later
+    all_parts = is.parts ∙ ap (λ (xs : List X). is.taken ++ xs) cut ∙ sym (append_assoc is.taken some later)
+
+    -- what some say, all say
+    said : (item : ItemData) → In item (say some) → In item (say all)
+    said item i =
+        subst (In item) (sym (ap say all_parts ∙ joins (is.taken ++ some) later ∙ ap (λ (items : List ItemData). items ++ say later) (joins is.taken some)))
+        (In-joined (say is.taken ++ say some) (say later) item (inl (In-joined (say is.taken) (say some) item (inr i))))
+
+    pub next_taken : ((item : ItemData) → In item (say all) → HasNoChecksum item) → (test_later : Test A) (index_later : FileIndex A) → test_committed test_later ≡ test_committed test_now → KeepsCommitted index_now index_later
+        → test_staged test_later ≡ with_runs runs (test_staged test_now) → KeepsCountsOfKinds (test_staged test_now) (test_staged test_later) (index_staged index_now) (index_staged index_later)
+        → KeepsHeld (index_staged index_now) (index_staged index_later) → HasTakenTo say all later test index test_later index_later
+    next_taken plain test_later index_later same keeps more counts held = record {
+      taken = is.taken ++ some;
+      parts = all_parts;
+      so_far = subst (λ (items : List ItemData). HasTaken items (say later) test index test_later index_later) (sym (joins is.taken some))
+          (some_taken (say is.taken) (say some) (say later) test index test_now index_now before_some test_later index_later same keeps
+          (runs_add (say some) runs are (test_staged test_now) (index_staged index_now) (λ item i. plain item (said item i)) (test_staged test_later) (index_staged index_later) more counts held));
+    }

@@ -11,7 +11,7 @@ ghost use Rattle.covstore.specs.Runs.{runs_of};
 ghost use Rattle.covstore.specs.RunsView.{runs_seen};
 
 use crate::index::FileIndex;
-use crate::runs::{Runs, add_as_they_stand, add_runs};
+use crate::runs::{MOST, Runs, add_as_they_stand, add_runs};
 use crate::test::Test;
 use covline::Item;
 use std::alloc::{AllocError, Allocator};
@@ -109,9 +109,28 @@ fn add_in_order<A: Allocator + Copy>(
     ensures ok { OnOk result (Adds (map item_data items.now) (test_staged test.old) (index_staged index.old) (test_staged test.new) (index_staged index.new)) }
 {
     let spots = sorted_spots(alloc, items)?;
-    let runs = runs_at(alloc, items, &spots)?;
-    drop(spots);
-    add_runs(test, index, alloc, &runs)?;
+    add_at(test, index, alloc, items, &spots)?;
+    Ok(())
+}
+
+/// Stages the items at these spots, in the order of the spots.
+fn add_at<A: Allocator + Copy>(
+    test: &mut Test<A>,
+    index: &mut FileIndex<A>,
+    alloc: A,
+    items: &[Item<A>],
+    spots: &[Spot],
+) -> Result<(), AllocError>
+    requires room { HasRoomFor (map item_data (picked items.now spots.now)) (test_staged test.old) (index_staged index.old) }
+    requires plain { All (λ item. HasNoChecksum (item_data item)) items.now }
+    ensures test_committed { test_committed test.new ≡ test_committed test.old }
+    ensures index_committed { KeepsCommitted index.old index.new }
+    ensures ok { OnOk result (Adds (map item_data (picked items.now spots.now)) (test_staged test.old) (index_staged index.old) (test_staged test.new) (index_staged index.new)) }
+{
+    for some in spots.chunks(MOST) {
+        let runs = runs_at(alloc, items, some)?;
+        add_runs(test, index, alloc, &runs)?;
+    }
     Ok(())
 }
 
@@ -123,7 +142,7 @@ fn runs_at<'a, A: Allocator + Copy>(
 ) -> Result<Runs<'a, A>, AllocError>
     ensures { IfOk result (λ runs. runs_seen runs ≡ runs_of (map item_data (picked items.now spots.now))) }
 {
-    let mut runs = Runs::new(alloc);
+    let mut runs = Runs::with_room(alloc, spots.len())?;
     for spot in spots {
         if let Some(item) = items.get(spot.index) {
             runs.take(item)?;

@@ -17,7 +17,10 @@ use crate::test::Test;
 use covline::{BranchPoint, Item};
 use std::alloc::{AllocError, Allocator};
 
-/// The items of a section, none of which has a checksum, cut into a run for each kind of point.
+/// How many items are staged at once at most. Their runs take memory beside them, and are to stay in the processor's caches.
+pub(crate) const MOST: usize = 1024;
+
+/// Items of a section, none of which has a checksum, cut into a run for each kind of point.
 #[derive(Drop)]
 pub(crate) struct Runs<'a, A: Allocator> {
     lines: Vec<(u64, LineAddend), A>,
@@ -26,15 +29,15 @@ pub(crate) struct Runs<'a, A: Allocator> {
 }
 
 impl<'a, A: Allocator + Copy> Runs<'a, A> {
-    /// No items. Takes no memory.
-    pub(crate) fn new(alloc: A) -> Runs<'a, A>
-        ensures { runs_seen result ≡ runs_of [] }
+    /// No items, and room for this many lines: most items count lines.
+    pub(crate) fn with_room(alloc: A, lines: usize) -> Result<Runs<'a, A>, AllocError>
+        ensures { IfOk result (λ runs. runs_seen runs ≡ runs_of []) }
     {
-        Runs {
-            lines: Vec::new(alloc),
+        Ok(Runs {
+            lines: Vec::with_capacity(alloc, lines)?,
             functions: Vec::new(alloc),
             branches: Vec::new(alloc),
-        }
+        })
     }
 
     /// Appends an item to the run of its kind.
@@ -85,7 +88,7 @@ fn runs_in<'a, A: Allocator + Copy>(
 ) -> Result<Runs<'a, A>, AllocError>
     ensures { IfOk result (λ runs. runs_seen runs ≡ runs_of (map item_data items.now)) }
 {
-    let mut runs = Runs::new(alloc);
+    let mut runs = Runs::with_room(alloc, items.len())?;
     for item in items {
         runs.take(item)?;
     }
@@ -135,7 +138,9 @@ pub(crate) fn add_as_they_stand<A: Allocator + Copy>(
     ensures index_committed { KeepsCommitted index.old index.new }
     ensures ok { OnOk result (Adds (map item_data items.now) (test_staged test.old) (index_staged index.old) (test_staged test.new) (index_staged index.new)) }
 {
-    let runs = runs_in(alloc, items)?;
-    add_runs(test, index, alloc, &runs)?;
+    for some in items.chunks(MOST) {
+        let runs = runs_in(alloc, some)?;
+        add_runs(test, index, alloc, &runs)?;
+    }
     Ok(())
 }

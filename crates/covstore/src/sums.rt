@@ -2,6 +2,7 @@
 //! 2^128 - 1.
 
 ghost use Rattle.std.specs.Prelude.{◌≡◌, Bool, true, Option};
+ghost use Rattle.std.proofs.Common.{refl};
 ghost use Rattle.covstore.specs.KindIndexCounts.{change_of, is_above_at, is_hit_by_some, tests_fit, tests_with};
 ghost use Rattle.covstore.specs.Kinds.{branch_above, function_above, line_above};
 ghost use Rattle.covstore.specs.State.{has_checksum};
