@@ -48,7 +48,7 @@ first_there (x ∷ xs) zero rest l = refl
 first_there (x ∷ xs) (suc index) rest l = first_there xs index rest (omega arith)
 
 module _ {K V : Type 0} {cmp : K → K → Ordering} {order : K → Ordering} (query : IsQuery cmp order) where
-  -- behind a slot that doesn't come before what is asked for, all slots are behind that
+  -- after a slot that doesn't come before what is asked for, all slots are greater than that
   pub all_behind : (slot : K × Option V) (slots : List (K × Option V)) → is_lt (order slot.0) ≡ false → AllByRecursion (λ next. cmp slot.0 next.0 ≡ Less) slots
       → AllByRecursion (λ next. order next.0 ≡ Greater) slots
   all_behind slot slots e a = all_weaker (λ next. cmp slot.0 next.0 ≡ Less) (λ next. order next.0 ≡ Greater) slots (λ next l. query.behind slot.0 next.0 l e) a
@@ -64,7 +64,7 @@ module _ {K V : Type 0} {cmp : K → K → Ordering} {order : K → Ordering} (q
   behind_lead_at slot slots a false e rest =
       (e, all_weaker (λ next. order next.0 ≡ Greater) (λ next. is_lt (order next.0) ≡ false) slots (λ next g. not_lt (order next.0) g) (all_behind slot slots e a.0))
 
-  -- a page that doesn't end before what is asked for has a slot behind the lead
+  -- a page that doesn't end before what is asked for has a slot after the lead
   lead_below_at : (slot : K × Option V) (slots : List (K × Option V)) (b : Bool) → lead (is_before order) slots < length slots → (if b then suc (lead (is_before order) slots) else 0) < suc (length slots)
   lead_below_at slot slots true l = omega arith
   lead_below_at slot slots false l = omega arith
@@ -79,7 +79,7 @@ module _ {K V : Type 0} {cmp : K → K → Ordering} {order : K → Ordering} (q
   behind_lead [] a = tt
   behind_lead (slot ∷ slots) a = behind_lead_at slot slots a (is_lt (order slot.0)) refl (behind_lead slots a.1)
 
-  -- ---- a page, and those behind it
+  -- ---- a page, and those after it
 
   -- where its last key comes before what is asked for, all do
   pub page_before : (page : List (K × Option V)) → IsAscending cmp page → ends_before order page ≡ true → AllByRecursion (λ slot. order slot.0 ≡ Less) page
@@ -89,13 +89,13 @@ module _ {K V : Type 0} {cmp : K → K → Ordering} {order : K → Ordering} (q
       let rest = page_before (next ∷ slots) a.1 e in
       (query.before slot.0 next.0 a.0.0 (not_gt (order next.0) rest.0), rest)
 
-  -- where its last key doesn't, all slots behind it are behind what is asked for
+  -- where its last key doesn't, all slots after it are greater than what is asked for
   pub behind_page : (page slots : List (K × Option V)) → IsAscending cmp (page ++ slots) → ends_before order page ≡ false → AllByRecursion (λ slot. order slot.0 ≡ Greater) slots
   behind_page [] slots a e = absurd cc
   behind_page (slot ∷ []) slots a e = all_behind slot slots e a.0
   behind_page (slot ∷ next ∷ rest) slots a e = behind_page (next ∷ rest) slots a.1 e
 
-  -- a page that is behind what is asked for doesn't end before it
+  -- a page whose slots are greater than what is asked for doesn't end before it
   page_behind : (page : List (K × Option V)) → 0 < length page → AllByRecursion (λ slot. order slot.0 ≡ Greater) page → ends_before order page ≡ false
   page_behind [] l a = absurd (omega arith)
   page_behind (slot ∷ []) l a = not_lt (order slot.0) a.0

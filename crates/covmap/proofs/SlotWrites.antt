@@ -123,7 +123,7 @@ page_le [] i a = omega arith
 page_le (page ∷ pages) zero a = a.0.1
 page_le (page ∷ pages) (suc i) a = page_le pages i a.1
 
--- ---- behind all pages
+-- ---- after all pages
 
 pub nothing_past : {K V : Type 0} (pages : List (List (K × Option V))) (i j : ℕ) → length pages ≤ i → from pages (i, j) ≡ []
 nothing_past [] i zero l = refl
@@ -149,7 +149,7 @@ last_from (page ∷ []) zero e = ap (λ rest. rest ++ []) (drop_all page)
 last_from (page ∷ next ∷ pages) zero e = absurd (omega arith)
 last_from (page ∷ pages) (suc i) e = last_from pages i (omega arith)
 
--- the end of the last page is the gap of a key behind all
+-- the end of the last page is the gap of a key greater than all
 pub last_gap : {K V : Type 0} (order : K → Ordering) (pages : List (List (K × Option V))) (i j : ℕ) → i + 1 ≡ length pages → j ≡ length (page_at pages i)
     → AllByRecursion (λ slot. order slot.0 ≡ Less) (slots_of pages) → IsGap order pages (i, j)
 last_gap {K} {V} order pages i j e same a = rw same (record {
@@ -159,7 +159,7 @@ last_gap {K} {V} order pages i j e same a = rw same (record {
   on_page = omega arith;
 })
 
--- a page pushed behind all others
+-- a page pushed after all others
 pub seen_push : {P X : Type 0} (items : P → List X) (ps : List P) (pages : List (List X)) (p : P) (page : List X) → map items ps ≡ pages → items p ≡ page → map items (ps ++ p ∷ []) ≡ pages ++ page ∷ []
 seen_push items ps pages p page view e = map_push items ps p ∙ ap (λ pages. pages ++ items p ∷ []) view ∙ ap (λ page. pages ++ page ∷ []) e
 
