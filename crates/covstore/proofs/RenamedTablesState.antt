@@ -51,7 +51,7 @@ state_alike rows others files alike state = record {
   ascending = state.ascending;
   points = λ key. state.points key
       ∙ test_alike (items_at key rows) (items_at key others) (alike_mapped (λ (row : Row). row.item) (filter (has_key key) rows) (filter (has_key key) others) (alike_picked (has_key key) rows others alike));
-  texts = λ committed i. state.texts committed (Contains-from (checksums_in rows) committed ((alike_said checksum_of_row rows others alike).back committed (In-from (checksums_in others) committed i)));
+  texts = λ checksum i. state.texts checksum (Contains-from (checksums_in rows) checksum ((alike_said checksum_of_row rows others alike).back checksum (In-from (checksums_in others) checksum i)));
   whole = state.whole;
 }
 
@@ -73,7 +73,7 @@ pub state_by_content : (rows others : List Row) (files : List (List ℕ × FileD
 state_by_content rows others files same agree state = record {
   ascending = state.ascending;
   points = λ key. state.points key ∙ tests_by_section key (items_at key rows) (items_at key others) (sections_same rows others same key);
-  texts = λ committed i. state.texts committed (Contains-from (checksums_in rows) committed (checksums_there others rows agree (sym same) committed (In-from (checksums_in others) committed i)));
+  texts = λ checksum i. state.texts checksum (Contains-from (checksums_in rows) checksum (checksums_there others rows agree (sym same) checksum (In-from (checksums_in others) checksum i)));
   whole = state.whole;
 }
 

@@ -145,11 +145,11 @@ module _ {P V : Type 0} {cmp : P → P → Ordering} (order : IsExactOrder cmp) 
 
   -- ---- which points have a value, and which
 
-  pub sums_held : (items : List ItemData) (p : P) (committed : V) → value_of cmp p (sums cmp point value items) ≡ Some committed → In p (flat_map point items) × (value items p ≡ committed)
-  sums_held items p committed h =
-      ⊎_elim {C = In p (flat_map point items) × (value items p ≡ committed)}
-      (λ (i : In p (flat_map point items)). (i, same_Some (value items p) committed (sym (sums_some items p i) ∙ h)))
-      (λ (none : In p (flat_map point items) → ⊥). absurd (none-some committed (sym (sums_none items p none) ∙ h)))
+  pub sums_held : (items : List ItemData) (p : P) (sum : V) → value_of cmp p (sums cmp point value items) ≡ Some sum → In p (flat_map point items) × (value items p ≡ sum)
+  sums_held items p sum h =
+      ⊎_elim {C = In p (flat_map point items) × (value items p ≡ sum)}
+      (λ (i : In p (flat_map point items)). (i, same_Some (value items p) sum (sym (sums_some items p i) ∙ h)))
+      (λ (none : In p (flat_map point items) → ⊥). absurd (none-some sum (sym (sums_none items p none) ∙ h)))
       (In-or_not cmp order p (flat_map point items))
 
   pub sums_known : (items : List ItemData) (p : P) → Contains (flat_map point items) p → value_of cmp p (sums cmp point value items) ≡ Some (value items p)

@@ -125,7 +125,7 @@ impl<A: Allocator + Copy> File<A> {
         self.copy_points(alloc, old, new)
     }
 
-    /// Sees to it that the test is there.
+    /// Puts in an empty test of this name, unless there is one.
     fn open(&mut self, alloc: A, test: &[u8]) -> Result<(), Memory>
         ensures committed { OnOk result (file_committed self.new ≡ with_test test.now (file_committed self.old)) }
         ensures staged { OnOk result (file_staged self.new ≡ with_test test.now (file_staged self.old)) }

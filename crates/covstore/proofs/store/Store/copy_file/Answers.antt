@@ -14,12 +14,12 @@ use Rattle.covstore.proofs.store.Store.copy_file.Goals.{in-Some, in-None}
 pub copy_test-requires-clause-room : goal.copy_test-requires-clause-room
 copy_test-requires-clause-room g c =
     let first = c.self.inside in
-    copied_room first.files.entries first.members first.staged c.args.file.now c.args.old.now c.args.new.now c.args.self.now c.self.view_is c.requires.room c.get_mut-in-Some.result.now (sym c.in-Some.ensures.value ∙ ap Some (sym c.get_mut-in-Some.ensures.value))
+    copied_room first.files.entries first.members first.totals_after c.args.file.now c.args.old.now c.args.new.now c.args.self.now c.self.view_is c.requires.room c.get_mut-in-Some.result.now (sym c.in-Some.ensures.value ∙ ap Some (sym c.get_mut-in-Some.ensures.value))
 
 pub copy_test-requires-clause-same : goal.copy_test-requires-clause-same
 copy_test-requires-clause-same g c =
     let first = c.self.inside in
-    copied_same first.files.entries first.members first.staged c.args.file.now c.args.old.now c.args.new.now c.args.self.now c.self.view_is c.requires.room c.get_mut-in-Some.result.now (sym c.in-Some.ensures.value ∙ ap Some (sym c.get_mut-in-Some.ensures.value))
+    copied_same first.files.entries first.members first.totals_after c.args.file.now c.args.old.now c.args.new.now c.args.self.now c.self.view_is c.requires.room c.get_mut-in-Some.result.now (sym c.in-Some.ensures.value ∙ ap Some (sym c.get_mut-in-Some.ensures.value))
 
 pub invariant_of-self-2 : goal.invariant_of-self-2
 invariant_of-self-2 g c =
@@ -27,11 +27,11 @@ invariant_of-self-2 g c =
     elim c.match-get_mut.branch [
       | in-Some w ↦
           let after = w.copy_test.new.self in
-          subst (λ (i : Inside g.row.A.Denot). IsStore i.members i.committed (files_committed file_name i.files.entries) × AreSettledBut file_name (touched_data i.touched.items) i.files.entries) (sym w.self-inside-is)
-          (copied_store first.files.entries first.members first.staged c.args.file.now c.args.old.now c.args.new.now c.args.self.now c.self.view_is c.requires.room w.get_mut-in-Some.result.now (sym w.in-Some.ensures.value ∙ ap Some (sym w.get_mut-in-Some.ensures.value))
+          subst (λ (i : Inside g.row.A.Denot). IsStore i.members i.totals (files_committed file_name i.files.entries) × AreSettledBut file_name (touched_data i.touched.items) i.files.entries) (sym w.self-inside-is)
+          (copied_store first.files.entries first.members first.totals_after c.args.file.now c.args.old.now c.args.new.now c.args.self.now c.self.view_is c.requires.room w.get_mut-in-Some.result.now (sym w.in-Some.ensures.value ∙ ap Some (sym w.get_mut-in-Some.ensures.value))
           after (c.get_mut.follows.lender after).entries c.get_mut.ensures.ordered (c.get_mut.follows.holds after).0
-          first.committed (touched_data first.touched.items) (touched_data c.push.new.touched.items) c.self.invariant w.copy_test.ensures.committed c.in_ok-push.ensures.ok w.copy_test.ensures.settled)
-      | in-None w ↦ absurd (unfound first.files.entries first.members first.staged c.args.file.now c.args.old.now c.args.new.now c.args.self.now c.self.view_is c.requires.room (sym w.in-None.ensures.value))
+          first.totals (touched_data first.touched.items) (touched_data c.push.new.touched.items) c.self.invariant w.copy_test.ensures.committed c.in_ok-push.ensures.ok w.copy_test.ensures.settled)
+      | in-None w ↦ absurd (unfound first.files.entries first.members first.totals_after c.args.file.now c.args.old.now c.args.new.now c.args.self.now c.self.view_is c.requires.room (sym w.in-None.ensures.value))
     ]
 
 pub returns-clause-committed : goal.returns-clause-committed
@@ -40,11 +40,11 @@ returns-clause-committed g c =
     elim c.match-get_mut.branch [
       | in-Some w ↦
           let after = w.copy_test.new.self in
-          subst (λ (i : Inside g.row.A.Denot). SameCommitted c.args.self.now (store_of i.members (files_committed file_name i.files.entries) (files_staged file_name i.files.entries) i.staged)) (sym w.self-inside-is)
-          (copied_committed first.files.entries first.members first.staged c.args.file.now c.args.old.now c.args.new.now c.args.self.now c.self.view_is c.requires.room w.get_mut-in-Some.result.now (sym w.in-Some.ensures.value ∙ ap Some (sym w.get_mut-in-Some.ensures.value))
+          subst (λ (i : Inside g.row.A.Denot). SameCommitted c.args.self.now (store_of i.members (files_committed file_name i.files.entries) (files_staged file_name i.files.entries) i.totals_after)) (sym w.self-inside-is)
+          (copied_committed first.files.entries first.members first.totals_after c.args.file.now c.args.old.now c.args.new.now c.args.self.now c.self.view_is c.requires.room w.get_mut-in-Some.result.now (sym w.in-Some.ensures.value ∙ ap Some (sym w.get_mut-in-Some.ensures.value))
           after (c.get_mut.follows.lender after).entries c.get_mut.ensures.ordered (c.get_mut.follows.holds after).0
-          first.committed c.self.invariant.0 w.copy_test.ensures.committed first.staged)
-      | in-None w ↦ absurd (unfound first.files.entries first.members first.staged c.args.file.now c.args.old.now c.args.new.now c.args.self.now c.self.view_is c.requires.room (sym w.in-None.ensures.value))
+          first.totals c.self.invariant.0 w.copy_test.ensures.committed first.totals_after)
+      | in-None w ↦ absurd (unfound first.files.entries first.members first.totals_after c.args.file.now c.args.old.now c.args.new.now c.args.self.now c.self.view_is c.requires.room (sym w.in-None.ensures.value))
     ]
 
 pub returns-clause-ok : goal.returns-clause-ok
@@ -56,8 +56,8 @@ returns-clause-ok g c =
           subst (λ r. OnOk r (Copies c.args.file.now c.args.old.now c.args.new.now c.args.self.now.staged (files_staged file_name c.match-get_mut.self-inside.files.entries))) (sym w.result-is)
           (on_ok_weaker w.copy_test.result
           (λ copies. subst (λ (i : Inside g.row.A.Denot). Copies c.args.file.now c.args.old.now c.args.new.now c.args.self.now.staged (files_staged file_name i.files.entries)) (sym w.self-inside-is)
-          (copied_to first.files.entries first.members first.staged c.args.file.now c.args.old.now c.args.new.now c.args.self.now c.self.view_is c.requires.room w.get_mut-in-Some.result.now (sym w.in-Some.ensures.value ∙ ap Some (sym w.get_mut-in-Some.ensures.value))
+          (copied_to first.files.entries first.members first.totals_after c.args.file.now c.args.old.now c.args.new.now c.args.self.now c.self.view_is c.requires.room w.get_mut-in-Some.result.now (sym w.in-Some.ensures.value ∙ ap Some (sym w.get_mut-in-Some.ensures.value))
           after (c.get_mut.follows.lender after).entries c.get_mut.ensures.ordered (c.get_mut.follows.holds after).0 copies))
           w.copy_test.ensures.ok)
-      | in-None w ↦ absurd (unfound first.files.entries first.members first.staged c.args.file.now c.args.old.now c.args.new.now c.args.self.now c.self.view_is c.requires.room (sym w.in-None.ensures.value))
+      | in-None w ↦ absurd (unfound first.files.entries first.members first.totals_after c.args.file.now c.args.old.now c.args.new.now c.args.self.now c.self.view_is c.requires.room (sym w.in-None.ensures.value))
     ]
