@@ -28,13 +28,6 @@ pub record IsTallying {K V : Type 0} (cmp : K → K → Ordering) (is_above : V 
 module _ {K V : Type 0} {cmp : K → K → Ordering} (o : IsExactOrder cmp) (is_above : V → Bool) (points : List (K × V)) (counts : List (K × Tests)) where
   -- ---- what is kept
 
-  pub losing_first : (left : List (K × V)) (fewer : List (K × Tests)) → ArePairs cmp points → left ≡ points → fewer ≡ counts → IsLosing cmp is_above points counts left fewer
-  losing_first left fewer sorted all same = record {
-    sorted = subst (ArePairs cmp) (sym all) sorted;
-    counted = λ others are.
-        subst (λ (own : List (K × V)). AreCounts cmp is_above (own ∷ others) fewer) (sym all) (subst (AreCounts cmp is_above (points ∷ others)) (sym same) are);
-  }
-
   -- the next point, as it is asked for and as its value was read
   module _ (key : K) (value : V) (asked : K) (named : asked ≡ key) (above : Bool) (read : above ≡ is_above value) (left rest : List (K × V)) (first : left ≡ (key, value) ∷ rest) (fewer : List (K × Tests))
       (is : IsLosing cmp is_above points counts left fewer) where
@@ -61,13 +54,6 @@ module _ {K V : Type 0} {cmp : K → K → Ordering} (o : IsExactOrder cmp) (is_
       counts_unempty cmp is_above [] others fewer (subst (λ (own : List (K × V)). AreCounts cmp is_above (own ∷ others) fewer) none (is.counted others are))
 
   -- ---- the tally
-
-  pub tallying_first : (left : List (K × V)) (tally : KindTotals) → ArePairs cmp points → left ≡ points → IsTallyOf counts tally → IsTallying cmp is_above points counts left tally
-  tallying_first left tally sorted all is = record {
-    sorted = subst (ArePairs cmp) (sym all) sorted;
-    values = λ key value e. ap (value_of cmp key) (sym all) ∙ e;
-    tallied = λ others are. (counts, subst (λ (own : List (K × V)). AreCounts cmp is_above (own ∷ others) counts) (sym all) are, is);
-  }
 
   module _ (key : K) (value : V) (asked : K) (named : asked ≡ key) (above : Bool) (read : above ≡ is_above value) (left rest : List (K × V)) (first : left ≡ (key, value) ∷ rest) (tally : KindTotals)
       (is : IsTallying cmp is_above points counts left tally) where
