@@ -96,14 +96,15 @@ impl<A: Allocator + Copy> Checksums<A> {
         ensures ok { OnOk result (value_of nat_cmp line self.now.texts ≡ Some text.now) }
         ensures clash { IfErr result (IsToldOf self.now line text.now) }
     {
-        if let Some(held) = self.text(line) {
-            if held != text {
-                return Err(Stop::Clash {
-                    line,
-                    held: Bytes::of(alloc, held)?,
-                    given: Bytes::of(alloc, text)?,
-                });
-            }
+        let Some(held) = self.text(line) else {
+            unreachable!();
+        };
+        if held != text {
+            return Err(Stop::Clash {
+                line,
+                held: Bytes::of(alloc, held)?,
+                given: Bytes::of(alloc, text)?,
+            });
         }
         Ok(())
     }

@@ -156,17 +156,18 @@ impl<A: Allocator + Copy> File<A> {
         // Tells that a map has fewer than 2^63 entries.
         self.tests.len();
         let Some(place) = self.tests.get_mut(new) else {
-            return Ok(());
+            unreachable!();
         };
         // Lifted out while the other test is looked at.
         let mut points = mem::replace(place, empty);
-        let added = match self.tests.get(old) {
-            Some(source) => add_values(points.get_mut(), &mut self.index, alloc, source.get()),
-            None => Ok(()),
+        let Some(source) = self.tests.get(old) else {
+            unreachable!();
         };
-        if let Some(place) = self.tests.get_mut(new) {
-            *place = points;
-        }
+        let added = add_values(points.get_mut(), &mut self.index, alloc, source.get());
+        let Some(place) = self.tests.get_mut(new) else {
+            unreachable!();
+        };
+        *place = points;
         added
     }
 

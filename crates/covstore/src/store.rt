@@ -165,19 +165,11 @@ impl<A: Allocator + Copy> Store<A> {
     pub fn new(alloc: A) -> Store<A>
         ensures { StandsFor result [] }
     {
-        let none = Totals {
-            lf: 0,
-            lh: 0,
-            ff: 0,
-            fh: 0,
-            bf: 0,
-            bh: 0,
-        };
         Store {
             files: BTreeMap::new(alloc),
             touched: Vec::new(alloc),
-            totals: none,
-            totals_after: none,
+            totals: Totals::none(),
+            totals_after: Totals::none(),
             members: 0,
         }
     }
@@ -385,10 +377,10 @@ impl<A: Allocator + Copy> Store<A> {
         ensures ok { OnOk result (Copies file.now old.now new.now self.old.staged self.new.staged) }
     {
         Touched::push(&mut self.touched, alloc, file, new)?;
-        match self.files.get_mut(file) {
-            Some(opened) => opened.get_mut().copy_test(alloc, old, new),
-            None => Ok(()),
-        }
+        let Some(opened) = self.files.get_mut(file) else {
+            unreachable!();
+        };
+        opened.get_mut().copy_test(alloc, old, new)
     }
 
     /// Whether some section, and so some row, is of this test. Looks the test up in one file after the other, up to the
