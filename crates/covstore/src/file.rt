@@ -3,6 +3,7 @@
 ghost use Rattle.std.specs.Prelude.{◌≡◌, ℕ, List, [], ◌∷◌, ◌++◌, map, IfErr, IfOk, OnErr, OnOk};
 
 use crate::boxed::Boxed;
+use crate::content::FileSections;
 use crate::copies::add_values;
 use crate::index::FileIndex;
 use crate::refuse::Refuse;
@@ -18,8 +19,23 @@ use std::mem;
 /// The tests of a file, each with its points, and what is kept of them.
 #[derive(Drop)]
 pub(crate) struct File<A: Allocator> {
-    pub tests: BTreeMap<Vec<u8, A>, Boxed<Test<A>, A>, A>,
-    pub index: FileIndex<A>,
+    tests: BTreeMap<Vec<u8, A>, Boxed<Test<A>, A>, A>,
+    index: FileIndex<A>,
+}
+
+impl<A: Allocator> File<A> {
+    ghost use Rattle.std.specs.List.{AllByRecursion};
+    ghost use Rattle.covstore.specs.ContentView.{IsFewOf};
+    ghost use Rattle.covstore.specs.FileView.{file_committed};
+    ghost use Rattle.covstore.specs.State.{sections_of_file};
+
+    /// The sections of the file, which has this name.
+    pub(crate) fn sections<'a>(&'a self, name: &'a [u8]) -> FileSections<'a, A>
+        requires { AllByRecursion IsFewOf (sections_of_file (name.now, file_committed self.now)) }
+        ensures { result ≡ sections_of_file (name.now, file_committed self.now) }
+    {
+        FileSections::of(name, &self.index, self.tests.iter())
+    }
 }
 
 impl<A: Allocator + Copy> File<A> {
