@@ -1,5 +1,5 @@
 -- A value, or none, written into the slot of a key: what is committed of the keys then.
-use Rattle.std.proofs.Common.{◌≡◌, ℕ, zero, suc, ◌<◌, Option, Some, None, List, [], ◌∷◌, ◌++◌, length, get_or, take, drop, set, refl, sym, ap, ◌∙◌, append_assoc, subst, arith}
+use Rattle.std.proofs.Common.{◌≡◌, ℕ, suc, Option, Some, None, List, [], ◌∷◌, ◌++◌, take, drop, set, refl, sym, ap, ◌∙◌, append_assoc, subst}
 use Rattle.std.specs.Cmp.{IsTotalOrder}
 use Rattle.std.specs.declared.cmp.Ordering.{Ordering}
 use Rattle.std.specs.declared.cmp.Ordering.TheVariants.{Less, Equal, Greater}
@@ -19,16 +19,6 @@ use Rattle.covmap.proofs.SlotSearch.{all_behind, ascending_back}
 use Rattle.covmap.proofs.SlotWrites.{slots_of_set}
 
 -- ---- on one page
-
-pub slot_set : {K V : Type 0} (page : List (K × Option V)) (j : ℕ) (slot : K × Option V) (value : Option V) → j < length page → slot ≡ get_or page j slot
-    → set page j (slot.0, value) ≡ with_column page (set (column_of page) j value)
-slot_set [] j slot value l e = absurd (omega arith)
-slot_set (first ∷ page) zero slot value l e = ap (λ (here : _). (here.0, value) ∷ page) e ∙ ap (λ rest. (first.0, value) ∷ rest) (sym (own page))
-  where
-    own : {K V : Type 0} (page : List (K × Option V)) → with_column page (column_of page) ≡ page
-    own [] = refl
-    own (slot ∷ page) = ap (λ rest. slot ∷ rest) (own page)
-slot_set (first ∷ page) (suc j) slot value l e = ap (λ rest. first ∷ rest) (slot_set page j slot value (omega arith) e)
 
 -- ---- among the filled slots
 

@@ -1,5 +1,5 @@
 -- Where a key stands among ascending slots, or would go.
-use Rattle.std.proofs.Common.{◌≡◌, ℕ, zero, suc, ◌-◌, ◌<◌, ◌≤◌, Bool, true, false, Option, List, [], ◌∷◌, ◌++◌, length, get_or, take, drop, map, refl, sym, ap, ◌∙◌, if◌then◌else◌, append_assoc, arith}
+use Rattle.std.proofs.Common.{◌≡◌, ℕ, zero, suc, ◌<◌, Bool, true, false, Option, List, [], ◌∷◌, ◌++◌, length, take, drop, map, refl, sym, ap, ◌∙◌, if◌then◌else◌, append_assoc, arith}
 use Rattle.std.specs.declared.cmp.Ordering.{Ordering}
 use Rattle.std.specs.declared.cmp.Ordering.TheVariants.{Less, Equal, Greater}
 use Rattle.std.specs.Ordering.{is_lt, is_gt}
@@ -169,30 +169,9 @@ module _ {K V : Type 0} {cmp : K → K → Ordering} {order : K → Ordering} (q
     on_page = cut.on_page;
   }
 
--- the last slot of a page tells whether the page ends before what is asked for
-pub ends_by_last : {K V : Type 0} (order : K → Ordering) (page : List (K × Option V)) (last : ℕ) (slot : K × Option V) → last ≡ length page - 1 → Some slot ≡ slice_get page last
-    → ends_before order page ≡ is_before order slot
-ends_by_last order [] last slot l e = absurd cc
-ends_by_last order (first ∷ []) zero slot l e = let same : slot ≡ first = cc in ap (is_before order) (sym same)
-ends_by_last order (first ∷ []) (suc last) slot l e = absurd (omega arith)
-ends_by_last order (first ∷ next ∷ slots) zero slot l e = absurd (omega arith)
-ends_by_last order (first ∷ next ∷ slots) (suc last) slot l e = ends_by_last order (next ∷ slots) last slot (omega arith) e
-
--- what a page of the store is, as the list of pages has it
-pub page_read : {P X : Type 0} (items : P → List X) (ps : List P) (i : ℕ) (p : P) → i < length ps → p ≡ get_or ps i p → get_or (map items ps) i [] ≡ items p
-page_read items [] i p l e = absurd (omega arith)
-page_read items (q ∷ ps) zero p l e = ap items (sym e)
-page_read items (q ∷ ps) (suc i) p l e = page_read items ps i p (omega arith) e
-
 pub length_map : {P X : Type 0} (f : P → X) (ps : List P) → length (map f ps) ≡ length ps
 length_map f [] = refl
 length_map f (p ∷ ps) = ap suc (length_map f ps)
-
--- past the last page there is none
-pub page_past : {X : Type 0} (pages : List (List X)) (i : ℕ) → length pages ≤ i → get_or pages i [] ≡ []
-page_past [] i l = refl
-page_past (page ∷ pages) zero l = absurd (omega arith)
-page_past (page ∷ pages) (suc i) l = page_past pages i (omega arith)
 
 -- each page ascends
 pub page_ascending : {K V : Type 0} (cmp : K → K → Ordering) (pages : List (List (K × Option V))) (i : ℕ) → IsAscending cmp (slots_of pages) → IsAscending cmp (page_at pages i)
