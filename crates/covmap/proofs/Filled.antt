@@ -13,7 +13,7 @@ use Rattle.covmap.proofs.SlotSearch.{all_behind}
 
 -- ---- looking up
 
--- keys behind what is asked for aren't found
+-- keys greater than what is asked for aren't found
 none_behind : {K V : Type 0} (order : K → Ordering) (slots : List (K × Option V)) → AllByRecursion (λ slot. order slot.0 ≡ Greater) slots → lookup (λ key. is_eq (order key)) (filled slots) ≡ None
 none_behind order [] a = refl
 none_behind order ((key, None) ∷ slots) a = none_behind order slots a.1
@@ -58,20 +58,20 @@ put_first : {K V : Type 0} (cmp : K → K → Ordering) (key : K) (value : V) (s
     → put cmp key value (filled slots) ≡ (key, value) ∷ filled slots
 put_first cmp key value [] a = refl
 put_first cmp key value ((other, None) ∷ slots) a = put_first cmp key value slots a.1
-put_first cmp key value ((other, Some committed) ∷ slots) a = rw a.0 refl
+put_first cmp key value ((other, Some old) ∷ slots) a = rw a.0 refl
 
-put_here : {K V : Type 0} (cmp : K → K → Ordering) (key : K) (value : V) (here : K) (committed : Option V) (back : List (K × Option V)) → cmp here key ≡ Equal → here ≡ key
-    → AllByRecursion (λ slot. cmp slot.0 key ≡ Greater) back → put cmp key value (filled ((here, committed) ∷ back)) ≡ filled ((here, Some value) ∷ back)
+put_here : {K V : Type 0} (cmp : K → K → Ordering) (key : K) (value : V) (here : K) (old : Option V) (back : List (K × Option V)) → cmp here key ≡ Equal → here ≡ key
+    → AllByRecursion (λ slot. cmp slot.0 key ≡ Greater) back → put cmp key value (filled ((here, old) ∷ back)) ≡ filled ((here, Some value) ∷ back)
 put_here cmp key value here None back e same a = put_first cmp key value back a ∙ ap (λ key. (key, value) ∷ filled back) (sym same)
-put_here cmp key value here (Some committed) back e same a = rw e (ap (λ key. (key, value) ∷ filled back) (sym same))
+put_here cmp key value here (Some old) back e same a = rw e (ap (λ key. (key, value) ∷ filled back) (sym same))
 
 -- a value in the slot of a key is put in among the filled slots
-pub filled_put : {K V : Type 0} (cmp : K → K → Ordering) (key : K) (value : V) (front : List (K × Option V)) (here : K) (committed : Option V) (back : List (K × Option V))
+pub filled_put : {K V : Type 0} (cmp : K → K → Ordering) (key : K) (value : V) (front : List (K × Option V)) (here : K) (old : Option V) (back : List (K × Option V))
     → AllByRecursion (λ slot. cmp slot.0 key ≡ Less) front → cmp here key ≡ Equal → here ≡ key → AllByRecursion (λ slot. cmp slot.0 key ≡ Greater) back
-    → filled (front ++ (here, Some value) ∷ back) ≡ put cmp key value (filled (front ++ (here, committed) ∷ back))
-filled_put cmp key value [] here committed back a e same b = sym (put_here cmp key value here committed back e same b)
-filled_put cmp key value ((first, None) ∷ front) here committed back a e same b = filled_put cmp key value front here committed back a.1 e same b
-filled_put cmp key value ((first, Some other) ∷ front) here committed back a e same b = rw a.0 (ap (λ rest. (first, other) ∷ rest) (filled_put cmp key value front here committed back a.1 e same b))
+    → filled (front ++ (here, Some value) ∷ back) ≡ put cmp key value (filled (front ++ (here, old) ∷ back))
+filled_put cmp key value [] here old back a e same b = sym (put_here cmp key value here old back e same b)
+filled_put cmp key value ((first, None) ∷ front) here old back a e same b = filled_put cmp key value front here old back a.1 e same b
+filled_put cmp key value ((first, Some other) ∷ front) here old back a e same b = rw a.0 (ap (λ rest. (first, other) ∷ rest) (filled_put cmp key value front here old back a.1 e same b))
 
 -- ---- the filled slots ascend
 

@@ -28,7 +28,7 @@ all_at P (x ∷ xs) (suc i) d a l = all_at P xs i d a.1 (omega arith)
 
 -- ---- the lead
 
--- where one fails the test, so do those behind it
+-- where one fails the test, so do those after it
 abbrev pub IsFalling : {X : Type 0} → (X → Bool) → List X → Type 0
 IsFalling test [] = Unit {0}
 IsFalling test (x ∷ xs) = (test x ≡ false → AllByRecursion (λ y. test y ≡ false) xs) × IsFalling test xs
@@ -50,7 +50,7 @@ pub lead_passes : {X : Type 0} (test : X → Bool) (xs : List X) → AllByRecurs
 lead_passes test [] = tt
 lead_passes test (x ∷ xs) = lead_passes_at test x xs (test x) refl (lead_passes test xs)
 
--- what fails is behind the lead
+-- what fails comes after the lead
 pub lead_le_failed : {X : Type 0} (test : X → Bool) (xs : List X) (i : ℕ) (d : X) → i < length xs → test (get_or xs i d) ≡ false → lead test xs ≤ i
 lead_le_failed test [] i d l e = absurd (omega arith)
 lead_le_failed test (x ∷ xs) zero d l e = rw e (omega arith)

@@ -1,5 +1,5 @@
 -- A value, or none, written into the slot of a key: what is committed of the keys then.
-use Rattle.std.proofs.Common.{◌≡◌, ℕ, zero, suc, ◌<◌, Option, Some, None, List, [], ◌∷◌, ◌++◌, length, get_or, take, drop, set, refl, sym, ap, ◌∙◌, append_assoc, subst, arith}
+use Rattle.std.proofs.Common.{◌≡◌, ℕ, suc, Option, Some, None, List, [], ◌∷◌, ◌++◌, take, drop, set, refl, sym, ap, ◌∙◌, append_assoc, subst}
 use Rattle.std.specs.Cmp.{IsTotalOrder}
 use Rattle.std.specs.declared.cmp.Ordering.{Ordering}
 use Rattle.std.specs.declared.cmp.Ordering.TheVariants.{Less, Equal, Greater}
@@ -20,41 +20,31 @@ use Rattle.covmap.proofs.SlotWrites.{slots_of_set}
 
 -- ---- on one page
 
-pub slot_set : {K V : Type 0} (page : List (K × Option V)) (j : ℕ) (slot : K × Option V) (value : Option V) → j < length page → slot ≡ get_or page j slot
-    → set page j (slot.0, value) ≡ with_column page (set (column_of page) j value)
-slot_set [] j slot value l e = absurd (omega arith)
-slot_set (first ∷ page) zero slot value l e = ap (λ (here : _). (here.0, value) ∷ page) e ∙ ap (λ rest. (first.0, value) ∷ rest) (sym (own page))
-  where
-    own : {K V : Type 0} (page : List (K × Option V)) → with_column page (column_of page) ≡ page
-    own [] = refl
-    own (slot ∷ page) = ap (λ rest. slot ∷ rest) (own page)
-slot_set (first ∷ page) (suc j) slot value l e = ap (λ rest. first ∷ rest) (slot_set page j slot value (omega arith) e)
-
 -- ---- among the filled slots
 
--- keys behind the one that goes stay
+-- keys greater than the one that goes stay
 stay_behind : {K V : Type 0} (cmp : K → K → Ordering) (key : K) (slots : List (K × Option V)) → AllByRecursion (λ slot. cmp slot.0 key ≡ Greater) slots → without cmp key (filled slots) ≡ filled slots
 stay_behind cmp key [] a = refl
 stay_behind cmp key ((other, None) ∷ slots) a = stay_behind cmp key slots a.1
-stay_behind cmp key ((other, Some committed) ∷ slots) a = rw a.0 (ap (λ rest. (other, committed) ∷ rest) (stay_behind cmp key slots a.1))
+stay_behind cmp key ((other, Some old) ∷ slots) a = rw a.0 (ap (λ rest. (other, old) ∷ rest) (stay_behind cmp key slots a.1))
 
-goes_here : {K V : Type 0} (cmp : K → K → Ordering) (key here : K) (committed : Option V) (back : List (K × Option V)) → cmp here key ≡ Equal → AllByRecursion (λ slot. cmp slot.0 key ≡ Greater) back
-    → without cmp key (filled ((here, committed) ∷ back)) ≡ filled back
+goes_here : {K V : Type 0} (cmp : K → K → Ordering) (key here : K) (old : Option V) (back : List (K × Option V)) → cmp here key ≡ Equal → AllByRecursion (λ slot. cmp slot.0 key ≡ Greater) back
+    → without cmp key (filled ((here, old) ∷ back)) ≡ filled back
 goes_here cmp key here None back e a = stay_behind cmp key back a
-goes_here cmp key here (Some committed) back e a = rw e (stay_behind cmp key back a)
+goes_here cmp key here (Some old) back e a = rw e (stay_behind cmp key back a)
 
-filled_without : {K V : Type 0} (cmp : K → K → Ordering) (key : K) (front : List (K × Option V)) (here : K) (committed : Option V) (back : List (K × Option V))
+filled_without : {K V : Type 0} (cmp : K → K → Ordering) (key : K) (front : List (K × Option V)) (here : K) (old : Option V) (back : List (K × Option V))
     → AllByRecursion (λ slot. cmp slot.0 key ≡ Less) front → cmp here key ≡ Equal → AllByRecursion (λ slot. cmp slot.0 key ≡ Greater) back
-    → filled (front ++ (here, None) ∷ back) ≡ without cmp key (filled (front ++ (here, committed) ∷ back))
-filled_without cmp key [] here committed back a e b = sym (goes_here cmp key here committed back e b)
-filled_without cmp key ((first, None) ∷ front) here committed back a e b = filled_without cmp key front here committed back a.1 e b
-filled_without cmp key ((first, Some other) ∷ front) here committed back a e b = rw a.0 (ap (λ rest. (first, other) ∷ rest) (filled_without cmp key front here committed back a.1 e b))
+    → filled (front ++ (here, None) ∷ back) ≡ without cmp key (filled (front ++ (here, old) ∷ back))
+filled_without cmp key [] here old back a e b = sym (goes_here cmp key here old back e b)
+filled_without cmp key ((first, None) ∷ front) here old back a e b = filled_without cmp key front here old back a.1 e b
+filled_without cmp key ((first, Some other) ∷ front) here old back a e b = rw a.0 (ap (λ rest. (first, other) ∷ rest) (filled_without cmp key front here old back a.1 e b))
 
-filled_assigned : {K V : Type 0} (cmp : K → K → Ordering) (key : K) (value : Option V) (front : List (K × Option V)) (here : K) (committed : Option V) (back : List (K × Option V))
+filled_assigned : {K V : Type 0} (cmp : K → K → Ordering) (key : K) (value : Option V) (front : List (K × Option V)) (here : K) (old : Option V) (back : List (K × Option V))
     → AllByRecursion (λ slot. cmp slot.0 key ≡ Less) front → cmp here key ≡ Equal → here ≡ key → AllByRecursion (λ slot. cmp slot.0 key ≡ Greater) back
-    → filled (front ++ (here, value) ∷ back) ≡ assigned cmp key value (filled (front ++ (here, committed) ∷ back))
-filled_assigned cmp key None front here committed back a e same b = filled_without cmp key front here committed back a e b
-filled_assigned cmp key (Some value) front here committed back a e same b = filled_put cmp key value front here committed back a e same b
+    → filled (front ++ (here, value) ∷ back) ≡ assigned cmp key value (filled (front ++ (here, old) ∷ back))
+filled_assigned cmp key None front here old back a e same b = filled_without cmp key front here old back a e b
+filled_assigned cmp key (Some value) front here old back a e same b = filled_put cmp key value front here old back a e same b
 
 -- ---- over pages
 

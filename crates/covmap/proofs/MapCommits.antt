@@ -83,18 +83,6 @@ written_back [] rest (suc n) e = absurd (omega arith)
 written_back (slot ∷ page) rest zero e = absurd (omega arith)
 written_back (slot ∷ page) rest (suc n) e = ap (λ rest. slot ∷ rest) (written_back page rest n (omega arith))
 
--- one value more
-pub value_more : {K V : Type 0} (page : List (K × Option V)) (column : List (Option V)) (i : ℕ) (slot : K × Option V) (value : Option V) → length column ≡ length page → i < length column
-    → slot ≡ get_or (with_column page (take i column)) i slot → value ≡ get_or column i value → set (with_column page (take i column)) i (slot.0, value) ≡ with_column page (take (i + 1) column)
-value_more [] [] i slot value e l s v = absurd (omega arith)
-value_more [] (first ∷ column) i slot value e l s v = absurd (omega arith)
-value_more (here ∷ page) [] i slot value e l s v = absurd (omega arith)
-value_more (here ∷ page) (first ∷ column) zero slot value e l s v = ap (λ (slot : _). (slot.0, value) ∷ page) s ∙ ap (λ value. (here.0, value) ∷ page) v ∙ ap (λ rest. (here.0, first) ∷ rest) (sym (none_given page))
-value_more (here ∷ page) (first ∷ column) (suc i) slot value e l s v =
-    let next : suc i + 1 ≡ suc (i + 1) = omega arith in
-    ap (λ rest. (here.0, first) ∷ rest) (value_more page column i slot value (omega arith) (omega arith) s v)
-    ∙ ap (λ n. with_column (here ∷ page) (take n (first ∷ column))) (sym next)
-
 -- ---- the columns that stay
 
 map_append : {P X : Type 0} (f : P → X) (ps qs : List P) → map f (ps ++ qs) ≡ map f ps ++ map f qs

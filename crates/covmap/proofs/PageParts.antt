@@ -95,7 +95,7 @@ beside_set [] (old ∷ values) i value l e = absurd (omega arith)
 beside_set (key ∷ keys) (old ∷ values) zero value l e = ap (λ rest. (key, value) ∷ rest) (own_column (beside keys values))
 beside_set (key ∷ keys) (old ∷ values) (suc i) value l e = ap (λ rest. (key, old) ∷ rest) (beside_set keys values i value (omega arith) (omega arith))
 
--- a key is put in among those with values, and behind them
+-- a key is put in among those with values, and after them
 pub beside_insert : {K V : Type 0} (keys : List K) (values : List (Option V)) (i : ℕ) (key : K) → i < length values → length values ≤ length keys → beside (insert keys i key) (insert values i None) ≡ insert (beside keys values) i (key, None)
 beside_insert keys [] i key l e = absurd (omega arith)
 beside_insert [] (value ∷ values) i key l e = absurd (omega arith)
@@ -111,7 +111,7 @@ beside_behind (first ∷ keys) [] (suc i) key l e = ap (λ rest. (first, None) �
 beside_behind (first ∷ keys) (value ∷ values) zero key l e = absurd (omega arith)
 beside_behind (first ∷ keys) (value ∷ values) (suc i) key l e = ap (λ rest. (first, value) ∷ rest) (beside_behind keys values i key (omega arith) (omega arith))
 
--- what is put in behind all others is appended
+-- what is put in after all others is appended
 pub insert_last : {X : Type 0} (xs : List X) (i : ℕ) (x : X) → i ≡ length xs → xs ++ x ∷ [] ≡ insert xs i x
 insert_last [] zero x e = refl
 insert_last [] (suc i) x e = absurd (omega arith)

@@ -1,4 +1,4 @@
--- The place behind a slot: where the slot comes before what is asked for and the one behind it doesn't, it is a cut.
+-- The place after a slot: where the slot comes before what is asked for and the next one doesn't, it is a cut.
 use Rattle.std.proofs.Common.{◌≡◌, ℕ, zero, suc, ◌<◌, ◌≤◌, Bool, true, false, if◌then◌else◌, Option, List, [], ◌∷◌, ◌++◌, length, get_or, take, drop, refl, sym, ap, ◌∙◌, append_assoc, subst, arith}
 use Rattle.std.specs.declared.cmp.Ordering.{Ordering}
 use Rattle.std.specs.declared.cmp.Ordering.TheVariants.{Less, Equal, Greater}
@@ -101,7 +101,7 @@ module _ {K V : Type 0} {cmp : K → K → Ordering} {order : K → Ordering} (q
     cut_behind : order slot.0 ≡ Less → (order_at order (slot_at pages (behind pages (i, j))) ≡ Less → ⊥) → IsCut order pages (behind pages (i, j))
     cut_behind less none = cut_behind_at (nat_lt (suc j) (length (page_at pages i))) refl less none
 
-  -- where a slot comes before what is asked for, and the one behind it is behind that, the place between is the gap
+  -- where a slot comes before what is asked for, and the next one after that, the place between is the gap
   pub gap_behind_slot : (pages : List (List (K × Option V))) (i j : ℕ) (at : ℕ × ℕ) → AreSlots cmp pages → order_at order (slot_at pages (i, j)) ≡ Less → at ≡ behind pages (i, j)
       → order_at order (slot_at pages at) ≡ Greater → IsGap order pages at
   gap_behind_slot pages i j at slots less next greater = rw next (
@@ -113,7 +113,7 @@ module _ {K V : Type 0} {cmp : K → K → Ordering} {order : K → Ordering} (q
       apart : {o : Ordering} (p : Ordering) → o ≡ Greater → o ≡ p → (Greater ≡ p → ⊥) → ⊥
       apart p e f none = none (sym e ∙ f)
 
--- the place behind one that isn't the last of its page, and behind one that is
+-- the place after one that isn't the last of its page, and after one that is
 pub behind_within : {K V : Type 0} (pages : List (List (K × Option V))) (i j next : ℕ) → next ≡ suc j → suc j < length (page_at pages i) → (i, next) ≡ behind pages (i, j)
 behind_within pages i j next e l = ap (λ at. (i, at)) e ∙ sym (cond-true (nat_lt (suc j) (length (page_at pages i))) (i, suc j) (suc i, 0) (lt-ltb (suc j) (length (page_at pages i)) l))
 

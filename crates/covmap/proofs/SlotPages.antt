@@ -1,5 +1,5 @@
 -- What the slots are before a place and from it on, and after a write to a page.
-use Rattle.std.proofs.Common.{◌≡◌, ℕ, zero, suc, Option, List, [], ◌∷◌, ◌++◌, length, take, drop, refl, sym, ap, ◌∙◌, append_assoc, map, arith}
+use Rattle.std.proofs.Common.{◌≡◌, ℕ, zero, suc, Option, List, [], ◌∷◌, ◌++◌, length, take, drop, refl, sym, ap, ◌∙◌, append_assoc, arith}
 use Rattle.std.specs.Prelude.{flat_map, None, Some}
 use Rattle.covmap.specs.Slots.{slots_of, page_at, before, from, filled}
 
@@ -21,11 +21,6 @@ whole (first ∷ pages) (suc page) index =
     ap (λ rest. first ++ rest) (whole pages page index)
     ∙ sym (append_assoc first (before pages (page, index)) (from pages (page, index)))
     ∙ ap (λ front. front ++ from pages (page, index)) (sym (append_assoc first (slots_of (take page pages)) (take index (page_at pages page))))
-
--- the slots of all pages, of the store's pages or of those that contracts see
-pub items_of_pages : {P X : Type 0} (items : P → List X) (ps : List P) → flat_map (λ page. page) (map items ps) ≡ flat_map items ps
-items_of_pages items [] = refl
-items_of_pages items (p ∷ ps) = ap (λ rest. items p ++ rest) (items_of_pages items ps)
 
 -- the filled slots of two lists in turn
 pub filled_append : {K V : Type 0} (front back : List (K × Option V)) → filled (front ++ back) ≡ filled front ++ filled back

@@ -20,7 +20,7 @@ found_there : {K V : Type 0} (order : K → Ordering) (front : List (K × Option
 found_there order [] slot back a e = rw e refl
 found_there order (first ∷ front) slot back a e = rw a.0 (found_there order front slot back a.1 e)
 
--- the slots before one that isn't behind what is asked for come before that
+-- the slots before one that isn't greater than what is asked for come before that
 pub before_there : {K V : Type 0} {cmp : K → K → Ordering} {order : K → Ordering} → IsQuery cmp order → (front : List (K × Option V)) (slot : K × Option V) (back : List (K × Option V))
     → IsAscending cmp (front ++ slot ∷ back) → is_gt (order slot.0) ≡ false → AllByRecursion (λ slot. order slot.0 ≡ Less) front
 before_there query [] slot back a e = tt

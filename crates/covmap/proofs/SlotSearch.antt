@@ -1,5 +1,5 @@
 -- Where a key stands among ascending slots, or would go.
-use Rattle.std.proofs.Common.{◌≡◌, ℕ, zero, suc, ◌-◌, ◌<◌, ◌≤◌, Bool, true, false, Option, List, [], ◌∷◌, ◌++◌, length, get_or, take, drop, map, refl, sym, ap, ◌∙◌, if◌then◌else◌, append_assoc, arith}
+use Rattle.std.proofs.Common.{◌≡◌, ℕ, zero, suc, ◌<◌, Bool, true, false, Option, List, [], ◌∷◌, ◌++◌, length, take, drop, map, refl, sym, ap, ◌∙◌, if◌then◌else◌, append_assoc, arith}
 use Rattle.std.specs.declared.cmp.Ordering.{Ordering}
 use Rattle.std.specs.declared.cmp.Ordering.TheVariants.{Less, Equal, Greater}
 use Rattle.std.specs.Ordering.{is_lt, is_gt}
@@ -48,7 +48,7 @@ first_there (x ∷ xs) zero rest l = refl
 first_there (x ∷ xs) (suc index) rest l = first_there xs index rest (omega arith)
 
 module _ {K V : Type 0} {cmp : K → K → Ordering} {order : K → Ordering} (query : IsQuery cmp order) where
-  -- behind a slot that doesn't come before what is asked for, all slots are behind that
+  -- after a slot that doesn't come before what is asked for, all slots are greater than that
   pub all_behind : (slot : K × Option V) (slots : List (K × Option V)) → is_lt (order slot.0) ≡ false → AllByRecursion (λ next. cmp slot.0 next.0 ≡ Less) slots
       → AllByRecursion (λ next. order next.0 ≡ Greater) slots
   all_behind slot slots e a = all_weaker (λ next. cmp slot.0 next.0 ≡ Less) (λ next. order next.0 ≡ Greater) slots (λ next l. query.behind slot.0 next.0 l e) a
@@ -64,7 +64,7 @@ module _ {K V : Type 0} {cmp : K → K → Ordering} {order : K → Ordering} (q
   behind_lead_at slot slots a false e rest =
       (e, all_weaker (λ next. order next.0 ≡ Greater) (λ next. is_lt (order next.0) ≡ false) slots (λ next g. not_lt (order next.0) g) (all_behind slot slots e a.0))
 
-  -- a page that doesn't end before what is asked for has a slot behind the lead
+  -- a page that doesn't end before what is asked for has a slot after the lead
   lead_below_at : (slot : K × Option V) (slots : List (K × Option V)) (b : Bool) → lead (is_before order) slots < length slots → (if b then suc (lead (is_before order) slots) else 0) < suc (length slots)
   lead_below_at slot slots true l = omega arith
   lead_below_at slot slots false l = omega arith
@@ -79,7 +79,7 @@ module _ {K V : Type 0} {cmp : K → K → Ordering} {order : K → Ordering} (q
   behind_lead [] a = tt
   behind_lead (slot ∷ slots) a = behind_lead_at slot slots a (is_lt (order slot.0)) refl (behind_lead slots a.1)
 
-  -- ---- a page, and those behind it
+  -- ---- a page, and those after it
 
   -- where its last key comes before what is asked for, all do
   pub page_before : (page : List (K × Option V)) → IsAscending cmp page → ends_before order page ≡ true → AllByRecursion (λ slot. order slot.0 ≡ Less) page
@@ -89,13 +89,13 @@ module _ {K V : Type 0} {cmp : K → K → Ordering} {order : K → Ordering} (q
       let rest = page_before (next ∷ slots) a.1 e in
       (query.before slot.0 next.0 a.0.0 (not_gt (order next.0) rest.0), rest)
 
-  -- where its last key doesn't, all slots behind it are behind what is asked for
+  -- where its last key doesn't, all slots after it are greater than what is asked for
   pub behind_page : (page slots : List (K × Option V)) → IsAscending cmp (page ++ slots) → ends_before order page ≡ false → AllByRecursion (λ slot. order slot.0 ≡ Greater) slots
   behind_page [] slots a e = absurd cc
   behind_page (slot ∷ []) slots a e = all_behind slot slots e a.0
   behind_page (slot ∷ next ∷ rest) slots a e = behind_page (next ∷ rest) slots a.1 e
 
-  -- a page that is behind what is asked for doesn't end before it
+  -- a page whose slots are greater than what is asked for doesn't end before it
   page_behind : (page : List (K × Option V)) → 0 < length page → AllByRecursion (λ slot. order slot.0 ≡ Greater) page → ends_before order page ≡ false
   page_behind [] l a = absurd (omega arith)
   page_behind (slot ∷ []) l a = not_lt (order slot.0) a.0
@@ -169,30 +169,9 @@ module _ {K V : Type 0} {cmp : K → K → Ordering} {order : K → Ordering} (q
     on_page = cut.on_page;
   }
 
--- the last slot of a page tells whether the page ends before what is asked for
-pub ends_by_last : {K V : Type 0} (order : K → Ordering) (page : List (K × Option V)) (last : ℕ) (slot : K × Option V) → last ≡ length page - 1 → Some slot ≡ slice_get page last
-    → ends_before order page ≡ is_before order slot
-ends_by_last order [] last slot l e = absurd cc
-ends_by_last order (first ∷ []) zero slot l e = let same : slot ≡ first = cc in ap (is_before order) (sym same)
-ends_by_last order (first ∷ []) (suc last) slot l e = absurd (omega arith)
-ends_by_last order (first ∷ next ∷ slots) zero slot l e = absurd (omega arith)
-ends_by_last order (first ∷ next ∷ slots) (suc last) slot l e = ends_by_last order (next ∷ slots) last slot (omega arith) e
-
--- what a page of the store is, as the list of pages has it
-pub page_read : {P X : Type 0} (items : P → List X) (ps : List P) (i : ℕ) (p : P) → i < length ps → p ≡ get_or ps i p → get_or (map items ps) i [] ≡ items p
-page_read items [] i p l e = absurd (omega arith)
-page_read items (q ∷ ps) zero p l e = ap items (sym e)
-page_read items (q ∷ ps) (suc i) p l e = page_read items ps i p (omega arith) e
-
 pub length_map : {P X : Type 0} (f : P → X) (ps : List P) → length (map f ps) ≡ length ps
 length_map f [] = refl
 length_map f (p ∷ ps) = ap suc (length_map f ps)
-
--- past the last page there is none
-pub page_past : {X : Type 0} (pages : List (List X)) (i : ℕ) → length pages ≤ i → get_or pages i [] ≡ []
-page_past [] i l = refl
-page_past (page ∷ pages) zero l = absurd (omega arith)
-page_past (page ∷ pages) (suc i) l = page_past pages i (omega arith)
 
 -- each page ascends
 pub page_ascending : {K V : Type 0} (cmp : K → K → Ordering) (pages : List (List (K × Option V))) (i : ℕ) → IsAscending cmp (slots_of pages) → IsAscending cmp (page_at pages i)

@@ -1,5 +1,5 @@
 -- What the slots are after a write: the key that is put in at its gap, and still ascending.
-use Rattle.std.proofs.Common.{◌≡◌, ℕ, zero, suc, ◌+◌, ◌<◌, ◌≤◌, ◌^◌, Bool, true, false, Option, List, [], ◌∷◌, ◌++◌, length, get_or, take, drop, set, map, refl, sym, ap, ◌∙◌, append_assoc, subst, arith}
+use Rattle.std.proofs.Common.{◌≡◌, ℕ, zero, suc, ◌+◌, ◌<◌, ◌≤◌, Bool, true, false, Option, List, [], ◌∷◌, ◌++◌, length, get_or, take, drop, set, map, refl, sym, ap, ◌∙◌, append_assoc, subst, arith}
 use Rattle.std.specs.Cmp.{IsTotalOrder}
 use Rattle.std.specs.declared.cmp.Ordering.{Ordering}
 use Rattle.std.specs.declared.cmp.Ordering.TheVariants.{Less, Greater}
@@ -10,7 +10,6 @@ use Rattle.std.specs.Prelude.{None, IsTrue, ◌↔◌, Result, Ok, Err, OnErr, O
 use Rattle.std.proofs.lemmas.List.Edits.{length-insert}
 use Rattle.covmap.specs.Slots.{IsAscending, IsPage, AreSlots, slots_of, page_at, before, from, IsGap}
 use Rattle.covmap.proofs.Leads.{all_append, all_front, all_back, all_weaker}
-use Rattle.covmap.proofs.SlotSearch.{page_read, length_map}
 use Rattle.covmap.proofs.SlotPages.{whole}
 
 pub take_all : {X : Type 0} (xs : List X) → take (length xs) xs ≡ xs
@@ -24,10 +23,6 @@ drop_all (x ∷ xs) = drop_all xs
 pub append_nil : {X : Type 0} (xs : List X) → xs ++ [] ≡ xs
 append_nil [] = refl
 append_nil (x ∷ xs) = ap (λ rest. x ∷ rest) (append_nil xs)
-
-map_push : {P X : Type 0} (f : P → X) (ps : List P) (p : P) → map f (ps ++ p ∷ []) ≡ map f ps ++ f p ∷ []
-map_push f [] p = refl
-map_push f (q ∷ ps) p = ap (λ rest. f q ∷ rest) (map_push f ps p)
 
 -- ---- in one list
 
@@ -70,26 +65,6 @@ map_set f [] i p = refl
 map_set f (q ∷ ps) zero p = refl
 map_set f (q ∷ ps) (suc i) p = ap (λ rest. f q ∷ rest) (map_set f ps i p)
 
--- the pages that contracts see, after a write to a page of the store
-pub seen_after : {P X : Type 0} (items : P → List X) (ps : List P) (pages : List (List X)) (i : ℕ) (p : P) (page : List X) → map items ps ≡ pages → items p ≡ page
-    → map items (set ps i p) ≡ set pages i page
-seen_after items ps pages i p page view e = map_set items ps i p ∙ ap (λ pages. set pages i (items p)) view ∙ ap (set pages i) e
-
--- the page that contracts see, of one that is read
-pub seen_page : {P X : Type 0} (items : P → List X) (ps : List P) (pages : List (List X)) (i : ℕ) (p : P) → map items ps ≡ pages → i < length pages → p ≡ get_or ps i p
-    → get_or pages i [] ≡ items p
-seen_page items ps pages i p view l e =
-    let within : i < length ps = rw (← length_map items ps, view) l in
-    ap (λ pages. get_or pages i []) (sym view) ∙ page_read items ps i p within e
-
--- a page that contracts see is among those that are read
-pub page_within : {P X : Type 0} (items : P → List X) (ps : List P) (pages : List (List X)) (i : ℕ) → map items ps ≡ pages → i < length pages → i < length ps
-page_within items ps pages i view l = rw (← length_map items ps, view) l
-
--- the pages that contracts see are as many as those that are read
-pub pages_few : {P X : Type 0} (items : P → List X) (ps : List P) (pages : List (List X)) (len : ℕ) → map items ps ≡ pages → len ≡ length ps → len < 2 ^ 64 → length pages < 2 ^ 64
-pages_few items ps pages len view long few = subst (λ pages. length pages < 2 ^ 64) view (omega (arith, length_map items ps, long, few))
-
 pub set_same : {X : Type 0} (pages : List (List X)) (i : ℕ) → set pages i (get_or pages i []) ≡ pages
 set_same [] i = refl
 set_same (page ∷ pages) zero = refl
@@ -123,7 +98,7 @@ page_le [] i a = omega arith
 page_le (page ∷ pages) zero a = a.0.1
 page_le (page ∷ pages) (suc i) a = page_le pages i a.1
 
--- ---- behind all pages
+-- ---- after all pages
 
 pub nothing_past : {K V : Type 0} (pages : List (List (K × Option V))) (i j : ℕ) → length pages ≤ i → from pages (i, j) ≡ []
 nothing_past [] i zero l = refl
@@ -149,7 +124,7 @@ last_from (page ∷ []) zero e = ap (λ rest. rest ++ []) (drop_all page)
 last_from (page ∷ next ∷ pages) zero e = absurd (omega arith)
 last_from (page ∷ pages) (suc i) e = last_from pages i (omega arith)
 
--- the end of the last page is the gap of a key behind all
+-- the end of the last page is the gap of a key greater than all
 pub last_gap : {K V : Type 0} (order : K → Ordering) (pages : List (List (K × Option V))) (i j : ℕ) → i + 1 ≡ length pages → j ≡ length (page_at pages i)
     → AllByRecursion (λ slot. order slot.0 ≡ Less) (slots_of pages) → IsGap order pages (i, j)
 last_gap {K} {V} order pages i j e same a = rw same (record {
@@ -158,10 +133,6 @@ last_gap {K} {V} order pages i j e same a = rw same (record {
   page_there = omega arith;
   on_page = omega arith;
 })
-
--- a page pushed behind all others
-pub seen_push : {P X : Type 0} (items : P → List X) (ps : List P) (pages : List (List X)) (p : P) (page : List X) → map items ps ≡ pages → items p ≡ page → map items (ps ++ p ∷ []) ≡ pages ++ page ∷ []
-seen_push items ps pages p page view e = map_push items ps p ∙ ap (λ pages. pages ++ items p ∷ []) view ∙ ap (λ page. pages ++ page ∷ []) e
 
 pub slots_push : {K V : Type 0} (pages : List (List (K × Option V))) (page : List (K × Option V)) → slots_of (pages ++ page ∷ []) ≡ slots_of pages ++ page
 slots_push [] page = append_nil page

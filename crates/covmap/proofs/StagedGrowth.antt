@@ -139,7 +139,7 @@ columns_widened {K} {V} pages old new i j key there on_page fit w =
     (own_fits pages i j key w.here there on_page (all_front (IsColumnOf pages) (own_of i w.here) w.back rest))
     (all_stay (λ other. i < other.0) (IsColumnOf pages) (IsColumnOf after) w.back (λ column l. stays column (λ e. omega arith)) w.was.above (all_back (IsColumnOf pages) (own_of i w.here) w.back rest))))
 
--- ---- a page behind all others
+-- ---- a page after all others
 
 pub staged_pushed : {K V : Type 0} (n : ℕ) (pages : List (List (K × Option V))) (columns : List (ℕ × List (Option V))) (page : List (K × Option V)) → AllByRecursion (λ column. column.0 < n + length pages) columns
     → staged_from n (pages ++ page ∷ []) columns ≡ staged_from n pages columns ++ page ∷ []
@@ -195,7 +195,7 @@ moved_ascending {V} page (column ∷ columns) a = (first (nat_lt page column.0) 
     first true e = let above : page < column.0 = grind (arith, nat_tests) in moved_more page column.0 columns (omega arith) a.0
     first false e = moved_behind page column.0 columns a.0
 
--- no column has the number behind the page then
+-- no column has the number after the page then
 moved_apart : {V : Type 0} (page : ℕ) (columns : List (ℕ × List (Option V))) → AllByRecursion (λ column. column.0 ≡ suc page → ⊥) (map (moved page) columns)
 moved_apart page [] = tt
 moved_apart {V} page (column ∷ columns) = (first (nat_lt page column.0) refl, moved_apart page columns)
@@ -322,7 +322,7 @@ all_away {V} page back a b = all_stay (λ (other : ℕ × List (Option V)). page
     away : (other : ℕ × List (Option V)) → page < other.0 → (other.0 ≡ suc page → ⊥) → suc page < other.0
     away other l f = grind (arith, f, l)
 
--- those behind the page are behind its second half
+-- those after the page come after its second half
 pub behind_halves : {V : Type 0} (page : ℕ) (old front : List (ℕ × List (Option V))) (here : Option (List (Option V))) (back : List (ℕ × List (Option V))) → IsAmong page (map (moved page) old) front here back
     → AllByRecursion (λ other. suc page < other.0) back
 behind_halves {V} page old front here back w =
@@ -408,7 +408,7 @@ ascending_back : {V : Type 0} (front back : List (ℕ × List (Option V))) → A
 ascending_back [] back a = a
 ascending_back (first ∷ front) back a = ascending_back front back a.1
 
--- a column in the place of another, and behind it one of the next number
+-- a column in the place of another, and after it one of the next number
 pub halves_ascending : {V : Type 0} (page : ℕ) (column : List (Option V)) (front back : List (ℕ × List (Option V))) (first second : List (Option V)) → AllByRecursion (λ other. other.0 < page) front
     → AllByRecursion (λ other. suc page < other.0) back → AreAscending (front ++ (page, column) ∷ back) → AreAscending (front ++ (page, first) ∷ (suc page, second) ∷ back)
 halves_ascending {V} page column front back first second below above a =

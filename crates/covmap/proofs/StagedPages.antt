@@ -72,13 +72,13 @@ pub column_passed : {V : Type 0} (m : ℕ) (front : List (ℕ × List (Option V)
 column_passed m [] column back f = rw (apart column.0 m f) refl
 column_passed m (first ∷ front) column back f = ap (λ rest. if eqb first.0 m then Some first.1 else rest) (column_passed m front column back f)
 
--- it is found behind smaller numbers
+-- it is found after smaller numbers
 pub column_found : {V : Type 0} (front : List (ℕ × List (Option V))) (column : ℕ × List (Option V)) (back : List (ℕ × List (Option V))) → AllByRecursion (λ other. other.0 < column.0) front
     → column_at column.0 (front ++ column ∷ back) ≡ Some column.1
 column_found [] column back a = rw (alike column.0) refl
 column_found (first ∷ front) column back a = rw (apart first.0 column.0 (λ e. omega (arith, a.0))) (column_found front column back a.1)
 
--- no column of a number between those before it and those behind it
+-- no column of a number between those before it and those after it
 pub column_missing : {V : Type 0} (m : ℕ) (front back : List (ℕ × List (Option V))) → AllByRecursion (λ other. other.0 < m) front → AllByRecursion (λ other. m < other.0) back
     → column_at m (front ++ back) ≡ None
 column_missing m [] [] a b = refl
@@ -117,7 +117,7 @@ value_staged {K} {V} pages front back i j column value a l e =
 
 -- ---- taking it in
 
--- one more column taken in, behind those of smaller numbers
+-- one more column taken in, after those of smaller numbers
 pub taken_more : {K V : Type 0} (pages : List (List (K × Option V))) (done : List (ℕ × List (Option V))) (column : ℕ × List (Option V)) → AllByRecursion (λ other. other.0 < column.0) done
     → staged_of pages (done ++ column ∷ []) ≡ set (staged_of pages done) column.0 (with_column (page_at pages column.0) column.1)
 taken_more pages done column a =

@@ -52,7 +52,7 @@ module _ {V : Type 0} (page : ℕ) where
       let behind : page < column.0 = grind (arith, other, above) in
       (behind, all_weaker (λ other. column.0 < other.0) (λ other. page < other.0) columns (λ other l. omega (arith, behind, l)) a)
 
-  -- where the page has no column, those behind have greater numbers
+  -- where the page has no column, those after it have greater numbers
   pub columns_missing : (columns : List (ℕ × List (Option V))) → AreAscending columns
       → (option_map (λ column. column.0) (slice_get columns (lead (λ column. nat_lt column.0 page) columns)) ≡ Some page → ⊥)
       → AllByRecursion (λ other. page < other.0) (drop (lead (λ column. nat_lt column.0 page) columns) columns)

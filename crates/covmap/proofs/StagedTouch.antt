@@ -34,7 +34,7 @@ tells_number a page number e = (λ t. e ∙ ap Some (same_number a page t), λ h
 pub tells_none : (page : ℕ) (number : Option ℕ) → number ≡ None → (IsTrue false → number ≡ Some page) × (number ≡ Some page → IsTrue false)
 tells_none page number e = (λ t. absurd (false≢true t), λ h. absurd cc)
 
--- a column of this number stands behind all of smaller ones
+-- a column of this number stands after all of smaller ones
 number_leads_at : {V : Type 0} (column : ℕ × List (Option V)) (columns : List (ℕ × List (Option V))) (page i : ℕ) (less : Bool) → nat_lt column.0 page ≡ less → column.0 < page → i ≡ lead (λ other. nat_lt other.0 page) columns
     → suc i ≡ (if less then suc (lead (λ other. nat_lt other.0 page) columns) else 0)
 number_leads_at column columns page i true e l same = ap suc same

@@ -15,7 +15,7 @@ abbrev pub put : {K V : Type 0} → (K → K → Ordering) → K → V → List 
 put cmp key value [] = (key, value) ∷ []
 put cmp key value (pair ∷ pairs) = match_ordering (cmp pair.0 key) (pair ∷ put cmp key value pairs) ((key, value) ∷ pairs) ((key, value) ∷ pair ∷ pairs)
 
--- each key comes before those behind it
+-- each key comes before those after it
 abbrev pub ArePairs : {K V : Type 0} → (K → K → Ordering) → List (K × V) → Type 0
 ArePairs cmp [] = Unit {0}
 ArePairs cmp (pair ∷ pairs) = AllByRecursion (λ next. cmp pair.0 next.0 ≡ Less) pairs × ArePairs cmp pairs

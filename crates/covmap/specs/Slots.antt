@@ -22,12 +22,12 @@ beside [] values = []
 beside (key ∷ keys) [] = (key, None) ∷ beside keys []
 beside (key ∷ keys) (value ∷ values) = (key, value) ∷ beside keys values
 
--- so many empty values
+-- a number of empty values
 abbrev pub empty : {V : Type 0} → ℕ → List (Option V)
 empty zero = []
 empty (suc n) = None ∷ empty n
 
--- each key comes before those behind it
+-- each key comes before those after it
 abbrev pub IsAscending : {K V : Type 0} → (K → K → Ordering) → List (K × Option V) → Type 0
 IsAscending cmp [] = Unit {0}
 IsAscending cmp (slot ∷ slots) = AllByRecursion (λ next. cmp slot.0 next.0 ≡ Less) slots × IsAscending cmp slots
@@ -74,7 +74,7 @@ value_in (Some value) = value
 abbrev pub value_at : {K V : Type 0} → List (List (K × Option V)) → At → Option V
 value_at pages at = value_in (option_map (λ slot. slot.1) (slot_at pages at))
 
--- the place just behind that of a slot: on its page, or where the page ends the first of the next one
+-- the place right after that of a slot: the next one of its page, or where the page ends the first of the next page
 abbrev pub behind : {K V : Type 0} → List (List (K × Option V)) → At → At
 behind pages at = if nat_lt (suc at.1) (length (page_at pages at.0)) then (at.0, suc at.1) else (suc at.0, 0)
 
@@ -93,7 +93,7 @@ with_page_split page pages = take page pages ++ take 128 (page_at pages page) �
 abbrev pub with_empty : {K V : Type 0} → At → K → List (List (K × Option V)) → List (List (K × Option V))
 with_empty at key pages = slice_set pages at.0 (insert (page_at pages at.0) at.1 (key, None))
 
--- how the key of a slot stands to the one that is asked for. Where there is no slot, as if behind it
+-- how the key of a slot stands to the one that is asked for. Where there is no slot, as a greater key
 abbrev pub order_at : {K V : Type 0} → (K → Ordering) → Option (K × Option V) → Ordering
 order_at order None = Greater
 order_at order (Some slot) = order slot.0
@@ -110,7 +110,7 @@ pub record IsCut {K V : Type 0} (order : K → Ordering) (pages : List (List (K 
   pub page_there : at.0 ≤ length pages
   pub on_page : at.1 ≤ length (page_at pages at.0)
 
--- where the key that is asked for would go: the slots before the place come before it, the others behind it
+-- where the key that is asked for would go: the slots before the place are less than it, the others greater
 pub record IsGap {K V : Type 0} (order : K → Ordering) (pages : List (List (K × Option V))) (at : At) : Type 0 where
   pub front : AllByRecursion (λ slot. order slot.0 ≡ Less) (before pages at)
   pub back : AllByRecursion (λ slot. order slot.0 ≡ Greater) (from pages at)

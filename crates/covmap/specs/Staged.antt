@@ -102,7 +102,7 @@ abbrev pub halves_of : {V : Type 0} → ℕ → Option (List (Option V)) → Lis
 halves_of page None = []
 halves_of page (Some column) = (page, take 128 column) ∷ (suc page, drop 128 column) ∷ []
 
--- the columns behind the page have a number more, and its own, if any, is cut in two
+-- the columns after the page have the next number, and its own, if any, is cut in two
 pub record IsSplit {V : Type 0} (page : ℕ) (old new : List (ℕ × List (Option V))) : Type 0 where
   pub front : List (ℕ × List (Option V))
   pub here : Option (List (Option V))

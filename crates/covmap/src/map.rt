@@ -15,7 +15,7 @@ use std::marker::Model;
 /// Contracts see two lists of entries, ascending by their keys: the committed ones, and the staged ones, which are what a
 /// commit leaves.
 ///
-/// A look-up costs no search where it is of the key that was looked up last, or of the one just behind it.
+/// A look-up costs no search for the key that was looked up last, and for the one right after it.
 #[derive(Drop)]
 pub struct StagedMap<K: Key, V, A: Allocator> {
     slots: Slots<K, V, A>,

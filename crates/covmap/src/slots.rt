@@ -104,7 +104,7 @@ impl<K: Key, V, A: Allocator> Slots<K, V, A> {
         Place { page, index }
     }
 
-    /// Where what is asked for stands, or would go. Costs no search where that is the guess or just behind it, or where it
+    /// Where what is asked for stands, or would go. Costs no search where that is the guess or the slot after it, or where it
     /// would go to the guess.
     pub(crate) fn find<Q: Query<K, A>>(&self, query: Q, guess: Place) -> Result<Place, Place>
         ensures found { IfOk result (λ place. IsPlace (λ key. K.cmp key (Q.named query)) self.now (at place)) }
@@ -118,7 +118,7 @@ impl<K: Key, V, A: Allocator> Slots<K, V, A> {
         }
     }
 
-    /// The same as `find`. Costs no search where it would go right behind the slot before the guess.
+    /// The same as `find`. Costs no search where it would go right after the slot before the guess.
     fn find_before<Q: Query<K, A>>(&self, query: Q, guess: Place) -> Result<Place, Place>
         ensures found { IfOk result (λ place. IsPlace (λ key. K.cmp key (Q.named query)) self.now (at place)) }
         ensures absent { IfErr result (λ place. IsGap (λ key. K.cmp key (Q.named query)) self.now (at place)) }
@@ -172,7 +172,7 @@ impl<K: Key, V, A: Allocator> Slots<K, V, A> {
         }
     }
 
-    /// The place just behind that of a slot.
+    /// The place right after that of a slot: the next one of its page, or the first one of the next page.
     fn behind(&self, place: Place) -> Place
         requires { place.index < length (page_at self.now place.page) }
         ensures next { at result ≡ behind self.now (at place) }
@@ -302,7 +302,7 @@ impl<K: Key + Drop, V: Value, A: Allocator + Copy> Slots<K, V, A> {
         self.pages[place.page].insert(place.index, key)
     }
 
-    /// Puts an empty slot on a new page, behind all others.
+    /// Appends a page with an empty slot.
     fn push_page(&mut self, alloc: A, key: K) -> Result<(), AllocError>
         requires { AllByRecursion (λ slot. K.cmp slot.0 key ≡ Less) (slots_of self.old) }
         ensures ok { OnOk result (self.new ≡ self.old ++ ((key, None) ∷ []) ∷ []) }
@@ -328,7 +328,7 @@ impl<K: Key + Drop, V: Value, A: Allocator + Copy> Slots<K, V, A> {
     }
 }
 
-/// Puts an item behind the others. The first one takes room for itself alone, as most lists of pages have one.
+/// Appends an item. The first one reserves room for itself alone, as most lists of pages have one.
 fn push<T: Drop, A: Allocator>(list: &mut Vec<T, A>, item: T) -> Result<(), AllocError>
     ensures ok { OnOk result (list.new.items ≡ list.old.items ++ item ∷ []) }
     ensures err { OnErr result (list.new.items ≡ list.old.items) }

@@ -56,10 +56,10 @@ module _ (rows others : List Row) (alike : AreAlike rows others) (agree : Agree 
       (λ key. section_alike (items_at key rows) (items_at key others) (items_alike key) key (one_said rows agree key))
 
   pub agree_alike : Agree (checksums_in others)
-  agree_alike a b i j = agree a b (committed a i) (committed b j)
+  agree_alike a b i j = agree a b (in_rows a i) (in_rows b j)
     where
-      committed : (c : Checksum) → Contains (checksums_in others) c → Contains (checksums_in rows) c
-      committed c k = Contains-from (checksums_in rows) c ((alike_said checksum_of_row rows others alike).back c (In-from (checksums_in others) c k))
+      in_rows : (c : Checksum) → Contains (checksums_in others) c → Contains (checksums_in rows) c
+      in_rows c k = Contains-from (checksums_in rows) c ((alike_said checksum_of_row rows others alike).back c (In-from (checksums_in others) c k))
 
 -- the rows of the same submissions in another order
 pub rows_alike : (table others : Table) → IsPermutation table others → AreAlike (all_rows table) (all_rows others)

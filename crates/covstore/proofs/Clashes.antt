@@ -49,36 +49,36 @@ find_none p [] all = refl
 find_none p (y ∷ ys) all = cond-false (p y) (Some y) (find p ys) (all y (inl refl)) ∙ find_none p ys (λ x i. all x (inr i))
 
 -- no checksum is held from which this one differs: then they agree with it too
-agree_more : (committed : List Checksum) (x : Checksum) → Agree committed → find (differs x) committed ≡ None → Agree (committed ++ x ∷ [])
-agree_more committed x agree none a b i j =
-    let own : (c : Checksum) → Contains committed c → differs x c ≡ false = λ c k. not_found (differs x) committed c none (In-from committed c k) in
+agree_more : (held : List Checksum) (x : Checksum) → Agree held → find (differs x) held ≡ None → Agree (held ++ x ∷ [])
+agree_more held x agree none a b i j =
+    let own : (c : Checksum) → Contains held c → differs x c ≡ false = λ c k. not_found (differs x) held c none (In-from held c k) in
     ⊎_elim
-    (λ (k : Contains committed a). ⊎_elim (λ (l : Contains committed b). agree a b k l) (λ (is : x ≡ b). subst (λ (c : Checksum). differs a c ≡ false) is (differs-symm a x ∙ own a k)) (Contains-push_cases committed x b j))
-    (λ (is : x ≡ a). subst (λ (c : Checksum). differs c b ≡ false) is (⊎_elim (λ (l : Contains committed b). own b l) (λ (same : x ≡ b). subst (λ (c : Checksum). differs x c ≡ false) same (differs-itself x)) (Contains-push_cases committed x b j)))
-    (Contains-push_cases committed x a i)
+    (λ (k : Contains held a). ⊎_elim (λ (l : Contains held b). agree a b k l) (λ (is : x ≡ b). subst (λ (c : Checksum). differs a c ≡ false) is (differs-symm a x ∙ own a k)) (Contains-push_cases held x b j))
+    (λ (is : x ≡ a). subst (λ (c : Checksum). differs c b ≡ false) is (⊎_elim (λ (l : Contains held b). own b l) (λ (same : x ≡ b). subst (λ (c : Checksum). differs x c ≡ false) same (differs-itself x)) (Contains-push_cases held x b j)))
+    (Contains-push_cases held x a i)
 
 -- ---- the first clash
 
-told_at : (committed : List Checksum) (x : Checksum) (xs : List Checksum) (clash : ClashData) (other : Option Checksum) → find (differs x) committed ≡ other → Agree committed
-    → (Agree (committed ++ x ∷ []) → first_clash (committed ++ x ∷ []) xs ≡ Some clash → IsFirstClash (committed ++ x ∷ []) xs clash)
-    → or_later x other (first_clash (committed ++ x ∷ []) xs) ≡ Some clash → IsFirstClash committed (x ∷ xs) clash
-told_at committed x xs clash (Some other) found agree later e =
-    let is = In-found (differs x) committed other found in
-    let all : committed ≡ committed ++ [] = sym (append-nil committed) in
+told_at : (held : List Checksum) (x : Checksum) (xs : List Checksum) (clash : ClashData) (other : Option Checksum) → find (differs x) held ≡ other → Agree held
+    → (Agree (held ++ x ∷ []) → first_clash (held ++ x ∷ []) xs ≡ Some clash → IsFirstClash (held ++ x ∷ []) xs clash)
+    → or_later x other (first_clash (held ++ x ∷ []) xs) ≡ Some clash → IsFirstClash held (x ∷ xs) clash
+told_at held x xs clash (Some other) found agree later e =
+    let is = In-found (differs x) held other found in
+    let all : held ≡ held ++ [] = sym (append-nil held) in
     record {
       before = [];
       first = x;
       after = xs;
       other = other;
       place = refl;
-      among = subst (λ (ys : List Checksum). Contains ys other) all (Contains-from committed other is.0);
+      among = subst (λ (ys : List Checksum). Contains ys other) all (Contains-from held other is.0);
       differ = is.1;
       none_before = subst Agree all agree;
       told = same_Some clash (clash_with x other) (sym e);
     }
-told_at committed x xs clash None found agree later e =
-    let l = later (agree_more committed x agree found) e in
-    let all : (committed ++ x ∷ []) ++ l.before ≡ committed ++ x ∷ l.before = append_assoc committed (x ∷ []) l.before in
+told_at held x xs clash None found agree later e =
+    let l = later (agree_more held x agree found) e in
+    let all : (held ++ x ∷ []) ++ l.before ≡ held ++ x ∷ l.before = append_assoc held (x ∷ []) l.before in
     record {
       before = x ∷ l.before;
       first = l.first;
@@ -91,10 +91,10 @@ told_at committed x xs clash None found agree later e =
       told = l.told;
     }
 
-pub first_told : (committed given : List Checksum) (clash : ClashData) → Agree committed → first_clash committed given ≡ Some clash → IsFirstClash committed given clash
-first_told committed [] clash agree e = absurd (none-some clash e)
-first_told committed (x ∷ xs) clash agree e =
-    told_at committed x xs clash (find (differs x) committed) refl agree (λ more rest. first_told (committed ++ x ∷ []) xs clash more rest) e
+pub first_told : (held given : List Checksum) (clash : ClashData) → Agree held → first_clash held given ≡ Some clash → IsFirstClash held given clash
+first_told held [] clash agree e = absurd (none-some clash e)
+first_told held (x ∷ xs) clash agree e =
+    told_at held x xs clash (find (differs x) held) refl agree (λ more rest. first_told (held ++ x ∷ []) xs clash more rest) e
 
 -- ---- what is the first clash is told
 
@@ -119,64 +119,64 @@ same_checksum given a b to_a to_b agree =
     (bytes_eq-Decides a.checksum b.checksum).0 (last_true (bytes_eq a.file b.file) (eqb a.line b.line) (bytes_eq a.checksum b.checksum) file line agree)
 
 clash_from : Checksum → List ℕ → ClashData
-clash_from given committed = record { file = given.file; line = given.line; held = committed; given = given.checksum }
+clash_from given held = record { file = given.file; line = given.line; held = held; given = given.checksum }
 
 same_clash : (given a b : Checksum) → a.checksum ≡ b.checksum → clash_with given a ≡ clash_with given b
 unfolding clash_from
-same_clash given a b same = ap (λ (committed : List ℕ). clash_from given committed) same
+same_clash given a b same = ap (λ (held : List ℕ). clash_from given held) same
 
-told_here : (committed : List Checksum) (first other : Checksum) (found : Option Checksum) (later : Option ClashData) → find (differs first) committed ≡ found
-    → In other committed → differs first other ≡ true → Agree committed → or_later first found later ≡ Some (clash_with first other)
-told_here committed first other (Some found) later is i differ agree =
-    let f = In-found (differs first) committed found is in
-    ap (λ (clash : ClashData). Some clash) (same_clash first found other (same_checksum first found other f.1 differ (agree found other (Contains-from committed found f.0) (Contains-from committed other i))))
-told_here committed first other None later is i differ agree = absurd (false≢true (sym (not_found (differs first) committed other is i) ∙ differ))
+told_here : (held : List Checksum) (first other : Checksum) (found : Option Checksum) (later : Option ClashData) → find (differs first) held ≡ found
+    → In other held → differs first other ≡ true → Agree held → or_later first found later ≡ Some (clash_with first other)
+told_here held first other (Some found) later is i differ agree =
+    let f = In-found (differs first) held found is in
+    ap (λ (clash : ClashData). Some clash) (same_clash first found other (same_checksum first found other f.1 differ (agree found other (Contains-from held found f.0) (Contains-from held other i))))
+told_here held first other None later is i differ agree = absurd (false≢true (sym (not_found (differs first) held other is i) ∙ differ))
 
-told_after : (committed before : List Checksum) (first : Checksum) (after : List Checksum) (other : Checksum) → Contains (committed ++ before) other → differs first other ≡ true
-    → Agree (committed ++ before) → first_clash committed (before ++ first ∷ after) ≡ Some (clash_with first other)
-told_after committed [] first after other among differ agree =
-    let all : committed ++ [] ≡ committed = append-nil committed in
-    told_here committed first other (find (differs first) committed) (first_clash (committed ++ first ∷ []) after) refl (In-from committed other (subst (λ (ys : List Checksum). Contains ys other) all among)) differ (subst Agree all agree)
-told_after committed (b ∷ bs) first after other among differ agree =
-    let all : committed ++ b ∷ bs ≡ (committed ++ b ∷ []) ++ bs = sym (append_assoc committed (b ∷ []) bs) in
-    let here : Contains (committed ++ b ∷ bs) b = Contains-append_right committed (b ∷ bs) b (Contains-from (b ∷ bs) b (inl refl)) in
-    let none : find (differs b) committed ≡ None = find_none (differs b) committed (λ x i. agree b x here (Contains-append_left committed (b ∷ bs) x (Contains-from committed x i))) in
-    ap (λ (found : Option Checksum). or_later b found (first_clash (committed ++ b ∷ []) (bs ++ first ∷ after))) none
-    ∙ told_after (committed ++ b ∷ []) bs first after other (subst (λ (ys : List Checksum). Contains ys other) all among) differ (subst Agree all agree)
+told_after : (held before : List Checksum) (first : Checksum) (after : List Checksum) (other : Checksum) → Contains (held ++ before) other → differs first other ≡ true
+    → Agree (held ++ before) → first_clash held (before ++ first ∷ after) ≡ Some (clash_with first other)
+told_after held [] first after other among differ agree =
+    let all : held ++ [] ≡ held = append-nil held in
+    told_here held first other (find (differs first) held) (first_clash (held ++ first ∷ []) after) refl (In-from held other (subst (λ (ys : List Checksum). Contains ys other) all among)) differ (subst Agree all agree)
+told_after held (b ∷ bs) first after other among differ agree =
+    let all : held ++ b ∷ bs ≡ (held ++ b ∷ []) ++ bs = sym (append_assoc held (b ∷ []) bs) in
+    let here : Contains (held ++ b ∷ bs) b = Contains-append_right held (b ∷ bs) b (Contains-from (b ∷ bs) b (inl refl)) in
+    let none : find (differs b) held ≡ None = find_none (differs b) held (λ x i. agree b x here (Contains-append_left held (b ∷ bs) x (Contains-from held x i))) in
+    ap (λ (found : Option Checksum). or_later b found (first_clash (held ++ b ∷ []) (bs ++ first ∷ after))) none
+    ∙ told_after (held ++ b ∷ []) bs first after other (subst (λ (ys : List Checksum). Contains ys other) all among) differ (subst Agree all agree)
 
-pub told_first : (committed given : List Checksum) (clash : ClashData) → IsFirstClash committed given clash → first_clash committed given ≡ Some clash
-told_first committed given clash is =
-    ap (λ (xs : List Checksum). first_clash committed xs) is.place
-    ∙ told_after committed is.before is.first is.after is.other is.among is.differ is.none_before
+pub told_first : (held given : List Checksum) (clash : ClashData) → IsFirstClash held given clash → first_clash held given ≡ Some clash
+told_first held given clash is =
+    ap (λ (xs : List Checksum). first_clash held xs) is.place
+    ∙ told_after held is.before is.first is.after is.other is.among is.differ is.none_before
     ∙ ap (λ (told : ClashData). Some told) (sym is.told)
 
-none_at : (committed : List Checksum) (x : Checksum) (xs : List Checksum) (other : Option Checksum) → find (differs x) committed ≡ other → Agree committed
-    → (Agree (committed ++ x ∷ []) → first_clash (committed ++ x ∷ []) xs ≡ None → Agree ((committed ++ x ∷ []) ++ xs))
-    → or_later x other (first_clash (committed ++ x ∷ []) xs) ≡ None → Agree (committed ++ x ∷ xs)
-none_at committed x xs (Some other) found agree later e = absurd (none-some (clash_with x other) (sym e))
-none_at committed x xs None found agree later e = subst Agree (append_assoc committed (x ∷ []) xs) (later (agree_more committed x agree found) e)
+none_at : (held : List Checksum) (x : Checksum) (xs : List Checksum) (other : Option Checksum) → find (differs x) held ≡ other → Agree held
+    → (Agree (held ++ x ∷ []) → first_clash (held ++ x ∷ []) xs ≡ None → Agree ((held ++ x ∷ []) ++ xs))
+    → or_later x other (first_clash (held ++ x ∷ []) xs) ≡ None → Agree (held ++ x ∷ xs)
+none_at held x xs (Some other) found agree later e = absurd (none-some (clash_with x other) (sym e))
+none_at held x xs None found agree later e = subst Agree (append_assoc held (x ∷ []) xs) (later (agree_more held x agree found) e)
 
-pub none_told : (committed given : List Checksum) → Agree committed → first_clash committed given ≡ None → Agree (committed ++ given)
-none_told committed [] agree e = subst Agree (sym (append-nil committed)) agree
-none_told committed (x ∷ xs) agree e =
-    none_at committed x xs (find (differs x) committed) refl agree (λ more rest. none_told (committed ++ x ∷ []) xs more rest) e
+pub none_told : (held given : List Checksum) → Agree held → first_clash held given ≡ None → Agree (held ++ given)
+none_told held [] agree e = subst Agree (sym (append-nil held)) agree
+none_told held (x ∷ xs) agree e =
+    none_at held x xs (find (differs x) held) refl agree (λ more rest. none_told (held ++ x ∷ []) xs more rest) e
 
-not_both : (committed given : List Checksum) (clash : ClashData) → IsFirstClash committed given clash → Agree (committed ++ given) → ⊥
-not_both committed given clash l agree =
-    let first : Contains (committed ++ given) l.first =
-    subst (λ (xs : List Checksum). Contains (committed ++ xs) l.first) (sym l.place)
-    (Contains-append_right committed (l.before ++ l.first ∷ l.after) l.first (Contains-append_right l.before (l.first ∷ l.after) l.first (Contains-from (l.first ∷ l.after) l.first (inl refl)))) in
-    let other : Contains (committed ++ given) l.other =
-    subst (λ (xs : List Checksum). Contains (committed ++ xs) l.other) (sym l.place)
-    (subst (λ (xs : List Checksum). Contains xs l.other) (append_assoc committed l.before (l.first ∷ l.after)) (Contains-append_left (committed ++ l.before) (l.first ∷ l.after) l.other l.among)) in
+not_both : (held given : List Checksum) (clash : ClashData) → IsFirstClash held given clash → Agree (held ++ given) → ⊥
+not_both held given clash l agree =
+    let first : Contains (held ++ given) l.first =
+    subst (λ (xs : List Checksum). Contains (held ++ xs) l.first) (sym l.place)
+    (Contains-append_right held (l.before ++ l.first ∷ l.after) l.first (Contains-append_right l.before (l.first ∷ l.after) l.first (Contains-from (l.first ∷ l.after) l.first (inl refl)))) in
+    let other : Contains (held ++ given) l.other =
+    subst (λ (xs : List Checksum). Contains (held ++ xs) l.other) (sym l.place)
+    (subst (λ (xs : List Checksum). Contains xs l.other) (append_assoc held l.before (l.first ∷ l.after)) (Contains-append_left (held ++ l.before) (l.first ∷ l.after) l.other l.among)) in
     false≢true (sym (agree l.first l.other first other) ∙ l.differ)
 
-none_when : (committed given : List Checksum) (told : Option ClashData) → first_clash committed given ≡ told → Agree committed → Agree (committed ++ given) → told ≡ None
-none_when committed given None is agree all = refl
-none_when committed given (Some clash) is agree all = absurd (not_both committed given clash (first_told committed given clash agree is) all)
+none_when : (held given : List Checksum) (told : Option ClashData) → first_clash held given ≡ told → Agree held → Agree (held ++ given) → told ≡ None
+none_when held given None is agree all = refl
+none_when held given (Some clash) is agree all = absurd (not_both held given clash (first_told held given clash agree is) all)
 
-pub agree_none : (committed given : List Checksum) → Agree committed → Agree (committed ++ given) → first_clash committed given ≡ None
-agree_none committed given agree all = none_when committed given (first_clash committed given) refl agree all
+pub agree_none : (held given : List Checksum) → Agree held → Agree (held ++ given) → first_clash held given ≡ None
+agree_none held given agree all = none_when held given (first_clash held given) refl agree all
 
 -- ---- tables
 

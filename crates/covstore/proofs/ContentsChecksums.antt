@@ -124,16 +124,16 @@ checksums_there rows others agree same c i =
 
 -- ---- a clash is told by the members of what is committed
 
-module _ (committed others : List Checksum) (there : (c : Checksum) → In c committed → In c others) (back : (c : Checksum) → In c others → In c committed) where
-  agree_there : (more : List Checksum) → Agree (committed ++ more) → Agree (others ++ more)
+module _ (held others : List Checksum) (there : (c : Checksum) → In c held → In c others) (back : (c : Checksum) → In c others → In c held) where
+  agree_there : (more : List Checksum) → Agree (held ++ more) → Agree (others ++ more)
   agree_there more agree a b i j = agree a b (held_too a i) (held_too b j)
     where
-      held_too : (c : Checksum) → Contains (others ++ more) c → Contains (committed ++ more) c
+      held_too : (c : Checksum) → Contains (others ++ more) c → Contains (held ++ more) c
       held_too c k =
-          Contains-from (committed ++ more) c
-          (In-joined committed more c (⊎_elim (λ l. inl (back c l)) (λ l. inr l) (In-parts others more c (In-from (others ++ more) c k))))
+          Contains-from (held ++ more) c
+          (In-joined held more c (⊎_elim (λ l. inl (back c l)) (λ l. inr l) (In-parts others more c (In-from (others ++ more) c k))))
 
-  first_there : (given : List Checksum) (clash : ClashData) → IsFirstClash committed given clash → IsFirstClash others given clash
+  first_there : (given : List Checksum) (clash : ClashData) → IsFirstClash held given clash → IsFirstClash others given clash
   first_there given clash is = record {
     before = is.before;
     first = is.first;
@@ -141,15 +141,15 @@ module _ (committed others : List Checksum) (there : (c : Checksum) → In c com
     other = is.other;
     place = is.place;
     among = Contains-from (others ++ is.before) is.other
-        (In-joined others is.before is.other (⊎_elim (λ l. inl (there is.other l)) (λ l. inr l) (In-parts committed is.before is.other (In-from (committed ++ is.before) is.other is.among))));
+        (In-joined others is.before is.other (⊎_elim (λ l. inl (there is.other l)) (λ l. inr l) (In-parts held is.before is.other (In-from (held ++ is.before) is.other is.among))));
     differ = is.differ;
     none_before = agree_there is.before is.none_before;
     told = is.told;
   }
 
-  pub same_clash_told : (given : List Checksum) (told : Option ClashData) → first_clash committed given ≡ told → Agree committed → Agree others → told ≡ first_clash others given
-  same_clash_told given None e agree agrees = sym (agree_none others given agrees (agree_there given (none_told committed given agree e)))
-  same_clash_told given (Some clash) e agree agrees = sym (told_first others given clash (first_there given clash (first_told committed given clash agree e)))
+  pub same_clash_told : (given : List Checksum) (told : Option ClashData) → first_clash held given ≡ told → Agree held → Agree others → told ≡ first_clash others given
+  same_clash_told given None e agree agrees = sym (agree_none others given agrees (agree_there given (none_told held given agree e)))
+  same_clash_told given (Some clash) e agree agrees = sym (told_first others given clash (first_there given clash (first_told held given clash agree e)))
 
 pub same_checksums_clash : (rows others : List Row) (given : List Checksum) → Agree (checksums_in rows) → Agree (checksums_in others) → content_of rows ≡ content_of others
     → first_clash (checksums_in rows) given ≡ first_clash (checksums_in others) given

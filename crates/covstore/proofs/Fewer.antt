@@ -9,7 +9,7 @@ use Rattle.covstore.specs.KindIndexDrops.{CanLose, counts_without, fewer_of, few
 use Rattle.covmap.specs.Puts.{ArePairs, value_of}
 use Rattle.covstore.proofs.Ascend.{IsExactOrder}
 use Rattle.covstore.proofs.Assigned.{ArePairs-assigned, any_key, apart_assigned, own_assigned}
-use Rattle.covstore.proofs.Counts.{above_le_with, counts_unempty, same_tests, tests_among, tests_at-between, tests_of}
+use Rattle.covstore.proofs.Counts.{above_le_with, same_tests, tests_among, tests_at-between, tests_of}
 use Rattle.covstore.proofs.Puts.{same_pairs, value_of_before, value_of_first, value_of_later}
 
 -- ---- the numbers of one point
@@ -87,13 +87,6 @@ module _ {K V : Type 0} {cmp : K → K → Ordering} (o : IsExactOrder cmp) {is_
     }
 
   -- ---- a whole test
-
-  -- what is counted without it
-  pub rest_of_counts : (points : List (K × V)) (others : List (List (K × V))) (counts : List (K × Tests)) → ArePairs cmp points → AreCounts cmp is_above (points ∷ others) counts
-      → (rest : List (K × Tests)) × AreCounts cmp is_above others rest
-  rest_of_counts [] others counts sorted are = (counts, counts_unempty cmp is_above [] others counts are)
-  rest_of_counts (point ∷ points) others counts sorted are =
-      rest_of_counts points others (counts_without cmp point.0 (is_above point.1) counts) sorted.1 (counts_fewer point.0 point.1 points sorted others counts are)
 
   -- there is one such list
   pub one_rest : (others : List (List (K × V))) (rest counts : List (K × Tests)) → AreCounts cmp is_above others rest → AreCounts cmp is_above others counts → rest ≡ counts

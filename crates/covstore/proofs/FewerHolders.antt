@@ -90,18 +90,6 @@ some_before line value holders fewer moved there =
 holders_none : (others : List TestData) (holders : List (ℕ × ℕ)) → AreHolders (with_lines [] ∷ others) holders → AreHolders others holders
 holders_none others holders are line = are line ∙ holders_with [] others line None refl ∙ no_more (holding line others)
 
-by_checksum : {G : Type 0} (b : Bool) → (b ≡ true → G) → (b ≡ false → G) → G
-by_checksum true yes_holds no_holds = yes_holds refl
-by_checksum false yes_holds no_holds = no_holds refl
-
--- what is committed without the test
-pub rest_of_holders : (lines : List (ℕ × LineSum)) (others : List TestData) (holders : List (ℕ × ℕ)) → ArePairs nat_cmp lines → AreHolders (with_lines lines ∷ others) holders → (rest : List (ℕ × ℕ)) × AreHolders others rest
-rest_of_holders [] others holders sorted are = (holders, holders_none others holders are)
-rest_of_holders (first ∷ lines) others holders sorted are =
-    by_checksum first.1.has_checksum
-    (λ holds. rest_of_holders lines others (held_less first.0 holders) sorted.1 (holders_less first.0 first.1 lines sorted others holders are holds))
-    (λ none. rest_of_holders lines others holders sorted.1 (holders_stay first.0 first.1 lines sorted others holders are none))
-
 -- ---- line by line
 
 -- these lines of the test are still to be passed
@@ -110,12 +98,6 @@ pub record IsReleasing (lines : List (ℕ × LineSum)) (holders : List (ℕ × �
   pub counted : (others : List TestData) → AreHolders (with_lines lines ∷ others) holders → AreHolders (with_lines left ∷ others) fewer
 
 module _ (lines : List (ℕ × LineSum)) (holders : List (ℕ × ℕ)) where
-  pub releasing_first : (left : List (ℕ × LineSum)) (fewer : List (ℕ × ℕ)) → ArePairs nat_cmp lines → left ≡ lines → fewer ≡ holders → IsReleasing lines holders left fewer
-  releasing_first left fewer sorted all same = record {
-    sorted = subst (ArePairs nat_cmp) (sym all) sorted;
-    counted = λ others are. subst (λ (own : List (ℕ × LineSum)). AreHolders (with_lines own ∷ others) fewer) (sym all) (subst (AreHolders (with_lines lines ∷ others)) (sym same) are);
-  }
-
   module _ (line : ℕ) (value : LineSum) (left rest : List (ℕ × LineSum)) (first : left ≡ (line, value) ∷ rest) (fewer : List (ℕ × ℕ)) (is : IsReleasing lines holders left fewer) where
     first_are : (others : List TestData) → AreHolders (with_lines lines ∷ others) holders → AreHolders (with_lines ((line, value) ∷ rest) ∷ others) fewer
     first_are others are = subst (λ (own : List (ℕ × LineSum)). AreHolders (with_lines own ∷ others) fewer) first (is.counted others are)

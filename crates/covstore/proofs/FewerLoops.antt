@@ -28,13 +28,6 @@ pub record IsTallying {K V : Type 0} (cmp : K → K → Ordering) (is_above : V 
 module _ {K V : Type 0} {cmp : K → K → Ordering} (o : IsExactOrder cmp) (is_above : V → Bool) (points : List (K × V)) (counts : List (K × Tests)) where
   -- ---- what is kept
 
-  pub losing_first : (left : List (K × V)) (fewer : List (K × Tests)) → ArePairs cmp points → left ≡ points → fewer ≡ counts → IsLosing cmp is_above points counts left fewer
-  losing_first left fewer sorted all same = record {
-    sorted = subst (ArePairs cmp) (sym all) sorted;
-    counted = λ others are.
-        subst (λ (own : List (K × V)). AreCounts cmp is_above (own ∷ others) fewer) (sym all) (subst (AreCounts cmp is_above (points ∷ others)) (sym same) are);
-  }
-
   -- the next point, as it is asked for and as its value was read
   module _ (key : K) (value : V) (asked : K) (named : asked ≡ key) (above : Bool) (read : above ≡ is_above value) (left rest : List (K × V)) (first : left ≡ (key, value) ∷ rest) (fewer : List (K × Tests))
       (is : IsLosing cmp is_above points counts left fewer) where
@@ -62,13 +55,6 @@ module _ {K V : Type 0} {cmp : K → K → Ordering} (o : IsExactOrder cmp) (is_
 
   -- ---- the tally
 
-  pub tallying_first : (left : List (K × V)) (tally : KindTotals) → ArePairs cmp points → left ≡ points → IsTallyOf counts tally → IsTallying cmp is_above points counts left tally
-  tallying_first left tally sorted all is = record {
-    sorted = subst (ArePairs cmp) (sym all) sorted;
-    values = λ key value e. ap (value_of cmp key) (sym all) ∙ e;
-    tallied = λ others are. (counts, subst (λ (own : List (K × V)). AreCounts cmp is_above (own ∷ others) counts) (sym all) are, is);
-  }
-
   module _ (key : K) (value : V) (asked : K) (named : asked ≡ key) (above : Bool) (read : above ≡ is_above value) (left rest : List (K × V)) (first : left ≡ (key, value) ∷ rest) (tally : KindTotals)
       (is : IsTallying cmp is_above points counts left tally) where
     value_there : value_of cmp key left ≡ Some value
@@ -91,10 +77,10 @@ module _ {K V : Type 0} {cmp : K → K → Ordering} (o : IsExactOrder cmp) (is_
     pub tallying_at : AreWith cmp is_above points counts → (fewer : List (K × Tests)) × IsTallyAt cmp asked counts fewer tally
     tallying_at are = let of = is.tallied are.0 are.1 in (of.0, tally_at are.0 are.1 of.0 of.1 of.2)
 
-    rest_value : ArePairs cmp ((key, value) ∷ rest) → (other : K) (committed : V) → value_of cmp other rest ≡ Some committed → value_of cmp other left ≡ Some committed
-    rest_value sorted other committed e =
-        any_key o (λ (k : K). value_of cmp k rest ≡ Some committed → value_of cmp k left ≡ Some committed) key
-        (λ there. absurd (none-some committed (sym (value_of_before o key rest sorted.0) ∙ there)))
+    rest_value : ArePairs cmp ((key, value) ∷ rest) → (other : K) (found : V) → value_of cmp other rest ≡ Some found → value_of cmp other left ≡ Some found
+    rest_value sorted other found e =
+        any_key o (λ (k : K). value_of cmp k rest ≡ Some found → value_of cmp k left ≡ Some found) key
+        (λ there. absurd (none-some found (sym (value_of_before o key rest sorted.0) ∙ there)))
         (λ k apart there. ap (value_of cmp k) first ∙ value_of_later o k (key, value) rest apart ∙ there) other e
 
     pub tallying_more : (less : KindTotals) → ((fewer : List (K × Tests)) → IsTallyAt cmp asked counts fewer tally → IsTallyOf (counts_without cmp asked above fewer) less)
@@ -103,7 +89,7 @@ module _ {K V : Type 0} {cmp : K → K → Ordering} (o : IsExactOrder cmp) (is_
         let sorted = subst (ArePairs cmp) first is.sorted in
         record {
           sorted = sorted.1;
-          values = λ other committed e. is.values other committed (rest_value sorted other committed e);
+          values = λ other found e. is.values other found (rest_value sorted other found e);
           tallied = λ others are.
               let of = is.tallied others are in (
                 counts_without cmp key (is_above value) of.0,

@@ -45,7 +45,7 @@ module _ {K : Type 0} (name : K → List ℕ) (key : List ℕ) where
     pub All-unfound : (P Q : K × X → Type 0) (es : List (K × X)) → lookup has_name es ≡ None → ((e : K × X) → P e → (name e.0 ≡ key → ⊥) → Q e) → AllByRecursion P es → AllByRecursion Q es
     All-unfound P Q es none other all = All-others P Q es (none_passes_from_lookup has_name es none) other all
 
-    -- no key behind it has the same name
+    -- no key after it has the same name
     none_behind : (k : K) (es : List (K × X)) → name k ≡ key → AllByRecursion (λ next. slice_cmp nat_cmp (name k) (name next) ≡ Less) (keys_of es) → NonePasses has_name es
     none_behind k [] e behind = tt
     none_behind k (next ∷ es) e behind =

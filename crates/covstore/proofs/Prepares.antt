@@ -7,7 +7,7 @@ use Rattle.covline.specs.Lawful.{IsLawful, most_items}
 use Rattle.covstore.specs.declared.totals.Totals.{Totals}
 use Rattle.covstore.specs.Clash.{Agree, checksums_in, clash_of}
 use Rattle.covstore.specs.Content.{content_at, content_of}
-use Rattle.covstore.specs.Store.{AddsRows, ClashesWith, HasRoomForRows, IsPlanOf, PlanData, SameContent, SameCommitted, StandsFor, StoreData, IsRefusedAt, RefuseData, ClashRefuse, MemoryRefuse, most_members}
+use Rattle.covstore.specs.Store.{AddsRows, ClashesWith, HasRoomForRows, IsPlanOf, PlanData, SameCommitted, StandsFor, StoreData, IsRefusedAt, RefuseData, ClashRefuse, MemoryRefuse, most_members}
 use Rattle.covstore.specs.State.{IsStateOf, sections_of, totals_in}
 use Rattle.covstore.specs.StoreKept.{IsKept}
 use Rattle.covstore.specs.Table.{Table, all_rows, clash_at}
@@ -48,9 +48,6 @@ module _ (before : StoreData) (committed : Totals) (kept : IsKept before committ
     }
 
     module _ (later : StoreData) (same : SameCommitted settled later) where
-      pub content_stays : SameContent before later
-      content_stays = record { sections = same.sections ∙ same_sections; members = same.members ∙ same_members }
-
       same_rows : (table : Table) → StandsFor before table → content_of (all_rows own) ≡ content_of (all_rows table)
       same_rows table stands = sym (sections_are (all_rows kept.is.own) before.committed kept.is.state kept.is.agree) ∙ sym kept.seen ∙ stands.content
 

@@ -55,9 +55,9 @@ module _ {K V : Type 0} {cmp : K → K → Ordering} (o : IsExactOrder cmp) wher
   pair_in key value [] h = absurd (none-some value h)
   pair_in key value (pair ∷ pairs) h = pair_in_at key value pair pairs (cmp pair.0 key) refl (pair_in key value pairs) h
 
-  some_in_at : (equal : Bool) (committed : V) (rest : Option V) → is_some rest ≡ true → is_some (cond equal (Some committed) rest) ≡ true
-  some_in_at true committed rest e = refl
-  some_in_at false committed rest e = e
+  some_in_at : (equal : Bool) (value : V) (rest : Option V) → is_some rest ≡ true → is_some (cond equal (Some value) rest) ≡ true
+  some_in_at true value rest e = refl
+  some_in_at false value rest e = e
 
   -- a key that is there has a value
   pub some_in : (key : K) (value : V) (pairs : List (K × V)) → In (key, value) pairs → is_some (value_of cmp key pairs) ≡ true
@@ -175,14 +175,14 @@ module _ {K V : Type 0} {cmp : K → K → Ordering} (o : IsExactOrder cmp) wher
     where
       one_or_new : (before : Option V) → at_before {K = K} {V = V} (λ pair. 1) key before + one_if (is_new before) ≡ 1
       one_or_new None = omega arith
-      one_or_new (Some committed) = omega arith
+      one_or_new (Some old) = omega arith
 
   pub count_by-put : (p : K × V → Bool) (key : K) (value : V) (pairs : List (K × V)) → ArePairs cmp pairs
-      → count_by p (put cmp key value pairs) + one_if (is_above_at (λ committed. p (key, committed)) (value_of cmp key pairs)) ≡ count_by p pairs + one_if (p (key, value))
+      → count_by p (put cmp key value pairs) + one_if (is_above_at (λ old. p (key, old)) (value_of cmp key pairs)) ≡ count_by p pairs + one_if (p (key, value))
   count_by-put p key value pairs sorted =
       let sums = sum_by-put (λ pair. cond (p pair) 1 0) key value pairs sorted in
       omega (arith, sums, counted (value_of cmp key pairs), counted_one (p (key, value)))
     where
-      counted : (before : Option V) → at_before (λ pair. cond (p pair) 1 0) key before ≡ one_if (is_above_at (λ committed. p (key, committed)) before)
+      counted : (before : Option V) → at_before (λ pair. cond (p pair) 1 0) key before ≡ one_if (is_above_at (λ old. p (key, old)) before)
       counted None = refl
-      counted (Some committed) = counted_one (p (key, committed))
+      counted (Some old) = counted_one (p (key, old))

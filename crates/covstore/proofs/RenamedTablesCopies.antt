@@ -154,14 +154,14 @@ module _ (old new : List ℕ) where
           ∙ none_picked rows)
 
   -- their checksums are among those of the rows
-  pub held_in_moved : (rows : List Row) (committed : Checksum) → In committed (checksums_in (rows ++ moved_rows old new rows)) → In committed (checksums_in rows)
-  held_in_moved rows committed i =
-      ⊎_elim {C = In committed (checksums_in rows)}
-      (λ (before : In committed (checksums_in rows)). before)
-      (λ (now : In committed (checksums_in (moved_rows old new rows))).
-      let row = In-unflat checksum_of_row (filter (is_of_test old) rows) committed (subst (In committed) (agree_renamed old new (filter (is_of_test old) rows)) now) in
-      In-flat checksum_of_row rows row.0 committed (In-unfilter (is_of_test old) rows row.0 row.1).0 row.2)
-      (In-parts (checksums_in rows) (checksums_in (moved_rows old new rows)) committed (subst (In committed) (flat_map-append checksum_of_row rows (moved_rows old new rows)) i))
+  pub held_in_moved : (rows : List Row) (checksum : Checksum) → In checksum (checksums_in (rows ++ moved_rows old new rows)) → In checksum (checksums_in rows)
+  held_in_moved rows checksum i =
+      ⊎_elim {C = In checksum (checksums_in rows)}
+      (λ (before : In checksum (checksums_in rows)). before)
+      (λ (now : In checksum (checksums_in (moved_rows old new rows))).
+      let row = In-unflat checksum_of_row (filter (is_of_test old) rows) checksum (subst (In checksum) (agree_renamed old new (filter (is_of_test old) rows)) now) in
+      In-flat checksum_of_row rows row.0 checksum (In-unfilter (is_of_test old) rows row.0 row.1).0 row.2)
+      (In-parts (checksums_in rows) (checksums_in (moved_rows old new rows)) checksum (subst (In checksum) (flat_map-append checksum_of_row rows (moved_rows old new rows)) i))
 
 -- ---- the copied rows of a key
 

@@ -1,7 +1,6 @@
 -- The state of rows where a test has another name: what was staged of it under the new name is there, and the old test is gone.
 use Rattle.std.proofs.Common.{◌≡◌, ℕ, Bool, true, false, cond, not, List, [], ◌∷◌, ◌++◌, map, filter, refl, sym, ap, ◌∙◌, subst, arith}
 use Rattle.std.specs.Option.{is_some}
-use Rattle.std.specs.List.{count_by}
 use Rattle.std.specs.List.Sorted.{IsPermutation}
 use Rattle.std.specs.Str.{bytes_eq}
 use Rattle.std.proofs.lemmas.Bool.{false≢true}
@@ -21,7 +20,7 @@ use Rattle.covstore.specs.FileDrops.{AreWithoutTest}
 use Rattle.covstore.specs.StoreView.{IsStore}
 use Rattle.covstore.specs.Renamed.{moved_rows, renamed, renamed_row}
 use Rattle.covstore.specs.Renaming.{IsMoving}
-use Rattle.covstore.specs.State.{FileData, IsStateOf, has_points_of, totals_in}
+use Rattle.covstore.specs.State.{FileData, IsStateOf, totals_in}
 use Rattle.covstore.specs.Store.{StandsFor}
 use Rattle.covstore.specs.Sums.{branch_sum, function_sum, line_sum, test_of}
 use Rattle.covstore.specs.Table.{Table, all_rows}
@@ -34,14 +33,13 @@ use Rattle.covstore.proofs.ContentsChecksums.{checksums_there}
 use Rattle.covstore.proofs.ContentsSections.{sections_same}
 use Rattle.covstore.proofs.Members.{Contains-from, In-from}
 use Rattle.covstore.proofs.RenamedAlike.{same_sums, test_alike}
-use Rattle.covstore.proofs.RenamedTables.{agree_in_renamed, content_totals_renamed, renamed_none_counted, row_stays, rows_renamed, small_renamed}
+use Rattle.covstore.proofs.RenamedTables.{agree_in_renamed, content_totals_renamed, row_stays, rows_renamed, small_renamed}
 use Rattle.covstore.proofs.StateSections.{sections_are}
 use Rattle.covstore.proofs.StateSeen.{map_of_map}
 use Rattle.covstore.proofs.StateTotals.{totals_are}
 use Rattle.covstore.proofs.Stores.{store_of, store_sections, store_totals}
 use Rattle.covstore.proofs.WithoutContent.{passed_over, picked, rows_without}
 use Rattle.covstore.proofs.WithoutState.{state_without}
-use Rattle.covstore.proofs.WithoutStores.{sections_with}
 
 -- ---- states of other rows
 
@@ -51,7 +49,7 @@ state_alike rows others files alike state = record {
   ascending = state.ascending;
   points = λ key. state.points key
       ∙ test_alike (items_at key rows) (items_at key others) (alike_mapped (λ (row : Row). row.item) (filter (has_key key) rows) (filter (has_key key) others) (alike_picked (has_key key) rows others alike));
-  texts = λ committed i. state.texts committed (Contains-from (checksums_in rows) committed ((alike_said checksum_of_row rows others alike).back committed (In-from (checksums_in others) committed i)));
+  texts = λ checksum i. state.texts checksum (Contains-from (checksums_in rows) checksum ((alike_said checksum_of_row rows others alike).back checksum (In-from (checksums_in others) checksum i)));
   whole = state.whole;
 }
 
@@ -73,7 +71,7 @@ pub state_by_content : (rows others : List Row) (files : List (List ℕ × FileD
 state_by_content rows others files same agree state = record {
   ascending = state.ascending;
   points = λ key. state.points key ∙ tests_by_section key (items_at key rows) (items_at key others) (sections_same rows others same key);
-  texts = λ committed i. state.texts committed (Contains-from (checksums_in rows) committed (checksums_there others rows agree (sym same) committed (In-from (checksums_in others) committed i)));
+  texts = λ checksum i. state.texts checksum (Contains-from (checksums_in rows) checksum (checksums_there others rows agree (sym same) checksum (In-from (checksums_in others) checksum i)));
   whole = state.whole;
 }
 
@@ -208,8 +206,3 @@ module _ (old new leaves : List ℕ) (members : ℕ) (committed later : Totals) 
       → StandsFor (store_of members after staged_after totals_after) (renamed old new table)
   stands_moved staged_after totals_after table stands =
       stands_renamed old new moving.apart members committed files staged after is moving.moves left_old staged staged_after later totals_after table stands
-
--- where no file has points of the test, each table that a store stands for stays
-pub stands_still : (old new : List ℕ) (members : ℕ) (committed : Totals) (files staged : List (List ℕ × FileData)) (later : Totals) → IsStore members committed files
-    → count_by (λ pair. has_points_of old pair.1) files ≡ 0 → (table : Table) → StandsFor (store_of members files staged later) table → renamed old new table ≡ table
-stands_still old new members committed files staged later is none table stands = renamed_none_counted old new table (sym (sections_with old members committed files is table stands.content) ∙ none)

@@ -32,7 +32,7 @@ module _ {P : Type 0} {cmp : P → P → Ordering} (total : IsTotalOrder cmp) wh
       let own : cmp p p ≡ Less = subst (λ (z : P). cmp p z ≡ Less) e less in
       cc
 
-  -- no member behind the first is the first, and the first is none of them
+  -- no member after the first is the first, and the first is none of them
   behind_differs : (p : P) (ps : List P) → IsStrictlySortedBy cmp (p ∷ ps) → (q : P) → In q ps → q ≡ p → ⊥
   unfolding IsStrictlySortedBy
   behind_differs p ps up q i = less_differs p q (All-in (λ z. cmp p z ≡ Less) ps q up.0 i)

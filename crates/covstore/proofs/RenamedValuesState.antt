@@ -29,10 +29,10 @@ use Rattle.covstore.proofs.StateSeen.{HasChecksums, map_of_map, text_as_said}
 
 -- the items of what items add up to are their values
 pub items_as_values : (texts : List (ℕ × List ℕ)) (items : List ItemData) → HasChecksums texts items → items_of_test texts (test_of items) ≡ values_of items
-items_as_values texts items committed =
+items_as_values texts items has =
     ap₂ (λ (ls others : List ItemData). ls ++ others)
     (map_of_map (line_sum items) (line_item texts) (line_value_item items) (lines_in items)
-    (λ line. ap (λ (text : Option (List ℕ)). LineItem line (line_value line items) text) (text_as_said texts line (line_checksum line items) (committed line))))
+    (λ line. ap (λ (text : Option (List ℕ)). LineItem line (line_value line items) text) (text_as_said texts line (line_checksum line items) (has line))))
     (ap₂ (λ (fs bs : List ItemData). fs ++ bs)
     (map_of_map (function_sum items) function_item (function_value_item items) (names_in items) (λ name. refl))
     (map_of_map (branch_sum items) branch_item (branch_value_item items) (branches_in items) (λ point. refl)))
@@ -107,12 +107,12 @@ module _ (rows : List Row) (name old new : List ℕ) where
   copied_state after state = record {
     ascending = state.ascending;
     points = λ key. state.points key ∙ points_copied key;
-    texts = λ committed i.
-        state.texts committed
-        (Contains-from (checksums_in (rows ++ rows_of_items name new (values_of its_items))) committed
-        (subst (In committed) (sym (flat_map-append checksum_of_row rows (rows_of_items name new (values_of its_items))))
-        (In-joined (checksums_in rows) (checksums_in (rows_of_items name new (values_of its_items))) committed
-        (inl (checksums_joined committed (In-from (checksums_in (rows ++ copied_rows name old new rows)) committed i))))));
+    texts = λ checksum i.
+        state.texts checksum
+        (Contains-from (checksums_in (rows ++ rows_of_items name new (values_of its_items))) checksum
+        (subst (In checksum) (sym (flat_map-append checksum_of_row rows (rows_of_items name new (values_of its_items))))
+        (In-joined (checksums_in rows) (checksums_in (rows_of_items name new (values_of its_items))) checksum
+        (inl (checksums_joined checksum (In-from (checksums_in (rows ++ copied_rows name old new rows)) checksum i))))));
     whole = state.whole;
   }
 
@@ -125,5 +125,5 @@ pub holders_are : (rows : List Row) (files : List (List ℕ × FileData)) → Is
 holders_are rows files state name old file source its_file its_test line has =
     let whole : IsWholeFile file = All-in (λ (pair : List ℕ × FileData). IsWholeFile pair.1) files (name, file) state.whole (pair_in names_order name file files its_file) in
     let sum : HasSum source line = above_sum (value_of nat_cmp line source.lines) has in
-    ap (λ (committed : Option ℕ). is_some committed) (whole.kept.holders line)
+    ap (λ (tests : Option ℕ). is_some tests) (whole.kept.holders line)
     ∙ held_of line (tests_in file) source (In-map (λ (pair : List ℕ × TestData). pair.1) file.tests (old, source) (pair_in names_order old source file.tests its_test)) sum

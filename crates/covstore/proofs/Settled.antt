@@ -200,7 +200,3 @@ popped_as touched front last file test same its_file its_test =
     touched_last front touched last same
     ∙ ap (λ (name : List ℕ). touched_data front ++ (name, last.test.items) ∷ []) (sym its_file)
     ∙ ap (λ (name : List ℕ). touched_data front ++ (file, name) ∷ []) (sym its_test)
-
-pub still_settled : {A : Type 0} (touched : List (Touched A)) (pairs : List (Vec ℕ A × File A)) → length touched ≡ 0 → AreSettledBut file_name [] pairs → AreSettledBut file_name (touched_data touched) pairs
-still_settled [] pairs e all = all
-still_settled (t ∷ touched) pairs e all = absurd (omega (arith, e))

@@ -118,4 +118,4 @@ test_more rows files state name test file there none =
     let whole : IsWholeFile file = file_whole rows files state name file there in
     same_rows rows files state name (with_test test file) (whole_with_test test file whole none)
     (λ other. points_with_test test file none other (name_or_not test other) ∙ ap (λ (found : Option FileData). points_in found other) (sym there))
-    (λ line text committed. sym (ap (λ (found : Option FileData). text_in found line) there) ∙ committed)
+    (λ line text held. sym (ap (λ (found : Option FileData). text_in found line) there) ∙ held)

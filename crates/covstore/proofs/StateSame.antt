@@ -34,14 +34,14 @@ module _ (rows others : List Row) (files : List (List ℕ × FileData)) (state :
         later.points key ∙ ap test_of (items_at-append key rows more)
         ∙ tests_with_more (items_at key rows) (items_at key others) (items_at key more) (sym (state.points key) ∙ other.points key)
         ∙ ap test_of (sym (items_at-append key others more));
-    texts = λ committed i. later.texts committed (Contains-from (checksums_in (rows ++ more)) committed (
-        subst (In committed) (sym (flat_map-append checksum_of_row rows more))
-        (⊎_elim {C = In committed (checksums_in rows ++ checksums_in more)}
-        (λ (before : In committed (checksums_in others)).
-        In-joined (checksums_in rows) (checksums_in more) committed (inl (checksums_there others rows (state_agrees others files other) (sym same_contents) committed before)))
-        (λ (now : In committed (checksums_in more)). In-joined (checksums_in rows) (checksums_in more) committed (inr now))
-        (In-parts (checksums_in others) (checksums_in more) committed
-        (subst (In committed) (flat_map-append checksum_of_row others more) (In-from (checksums_in (others ++ more)) committed i))))));
+    texts = λ checksum i. later.texts checksum (Contains-from (checksums_in (rows ++ more)) checksum (
+        subst (In checksum) (sym (flat_map-append checksum_of_row rows more))
+        (⊎_elim {C = In checksum (checksums_in rows ++ checksums_in more)}
+        (λ (before : In checksum (checksums_in others)).
+        In-joined (checksums_in rows) (checksums_in more) checksum (inl (checksums_there others rows (state_agrees others files other) (sym same_contents) checksum before)))
+        (λ (now : In checksum (checksums_in more)). In-joined (checksums_in rows) (checksums_in more) checksum (inr now))
+        (In-parts (checksums_in others) (checksums_in more) checksum
+        (subst (In checksum) (flat_map-append checksum_of_row others more) (In-from (checksums_in (others ++ more)) checksum i))))));
     whole = later.whole;
   }
 

@@ -37,9 +37,9 @@ points_same file other test e = ap points_or_none e
 module _ (rows : List Row) (files : List (List ℕ × FileData)) (state : IsStateOf rows files) where
   pub file_has_checksums : (key : Key) (file : FileData) → value_of (slice_cmp nat_cmp) key.file files ≡ Some file → HasChecksums file.index.texts (items_at key rows)
   file_has_checksums key file there line said e =
-      let committed : Checksum = record { file = key.file; line = line; checksum = said } in
+      let checksum : Checksum = record { file = key.file; line = line; checksum = said } in
       ap (λ (found : Option FileData). text_in found line) (sym there)
-      ∙ state.texts committed (Contains-from (checksums_in rows) committed (line_checksum_held rows key line said e))
+      ∙ state.texts checksum (Contains-from (checksums_in rows) checksum (line_checksum_held rows key line said e))
 
   -- ---- each section that is seen is of a key of the rows
 
@@ -125,4 +125,4 @@ sections_are rows files state agree = sections_as rows files state
 -- ---- no rows
 
 pub no_rows : IsStateOf [] []
-no_rows = record { ascending = tt; points = λ key. refl; texts = λ committed i. absurd (In-from [] committed i); whole = tt }
+no_rows = record { ascending = tt; points = λ key. refl; texts = λ checksum i. absurd (In-from [] checksum i); whole = tt }

@@ -1,6 +1,6 @@
 -- The sums of one kind of points (lines, functions or branches): each point of the items once, in order, with its value.
 use Rattle.std.proofs.Common.{◌≡◌, cond, Option, Some, None, List, [], ◌∷◌, ◌++◌, map, refl, sym, ap, ◌∙◌, subst, inl, inr, ⊎_elim}
-use Rattle.std.specs.Prelude.{◌⊎◌, ◌↔◌, Contains}
+use Rattle.std.specs.Prelude.{◌⊎◌, Contains}
 use Rattle.std.specs.declared.cmp.Ordering.{Ordering}
 use Rattle.std.specs.declared.cmp.Ordering.TheVariants.{Less, Equal, Greater}
 use Rattle.std.specs.List.{AllByRecursion, flat_map}
@@ -14,7 +14,7 @@ use Rattle.covstore.specs.Ascending.{ascending}
 use Rattle.covmap.specs.Puts.{ArePairs, put, value_of}
 use Rattle.covstore.proofs.Ascend.{IsExactOrder, ascending_sorted, In-ascending, In-to_ascending}
 use Rattle.covstore.proofs.ContentsLists.{In-or_not}
-use Rattle.covstore.proofs.Members.{In, In-from, Contains-from, In-joined, In-parts}
+use Rattle.covstore.proofs.Members.{In, In-from, In-joined, In-parts}
 use Rattle.covstore.proofs.Puts.{ArePairs-put, same_pairs, value_of-put, value_of-put_other}
 
 -- ---- points with their values
@@ -145,18 +145,12 @@ module _ {P V : Type 0} {cmp : P → P → Ordering} (order : IsExactOrder cmp) 
 
   -- ---- which points have a value, and which
 
-  pub sums_held : (items : List ItemData) (p : P) (committed : V) → value_of cmp p (sums cmp point value items) ≡ Some committed → In p (flat_map point items) × (value items p ≡ committed)
-  sums_held items p committed h =
-      ⊎_elim {C = In p (flat_map point items) × (value items p ≡ committed)}
-      (λ (i : In p (flat_map point items)). (i, same_Some (value items p) committed (sym (sums_some items p i) ∙ h)))
-      (λ (none : In p (flat_map point items) → ⊥). absurd (none-some committed (sym (sums_none items p none) ∙ h)))
+  pub sums_held : (items : List ItemData) (p : P) (sum : V) → value_of cmp p (sums cmp point value items) ≡ Some sum → In p (flat_map point items) × (value items p ≡ sum)
+  sums_held items p sum h =
+      ⊎_elim {C = In p (flat_map point items) × (value items p ≡ sum)}
+      (λ (i : In p (flat_map point items)). (i, same_Some (value items p) sum (sym (sums_some items p i) ∙ h)))
+      (λ (none : In p (flat_map point items) → ⊥). absurd (none-some sum (sym (sums_none items p none) ∙ h)))
       (In-or_not cmp order p (flat_map point items))
 
   pub sums_known : (items : List ItemData) (p : P) → Contains (flat_map point items) p → value_of cmp p (sums cmp point value items) ≡ Some (value items p)
   sums_known items p there = sums_some items p (In-from (flat_map point items) p there)
-
-  pub sums_unknown : (items : List ItemData) (p : P) → (value_of cmp p (sums cmp point value items) ≡ None) ↔ (Contains (flat_map point items) p → ⊥)
-  sums_unknown items p = (
-    λ e there. none-some (value items p) (sym e ∙ sums_known items p there),
-    λ none. sums_none items p (λ i. none (Contains-from (flat_map point items) p i)),
-  )

@@ -17,8 +17,8 @@ pub line_known : (items : List ItemData) (line : ℕ) → Contains (line_points 
 line_known items line there = sums_known lines_order line_point line_held items line there
 
 -- the value that a line has is the sum of its items
-pub line_is : (items : List ItemData) (line : ℕ) (committed : LineSum) → value_of nat_cmp line (test_of items).lines ≡ Some committed → (line_sum items line).1 ≡ committed
-line_is items line committed h = (sums_held lines_order line_point line_held items line committed h).1
+pub line_is : (items : List ItemData) (line : ℕ) (value : LineSum) → value_of nat_cmp line (test_of items).lines ≡ Some value → (line_sum items line).1 ≡ value
+line_is items line value h = (sums_held lines_order line_point line_held items line value h).1
 
-pub line_has_checksum : (items : List ItemData) (line : ℕ) (committed : LineSum) → value_of nat_cmp line (test_of items).lines ≡ Some committed → committed.has_checksum ≡ is_some (line_checksum line items)
-line_has_checksum items line committed h = ap (λ (sum : LineSum). sum.has_checksum) (sym (line_is items line committed h))
+pub line_has_checksum : (items : List ItemData) (line : ℕ) (value : LineSum) → value_of nat_cmp line (test_of items).lines ≡ Some value → value.has_checksum ≡ is_some (line_checksum line items)
+line_has_checksum items line value h = ap (λ (sum : LineSum). sum.has_checksum) (sym (line_is items line value h))

@@ -97,11 +97,11 @@ module _ (test : List ℕ) where
 
   -- ---- the checksums that are left are of those that were there
 
-  pub held_before : (rows : List Row) (committed : Checksum) → Contains (checksums_in (rows_without test rows)) committed → Contains (checksums_in rows) committed
-  held_before rows committed i =
-      let row = In-unflat checksum_of_row (rows_without test rows) committed (In-from (checksums_in (rows_without test rows)) committed i) in
+  pub held_before : (rows : List Row) (checksum : Checksum) → Contains (checksums_in (rows_without test rows)) checksum → Contains (checksums_in rows) checksum
+  held_before rows checksum i =
+      let row = In-unflat checksum_of_row (rows_without test rows) checksum (In-from (checksums_in (rows_without test rows)) checksum i) in
       let own = In-unfilter (λ r. not (is_of_test test r)) rows row.0 row.1 in
-      Contains-from (checksums_in rows) committed (In-flat checksum_of_row rows row.0 committed own.0 row.2)
+      Contains-from (checksums_in rows) checksum (In-flat checksum_of_row rows row.0 checksum own.0 row.2)
 
   -- ---- the state
 
@@ -123,9 +123,9 @@ module _ (test : List ℕ) where
     state_without = record {
       ascending = names_ascend files after are state.ascending;
       points = λ key. points_by key (bytes_eq key.test test) refl;
-      texts = λ committed i.
-          text_stays committed.line (value_of (slice_cmp nat_cmp) committed.file files) (value_of (slice_cmp nat_cmp) committed.file after) (found_without committed.file files after are)
-          ∙ state.texts committed (held_before rows committed i);
+      texts = λ checksum i.
+          text_stays checksum.line (value_of (slice_cmp nat_cmp) checksum.file files) (value_of (slice_cmp nat_cmp) checksum.file after) (found_without checksum.file files after are)
+          ∙ state.texts checksum (held_before rows checksum i);
       whole = all_whole files after are;
     }
 

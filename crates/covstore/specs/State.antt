@@ -145,5 +145,5 @@ pub record IsWholeFile (file : FileData) : Type 0 where
 pub record IsStateOf (rows : List Row) (files : List (List ℕ × FileData)) : Type 0 where
   pub ascending : ArePairs (slice_cmp nat_cmp) files
   pub points : (key : Key) → points_at key files ≡ test_of (items_at key rows)
-  pub texts : (committed : Checksum) → Contains (checksums_in rows) committed → text_in (value_of (slice_cmp nat_cmp) committed.file files) committed.line ≡ Some committed.checksum
+  pub texts : (checksum : Checksum) → Contains (checksums_in rows) checksum → text_in (value_of (slice_cmp nat_cmp) checksum.file files) checksum.line ≡ Some checksum.checksum
   pub whole : AllByRecursion (λ pair. IsWholeFile pair.1) files

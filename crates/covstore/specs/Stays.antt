@@ -13,23 +13,23 @@ use Rattle.covstore.specs.Kinds.{branch_above, function_above, line_above}
 use Rattle.covstore.specs.Sums.{branch_with, function_with, line_with, sum_taken}
 use Rattle.covstore.specs.Value.{bounded, is_taken}
 
-more_above : (committed count : ℕ) → nat_lt 0 committed ≡ true → nat_lt 0 (bounded (committed + count)) ≡ true
-more_above committed count e = lt-ltb 0 (bounded (committed + count)) (omega (arith, ltb-true 0 committed e))
+more_above : (before count : ℕ) → nat_lt 0 before ≡ true → nat_lt 0 (bounded (before + count)) ≡ true
+more_above before count e = lt-ltb 0 (bounded (before + count)) (omega (arith, ltb-true 0 before e))
 
 pub line_stays : (more : LineAddend) (before : Option LineSum) → is_above_at line_above before ≡ true → line_above (line_with more.count more.has_checksum before) ≡ true
 line_stays more None e = absurd (false≢true e)
-line_stays more (Some committed) e = more_above committed.count more.count e
+line_stays more (Some sum) e = more_above sum.count more.count e
 
 pub function_stays : (more : FunctionAddend) (before : Option FunctionSum) → is_above_at function_above before ≡ true → function_above (function_with more.line more.count before) ≡ true
 function_stays more None e = absurd (false≢true e)
-function_stays more (Some committed) e = more_above committed.count more.count e
+function_stays more (Some sum) e = more_above sum.count more.count e
 
-taken_stays : (committed taken : Option ℕ) → is_taken committed ≡ true → is_taken (sum_taken committed taken) ≡ true
+taken_stays : (before taken : Option ℕ) → is_taken before ≡ true → is_taken (sum_taken before taken) ≡ true
 taken_stays None None e = absurd (false≢true e)
 taken_stays None (Some taken) e = absurd (false≢true e)
-taken_stays (Some committed) None e = e
-taken_stays (Some committed) (Some taken) e = more_above committed taken e
+taken_stays (Some before) None e = e
+taken_stays (Some before) (Some taken) e = more_above before taken e
 
 pub branch_stays : (more : BranchAddend) (before : Option BranchSum) → is_above_at branch_above before ≡ true → branch_above (branch_with more.times before) ≡ true
 branch_stays more None e = absurd (false≢true e)
-branch_stays more (Some committed) e = taken_stays committed.times more.times e
+branch_stays more (Some sum) e = taken_stays sum.times more.times e

@@ -42,22 +42,22 @@ test_of items = record {
 
 abbrev pub line_with : ℕ → Bool → Option LineSum → LineSum
 line_with count has_checksum None = record { count = bounded count; has_checksum = has_checksum }
-line_with count has_checksum (Some committed) = record { count = bounded (committed.count + count); has_checksum = committed.has_checksum || has_checksum }
+line_with count has_checksum (Some before) = record { count = bounded (before.count + count); has_checksum = before.has_checksum || has_checksum }
 
 abbrev pub function_with : ℕ → ℕ → Option FunctionSum → FunctionSum
 function_with line count None = record { line = line; count = bounded count }
-function_with line count (Some committed) = record { line = min committed.line line; count = bounded (committed.count + count) }
+function_with line count (Some before) = record { line = min before.line line; count = bounded (before.count + count) }
 
 -- two numbers that may be missing: their sum, and none where both are missing
 abbrev pub sum_taken : Option ℕ → Option ℕ → Option ℕ
 sum_taken None None = None
 sum_taken None (Some taken) = Some (bounded taken)
-sum_taken (Some committed) None = Some committed
-sum_taken (Some committed) (Some taken) = Some (bounded (committed + taken))
+sum_taken (Some before) None = Some before
+sum_taken (Some before) (Some taken) = Some (bounded (before + taken))
 
 abbrev pub branch_with : Option ℕ → Option BranchSum → BranchSum
 branch_with taken None = record { times = sum_taken None taken }
-branch_with taken (Some committed) = record { times = sum_taken committed.times taken }
+branch_with taken (Some before) = record { times = sum_taken before.times taken }
 
 abbrev pub with_item : ItemData → TestData → TestData
 with_item (LineItem line count checksum) test = with_at Line (put nat_cmp line (line_with count (is_some checksum) (value_of nat_cmp line test.lines)) test.lines) test

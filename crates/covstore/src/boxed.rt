@@ -1,4 +1,4 @@
-//! A value of a map behind a box.
+//! A value of a map, in a box of its own.
 
 ghost use Rattle.std.specs.Prelude.{◌≡◌, IfOk};
 ghost use Rattle.std.specs.Borrow.{sem};
@@ -6,7 +6,7 @@ ghost use Rattle.std.specs.Borrow.{sem};
 use std::alloc::{AllocError, Allocator};
 use std::marker::Model;
 
-/// A value behind a box. A map's node has places for fifteen values, and is half full on the average: with a box a place
+/// A value in a box. A map's node has places for fifteen values, and is half full on the average: with a box a place
 /// takes little. Contracts see the value.
 #[derive(Drop)]
 pub(crate) struct Boxed<T, A: Allocator> {
@@ -20,7 +20,7 @@ impl<T, A: Allocator> Model for Boxed<T, A> {
 }
 
 impl<T: Drop, A: Allocator> Boxed<T, A> {
-    /// Puts a value behind a box.
+    /// Puts a value into a box.
     pub(crate) fn new(alloc: A, value: T) -> Result<Boxed<T, A>, AllocError>
         ensures { IfOk result (λ boxed. boxed ≡ value) }
     {

@@ -45,7 +45,8 @@ impl<A: Allocator + Copy> Checksums<A> {
         }
     }
 
-    /// Holds the checksum of a line in one test more, unless the test holds it, or tells the other one that is held.
+    /// Stages one more test that holds this checksum of a line, unless the test holds it already. A checksum that differs from
+    /// the one that is held is a clash.
     pub(crate) fn hold(
         &mut self,
         alloc: A,
@@ -73,7 +74,7 @@ impl<A: Allocator + Copy> Checksums<A> {
         self.count(alloc, line, tests + 1)
     }
 
-    /// So many tests hold the checksum of a line, which has its text. A refusal forgets what is staged.
+    /// Stages how many tests hold the checksum of a line, which has a text. A refusal forgets what is staged.
     fn count(&mut self, alloc: A, line: u64, tests: u64) -> Result<(), Stop<A>>
         requires { is_some (value_of nat_cmp line self.old.texts) ≡ true }
         ensures committed { self.new.committed ≡ self.old.committed }
@@ -88,21 +89,22 @@ impl<A: Allocator + Copy> Checksums<A> {
         Ok(())
     }
 
-    /// Tells the checksum that is held of a line, where it is another one than this.
+    /// Compares a checksum with the one that is held of the line. They clash where they differ.
     fn agrees(&self, alloc: A, line: u64, text: &[u8]) -> Result<(), Stop<A>>
-        requires committed { is_some (value_of nat_cmp line self.now.staged) ≡ true }
+        requires held { is_some (value_of nat_cmp line self.now.staged) ≡ true }
         requires kept { is_some (value_of nat_cmp line self.now.texts) ≡ true }
         ensures ok { OnOk result (value_of nat_cmp line self.now.texts ≡ Some text.now) }
         ensures clash { IfErr result (IsToldOf self.now line text.now) }
     {
-        if let Some(held) = self.text(line) {
-            if held != text {
-                return Err(Stop::Clash {
-                    line,
-                    held: Bytes::of(alloc, held)?,
-                    given: Bytes::of(alloc, text)?,
-                });
-            }
+        let Some(held) = self.text(line) else {
+            unreachable!();
+        };
+        if held != text {
+            return Err(Stop::Clash {
+                line,
+                held: Bytes::of(alloc, held)?,
+                given: Bytes::of(alloc, text)?,
+            });
         }
         Ok(())
     }
@@ -127,7 +129,7 @@ impl<A: Allocator + Copy> Checksums<A> {
 }
 
 impl<A: Allocator> Checksums<A> {
-    /// A test less holds the checksum of a line. Nothing else is staged then. Takes no memory.
+    /// Removes one of the tests that hold the checksum of a line, and forgets what is staged. Takes no memory.
     pub(crate) fn release(&mut self, line: u64)
         requires { is_some (value_of nat_cmp line self.old.committed) ≡ true }
         ensures committed { self.new.committed ≡ held_less line self.old.committed }
@@ -150,7 +152,7 @@ impl<A: Allocator> Checksums<A> {
     }
 }
 
-/// How many tests hold a checksum where one less does; none where that was the only one.
+/// The number of tests without one of them, and none where that was the only one.
 fn one_less(tests: u64) -> Option<u64>
     ensures { result ≡ one_less tests }
 {

@@ -127,20 +127,18 @@ impl<'a, A: Allocator> Section<'a, A> {
 impl<'a, A: Allocator> FileSections<'a, A> {
     ghost use Rattle.std.specs.Prelude.{◌≡◌};
     ghost use Rattle.std.specs.List.{AllByRecursion};
-    ghost use Rattle.covstore.specs.FileView.{file_committed};
-    ghost use Rattle.covstore.specs.ContentView.{IsFewOf};
-    ghost use Rattle.covstore.specs.State.{sections_of_file};
+    ghost use Rattle.covstore.specs.ContentView.{IsFewOf, tests_seen};
 
-    /// The sections of a file.
-    fn of(name: &'a [u8], file: &'a File<A>) -> FileSections<'a, A>
-        requires { AllByRecursion IsFewOf (sections_of_file (name.now, file_committed file.now)) }
-        ensures { result ≡ sections_of_file (name.now, file_committed file.now) }
+    /// The sections of these tests of a file.
+    pub(crate) fn of(
+        file: &'a [u8],
+        index: &'a FileIndex<A>,
+        tests: Iter<'a, Vec<u8, A>, Boxed<Test<A>, A>>,
+    ) -> FileSections<'a, A>
+        requires { AllByRecursion IsFewOf (tests_seen (λ name. name.items) file.now index.now.checksums.texts tests) }
+        ensures { result ≡ tests_seen (λ name. name.items) file.now index.now.checksums.texts tests.entry }
     {
-        FileSections {
-            file: name,
-            index: &file.index,
-            tests: file.tests.iter(),
-        }
+        FileSections { file, index, tests }
     }
 }
 
@@ -211,7 +209,7 @@ impl<'a, A: Allocator> Iterator for Sections<'a, A> {
                 return next;
             }
             let (name, file) = self.files.next()?;
-            self.current = Some(FileSections::of(name.as_slice(), file.get()));
+            self.current = Some(file.get().sections(name.as_slice()));
         }
     }
 }

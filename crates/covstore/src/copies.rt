@@ -95,11 +95,11 @@ fn copied_text<'t, A: Allocator>(
     if !has_checksum {
         return Ok(None);
     }
-    let Some(committed) = index.checksums.text(line) else {
+    let Some(held) = index.checksums.text(line) else {
         return Ok(None);
     };
     text.clear();
-    text.extend_from_slice(committed)?;
+    text.extend_from_slice(held)?;
     Ok(Some(text.as_slice()))
 }
 

@@ -3,6 +3,7 @@
 ghost use Rattle.std.specs.Prelude.{◌≡◌, ℕ, List, [], ◌∷◌, ◌++◌, map, IfErr, IfOk, OnErr, OnOk};
 
 use crate::boxed::Boxed;
+use crate::content::FileSections;
 use crate::copies::add_values;
 use crate::index::FileIndex;
 use crate::refuse::Refuse;
@@ -18,8 +19,23 @@ use std::mem;
 /// The tests of a file, each with its points, and what is kept of them.
 #[derive(Drop)]
 pub(crate) struct File<A: Allocator> {
-    pub tests: BTreeMap<Vec<u8, A>, Boxed<Test<A>, A>, A>,
-    pub index: FileIndex<A>,
+    tests: BTreeMap<Vec<u8, A>, Boxed<Test<A>, A>, A>,
+    index: FileIndex<A>,
+}
+
+impl<A: Allocator> File<A> {
+    ghost use Rattle.std.specs.List.{AllByRecursion};
+    ghost use Rattle.covstore.specs.ContentView.{IsFewOf};
+    ghost use Rattle.covstore.specs.FileView.{file_committed};
+    ghost use Rattle.covstore.specs.State.{sections_of_file};
+
+    /// The sections of the file, which has this name.
+    pub(crate) fn sections<'a>(&'a self, name: &'a [u8]) -> FileSections<'a, A>
+        requires { AllByRecursion IsFewOf (sections_of_file (name.now, file_committed self.now)) }
+        ensures { result ≡ sections_of_file (name.now, file_committed self.now) }
+    {
+        FileSections::of(name, &self.index, self.tests.iter())
+    }
 }
 
 impl<A: Allocator + Copy> File<A> {
@@ -125,7 +141,7 @@ impl<A: Allocator + Copy> File<A> {
         self.copy_points(alloc, old, new)
     }
 
-    /// Sees to it that the test is there.
+    /// Puts in an empty test of this name, unless there is one.
     fn open(&mut self, alloc: A, test: &[u8]) -> Result<(), Memory>
         ensures committed { OnOk result (file_committed self.new ≡ with_test test.now (file_committed self.old)) }
         ensures staged { OnOk result (file_staged self.new ≡ with_test test.now (file_staged self.old)) }
@@ -156,17 +172,18 @@ impl<A: Allocator + Copy> File<A> {
         // Tells that a map has fewer than 2^63 entries.
         self.tests.len();
         let Some(place) = self.tests.get_mut(new) else {
-            return Ok(());
+            unreachable!();
         };
         // Lifted out while the other test is looked at.
         let mut points = mem::replace(place, empty);
-        let added = match self.tests.get(old) {
-            Some(source) => add_values(points.get_mut(), &mut self.index, alloc, source.get()),
-            None => Ok(()),
+        let Some(source) = self.tests.get(old) else {
+            unreachable!();
         };
-        if let Some(place) = self.tests.get_mut(new) {
-            *place = points;
-        }
+        let added = add_values(points.get_mut(), &mut self.index, alloc, source.get());
+        let Some(place) = self.tests.get_mut(new) else {
+            unreachable!();
+        };
+        *place = points;
         added
     }
 

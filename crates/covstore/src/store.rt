@@ -126,8 +126,8 @@ fn add_new_file<A: Allocator + Copy>(
 pub struct Store<A: Allocator = Global> {
     files: BTreeMap<Vec<u8, A>, Boxed<File<A>, A>, A>,
     touched: Vec<Touched<A>, A>,
-    committed: Totals,
-    staged: Totals,
+    totals: Totals,
+    totals_after: Totals,
     members: u64,
 }
 
@@ -138,9 +138,9 @@ impl<A: Allocator> Model for Store<A> {
 
     ghost Value = { StoreData };
 
-    ghost view = { λ s. record { sections = sections_of (files_committed (λ name. name.items) s.files.entries); members = s.members; committed = files_committed (λ name. name.items) s.files.entries; staged = files_staged (λ name. name.items) s.files.entries; after = s.staged } };
+    ghost view = { λ s. record { sections = sections_of (files_committed (λ name. name.items) s.files.entries); members = s.members; committed = files_committed (λ name. name.items) s.files.entries; staged = files_staged (λ name. name.items) s.files.entries; after = s.totals_after } };
 
-    ghost invariant = { λ s. IsStore s.members s.committed (files_committed (λ name. name.items) s.files.entries) × AreSettledBut (λ name. name.items) (touched_data s.touched.items) s.files.entries };
+    ghost invariant = { λ s. IsStore s.members s.totals (files_committed (λ name. name.items) s.files.entries) × AreSettledBut (λ name. name.items) (touched_data s.touched.items) s.files.entries };
 }
 
 impl<A: Allocator + Copy> Store<A> {
@@ -165,19 +165,11 @@ impl<A: Allocator + Copy> Store<A> {
     pub fn new(alloc: A) -> Store<A>
         ensures { StandsFor result [] }
     {
-        let none = Totals {
-            lf: 0,
-            lh: 0,
-            ff: 0,
-            fh: 0,
-            bf: 0,
-            bh: 0,
-        };
         Store {
             files: BTreeMap::new(alloc),
             touched: Vec::new(alloc),
-            committed: none,
-            staged: none,
+            totals: Totals::none(),
+            totals_after: Totals::none(),
             members: 0,
         }
     }
@@ -220,8 +212,8 @@ impl<A: Allocator + Copy> Store<A> {
         ensures stands { (s : SubmissionData) (table : Table) → IsPlanOf self.old s plan → StandsFor self.old table → StandsFor self.new (table ++ rows_of s ∷ []) }
     {
         commit_staged(&mut self.files, &mut self.touched);
-        self.staged = plan.after();
-        self.committed = self.staged;
+        self.totals = plan.after();
+        self.totals_after = self.totals;
         self.members += 1;
     }
 
@@ -281,14 +273,14 @@ impl<A: Allocator + Copy> Store<A> {
     fn kept(&self) -> Totals
         ensures { IsKept self.now result }
     {
-        self.committed
+        self.totals
     }
 
     /// The staged totals, which the next commit leaves.
     fn after(&self) -> Totals
         ensures { result ≡ self.now.after }
     {
-        self.staged
+        self.totals_after
     }
 
     /// Forgets what is staged. Takes no memory.
@@ -304,7 +296,7 @@ impl<A: Allocator + Copy> Store<A> {
                 file.get_mut().rollback(touched.test.as_slice());
             }
         }
-        self.staged = self.committed;
+        self.totals_after = self.totals;
     }
 
     /// Stages the sections, in order, up to the first that is refused.
@@ -351,7 +343,7 @@ impl<A: Allocator + Copy> Store<A> {
     {
         Touched::push(&mut self.touched, alloc, file, test)?;
         let totals = add_to_files(&mut self.files, alloc, file, test, items)?;
-        self.staged = self.staged.exchanged(totals.0, totals.1);
+        self.totals_after = self.totals_after.exchanged(totals.0, totals.1);
         Ok(())
     }
 
@@ -385,10 +377,10 @@ impl<A: Allocator + Copy> Store<A> {
         ensures ok { OnOk result (Copies file.now old.now new.now self.old.staged self.new.staged) }
     {
         Touched::push(&mut self.touched, alloc, file, new)?;
-        match self.files.get_mut(file) {
-            Some(opened) => opened.get_mut().copy_test(alloc, old, new),
-            None => Ok(()),
-        }
+        let Some(opened) = self.files.get_mut(file) else {
+            unreachable!();
+        };
+        opened.get_mut().copy_test(alloc, old, new)
     }
 
     /// Whether some section, and so some row, is of this test. Looks the test up in one file after the other, up to the
@@ -420,8 +412,8 @@ impl<A: Allocator + Copy> Store<A> {
         let sections = count_sections(&self.files, test);
         drop_from_files(&mut self.files, test);
         let totals = add_up(&self.files);
-        self.committed = totals;
-        self.staged = totals;
+        self.totals = totals;
+        self.totals_after = totals;
         sections
     }
 
@@ -430,7 +422,7 @@ impl<A: Allocator + Copy> Store<A> {
         ensures value { result ≡ totals_of self.now.sections }
         ensures bounds { AreTotals result }
     {
-        self.committed
+        self.totals
     }
 
     /// The sections of the files and tests with a row, ascending by file and then by test. Takes no memory.

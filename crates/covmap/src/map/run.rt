@@ -9,9 +9,11 @@ use crate::slots::run::make_slots;
 use std::alloc::{AllocError, Allocator};
 
 impl<K: Key + Drop, V: Value, A: Allocator + Copy> StagedMap<K, V, A> {
-    /// Stages the sums of the staged values of a run of keys and their addends, in order, and puts behind what these tell.
-    /// Keys that ascend are looked up once for each page that they stand on. New keys behind all others get pages of their own
-    /// at once, and one between others is put in by itself.
+    /// Stages the sums of the staged values of a run of keys and their addends, in order, and appends what these tell to
+    /// `told`. Keys may come in any order and more than once.
+    ///
+    /// Keys that ascend are looked up once for each page that they stand on. New keys greater than all others get pages of
+    /// their own at once; one between others is put in by itself.
     ///
     /// # Errors
     ///
@@ -35,7 +37,7 @@ impl<K: Key + Drop, V: Value, A: Allocator + Copy> StagedMap<K, V, A> {
         Ok(())
     }
 
-    /// Stages some items at the front of a run, and tells how many.
+    /// Stages one or more items at the front of a run, and returns how many.
     fn stage_some<Q: Query<K, A>, N: Drop, M: Telling<V, N>>(
         &mut self,
         alloc: A,

@@ -14,7 +14,7 @@ use crate::slots::staged::StagedColumns;
 use crate::slots::{HALF, PAGE, Place, Slots};
 use std::alloc::{AllocError, Allocator};
 
-/// Sees to it that what is asked for has a slot, an empty one where none was there, and tells its place.
+/// Returns the place of what is asked for, and puts in an empty slot where it has none.
 pub(crate) fn make_slot<K: Key + Drop, V: Value, A: Allocator + Copy, Q: Query<K, A>>(
     slots: &mut Slots<K, V, A>,
     staged: &mut StagedColumns<V, A>,
@@ -88,7 +88,7 @@ fn put_within<K: Key + Drop, V: Value, A: Allocator + Copy>(
     put_at(slots, staged, place, key)
 }
 
-/// Puts an empty slot behind all others.
+/// Appends an empty slot.
 fn put_behind<K: Key + Drop, V: Value, A: Allocator + Copy>(
     slots: &mut Slots<K, V, A>,
     staged: &mut StagedColumns<V, A>,

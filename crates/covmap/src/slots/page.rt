@@ -1,7 +1,7 @@
 //! A page of slots: ascending keys, and values beside the first of them.
 //!
 //! Keys and values are lists of their own: a search goes over keys alone, and all values of a page are exchanged at once.
-//! Slots behind the last value are empty, so a page without committed values takes memory for its keys alone.
+//! Slots after the last value are empty, so a page without committed values takes memory for its keys alone.
 
 ghost use Rattle.std.specs.Prelude.{◌≡◌, ◌<◌, ◌≤◌, ◌-◌, ◌++◌, None, [], ◌∷◌, IfNone, IfOk, IfSome, OnErr, OnOk, true, is_some, length, map, drop, option_map, slice_get, slice_set, take};
 ghost use Rattle.std.specs.List.{insert};
@@ -102,7 +102,7 @@ impl<'a, K, V> Rest<'a, K, V> {
         }
     }
 
-    /// The first slot, and those behind it.
+    /// The first slot, and those after it.
     pub(crate) fn split_first(&self) -> Option<(&'a K, Option<&'a V>, Rest<'a, K, V>)>
         ensures some { IfSome result (λ parts. self.now ≡ (parts.0.now, option_map (λ value. value.now) parts.1) ∷ parts.2) }
         ensures none { IfNone result (self.now ≡ []) }
@@ -219,7 +219,7 @@ impl<K: Drop, V: Value, A: Allocator + Copy> Page<K, V, A> {
 }
 
 impl<K, V: Value, A: Allocator> Page<K, V, A> {
-    /// A copy of the values from a slot on. Slots behind them are empty.
+    /// A copy of the values from a slot on. Slots after them are empty.
     fn values_from(&self, alloc: A, start: usize) -> Result<Vec<Option<V>, A>, AllocError>
         ensures values { IfOk result (λ values. beside (drop start (map (λ slot. slot.0) self.now)) values.items ≡ drop start self.now) }
         ensures fits { IfOk result (λ values. length values.items ≤ length self.now - start) }
@@ -231,7 +231,7 @@ impl<K, V: Value, A: Allocator> Page<K, V, A> {
     }
 }
 
-/// Puts empty values behind, until there are so many. Takes room for no more.
+/// Appends empty values until the column has `len` of them. Reserves no more room than that.
 fn fill_up<V: Drop, A: Allocator>(
     column: &mut Vec<Option<V>, A>,
     len: usize,

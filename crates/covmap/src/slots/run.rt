@@ -1,7 +1,7 @@
 //! Slots for the keys of a run.
 
 ghost use Rattle.std.specs.Prelude.{◌≡◌, ◌<◌, IfOk, OnErr, OnOk, length};
-ghost use Rattle.covmap.specs.Run.{AreBefore, FirstHere, IsGrown};
+ghost use Rattle.covmap.specs.RunPage.{AreBefore, FirstHere, IsGrown};
 ghost use Rattle.covmap.specs.Slots.{IsAscending, filled, page_at, slots_of};
 ghost use Rattle.covmap.specs.Staged.{AreColumnsOf, staged_of};
 
@@ -53,7 +53,7 @@ impl<K: Key, V, A: Allocator> Slots<K, V, A> {
 }
 
 impl<K: Key + Drop, V: Value, A: Allocator + Copy> Slots<K, V, A> {
-    /// Puts empty slots of the keys at the front of a run on a new page, behind all others.
+    /// Appends a page with empty slots for the keys at the front of a run.
     fn push_run<Q: Query<K, A>, M: Addend<V>>(
         &mut self,
         alloc: A,
@@ -70,8 +70,8 @@ impl<K: Key + Drop, V: Value, A: Allocator + Copy> Slots<K, V, A> {
     }
 }
 
-/// Sees to it that the first key of a run has a slot, and tells its place. Where it goes behind all others, the keys behind
-/// it get theirs at once.
+/// Returns the place of the first key of a run, and puts in an empty slot where it has none. Where that slot comes last of
+/// all, the keys after it get theirs at once.
 pub(crate) fn make_slots<
     K: Key + Drop,
     V: Value,
@@ -96,7 +96,7 @@ pub(crate) fn make_slots<
     match slots.find(query, slots.near(query, guess)) {
         Ok(place) => Ok(place),
         Err(place) => {
-            // New pages come behind full ones alone, so that short runs don't leave short pages.
+            // New pages come after full ones alone, so that short runs don't leave short pages.
             if place.page < slots.count() || slots.has_room() {
                 make_ahead(slots, staged, alloc, run, place)?;
                 return make_slot(slots, staged, alloc, query, place);
@@ -106,7 +106,7 @@ pub(crate) fn make_slots<
     }
 }
 
-/// Sees to it that the keys at the front of a run have slots, as long as they go on one page that has room. A page that has
+/// Puts in empty slots for the keys at the front of a run, as long as these go on one page that has room. A page that has
 /// no staged values yet gets them all before it has a column, into which each would have to be put as well.
 fn make_ahead<K: Key + Drop, V: Value, A: Allocator + Copy, Q: Query<K, A>, M: Addend<V>>(
     slots: &mut Slots<K, V, A>,
@@ -135,7 +135,7 @@ fn make_ahead<K: Key + Drop, V: Value, A: Allocator + Copy, Q: Query<K, A>, M: A
     Ok(())
 }
 
-/// Puts empty slots of the keys at the front of a run behind all others.
+/// Appends empty slots for the keys at the front of a run, and returns the place of the first one.
 fn put_run<K: Key + Drop, V: Value, A: Allocator + Copy, Q: Query<K, A>, M: Addend<V>>(
     slots: &mut Slots<K, V, A>,
     staged: &mut StagedColumns<V, A>,

@@ -104,7 +104,7 @@ impl<V: Drop, A: Allocator> StagedColumns<V, A> {
 }
 
 impl<V: Value, A: Allocator> StagedColumns<V, A> {
-    /// Sees to it that the page has a column, and tells which one. Nothing else is staged by that.
+    /// Returns the index of a page's column, and makes one where the page has none. Staged values stay the same.
     fn touch<K: Key>(
         &mut self,
         alloc: A,
@@ -220,7 +220,7 @@ impl<V: Value, A: Allocator + Copy> StagedColumns<V, A> {
         Ok(())
     }
 
-    /// Follows the cut of a page in two: the pages behind it have a number more.
+    /// Follows the cut of a page in two: the pages after it get the next number.
     pub(crate) fn split(&mut self, page: usize) -> Result<(), AllocError>
         requires numbers { AllByRecursion (λ column. column.0 + 1 < 2 ^ 64) self.old }
         requires full { AllByRecursion (λ column. column.0 ≡ page → length column.1 ≡ 256) self.old }
@@ -238,7 +238,7 @@ impl<V: Value, A: Allocator + Copy> StagedColumns<V, A> {
         Ok(())
     }
 
-    /// Gives the columns of the pages behind this one a number more.
+    /// Gives the columns of the pages after this one the next number.
     fn renumber(&mut self, page: usize)
         requires { AllByRecursion (λ column. column.0 + 1 < 2 ^ 64) self.old }
         ensures { self.new ≡ map (moved page) self.old }
@@ -294,7 +294,7 @@ fn insert_empty<V: Drop, A: Allocator>(
     Ok(())
 }
 
-/// Gives the columns of the pages behind this one a number more.
+/// Gives the columns of the pages after this one the next number.
 fn renumber<V, A: Allocator>(columns: &mut [(usize, Vec<Option<V>, A>)], page: usize)
     requires { AllByRecursion (λ column. column.0 + 1 < 2 ^ 64) columns.old }
     ensures { columns.new ≡ map (λ column. (number_after page column.0, column.1)) columns.old }

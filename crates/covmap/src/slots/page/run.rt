@@ -2,7 +2,8 @@
 
 ghost use Rattle.std.specs.Prelude.{◌≡◌, ◌<◌, ◌≤◌, ◌++◌, IfOk, OnOk, length, slice_get};
 ghost use Rattle.std.specs.declared.cmp.Ordering.TheVariants.{Equal};
-ghost use Rattle.covmap.specs.Run.{FirstHere, FitHere, IsAlong, IsNewPage, told_one, value_summed};
+ghost use Rattle.covmap.specs.Run.{told_one};
+ghost use Rattle.covmap.specs.RunPage.{FirstHere, FitHere, IsAlong, IsNewPage, value_summed};
 ghost use Rattle.covmap.specs.Slots.{IsAscending, order_at, value_in};
 
 use crate::key::{Addend, Key, Query, Telling, Value};
@@ -19,7 +20,7 @@ const NEAR: usize = 4;
 pub(crate) struct Along {
     /// How many items.
     pub(crate) count: usize,
-    /// The slot behind that of the last one.
+    /// The slot after that of the last item.
     pub(crate) next: usize,
 }
 
@@ -113,7 +114,7 @@ impl<K: Drop, V: Value, A: Allocator + Copy> Page<K, V, A> {
     }
 }
 
-/// Adds an item in its slot of a column, and puts behind what it tells.
+/// Adds an item to the value in its slot of a column, and appends its note, if it has one, to those told.
 fn add_at<V: Drop, A: Allocator, Q: Copy, N: Drop, M: Telling<V, N>>(
     column: &mut [Option<V>],
     slot: usize,
@@ -132,7 +133,7 @@ fn add_at<V: Drop, A: Allocator, Q: Copy, N: Drop, M: Telling<V, N>>(
     push_told(told, query, note)
 }
 
-/// Puts what is told behind, if it is anything.
+/// Appends a note, if there is one.
 fn push_told<Q: Copy, N: Drop, A: Allocator>(
     told: &mut Vec<(Q, N), A>,
     query: Q,

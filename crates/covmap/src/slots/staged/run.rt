@@ -1,7 +1,8 @@
 //! A run of keys with addends, and the staged values of one page.
 
 ghost use Rattle.std.specs.Prelude.{◌≡◌, ◌<◌, ◌≤◌, ◌++◌, IfOk, length, take};
-ghost use Rattle.covmap.specs.Run.{FirstHere, FitRun, summed, told_run};
+ghost use Rattle.covmap.specs.Run.{FitRun, summed, told_run};
+ghost use Rattle.covmap.specs.RunPage.{FirstHere};
 ghost use Rattle.covmap.specs.Slots.{filled, page_at, slots_of};
 ghost use Rattle.covmap.specs.Staged.{AreColumnsOf, staged_of};
 

@@ -2,7 +2,7 @@ use Rattle.covstore.proofs.Clashes.{first_told, told_first, none_told, agree_non
 use Rattle.covstore.proofs.laws.the_first_clash_is_told.Goals as goal
 
 pub returns-clause-first : goal.returns-clause-first
-returns-clause-first c = λ committed given clash agree. (first_told committed given clash agree, told_first committed given clash)
+returns-clause-first c = λ held given clash agree. (first_told held given clash agree, told_first held given clash)
 
 pub returns-clause-none : goal.returns-clause-none
-returns-clause-none c = λ committed given agree. (none_told committed given agree, agree_none committed given agree)
+returns-clause-none c = λ held given agree. (none_told held given agree, agree_none held given agree)

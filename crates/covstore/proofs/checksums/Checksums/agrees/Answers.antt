@@ -4,26 +4,29 @@ use Rattle.std.specs.Str.{bytes_eq}
 use Rattle.std.proofs.lemmas.Bool.{false≢true}
 use Rattle.std.proofs.lemmas.Slice.Eq.{bytes_eq-Decides}
 use Rattle.covstore.proofs.checksums.Checksums.agrees.Goals as goal
-use Rattle.covstore.proofs.checksums.Checksums.agrees.Goals.{in-Some+else-ne, in_default}
 
 -- a copy of a text that differs is another one
-other_text : (copy committed given : List ℕ) → true ≡ not (bytes_eq committed given) → copy ≡ committed → copy ≡ given → ⊥
-other_text copy committed given e same other = false≢true (sym (e ∙ ap not ((bytes_eq-Decides committed given).1 (sym same ∙ other))))
+other_text : (copy held given : List ℕ) → true ≡ not (bytes_eq held given) → copy ≡ held → copy ≡ given → ⊥
+other_text copy held given e same other = false≢true (sym (e ∙ ap not ((bytes_eq-Decides held given).1 (sym same ∙ other))))
 
 -- texts that don't differ are the same
-same_text : (committed given : List ℕ) → not (bytes_eq committed given) ≡ not true → committed ≡ given
-same_text committed given e = (bytes_eq-Decides committed given).0 (sym (twice (bytes_eq committed given)) ∙ ap not e)
+same_text : (held given : List ℕ) → not (bytes_eq held given) ≡ not true → held ≡ given
+same_text held given e = (bytes_eq-Decides held given).0 (sym (twice (bytes_eq held given)) ∙ ap not e)
   where
     twice : (b : Bool) → not (not b) ≡ b
     twice true = refl
     twice false = refl
+
+-- the line has a text
+pub unreachable-requires : goal.unreachable-requires
+unreachable-requires g c = false≢true (ap is_some c.in_default.ensures ∙ c.requires.kept)
 
 pub returns-then-ne-clause-clash : goal.returns-then-ne-clause-clash
 returns-then-ne-clause-clash g c = (
   refl,
   c.in_ok-of-2.ensures,
   record {
-    is_held = c.requires.committed;
+    is_held = c.requires.held;
     is_kept = sym c.in-Some.ensures ∙ ap Some (sym c.in_ok-of.ensures);
     other = other_text c.in_ok-of.field-0 c.in-Some.held.now c.args.text.now c.if-ne.ensures c.in_ok-of.ensures;
   },
@@ -31,7 +34,4 @@ returns-then-ne-clause-clash g c = (
 
 pub returns-clause-ok : goal.returns-clause-ok
 returns-clause-ok g c =
-    elim c.match-text.branch [
-      | in-Some+else-ne w ↦ sym w.in-Some.ensures ∙ ap Some (same_text w.in-Some.held.now c.args.text.now (sym w.if-ne.ensures))
-      | in_default w ↦ absurd (false≢true (ap is_some w.in_default.ensures ∙ c.requires.kept))
-    ]
+    sym c.in-Some.ensures ∙ ap Some (same_text c.in-Some.held.now c.args.text.now (sym c.if-ne.ensures))

@@ -27,7 +27,7 @@ invariant_of-self-in_err-totals g c =
     let inside = c.self.inside in
     let added = c.add_to_files.ensures in
     let later = c.add_to_files.new.files.entries in (
-      store_kept inside.members inside.committed (files_committed file_name inside.files.entries) (files_committed file_name later) added.committed c.self.invariant.0,
+      store_kept inside.members inside.totals (files_committed file_name inside.files.entries) (files_committed file_name later) added.committed c.self.invariant.0,
       subst (λ touched. AreSettledBut file_name touched later) (sym c.in_ok-push.ensures.ok) (added.settled (touched_data inside.touched.items) c.self.invariant.1),
     )
 
@@ -36,7 +36,7 @@ invariant_of-self-2 g c =
     let inside = c.self.inside in
     let added = c.add_to_files.ensures in
     let later = c.add_to_files.new.files.entries in (
-      store_kept inside.members inside.committed (files_committed file_name inside.files.entries) (files_committed file_name later) added.committed c.self.invariant.0,
+      store_kept inside.members inside.totals (files_committed file_name inside.files.entries) (files_committed file_name later) added.committed c.self.invariant.0,
       subst (λ touched. AreSettledBut file_name touched later) (sym c.in_ok-push.ensures.ok) (added.settled (touched_data inside.touched.items) c.self.invariant.1),
     )
 
@@ -45,7 +45,7 @@ returns-in_err-totals-clause-committed g c =
     let inside = c.self.inside in
     let files = inside.files.entries in
     let later = c.add_to_files.new.files.entries in
-    held_kept inside.members inside.committed (files_committed file_name files) (files_committed file_name later) (files_staged file_name files) (files_staged file_name later) inside.staged inside.staged c.args.self.now
+    held_kept inside.members inside.totals (files_committed file_name files) (files_committed file_name later) (files_staged file_name files) (files_staged file_name later) inside.totals_after inside.totals_after c.args.self.now
     c.self.invariant.0 c.add_to_files.ensures.committed c.self.view_is
 
 pub returns-clause-committed : goal.returns-clause-committed
@@ -53,7 +53,7 @@ returns-clause-committed g c =
     let inside = c.self.inside in
     let files = inside.files.entries in
     let later = c.add_to_files.new.files.entries in
-    held_kept inside.members inside.committed (files_committed file_name files) (files_committed file_name later) (files_staged file_name files) (files_staged file_name later) inside.staged c.exchanged-self-inside.result c.args.self.now
+    held_kept inside.members inside.totals (files_committed file_name files) (files_committed file_name later) (files_staged file_name files) (files_staged file_name later) inside.totals_after c.exchanged-self-inside.result c.args.self.now
     c.self.invariant.0 c.add_to_files.ensures.committed c.self.view_is
 
 -- the rows and the totals
@@ -68,14 +68,14 @@ pub exchanged-self-inside-requires-clause-part : goal.exchanged-self-inside-requ
 exchanged-self-inside-requires-clause-part g c =
     let rows = rows_of_items c.args.file.now c.args.test.now (map item_data c.args.items.now) in
     let inside = c.self.inside in
-    (exchange_in rows inside.members (files_committed file_name inside.files.entries) (files_staged file_name inside.files.entries) inside.staged c.args.self.now c.self.view_is c.requires
+    (exchange_in rows inside.members (files_committed file_name inside.files.entries) (files_staged file_name inside.files.entries) inside.totals_after c.args.self.now c.self.view_is c.requires
     (totals_in (files_staged file_name c.add_to_files.new.files.entries)) c.in_ok-totals.totals.0 c.in_ok-totals.totals.1 c.in_ok-totals.ensures.totals).part
 
 pub exchanged-self-inside-requires-clause-fits : goal.exchanged-self-inside-requires-clause-fits
 exchanged-self-inside-requires-clause-fits g c =
     let rows = rows_of_items c.args.file.now c.args.test.now (map item_data c.args.items.now) in
     let inside = c.self.inside in
-    (exchange_in rows inside.members (files_committed file_name inside.files.entries) (files_staged file_name inside.files.entries) inside.staged c.args.self.now c.self.view_is c.requires
+    (exchange_in rows inside.members (files_committed file_name inside.files.entries) (files_staged file_name inside.files.entries) inside.totals_after c.args.self.now c.self.view_is c.requires
     (totals_in (files_staged file_name c.add_to_files.new.files.entries)) c.in_ok-totals.totals.0 c.in_ok-totals.totals.1 c.in_ok-totals.ensures.totals).fits
 
 pub returns-clause-ok : goal.returns-clause-ok
@@ -85,6 +85,6 @@ returns-clause-ok g c =
     let later = files_staged file_name c.add_to_files.new.files.entries in
     record {
       adds = subst (λ (files : List (List ℕ × FileData)). AddsTo rows files later) (ap (λ (s : StoreData). s.staged) c.self.view_is) c.in_ok-totals.ensures.ok;
-      totals = λ is. c.exchanged-self-inside.ensures ∙ (exchange_in rows inside.members (files_committed file_name inside.files.entries) (files_staged file_name inside.files.entries) inside.staged c.args.self.now c.self.view_is c.requires
+      totals = λ is. c.exchanged-self-inside.ensures ∙ (exchange_in rows inside.members (files_committed file_name inside.files.entries) (files_staged file_name inside.files.entries) inside.totals_after c.args.self.now c.self.view_is c.requires
           (totals_in (files_staged file_name c.add_to_files.new.files.entries)) c.in_ok-totals.totals.0 c.in_ok-totals.totals.1 c.in_ok-totals.ensures.totals).gives;
     }

@@ -21,7 +21,7 @@ moving store inside view old new leaves told is given =
 pub drop_from_files-requires : goal.drop_from_files-requires
 drop_from_files-requires g c =
     let inside = c.self.inside in
-    let first = store_of inside.members (files_committed file_name inside.files.entries) (files_staged file_name inside.files.entries) inside.staged in
+    let first = store_of inside.members (files_committed file_name inside.files.entries) (files_staged file_name inside.files.entries) inside.totals_after in
     let is = moving c.args.self.now first c.self.view_is c.requires.0 c.requires.1 c.in-Some.old.now c.args.renaming.leaves c.in-Some.ensures c.requires.2 in
     whole_files file_name c.commit_staged.new.files.entries
     (subst (λ (files : List (List ℕ × FileData)). AllByRecursion (λ pair. IsWholeFile pair.1) files) (sym c.commit_staged.ensures.committed) (is.moves (all_rows c.self.invariant.0.own) c.self.invariant.0.state).whole)
@@ -30,11 +30,11 @@ pub invariant_of-self : goal.invariant_of-self
 invariant_of-self g c =
     let inside = c.self.inside in
     let staged = files_staged file_name inside.files.entries in
-    let first = store_of inside.members (files_committed file_name inside.files.entries) staged inside.staged in
+    let first = store_of inside.members (files_committed file_name inside.files.entries) staged inside.totals_after in
     let after = files_committed file_name c.drop_from_files.new.files.entries in
     let are = subst (λ (files : List (List ℕ × FileData)). AreWithoutTest c.in-Some.old.now files after) c.commit_staged.ensures.committed (c.drop_from_files.ensures.committed file_name) in
     let settled = subst (λ (left : List (Touched g.row.A.Denot)). AreSettledBut file_name (touched_data left) c.commit_staged.new.files.entries) (sym c.commit_staged.ensures.none) c.commit_staged.ensures.settled in (
-      store_moved c.requires.0 c.requires.1 c.in-Some.old.now inside.members inside.committed inside.staged (files_committed file_name inside.files.entries) staged after c.self.invariant.0
+      store_moved c.requires.0 c.requires.1 c.in-Some.old.now inside.members inside.totals inside.totals_after (files_committed file_name inside.files.entries) staged after c.self.invariant.0
           (moving c.args.self.now first c.self.view_is c.requires.0 c.requires.1 c.in-Some.old.now c.args.renaming.leaves c.in-Some.ensures c.requires.2) are,
       c.drop_from_files.ensures.settled file_name (touched_data c.commit_staged.new.touched.items) settled,
     )
@@ -43,12 +43,12 @@ pub returns-in-Some : goal.returns-in-Some
 returns-in-Some g c =
     let inside = c.self.inside in
     let staged = files_staged file_name inside.files.entries in
-    let first = store_of inside.members (files_committed file_name inside.files.entries) staged inside.staged in
+    let first = store_of inside.members (files_committed file_name inside.files.entries) staged inside.totals_after in
     let later = c.drop_from_files.new.files.entries in
     let after = files_committed file_name later in
     let are = subst (λ (files : List (List ℕ × FileData)). AreWithoutTest c.in-Some.old.now files after) c.commit_staged.ensures.committed (c.drop_from_files.ensures.committed file_name) in
     record {
       stands = λ old new table given stands.
-          stands_moved old new c.in-Some.old.now inside.members inside.committed inside.staged (files_committed file_name inside.files.entries) staged after c.self.invariant.0 (moving c.args.self.now first c.self.view_is old new c.in-Some.old.now c.args.renaming.leaves c.in-Some.ensures given) are
-          (files_staged file_name later) inside.staged table (subst (λ (store : StoreData). StandsFor store table) (sym c.self.view_is) stands);
+          stands_moved old new c.in-Some.old.now inside.members inside.totals inside.totals_after (files_committed file_name inside.files.entries) staged after c.self.invariant.0 (moving c.args.self.now first c.self.view_is old new c.in-Some.old.now c.args.renaming.leaves c.in-Some.ensures given) are
+          (files_staged file_name later) inside.totals_after table (subst (λ (store : StoreData). StandsFor store table) (sym c.self.view_is) stands);
     }

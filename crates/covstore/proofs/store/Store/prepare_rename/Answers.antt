@@ -28,7 +28,7 @@ pub returns-then-eq-clause-sections : goal.returns-then-eq-clause-sections
 returns-then-eq-clause-sections g c = λ table stands.
     let inside = c.self.inside in
     c.none.ensures.sections ∙ c.count_sections.ensures
-    ∙ sections_with c.args.old.now inside.members inside.committed (files_committed file_name inside.files.entries) c.self.invariant.0 table
+    ∙ sections_with c.args.old.now inside.members inside.totals (files_committed file_name inside.files.entries) c.self.invariant.0 table
     (ap (λ (store : StoreData). store.sections) c.self.view_is ∙ c.rollback.ensures.sections ∙ stands.content)
 
 -- as many names are found as there are sections of the test
@@ -40,7 +40,7 @@ returns-in_err-names-clause-some g c =
     let some : (table : Table) → StandsFor c.args.self.now table → sections_of_test c.args.old.now table ≢ 0 = λ table stands none.
     c.in_err-names.ensures.some
     (nil_from_length (names_with c.args.old.now files)
-    (sections_named c.args.old.now inside.members inside.committed files c.self.invariant.0 table (ap (λ (store : StoreData). store.sections) c.self.view_is ∙ c.rollback.ensures.sections ∙ stands.content) ∙ none)) in
+    (sections_named c.args.old.now inside.members inside.totals files c.self.invariant.0 table (ap (λ (store : StoreData). store.sections) c.self.view_is ∙ c.rollback.ensures.sections ∙ stands.content) ∙ none)) in
     on_err _ some
 
 pub returns-then-is_empty-clause-planned : goal.returns-then-is_empty-clause-planned
@@ -49,7 +49,7 @@ returns-then-is_empty-clause-planned g c =
     let names = c.in_ok-names.names in
     subst (IsMovingIfAny c.rollback.new.self c.args.old.now c.args.new.now) (sym c.none-then-is_empty.ensures.leaves)
     (λ table stands.
-    let counted = names_counted c.args.old.now inside.members inside.committed (files_committed file_name inside.files.entries) c.self.invariant.0 file_name names.items names.len names.ok.0 c.in_ok-names.ensures.names table
+    let counted = names_counted c.args.old.now inside.members inside.totals (files_committed file_name inside.files.entries) c.self.invariant.0 file_name names.items names.len names.ok.0 c.in_ok-names.ensures.names table
     (ap (λ (store : StoreData). store.sections) c.self.view_is ∙ stands.content) in
     renamed_none_counted c.args.old.now c.args.new.now table (sym counted ∙ eqb-true names.len 0 (sym c.is_empty.ensures ∙ c.if-is_empty.true)))
 
@@ -58,7 +58,7 @@ returns-then-is_empty-clause-sections g c = λ table stands.
     let inside = c.self.inside in
     let names = c.in_ok-names.names in
     c.none-then-is_empty.ensures.sections ∙ sym (eqb-true names.len 0 (sym c.is_empty.ensures ∙ c.if-is_empty.true))
-    ∙ names_counted c.args.old.now inside.members inside.committed (files_committed file_name inside.files.entries) c.self.invariant.0 file_name names.items names.len names.ok.0 c.in_ok-names.ensures.names table
+    ∙ names_counted c.args.old.now inside.members inside.totals (files_committed file_name inside.files.entries) c.self.invariant.0 file_name names.items names.len names.ok.0 c.in_ok-names.ensures.names table
     (ap (λ (store : StoreData). store.sections) c.self.view_is ∙ c.rollback.ensures.sections ∙ stands.content)
 
 pub returns-in_err-leaves-clause-some : goal.returns-in_err-leaves-clause-some
@@ -66,7 +66,7 @@ returns-in_err-leaves-clause-some g c =
     let inside = c.self.inside in
     let names = c.in_ok-names.names in
     let some : (table : Table) → StandsFor c.args.self.now table → sections_of_test c.args.old.now table ≢ 0 = λ table stands none.
-    let counted = names_counted c.args.old.now inside.members inside.committed (files_committed file_name inside.files.entries) c.self.invariant.0 file_name names.items names.len names.ok.0 c.in_ok-names.ensures.names table
+    let counted = names_counted c.args.old.now inside.members inside.totals (files_committed file_name inside.files.entries) c.self.invariant.0 file_name names.items names.len names.ok.0 c.in_ok-names.ensures.names table
     (ap (λ (store : StoreData). store.sections) c.self.view_is ∙ c.rollback.ensures.sections ∙ stands.content) in
     false≢true (sym c.if-is_empty.false ∙ c.is_empty.ensures ∙ ap (λ (n : ℕ). n == 0) (counted ∙ none)) in
     on_err _ some
@@ -76,7 +76,7 @@ returns-in-Ok-clause-sections g c = λ table stands.
     let inside = c.self.inside in
     let names = c.in_ok-names.names in
     c.of.ensures.sections ∙ c.len.ensures
-    ∙ names_counted c.args.old.now inside.members inside.committed (files_committed file_name inside.files.entries) c.self.invariant.0 file_name names.items names.len names.ok.0 c.in_ok-names.ensures.names table
+    ∙ names_counted c.args.old.now inside.members inside.totals (files_committed file_name inside.files.entries) c.self.invariant.0 file_name names.items names.len names.ok.0 c.in_ok-names.ensures.names table
     (ap (λ (store : StoreData). store.sections) c.self.view_is ∙ c.rollback.ensures.sections ∙ stands.content)
 
 pub returns-clause-some : goal.returns-clause-some
@@ -84,7 +84,7 @@ returns-clause-some g c =
     let inside = c.self.inside in
     let names = c.in_ok-names.names in
     let some : (table : Table) → StandsFor c.args.self.now table → sections_of_test c.args.old.now table ≢ 0 = λ table stands none.
-    let counted = names_counted c.args.old.now inside.members inside.committed (files_committed file_name inside.files.entries) c.self.invariant.0 file_name names.items names.len names.ok.0 c.in_ok-names.ensures.names table
+    let counted = names_counted c.args.old.now inside.members inside.totals (files_committed file_name inside.files.entries) c.self.invariant.0 file_name names.items names.len names.ok.0 c.in_ok-names.ensures.names table
     (ap (λ (store : StoreData). store.sections) c.self.view_is ∙ c.rollback.ensures.sections ∙ stands.content) in
     false≢true (sym c.if-is_empty.false ∙ c.is_empty.ensures ∙ ap (λ (n : ℕ). n == 0) (counted ∙ none)) in
     some

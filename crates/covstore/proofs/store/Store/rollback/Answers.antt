@@ -22,14 +22,14 @@ loop-touched-preserved g c =
           let after = w.rollback.new.self in
           let settling = settling_found file_committed now.touched.items front file test popped first.files.entries now.files.entries (c.get_mut.follows.lender after).entries was.0
           w.get_mut-in-Some-get_mut.result.now after c.get_mut.ensures.ordered (c.get_mut.follows.holds after).0 (sym w.in-Some-get_mut.ensures.value ∙ ap Some (sym w.get_mut-in-Some-get_mut.ensures.value)) w.rollback.ensures.committed w.rollback.ensures.settled in
-          subst (λ (i : Inside g.row.A.Denot). IsSettling file_committed i.touched.items first.files.entries i.files.entries × (i.members ≡ first.members) × (i.committed ≡ first.committed))
+          subst (λ (i : Inside g.row.A.Denot). IsSettling file_committed i.touched.items first.files.entries i.files.entries × (i.members ≡ first.members) × (i.totals ≡ first.totals))
           (sym w.self-inside-is) (settling, was.1, was.2)
       | in_default-get_mut w ↦
           let popped = popped_as now.touched.items front last file last.test.items c.in-Some.ensures.items c.as_slice.ensures.value refl in
           let same = ap (λ (m : BTreeMap (Vec ℕ g.row.A.Denot) (File g.row.A.Denot)). m.entries) c.get_mut.follows.holds-at-none in
           let settling = settling_unfound file_committed now.touched.items front file last.test.items popped first.files.entries now.files.entries c.get_mut.follows.lender-at-none.entries was.0
           (sym w.in_default-get_mut.ensures.value) same in
-          subst (λ (i : Inside g.row.A.Denot). IsSettling file_committed i.touched.items first.files.entries i.files.entries × (i.members ≡ first.members) × (i.committed ≡ first.committed))
+          subst (λ (i : Inside g.row.A.Denot). IsSettling file_committed i.touched.items first.files.entries i.files.entries × (i.members ≡ first.members) × (i.totals ≡ first.totals))
           (sym w.self-inside-is) (settling, was.1, was.2)
     ]
 

@@ -9,4 +9,4 @@ use Rattle.covstore.proofs.store.Store.sections.Goals as goal
 pub of-requires : goal.of-requires
 of-requires g c =
     let name = λ (key : Vec ℕ g.row.A.Denot). key.items in
-    subst (λ pairs. AllByRecursion IsFewOf (sections_of (files_committed name pairs))) (sym c.iter.ensures.rest) (few_of_store c.self.inside.members c.self.inside.committed (files_committed name c.self.inside.files.entries) c.self.invariant.0)
+    subst (λ pairs. AllByRecursion IsFewOf (sections_of (files_committed name pairs))) (sym c.iter.ensures.rest) (few_of_store c.self.inside.members c.self.inside.totals (files_committed name c.self.inside.files.entries) c.self.invariant.0)
