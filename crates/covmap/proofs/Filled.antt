@@ -9,15 +9,15 @@ use Rattle.std.specs.Map.{keys_of, lookup}
 use Rattle.covmap.specs.Query.{IsQuery}
 use Rattle.covmap.specs.Puts.{ArePairs, put}
 use Rattle.covmap.specs.Slots.{IsAscending, filled, value_in, slot_value}
-use Rattle.covmap.proofs.SlotSearch.{all_behind}
+use Rattle.covmap.proofs.SlotSearch.{all_after}
 
 -- ---- looking up
 
 -- keys greater than what is asked for aren't found
-none_behind : {K V : Type 0} (order : K → Ordering) (slots : List (K × Option V)) → AllByRecursion (λ slot. order slot.0 ≡ Greater) slots → lookup (λ key. is_eq (order key)) (filled slots) ≡ None
-none_behind order [] a = refl
-none_behind order ((key, None) ∷ slots) a = none_behind order slots a.1
-none_behind order ((key, Some value) ∷ slots) a = rw a.0 (none_behind order slots a.1)
+none_after : {K V : Type 0} (order : K → Ordering) (slots : List (K × Option V)) → AllByRecursion (λ slot. order slot.0 ≡ Greater) slots → lookup (λ key. is_eq (order key)) (filled slots) ≡ None
+none_after order [] a = refl
+none_after order ((key, None) ∷ slots) a = none_after order slots a.1
+none_after order ((key, Some value) ∷ slots) a = rw a.0 (none_after order slots a.1)
 
 none_of_false : (b c : Bool) → (b || c) ≡ false → (b ≡ false) × (c ≡ false)
 none_of_false true c e = absurd cc
@@ -41,7 +41,7 @@ lookup_filled_at : {K V : Type 0} {cmp : K → K → Ordering} {order : K → Or
     → lookup (λ key. is_eq (order key)) (filled ((key, value) ∷ slots)) ≡ value_in (cond b (Some value) (slot_value order slots))
 lookup_filled_at {K} {V} {cmp} {order} query key None slots a true e rest =
     let slot : K × Option V = (key, None) in
-    none_behind order slots (all_behind query slot slots (ap is_lt (equal_is (order key) e)) a)
+    none_after order slots (all_after query slot slots (ap is_lt (equal_is (order key) e)) a)
 lookup_filled_at query key (Some value) slots a true e rest = rw e refl
 lookup_filled_at query key None slots a false e rest = rest
 lookup_filled_at query key (Some value) slots a false e rest = rw e rest

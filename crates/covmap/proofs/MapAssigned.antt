@@ -13,9 +13,9 @@ use Rattle.covmap.specs.Slots.{AreSlots, IsAscending, IsGap, IsPlace, before, fi
 use Rattle.covmap.proofs.StagedPages.{nothing_staged}
 use Rattle.covmap.proofs.Filled.{filled_put}
 use Rattle.covmap.proofs.MapPlaces.{staged_absent, staged_found}
-use Rattle.covmap.proofs.SlotBehind.{place_slot}
+use Rattle.covmap.proofs.SlotAfter.{place_slot}
 use Rattle.covmap.proofs.SlotPlaces.{around, before_there, column_set, page_is_there}
-use Rattle.covmap.proofs.SlotSearch.{all_behind, ascending_back}
+use Rattle.covmap.proofs.SlotSearch.{all_after, ascending_back}
 use Rattle.covmap.proofs.SlotWrites.{slots_of_set}
 
 -- ---- on one page
@@ -23,15 +23,15 @@ use Rattle.covmap.proofs.SlotWrites.{slots_of_set}
 -- ---- among the filled slots
 
 -- keys greater than the one that goes stay
-stay_behind : {K V : Type 0} (cmp : K → K → Ordering) (key : K) (slots : List (K × Option V)) → AllByRecursion (λ slot. cmp slot.0 key ≡ Greater) slots → without cmp key (filled slots) ≡ filled slots
-stay_behind cmp key [] a = refl
-stay_behind cmp key ((other, None) ∷ slots) a = stay_behind cmp key slots a.1
-stay_behind cmp key ((other, Some old) ∷ slots) a = rw a.0 (ap (λ rest. (other, old) ∷ rest) (stay_behind cmp key slots a.1))
+stay_after : {K V : Type 0} (cmp : K → K → Ordering) (key : K) (slots : List (K × Option V)) → AllByRecursion (λ slot. cmp slot.0 key ≡ Greater) slots → without cmp key (filled slots) ≡ filled slots
+stay_after cmp key [] a = refl
+stay_after cmp key ((other, None) ∷ slots) a = stay_after cmp key slots a.1
+stay_after cmp key ((other, Some old) ∷ slots) a = rw a.0 (ap (λ rest. (other, old) ∷ rest) (stay_after cmp key slots a.1))
 
 goes_here : {K V : Type 0} (cmp : K → K → Ordering) (key here : K) (old : Option V) (back : List (K × Option V)) → cmp here key ≡ Equal → AllByRecursion (λ slot. cmp slot.0 key ≡ Greater) back
     → without cmp key (filled ((here, old) ∷ back)) ≡ filled back
-goes_here cmp key here None back e a = stay_behind cmp key back a
-goes_here cmp key here (Some old) back e a = rw e (stay_behind cmp key back a)
+goes_here cmp key here None back e a = stay_after cmp key back a
+goes_here cmp key here (Some old) back e a = rw e (stay_after cmp key back a)
 
 filled_without : {K V : Type 0} (cmp : K → K → Ordering) (key : K) (front : List (K × Option V)) (here : K) (old : Option V) (back : List (K × Option V))
     → AllByRecursion (λ slot. cmp slot.0 key ≡ Less) front → cmp here key ≡ Equal → AllByRecursion (λ slot. cmp slot.0 key ≡ Greater) back
@@ -59,16 +59,16 @@ module _ {K V : Type 0} {cmp : K → K → Ordering} (t : IsTotalOrder cmp) (exa
       let slot = found.0 in
       let same : cmp slot.0 key ≡ Equal = sym found.2 ∙ place in
       let page = page_at pages i in
-      let behind = slots_of (drop (suc i) pages) in
-      let rest = drop (suc j) page ++ behind in
+      let following = slots_of (drop (suc i) pages) in
+      let rest = drop (suc j) page ++ following in
       let parts = around query pages i j slots.ascending slot found.1 in
       let apart = subst (IsAscending cmp) parts slots.ascending in
       let front = before_there query (before pages (i, j)) slot rest apart (ap is_gt same) in
-      let back = all_behind query slot rest (ap is_lt same) (ascending_back cmp (before pages (i, j)) (slot ∷ rest) apart).0 in
+      let back = all_after query slot rest (ap is_lt same) (ascending_back cmp (before pages (i, j)) (slot ∷ rest) apart).0 in
       ap filled
       (slots_of_set pages i (with_column page (set (column_of page) j value)) (page_is_there pages i j slot found.1)
-      ∙ ap (λ page. slots_of (take i pages) ++ (page ++ behind)) (column_set page j slot value found.1)
-      ∙ ap (λ rest. slots_of (take i pages) ++ rest) (append_assoc (take j page) ((slot.0, value) ∷ drop (suc j) page) behind)
+      ∙ ap (λ page. slots_of (take i pages) ++ (page ++ following)) (column_set page j slot value found.1)
+      ∙ ap (λ rest. slots_of (take i pages) ++ rest) (append_assoc (take j page) ((slot.0, value) ∷ drop (suc j) page) following)
       ∙ sym (append_assoc (slots_of (take i pages)) (take j page) ((slot.0, value) ∷ rest)))
       ∙ filled_assigned cmp key value (before pages (i, j)) slot.0 slot.1 rest front same (exact slot.0 key same) back
       ∙ ap (λ slots. assigned cmp key value (filled slots)) (sym parts)

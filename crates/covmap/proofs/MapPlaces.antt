@@ -14,10 +14,10 @@ use Rattle.covmap.specs.Puts.{put}
 use Rattle.covmap.specs.Slots.{IsAscending, AreSlots, IsGap, IsPlace, order_at, before, from, filled, page_at, slot_at, slots_of, value_at, value_in}
 use Rattle.covmap.proofs.StagedWhole.{keys_page, keys_staged, staged_whole}
 use Rattle.covmap.proofs.Filled.{lookup_absent, lookup_filled, filled_put}
-use Rattle.covmap.proofs.SlotBehind.{place_slot}
+use Rattle.covmap.proofs.SlotAfter.{place_slot}
 use Rattle.covmap.proofs.SlotPages.{whole}
 use Rattle.covmap.proofs.SlotPlaces.{around, before_there, value_there, written_there}
-use Rattle.covmap.proofs.SlotSearch.{all_behind, ascending_back}
+use Rattle.covmap.proofs.SlotSearch.{all_after, ascending_back}
 
 -- ---- the keys of what is staged
 
@@ -89,7 +89,7 @@ staged_put {K} {V} {cmp} t exact key value pages columns i j slots place =
     let parts = around query after i j ascending slot found.1 in
     let apart = subst (IsAscending cmp) parts ascending in
     let front = before_there query (before after (i, j)) slot rest apart (ap is_gt same) in
-    let back = all_behind query slot rest (ap is_lt same) (ascending_back cmp (before after (i, j)) (slot ∷ rest) apart).0 in
+    let back = all_after query slot rest (ap is_lt same) (ascending_back cmp (before after (i, j)) (slot ∷ rest) apart).0 in
     ap filled (written_there query after i j ascending slot value found.1)
     ∙ filled_put cmp key value (before after (i, j)) slot.0 slot.1 rest front same (exact slot.0 key same) back
     ∙ ap (λ slots. put cmp key value (filled slots)) (sym parts)

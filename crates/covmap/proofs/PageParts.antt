@@ -102,14 +102,14 @@ beside_insert [] (value ∷ values) i key l e = absurd (omega arith)
 beside_insert (first ∷ keys) (value ∷ values) zero key l e = refl
 beside_insert (first ∷ keys) (value ∷ values) (suc i) key l e = ap (λ rest. (first, value) ∷ rest) (beside_insert keys values i key (omega arith) (omega arith))
 
-pub beside_behind : {K V : Type 0} (keys : List K) (values : List (Option V)) (i : ℕ) (key : K) → length values ≤ i → i ≤ length keys → beside (insert keys i key) values ≡ insert (beside keys values) i (key, None)
-beside_behind [] [] zero key l e = refl
-beside_behind [] [] (suc i) key l e = absurd (omega arith)
-beside_behind [] (value ∷ values) i key l e = absurd (omega arith)
-beside_behind (first ∷ keys) [] zero key l e = refl
-beside_behind (first ∷ keys) [] (suc i) key l e = ap (λ rest. (first, None) ∷ rest) (beside_behind keys [] i key (omega arith) (omega arith))
-beside_behind (first ∷ keys) (value ∷ values) zero key l e = absurd (omega arith)
-beside_behind (first ∷ keys) (value ∷ values) (suc i) key l e = ap (λ rest. (first, value) ∷ rest) (beside_behind keys values i key (omega arith) (omega arith))
+pub beside_after : {K V : Type 0} (keys : List K) (values : List (Option V)) (i : ℕ) (key : K) → length values ≤ i → i ≤ length keys → beside (insert keys i key) values ≡ insert (beside keys values) i (key, None)
+beside_after [] [] zero key l e = refl
+beside_after [] [] (suc i) key l e = absurd (omega arith)
+beside_after [] (value ∷ values) i key l e = absurd (omega arith)
+beside_after (first ∷ keys) [] zero key l e = refl
+beside_after (first ∷ keys) [] (suc i) key l e = ap (λ rest. (first, None) ∷ rest) (beside_after keys [] i key (omega arith) (omega arith))
+beside_after (first ∷ keys) (value ∷ values) zero key l e = absurd (omega arith)
+beside_after (first ∷ keys) (value ∷ values) (suc i) key l e = ap (λ rest. (first, value) ∷ rest) (beside_after keys values i key (omega arith) (omega arith))
 
 -- what is put in after all others is appended
 pub insert_last : {X : Type 0} (xs : List X) (i : ℕ) (x : X) → i ≡ length xs → xs ++ x ∷ [] ≡ insert xs i x

@@ -67,9 +67,9 @@ module _ {K V : Type 0} {cmp : K → K → Ordering} {order : K → Ordering} (q
       → slots_of (with_value_at (i, j) value pages) ≡ before pages (i, j) ++ (slot.0, Some value) ∷ (drop (suc j) (page_at pages i) ++ slots_of (drop (suc i) pages))
   written_there slot value e =
       let page = page_at pages i in
-      let behind = slots_of (drop (suc i) pages) in
-      let back = drop (suc j) page ++ behind in
+      let following = slots_of (drop (suc i) pages) in
+      let back = drop (suc j) page ++ following in
       slots_of_set pages i (with_column page (set (column_of page) j (Some value))) (page_is_there pages i j slot e)
-      ∙ ap (λ page. slots_of (take i pages) ++ (page ++ behind)) (column_set page j slot (Some value) e)
-      ∙ ap (λ rest. slots_of (take i pages) ++ rest) (append_assoc (take j page) ((slot.0, Some value) ∷ drop (suc j) page) behind)
+      ∙ ap (λ page. slots_of (take i pages) ++ (page ++ following)) (column_set page j slot (Some value) e)
+      ∙ ap (λ rest. slots_of (take i pages) ++ rest) (append_assoc (take j page) ((slot.0, Some value) ∷ drop (suc j) page) following)
       ∙ sym (append_assoc (slots_of (take i pages)) (take j page) ((slot.0, Some value) ∷ back))

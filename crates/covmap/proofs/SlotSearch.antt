@@ -49,20 +49,20 @@ first_there (x ∷ xs) (suc index) rest l = first_there xs index rest (omega ari
 
 module _ {K V : Type 0} {cmp : K → K → Ordering} {order : K → Ordering} (query : IsQuery cmp order) where
   -- after a slot that doesn't come before what is asked for, all slots are greater than that
-  pub all_behind : (slot : K × Option V) (slots : List (K × Option V)) → is_lt (order slot.0) ≡ false → AllByRecursion (λ next. cmp slot.0 next.0 ≡ Less) slots
+  pub all_after : (slot : K × Option V) (slots : List (K × Option V)) → is_lt (order slot.0) ≡ false → AllByRecursion (λ next. cmp slot.0 next.0 ≡ Less) slots
       → AllByRecursion (λ next. order next.0 ≡ Greater) slots
-  all_behind slot slots e a = all_weaker (λ next. cmp slot.0 next.0 ≡ Less) (λ next. order next.0 ≡ Greater) slots (λ next l. query.behind slot.0 next.0 l e) a
+  all_after slot slots e a = all_weaker (λ next. cmp slot.0 next.0 ≡ Less) (λ next. order next.0 ≡ Greater) slots (λ next l. query.following slot.0 next.0 l e) a
 
   pub slots_fall : (slots : List (K × Option V)) → IsAscending cmp slots → IsFalling (is_before order) slots
   slots_fall [] a = tt
-  slots_fall (slot ∷ slots) a = (λ e. all_weaker (λ next. order next.0 ≡ Greater) (λ next. is_lt (order next.0) ≡ false) slots (λ next g. not_lt (order next.0) g) (all_behind slot slots e a.0), slots_fall slots a.1)
+  slots_fall (slot ∷ slots) a = (λ e. all_weaker (λ next. order next.0 ≡ Greater) (λ next. is_lt (order next.0) ≡ false) slots (λ next g. not_lt (order next.0) g) (all_after slot slots e a.0), slots_fall slots a.1)
 
-  behind_lead_at : (slot : K × Option V) (slots : List (K × Option V)) → IsAscending cmp (slot ∷ slots) → (b : Bool) → is_lt (order slot.0) ≡ b
+  after_lead_at : (slot : K × Option V) (slots : List (K × Option V)) → IsAscending cmp (slot ∷ slots) → (b : Bool) → is_lt (order slot.0) ≡ b
       → AllByRecursion (λ slot. is_lt (order slot.0) ≡ false) (drop (lead (is_before order) slots) slots)
       → AllByRecursion (λ slot. is_lt (order slot.0) ≡ false) (drop (if b then suc (lead (is_before order) slots) else 0) (slot ∷ slots))
-  behind_lead_at slot slots a true e rest = rest
-  behind_lead_at slot slots a false e rest =
-      (e, all_weaker (λ next. order next.0 ≡ Greater) (λ next. is_lt (order next.0) ≡ false) slots (λ next g. not_lt (order next.0) g) (all_behind slot slots e a.0))
+  after_lead_at slot slots a true e rest = rest
+  after_lead_at slot slots a false e rest =
+      (e, all_weaker (λ next. order next.0 ≡ Greater) (λ next. is_lt (order next.0) ≡ false) slots (λ next g. not_lt (order next.0) g) (all_after slot slots e a.0))
 
   -- a page that doesn't end before what is asked for has a slot after the lead
   lead_below_at : (slot : K × Option V) (slots : List (K × Option V)) (b : Bool) → lead (is_before order) slots < length slots → (if b then suc (lead (is_before order) slots) else 0) < suc (length slots)
@@ -75,9 +75,9 @@ module _ {K V : Type 0} {cmp : K → K → Ordering} {order : K → Ordering} (q
   lead_below (slot ∷ next ∷ slots) e = lead_below_at slot (next ∷ slots) (is_before order slot) (lead_below (next ∷ slots) e)
 
   -- the slots from the lead on don't come before
-  pub behind_lead : (slots : List (K × Option V)) → IsAscending cmp slots → AllByRecursion (λ slot. is_lt (order slot.0) ≡ false) (drop (lead (is_before order) slots) slots)
-  behind_lead [] a = tt
-  behind_lead (slot ∷ slots) a = behind_lead_at slot slots a (is_lt (order slot.0)) refl (behind_lead slots a.1)
+  pub after_lead : (slots : List (K × Option V)) → IsAscending cmp slots → AllByRecursion (λ slot. is_lt (order slot.0) ≡ false) (drop (lead (is_before order) slots) slots)
+  after_lead [] a = tt
+  after_lead (slot ∷ slots) a = after_lead_at slot slots a (is_lt (order slot.0)) refl (after_lead slots a.1)
 
   -- ---- a page, and those after it
 
@@ -90,26 +90,26 @@ module _ {K V : Type 0} {cmp : K → K → Ordering} {order : K → Ordering} (q
       (query.before slot.0 next.0 a.0.0 (not_gt (order next.0) rest.0), rest)
 
   -- where its last key doesn't, all slots after it are greater than what is asked for
-  pub behind_page : (page slots : List (K × Option V)) → IsAscending cmp (page ++ slots) → ends_before order page ≡ false → AllByRecursion (λ slot. order slot.0 ≡ Greater) slots
-  behind_page [] slots a e = absurd cc
-  behind_page (slot ∷ []) slots a e = all_behind slot slots e a.0
-  behind_page (slot ∷ next ∷ rest) slots a e = behind_page (next ∷ rest) slots a.1 e
+  pub after_page : (page slots : List (K × Option V)) → IsAscending cmp (page ++ slots) → ends_before order page ≡ false → AllByRecursion (λ slot. order slot.0 ≡ Greater) slots
+  after_page [] slots a e = absurd cc
+  after_page (slot ∷ []) slots a e = all_after slot slots e a.0
+  after_page (slot ∷ next ∷ rest) slots a e = after_page (next ∷ rest) slots a.1 e
 
   -- a page whose slots are greater than what is asked for doesn't end before it
-  page_behind : (page : List (K × Option V)) → 0 < length page → AllByRecursion (λ slot. order slot.0 ≡ Greater) page → ends_before order page ≡ false
-  page_behind [] l a = absurd (omega arith)
-  page_behind (slot ∷ []) l a = not_lt (order slot.0) a.0
-  page_behind (slot ∷ next ∷ slots) l a = page_behind (next ∷ slots) (omega arith) a.1
+  page_after : (page : List (K × Option V)) → 0 < length page → AllByRecursion (λ slot. order slot.0 ≡ Greater) page → ends_before order page ≡ false
+  page_after [] l a = absurd (omega arith)
+  page_after (slot ∷ []) l a = not_lt (order slot.0) a.0
+  page_after (slot ∷ next ∷ slots) l a = page_after (next ∷ slots) (omega arith) a.1
 
-  pages_behind : (pages : List (List (K × Option V))) → AllByRecursion IsPage pages → AllByRecursion (λ slot. order slot.0 ≡ Greater) (slots_of pages)
+  pages_after : (pages : List (List (K × Option V))) → AllByRecursion IsPage pages → AllByRecursion (λ slot. order slot.0 ≡ Greater) (slots_of pages)
       → AllByRecursion (λ page. ends_before order page ≡ false) pages
-  pages_behind [] p a = tt
-  pages_behind (page ∷ pages) p a =
-      (page_behind page p.0.0 (all_front (λ slot. order slot.0 ≡ Greater) page (slots_of pages) a), pages_behind pages p.1 (all_back (λ slot. order slot.0 ≡ Greater) page (slots_of pages) a))
+  pages_after [] p a = tt
+  pages_after (page ∷ pages) p a =
+      (page_after page p.0.0 (all_front (λ slot. order slot.0 ≡ Greater) page (slots_of pages) a), pages_after pages p.1 (all_back (λ slot. order slot.0 ≡ Greater) page (slots_of pages) a))
 
   pub pages_fall : (pages : List (List (K × Option V))) → AllByRecursion IsPage pages → IsAscending cmp (slots_of pages) → IsFalling (ends_before order) pages
   pages_fall [] p a = tt
-  pages_fall (page ∷ pages) p a = (λ e. pages_behind pages p.1 (behind_page page (slots_of pages) a e), pages_fall pages p.1 (ascending_back cmp page (slots_of pages) a))
+  pages_fall (page ∷ pages) p a = (λ e. pages_after pages p.1 (after_page page (slots_of pages) a e), pages_fall pages p.1 (ascending_back cmp page (slots_of pages) a))
 
   -- ---- the cut
 
@@ -117,10 +117,10 @@ module _ {K V : Type 0} {cmp : K → K → Ordering} {order : K → Ordering} (q
   cut_here page pages a e =
       let index = lead (is_before order) page in
       let alone = ascending_front cmp page (slots_of pages) a in
-      let above = behind_page page (slots_of pages) a e in
+      let above = after_page page (slots_of pages) a e in
       record {
         front = all_weaker (λ slot. is_lt (order slot.0) ≡ true) (λ slot. order slot.0 ≡ Less) (take index page) (λ slot l. is_Less (order slot.0) l) (lead_passes (is_before order) page);
-        back = all_append (λ slot. is_lt (order slot.0) ≡ false) (drop index page) (slots_of pages) (behind_lead page alone)
+        back = all_append (λ slot. is_lt (order slot.0) ≡ false) (drop index page) (slots_of pages) (after_lead page alone)
             (all_weaker (λ slot. order slot.0 ≡ Greater) (λ slot. is_lt (order slot.0) ≡ false) (slots_of pages) (λ slot g. not_lt (order slot.0) g) above);
         here = first_there page index (slots_of pages) (lead_below page e);
         page_there = omega arith;
@@ -148,23 +148,23 @@ module _ {K V : Type 0} {cmp : K → K → Ordering} {order : K → Ordering} (q
   is_cut [] a = record { front = tt; back = tt; here = refl; page_there = omega arith; on_page = omega arith }
   is_cut (page ∷ pages) a = is_cut_at page pages a (ends_before order page) refl (is_cut pages (ascending_back cmp page (slots_of pages) a))
 
-  gap_behind_at : (slot : K × Option V) (slots : List (K × Option V)) (o : Ordering) → order slot.0 ≡ o → is_lt o ≡ false → (o ≡ Equal → ⊥)
+  gap_after_at : (slot : K × Option V) (slots : List (K × Option V)) (o : Ordering) → order slot.0 ≡ o → is_lt o ≡ false → (o ≡ Equal → ⊥)
       → AllByRecursion (λ next. order next.0 ≡ Greater) slots → AllByRecursion (λ next. order next.0 ≡ Greater) (slot ∷ slots)
-  gap_behind_at slot slots Less e l none a = absurd cc
-  gap_behind_at slot slots Equal e l none a = absurd (none refl)
-  gap_behind_at slot slots Greater e l none a = (e, a)
+  gap_after_at slot slots Less e l none a = absurd cc
+  gap_after_at slot slots Equal e l none a = absurd (none refl)
+  gap_after_at slot slots Greater e l none a = (e, a)
 
-  gap_behind : (slots : List (K × Option V)) → IsAscending cmp slots → AllByRecursion (λ slot. is_lt (order slot.0) ≡ false) slots
+  gap_after : (slots : List (K × Option V)) → IsAscending cmp slots → AllByRecursion (λ slot. is_lt (order slot.0) ≡ false) slots
       → (order_at order (slice_get slots 0) ≡ Equal → ⊥) → AllByRecursion (λ slot. order slot.0 ≡ Greater) slots
-  gap_behind [] a b none = tt
-  gap_behind (slot ∷ slots) a b none = gap_behind_at slot slots (order slot.0) refl b.0 none (all_behind slot slots b.0 a.0)
+  gap_after [] a b none = tt
+  gap_after (slot ∷ slots) a b none = gap_after_at slot slots (order slot.0) refl b.0 none (all_after slot slots b.0 a.0)
 
   -- where the key that is asked for doesn't stand at the cut, the cut is its gap
   pub gap_at_cut : (pages : List (List (K × Option V))) (at : At) → IsAscending cmp (slots_of pages) → slots_of pages ≡ before pages at ++ from pages at
       → IsCut order pages at → (IsPlace order pages at → ⊥) → IsGap order pages at
   gap_at_cut pages at a whole cut none = record {
     front = cut.front;
-    back = gap_behind (from pages at) (ascending_back cmp (before pages at) (from pages at) (rw whole at a)) cut.back (λ e. none (ap (order_at order) cut.here ∙ e));
+    back = gap_after (from pages at) (ascending_back cmp (before pages at) (from pages at) (rw whole at a)) cut.back (λ e. none (ap (order_at order) cut.here ∙ e));
     page_there = cut.page_there;
     on_page = cut.on_page;
   }

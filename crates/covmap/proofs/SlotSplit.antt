@@ -144,6 +144,6 @@ gap_high {K} {V} order pages i k j l full e gap = record {
 pub length_high : {K V : Type 0} (pages : List (List (K × Option V))) (i n : ℕ) → i < length pages → n ≡ suc i → length (page_at pages i) ≤ 256 → length (page_at (with_page_split i pages) n) < 256
 length_high pages i n l e m = rw (e, page_high pages i l) (omega (arith, length-drop 128 (page_at pages i)))
 
-pub gap_behind_half : {K V : Type 0} (order : K → Ordering) (pages : List (List (K × Option V))) (i n k j : ℕ) → i < length pages → length (page_at pages i) ≡ 256 → n ≡ suc i → 128 + k ≡ j
+pub gap_after_half : {K V : Type 0} (order : K → Ordering) (pages : List (List (K × Option V))) (i n k j : ℕ) → i < length pages → length (page_at pages i) ≡ 256 → n ≡ suc i → 128 + k ≡ j
     → IsGap order pages (i, j) → IsGap order (with_page_split i pages) (n, k)
-gap_behind_half order pages i n k j l full s e gap = rw s (gap_high order pages i k j l full e gap)
+gap_after_half order pages i n k j l full s e gap = rw s (gap_high order pages i k j l full e gap)

@@ -48,11 +48,11 @@ pub slots_put : {K V : Type 0} (pages : List (List (K × Option V))) (i j : ℕ)
     → slots_of (set pages i (insert (page_at pages i) j slot)) ≡ before pages (i, j) ++ slot ∷ from pages (i, j)
 slots_put pages i j slot l =
     let page = page_at pages i in
-    let behind = slots_of (drop (suc i) pages) in
+    let following = slots_of (drop (suc i) pages) in
     let front = slots_of (take i pages) in
     slots_of_set pages i (insert page j slot) l
-    ∙ ap (λ rest. front ++ rest) (append_assoc (take j page) (slot ∷ drop j page) behind)
-    ∙ sym (append_assoc front (take j page) (slot ∷ drop j page ++ behind))
+    ∙ ap (λ rest. front ++ rest) (append_assoc (take j page) (slot ∷ drop j page) following)
+    ∙ sym (append_assoc front (take j page) (slot ∷ drop j page ++ following))
 
 pub pages_fit_set : {K V : Type 0} (pages : List (List (K × Option V))) (i : ℕ) (page : List (K × Option V)) → AllByRecursion IsPage pages → IsPage page → AllByRecursion IsPage (set pages i page)
 pages_fit_set [] i page a p = tt

@@ -9,7 +9,7 @@ use Rattle.std.proofs.Math.ListN.{length-set}
 use Rattle.std.proofs.lemmas.Bool.Decides.{nat_tests}
 use Rattle.std.proofs.lemmas.List.Edits.{length-insert}
 use Rattle.covmap.specs.Slots.{lead, page_at, IsPlace, order_at, filled, slots_of, before, from, with_empty, with_page_split}
-use Rattle.covmap.specs.Staged.{with_column, column_at, page_staged, staged_from, staged_of, AreBehind, AreAscending, IsColumnOf, AreColumnsOf, own_of, halves_of, moved, number_after, IsAmong, IsWidened, IsSplit}
+use Rattle.covmap.specs.Staged.{with_column, column_at, page_staged, staged_from, staged_of, AreAfter, AreAscending, IsColumnOf, AreColumnsOf, own_of, halves_of, moved, number_after, IsAmong, IsWidened, IsSplit}
 use Rattle.covmap.proofs.Leads.{all_append, all_front, all_back, all_weaker, lead_le}
 use Rattle.covmap.proofs.StagedPages.{same_staged, page_of_staged, column_passed, column_found, column_missing}
 use Rattle.covmap.proofs.StagedSearch.{below_true, columns_front, columns_missing, columns_there}
@@ -174,15 +174,15 @@ columns_pushed {K} {V} pages columns page a =
 
 -- ---- a page cut in two
 
-moved_behind_at : {V : Type 0} (page n : ℕ) (column : ℕ × List (Option V)) (b : Bool) → nat_lt page column.0 ≡ b → n < column.0 → n < (if b then suc column.0 else column.0)
-moved_behind_at page n column true e l = omega arith
-moved_behind_at page n column false e l = l
+moved_after_at : {V : Type 0} (page n : ℕ) (column : ℕ × List (Option V)) (b : Bool) → nat_lt page column.0 ≡ b → n < column.0 → n < (if b then suc column.0 else column.0)
+moved_after_at page n column true e l = omega arith
+moved_after_at page n column false e l = l
 
-moved_behind : {V : Type 0} (page n : ℕ) (columns : List (ℕ × List (Option V))) → AreBehind n columns → AreBehind n (map (moved page) columns)
-moved_behind page n [] a = tt
-moved_behind page n (column ∷ columns) a = (moved_behind_at page n column (nat_lt page column.0) refl a.0, moved_behind page n columns a.1)
+moved_after : {V : Type 0} (page n : ℕ) (columns : List (ℕ × List (Option V))) → AreAfter n columns → AreAfter n (map (moved page) columns)
+moved_after page n [] a = tt
+moved_after page n (column ∷ columns) a = (moved_after_at page n column (nat_lt page column.0) refl a.0, moved_after page n columns a.1)
 
-moved_more : {V : Type 0} (page n : ℕ) (columns : List (ℕ × List (Option V))) → page ≤ n → AreBehind n columns → AreBehind (suc n) (map (moved page) columns)
+moved_more : {V : Type 0} (page n : ℕ) (columns : List (ℕ × List (Option V))) → page ≤ n → AreAfter n columns → AreAfter (suc n) (map (moved page) columns)
 moved_more page n [] l a = tt
 moved_more page n (column ∷ columns) l a = (rw (below_true page column.0 (omega (arith, a.0))) (omega (arith, a.0)), moved_more page n columns l a.1)
 
@@ -191,9 +191,9 @@ pub moved_ascending : {V : Type 0} (page : ℕ) (columns : List (ℕ × List (Op
 moved_ascending page [] a = tt
 moved_ascending {V} page (column ∷ columns) a = (first (nat_lt page column.0) refl, moved_ascending page columns a.1)
   where
-    first : (b : Bool) → nat_lt page column.0 ≡ b → AreBehind (if b then suc column.0 else column.0) (map (moved page) columns)
+    first : (b : Bool) → nat_lt page column.0 ≡ b → AreAfter (if b then suc column.0 else column.0) (map (moved page) columns)
     first true e = let above : page < column.0 = grind (arith, nat_tests) in moved_more page column.0 columns (omega arith) a.0
-    first false e = moved_behind page column.0 columns a.0
+    first false e = moved_after page column.0 columns a.0
 
 -- no column has the number after the page then
 moved_apart : {V : Type 0} (page : ℕ) (columns : List (ℕ × List (Option V))) → AllByRecursion (λ column. column.0 ≡ suc page → ⊥) (map (moved page) columns)
@@ -323,9 +323,9 @@ all_away {V} page back a b = all_stay (λ (other : ℕ × List (Option V)). page
     away other l f = grind (arith, f, l)
 
 -- those after the page come after its second half
-pub behind_halves : {V : Type 0} (page : ℕ) (old front : List (ℕ × List (Option V))) (here : Option (List (Option V))) (back : List (ℕ × List (Option V))) → IsAmong page (map (moved page) old) front here back
+pub after_halves : {V : Type 0} (page : ℕ) (old front : List (ℕ × List (Option V))) (here : Option (List (Option V))) (back : List (ℕ × List (Option V))) → IsAmong page (map (moved page) old) front here back
     → AllByRecursion (λ other. suc page < other.0) back
-behind_halves {V} page old front here back w =
+after_halves {V} page old front here back w =
     let apart = λ (other : ℕ × List (Option V)). other.0 ≡ suc page → ⊥ in
     all_away page back w.above (all_back apart (own_of page here) back (all_back apart front (own_of page here ++ back) (subst (AllByRecursion apart) w.is (moved_apart page old))))
 
@@ -333,12 +333,12 @@ behind_halves {V} page old front here back w =
 pub staged_split : {K V : Type 0} (pages : List (List (K × Option V))) (old new : List (ℕ × List (Option V))) (i : ℕ) → i < length pages → IsSplit i old new
     → staged_of (with_page_split i pages) new ≡ with_page_split i (staged_of pages old)
 staged_split pages old new i there s =
-    let behind = behind_halves i old s.front s.here s.back s.was in
+    let following = after_halves i old s.front s.here s.back s.was in
     let here : column_at i old ≡ s.here = sym (at_low i i old (omega arith)) ∙ ap (column_at i) s.was.is ∙ here_among i s.front s.here s.back s.was.below s.was.above in
     split_staged 0 i i pages old new (omega arith) there
     (λ m l. ap (column_at m) s.is ∙ other_half i m s.front s.here s.back (λ e. omega arith) (λ e. omega arith) ∙ sym (ap (column_at m) s.was.is) ∙ at_low i m old (omega arith))
     (ap (column_at i) s.is ∙ first_half i s.front s.here s.back s.was.below s.was.above ∙ ap (option_map (λ column. take 128 column)) (sym here))
-    (ap (column_at (suc i)) s.is ∙ second_half i s.front s.here s.back s.was.below behind ∙ ap (option_map (λ column. drop 128 column)) (sym here))
+    (ap (column_at (suc i)) s.is ∙ second_half i s.front s.here s.back s.was.below following ∙ ap (option_map (λ column. drop 128 column)) (sym here))
     (λ m l. ap (column_at (suc m)) s.is ∙ other_half i (suc m) s.front s.here s.back (λ e. omega arith) (λ e. omega arith) ∙ sym (ap (column_at (suc m)) s.was.is) ∙ at_high i m old (omega arith))
 
 -- ---- the columns of the halves
@@ -349,11 +349,11 @@ page_before (page ∷ pages) zero m t l = absurd (omega arith)
 page_before (page ∷ pages) (suc i) zero t l = refl
 page_before (page ∷ pages) (suc i) (suc m) t l = page_before pages i m (omega arith) (omega arith)
 
-page_behind : {K V : Type 0} (pages : List (List (K × Option V))) (i m : ℕ) → i < length pages → i < m → page_at (with_page_split i pages) (suc m) ≡ page_at pages m
-page_behind [] i m t l = absurd (omega arith)
-page_behind (page ∷ pages) i zero t l = absurd (omega arith)
-page_behind (page ∷ pages) zero (suc m) t l = refl
-page_behind (page ∷ pages) (suc i) (suc m) t l = page_behind pages i m (omega arith) (omega arith)
+page_after : {K V : Type 0} (pages : List (List (K × Option V))) (i m : ℕ) → i < length pages → i < m → page_at (with_page_split i pages) (suc m) ≡ page_at pages m
+page_after [] i m t l = absurd (omega arith)
+page_after (page ∷ pages) i zero t l = absurd (omega arith)
+page_after (page ∷ pages) zero (suc m) t l = refl
+page_after (page ∷ pages) (suc i) (suc m) t l = page_after pages i m (omega arith) (omega arith)
 
 module _ {K V : Type 0} (pages : List (List (K × Option V))) (i : ℕ) (there : i < length pages) where
   -- a column that moved is of its page, where that isn't the one that is cut
@@ -367,7 +367,7 @@ module _ {K V : Type 0} (pages : List (List (K × Option V))) (i : ℕ) (there :
       first : (b : Bool) → nat_lt i column.0 ≡ b → MovesTo (if b then suc column.0 else column.0, column.1)
       first true e =
           let above : i < column.0 = grind (arith, nat_tests) in
-          (λ f. (omega (arith, split_length pages i there, a.0.0), a.0.1 ∙ ap length (sym (page_behind pages i column.0 there above))), λ f. absurd (omega (arith, above, f)))
+          (λ f. (omega (arith, split_length pages i there, a.0.0), a.0.1 ∙ ap length (sym (page_after pages i column.0 there above))), λ f. absurd (omega (arith, above, f)))
       first false e =
           let above : column.0 ≤ i = grind (arith, nat_tests) in (
             λ f. let below : column.0 < i = grind (arith, above, f) in (omega (arith, split_length pages i there, a.0.0), a.0.1 ∙ ap length (sym (page_before pages i column.0 there below))),
@@ -511,9 +511,9 @@ pub all_seen : {P X : Type 0} (Q : X → Type 0) (seen : P → X) (ps : List P) 
 all_seen Q seen [] a = tt
 all_seen Q seen (p ∷ ps) a = (a.0, all_seen Q seen ps a.1)
 
-insert_behind : {X : Type 0} (front : List X) (y z : X) (back : List X) → insert (front ++ y ∷ back) (suc (length front)) z ≡ front ++ y ∷ z ∷ back
-insert_behind [] y z back = refl
-insert_behind (x ∷ front) y z back = ap (λ rest. x ∷ rest) (insert_behind front y z back)
+insert_after : {X : Type 0} (front : List X) (y z : X) (back : List X) → insert (front ++ y ∷ back) (suc (length front)) z ≡ front ++ y ∷ z ∷ back
+insert_after [] y z back = refl
+insert_after (x ∷ front) y z back = ap (λ rest. x ∷ rest) (insert_after front y z back)
 
 -- a column cut in two
 pub seen_halves : {V P : Type 0} (seen : P → ℕ × List (Option V)) (ps : List P) (columns front : List (ℕ × List (Option V))) (x : ℕ × List (Option V)) (back : List (ℕ × List (Option V))) (index : ℕ)
@@ -525,7 +525,7 @@ seen_halves seen ps columns front x back index view is at q r y z e f =
     ∙ ap (λ xs. insert xs (index + 1) (seen r)) (seen_written seen ps columns front x back index view is at q y e)
     ∙ ap (insert (front ++ y ∷ back) (index + 1)) f
     ∙ ap (λ n. insert (front ++ y ∷ back) n z) next
-    ∙ insert_behind front y z back
+    ∙ insert_after front y z back
 
 -- the page's column is still as long, where the others have moved
 pub moved_full : {V : Type 0} (page n : ℕ) (columns : List (ℕ × List (Option V))) → AllByRecursion (λ column. column.0 ≡ page → length column.1 ≡ n) columns
@@ -579,9 +579,9 @@ pub staged_made : {K V : Type 0} (pages : List (List (K × Option V))) (old new 
 staged_made pages old new i j key there fit w =
     ap (λ pages. filled (slots_of pages)) (staged_widened pages old new i j key there fit w) ∙ filled_empty (staged_of pages old) i j key (omega (arith, there, length_staged 0 pages old))
 
-pub staged_made_behind : {K V : Type 0} (pages : List (List (K × Option V))) (columns : List (ℕ × List (Option V))) (key : K) → AreColumnsOf pages columns
+pub staged_made_after : {K V : Type 0} (pages : List (List (K × Option V))) (columns : List (ℕ × List (Option V))) (key : K) → AreColumnsOf pages columns
     → filled (slots_of (staged_of (pages ++ ((key, None) ∷ []) ∷ []) columns)) ≡ filled (slots_of (staged_of pages columns))
-staged_made_behind {K} {V} pages columns key fit =
+staged_made_after {K} {V} pages columns key fit =
     let page : List (K × Option V) = (key, None) ∷ [] in
     ap (λ pages. filled (slots_of pages)) (staged_pushed 0 pages columns page (all_weaker (IsColumnOf pages) (λ column. column.0 < 0 + length pages) columns (λ column fit. omega (arith, fit.0)) fit))
     ∙ filled_pushed (staged_of pages columns) key

@@ -8,13 +8,13 @@ use Rattle.covmap.proofs.SlotWrites.{map_set}
 use Rattle.covmap.proofs.StagedPages.{value_staged}
 use Rattle.covmap.proofs.StagedSearch.{map_read}
 
-get_behind : {X : Type 0} (front : List X) (x d : X) (back : List X) → get_or (front ++ x ∷ back) (length front) d ≡ x
-get_behind [] x d back = refl
-get_behind (y ∷ front) x d back = get_behind front x d back
+get_after : {X : Type 0} (front : List X) (x d : X) (back : List X) → get_or (front ++ x ∷ back) (length front) d ≡ x
+get_after [] x d back = refl
+get_after (y ∷ front) x d back = get_after front x d back
 
-set_behind : {X : Type 0} (front : List X) (x y : X) (back : List X) → set (front ++ x ∷ back) (length front) y ≡ front ++ y ∷ back
-set_behind [] x y back = refl
-set_behind (z ∷ front) x y back = ap (λ rest. z ∷ rest) (set_behind front x y back)
+set_after : {X : Type 0} (front : List X) (x y : X) (back : List X) → set (front ++ x ∷ back) (length front) y ≡ front ++ y ∷ back
+set_after [] x y back = refl
+set_after (z ∷ front) x y back = ap (λ rest. z ∷ rest) (set_after front x y back)
 
 -- a column of the store, and what stands there after a write
 module _ {V P : Type 0} (seen : P → ℕ × List (Option V)) (ps : List P) (columns front : List (ℕ × List (Option V))) (x : ℕ × List (Option V)) (back : List (ℕ × List (Option V))) (index : ℕ)
@@ -24,19 +24,19 @@ module _ {V P : Type 0} (seen : P → ℕ × List (Option V)) (ps : List P) (col
 
   pub seen_column : (p : P) → p ≡ get_or ps index p → seen p ≡ x
   seen_column p e =
-      sym (map_read seen ps index p (seen p) index_within e) ∙ ap (λ columns. get_or columns index (seen p)) (view ∙ is) ∙ ap (λ i. get_or (front ++ x ∷ back) i (seen p)) at ∙ get_behind front x (seen p) back
+      sym (map_read seen ps index p (seen p) index_within e) ∙ ap (λ columns. get_or columns index (seen p)) (view ∙ is) ∙ ap (λ i. get_or (front ++ x ∷ back) i (seen p)) at ∙ get_after front x (seen p) back
 
   pub seen_written : (q : P) (y : ℕ × List (Option V)) → seen q ≡ y → map seen (set ps index q) ≡ front ++ y ∷ back
   seen_written q y e =
-      map_set seen ps index q ∙ ap (λ columns. set columns index (seen q)) (view ∙ is) ∙ ap (λ i. set (front ++ x ∷ back) i (seen q)) at ∙ set_behind front x (seen q) back
+      map_set seen ps index q ∙ ap (λ columns. set columns index (seen q)) (view ∙ is) ∙ ap (λ i. set (front ++ x ∷ back) i (seen q)) at ∙ set_after front x (seen q) back
       ∙ ap (λ y. front ++ y ∷ back) e
 
 -- the columns stay those of the pages
 pub columns_written : {K V : Type 0} (pages : List (List (K × Option V))) (page : ℕ) (front back : List (ℕ × List (Option V))) (old new : List (Option V)) → length new ≡ length old
     → AreColumnsOf pages (front ++ (page, old) ∷ back) → AreColumnsOf pages (front ++ (page, new) ∷ back)
 columns_written pages page front back old new e fit =
-    let behind = all_back (IsColumnOf pages) front ((page, old) ∷ back) fit in
-    all_append (IsColumnOf pages) front ((page, new) ∷ back) (all_front (IsColumnOf pages) front ((page, old) ∷ back) fit) ((behind.0.0, e ∙ behind.0.1), behind.1)
+    let following = all_back (IsColumnOf pages) front ((page, old) ∷ back) fit in
+    all_append (IsColumnOf pages) front ((page, new) ∷ back) (all_front (IsColumnOf pages) front ((page, old) ∷ back) fit) ((following.0.0, e ∙ following.0.1), following.1)
 
 -- what is staged has the value
 pub staged_written : {K V : Type 0} (pages : List (List (K × Option V))) (old new : List (ℕ × List (Option V))) (page index j : ℕ) (value : V) → page < length pages

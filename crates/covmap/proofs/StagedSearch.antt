@@ -4,7 +4,7 @@ use Rattle.std.specs.Prelude.{Some, option_map, slice_get, nat_lt}
 use Rattle.std.specs.List.{AllByRecursion}
 use Rattle.std.proofs.lemmas.Bool.Decides.{nat_tests}
 use Rattle.covmap.specs.Slots.{lead}
-use Rattle.covmap.specs.Staged.{AreBehind, AreAscending}
+use Rattle.covmap.specs.Staged.{AreAfter, AreAscending}
 use Rattle.covmap.proofs.Leads.{all_append, all_front, all_back, all_weaker, IsFalling, lead_passes, lead_above_passed, lead_le_failed}
 use Rattle.covmap.proofs.SlotSearch.{length_map}
 
@@ -41,7 +41,7 @@ module _ {V : Type 0} (page : ℕ) where
       all_weaker (λ other. nat_lt other.0 page ≡ true) (λ other. other.0 < page) (take (lead (λ column. nat_lt column.0 page) columns) columns) (λ other e. true_below other.0 page e)
       (lead_passes (λ column. nat_lt column.0 page) columns)
 
-  missing_at : (column : ℕ × List (Option V)) (columns : List (ℕ × List (Option V))) → AreBehind column.0 columns → (b : Bool) → nat_lt column.0 page ≡ b
+  missing_at : (column : ℕ × List (Option V)) (columns : List (ℕ × List (Option V))) → AreAfter column.0 columns → (b : Bool) → nat_lt column.0 page ≡ b
       → ((option_map (λ column. column.0) (slice_get columns (lead (λ column. nat_lt column.0 page) columns)) ≡ Some page → ⊥) → AllByRecursion (λ other. page < other.0) (drop (lead (λ column. nat_lt column.0 page) columns) columns))
       → (option_map (λ column. column.0) (slice_get (column ∷ columns) (if b then suc (lead (λ column. nat_lt column.0 page) columns) else 0)) ≡ Some page → ⊥)
       → AllByRecursion (λ other. page < other.0) (drop (if b then suc (lead (λ column. nat_lt column.0 page) columns) else 0) (column ∷ columns))
@@ -49,8 +49,8 @@ module _ {V : Type 0} (page : ℕ) where
   missing_at column columns a false e f none =
       let above = false_above column.0 page e in
       let other : column.0 ≡ page → ⊥ = λ same. none (ap Some same) in
-      let behind : page < column.0 = grind (arith, other, above) in
-      (behind, all_weaker (λ other. column.0 < other.0) (λ other. page < other.0) columns (λ other l. omega (arith, behind, l)) a)
+      let following : page < column.0 = grind (arith, other, above) in
+      (following, all_weaker (λ other. column.0 < other.0) (λ other. page < other.0) columns (λ other l. omega (arith, following, l)) a)
 
   -- where the page has no column, those after it have greater numbers
   pub columns_missing : (columns : List (ℕ × List (Option V))) → AreAscending columns
@@ -79,8 +79,8 @@ module _ {V : Type 0} (page : ℕ) where
   columns_changed old new [] back asc = asc
   columns_changed old new (first ∷ front) back asc =
       let next = λ (other : ℕ × List (Option V)). first.0 < other.0 in
-      let behind = all_back next front ((page, old) ∷ back) asc.0 in
-      (all_append next front ((page, new) ∷ back) (all_front next front ((page, old) ∷ back) asc.0) behind, columns_changed old new front back asc.1)
+      let following = all_back next front ((page, old) ∷ back) asc.0 in
+      (all_append next front ((page, new) ∷ back) (all_front next front ((page, old) ∷ back) asc.0) following, columns_changed old new front back asc.1)
 
 -- ---- as a binary search finds it
 

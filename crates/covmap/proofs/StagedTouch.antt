@@ -8,7 +8,7 @@ use Rattle.std.specs.Slice.{IsItemAt}
 use Rattle.std.proofs.lemmas.Option.{slice_get_past, slice_get-get_or, slice_get-map}
 use Rattle.std.proofs.lemmas.Bool.Decides.{nat_tests}
 use Rattle.covmap.specs.Slots.{lead, page_at}
-use Rattle.covmap.specs.Staged.{column_of, staged_of, AreAscending, AreBehind, IsColumnOf, AreColumnsOf, IsTouched}
+use Rattle.covmap.specs.Staged.{column_of, staged_of, AreAscending, AreAfter, IsColumnOf, AreColumnsOf, IsTouched}
 use Rattle.covmap.proofs.Leads.{all_append, all_front, all_back, lead_le}
 use Rattle.covmap.proofs.SlotSearch.{length_map}
 use Rattle.covmap.proofs.StagedPages.{own_staged}
@@ -40,10 +40,10 @@ number_leads_at : {V : Type 0} (column : ℕ × List (Option V)) (columns : List
 number_leads_at column columns page i true e l same = ap suc same
 number_leads_at column columns page i false e l same = absurd (let other : nat_lt column.0 page ≡ true = grind (arith, nat_tests) in false≢true (sym e ∙ other))
 
-behind_this : {V : Type 0} (number : ℕ) (columns : List (ℕ × List (Option V))) (page i : ℕ) → AreBehind number columns → option_map (λ column. column.0) (slice_get columns i) ≡ Some page → number < page
-behind_this number [] page i behind e = absurd cc
-behind_this number (column ∷ columns) page zero behind e = let same : column.0 ≡ page = cc in subst (λ n. number < n) same behind.0
-behind_this number (column ∷ columns) page (suc i) behind e = behind_this number columns page i behind.1 e
+after_this : {V : Type 0} (number : ℕ) (columns : List (ℕ × List (Option V))) (page i : ℕ) → AreAfter number columns → option_map (λ column. column.0) (slice_get columns i) ≡ Some page → number < page
+after_this number [] page i following e = absurd cc
+after_this number (column ∷ columns) page zero following e = let same : column.0 ≡ page = cc in subst (λ n. number < n) same following.0
+after_this number (column ∷ columns) page (suc i) following e = after_this number columns page i following.1 e
 
 pub number_leads : {V : Type 0} (columns : List (ℕ × List (Option V))) (page i : ℕ) → AreAscending columns → option_map (λ column. column.0) (slice_get columns i) ≡ Some page → i ≡ lead (λ column. nat_lt column.0 page) columns
 number_leads [] page i ascending e = absurd cc
@@ -52,7 +52,7 @@ number_leads (column ∷ columns) page zero ascending e =
     let not_less : nat_lt column.0 page ≡ false = grind (arith, nat_tests, same) in
     rw not_less refl
 number_leads (column ∷ columns) page (suc i) ascending e =
-    number_leads_at column columns page i (nat_lt column.0 page) refl (behind_this column.0 columns page i ascending.0 e) (number_leads columns page i ascending.1 e)
+    number_leads_at column columns page i (nat_lt column.0 page) refl (after_this column.0 columns page i ascending.0 e) (number_leads columns page i ascending.1 e)
 
 -- ---- a column put in
 
@@ -81,7 +81,7 @@ module _ {K V : Type 0} (pages : List (List (K × Option V))) (columns : List (�
   pub touched_there : AreColumnsOf pages columns → option_map (λ column. column.0) (slice_get columns index) ≡ Some page → IsTouched pages columns columns page index
   touched_there fit e =
       let parts = columns_there page columns index e in
-      let behind = all_back (IsColumnOf pages) (take index columns) ((page, parts.0) ∷ drop (suc index) columns) (subst (AreColumnsOf pages) parts.1 fit) in
+      let following = all_back (IsColumnOf pages) (take index columns) ((page, parts.0) ∷ drop (suc index) columns) (subst (AreColumnsOf pages) parts.1 fit) in
       record {
         front = take index columns;
         column = parts.0;
@@ -89,7 +89,7 @@ module _ {K V : Type 0} (pages : List (List (K × Option V))) (columns : List (�
         is = parts.1;
         at = front_length;
         below = front_below;
-        fits = behind.0.1;
+        fits = following.0.1;
         columns = fit;
         staged = refl;
       }

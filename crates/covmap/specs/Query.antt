@@ -10,7 +10,7 @@ use Rattle.std.proofs.lemmas.Cmp.{alike_right}
 -- order tells of each key how it stands to what is asked for, and goes with the order of the keys
 pub record IsQuery {K : Type 0} (cmp : K → K → Ordering) (order : K → Ordering) : Type 0 where
   pub before : (x y : K) → cmp x y ≡ Less → is_gt (order y) ≡ false → order x ≡ Less
-  pub behind : (x y : K) → cmp x y ≡ Less → is_lt (order x) ≡ false → order y ≡ Greater
+  pub following : (x y : K) → cmp x y ≡ Less → is_lt (order x) ≡ false → order y ≡ Greater
   pub same : (x y : K) → order x ≡ Equal → order y ≡ cmp y x
 
 -- x before y, and y before or at z
@@ -19,15 +19,15 @@ before_at t x y z Less e l g = t.trans x y z l e
 before_at t x y z Equal e l g = sym (alike_right t y z x e) ∙ l
 before_at t x y z Greater e l g = absurd cc
 
-behind_at : {K : Type 0} {cmp : K → K → Ordering} → IsTotalOrder cmp → (x y z : K) (o : Ordering) → cmp x z ≡ o → cmp x y ≡ Less → is_lt o ≡ false → cmp y z ≡ Greater
-behind_at t x y z Less e l g = absurd cc
-behind_at t x y z Equal e l g = t.antisymm y z ∙ ap ordering_reverse (sym (t.congr x z y e) ∙ l)
-behind_at t x y z Greater e l g = t.antisymm y z ∙ ap ordering_reverse (t.trans z x y (t.antisymm z x ∙ ap ordering_reverse e) l)
+after_at : {K : Type 0} {cmp : K → K → Ordering} → IsTotalOrder cmp → (x y z : K) (o : Ordering) → cmp x z ≡ o → cmp x y ≡ Less → is_lt o ≡ false → cmp y z ≡ Greater
+after_at t x y z Less e l g = absurd cc
+after_at t x y z Equal e l g = t.antisymm y z ∙ ap ordering_reverse (sym (t.congr x z y e) ∙ l)
+after_at t x y z Greater e l g = t.antisymm y z ∙ ap ordering_reverse (t.trans z x y (t.antisymm z x ∙ ap ordering_reverse e) l)
 
 -- a key asks for itself
 pub query_by_order : {K : Type 0} {cmp : K → K → Ordering} → IsTotalOrder cmp → (z : K) → IsQuery cmp (λ key. cmp key z)
 query_by_order {K} {cmp} t z = record {
   before = λ x y l g. before_at t x y z (cmp y z) refl l g;
-  behind = λ x y l g. behind_at t x y z (cmp x z) refl l g;
+  following = λ x y l g. after_at t x y z (cmp x z) refl l g;
   same = λ x y e. sym (alike_right t x z y e);
 }

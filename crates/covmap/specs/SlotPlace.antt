@@ -1,6 +1,6 @@
 -- A place of the store, as contracts see it.
-use Rattle.covmap.specs.declared.slots.Place.{Place}
+use Rattle.covmap.specs.declared.slots.SlotIndex.{SlotIndex}
 use Rattle.covmap.specs.Slots.{At}
 
-abbrev pub at : Place → At
+abbrev pub at : SlotIndex → At
 at place = (place.page, place.index)

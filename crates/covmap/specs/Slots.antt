@@ -75,8 +75,8 @@ abbrev pub value_at : {K V : Type 0} → List (List (K × Option V)) → At → 
 value_at pages at = value_in (option_map (λ slot. slot.1) (slot_at pages at))
 
 -- the place right after that of a slot: the next one of its page, or where the page ends the first of the next page
-abbrev pub behind : {K V : Type 0} → List (List (K × Option V)) → At → At
-behind pages at = if nat_lt (suc at.1) (length (page_at pages at.0)) then (at.0, suc at.1) else (suc at.0, 0)
+abbrev pub following : {K V : Type 0} → List (List (K × Option V)) → At → At
+following pages at = if nat_lt (suc at.1) (length (page_at pages at.0)) then (at.0, suc at.1) else (suc at.0, 0)
 
 -- the slots before a place, and those from it on
 abbrev pub before : {K V : Type 0} → List (List (K × Option V)) → At → List (K × Option V)

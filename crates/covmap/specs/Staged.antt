@@ -41,12 +41,12 @@ abbrev pub with_value_at : {K V : Type 0} → At → V → List (List (K × Opti
 with_value_at at value pages = slice_set pages at.0 (with_column (page_at pages at.0) (slice_set (column_of (page_at pages at.0)) at.1 (Some value)))
 
 -- columns with ascending numbers, each of a page that is there and as long as it
-abbrev pub AreBehind : {V : Type 0} → ℕ → List (ℕ × List (Option V)) → Type 0
-AreBehind number columns = AllByRecursion (λ column. number < column.0) columns
+abbrev pub AreAfter : {V : Type 0} → ℕ → List (ℕ × List (Option V)) → Type 0
+AreAfter number columns = AllByRecursion (λ column. number < column.0) columns
 
 abbrev pub AreAscending : {V : Type 0} → List (ℕ × List (Option V)) → Type 0
 AreAscending [] = Unit {0}
-AreAscending (column ∷ columns) = AreBehind column.0 columns × AreAscending columns
+AreAscending (column ∷ columns) = AreAfter column.0 columns × AreAscending columns
 
 abbrev pub IsColumnOf : {K V : Type 0} → List (List (K × Option V)) → ℕ × List (Option V) → Type 0
 IsColumnOf pages column = (column.0 < length pages) × (length column.1 ≡ length (page_at pages column.0))

@@ -6,7 +6,7 @@ use crate::entries::Entries;
 use crate::key::{Addend, Key, Query, Value};
 use crate::slots::growth::make_slot;
 use crate::slots::staged::StagedColumns;
-use crate::slots::{Place, Slots};
+use crate::slots::{SlotIndex, Slots};
 use std::alloc::{AllocError, Allocator};
 use std::marker::Model;
 
@@ -20,7 +20,7 @@ use std::marker::Model;
 pub struct StagedMap<K: Key, V, A: Allocator> {
     slots: Slots<K, V, A>,
     staged: StagedColumns<V, A>,
-    cursor: Place,
+    cursor: SlotIndex,
 }
 
 impl<K: Key, V, A: Allocator> Model for StagedMap<K, V, A> {
@@ -42,7 +42,7 @@ pub struct Sum<V> {
     /// The staged value with the addend.
     pub after: V,
     /// Where the key stands.
-    pub place: Place,
+    pub place: SlotIndex,
 }
 
 impl<K: Key, V, A: Allocator + Copy> StagedMap<K, V, A> {
@@ -56,7 +56,7 @@ impl<K: Key, V, A: Allocator + Copy> StagedMap<K, V, A> {
         StagedMap {
             slots: Slots::new(alloc),
             staged: StagedColumns::new(alloc),
-            cursor: Place::first(),
+            cursor: SlotIndex::first(),
         }
     }
 }
@@ -88,7 +88,7 @@ impl<K: Key, V, A: Allocator> StagedMap<K, V, A> {
     }
 
     /// Where the key stands that was looked up last.
-    pub fn cursor(&self) -> Place {
+    pub fn cursor(&self) -> SlotIndex {
         self.cursor
     }
 }
@@ -130,7 +130,7 @@ impl<K: Key, V: Value, A: Allocator> StagedMap<K, V, A> {
     }
 
     /// The committed value of a key, and the place to look at first for the next one.
-    pub fn lookup_at<Q: Query<K, A>>(&self, query: Q, guess: Place) -> (Option<V>, Place)
+    pub fn lookup_at<Q: Query<K, A>>(&self, query: Q, guess: SlotIndex) -> (Option<V>, SlotIndex)
         ensures value { result.0 ≡ value_of K.cmp (Q.named query) self.now.committed }
         ensures whole { ArePairs K.cmp self.now.committed }
     {
@@ -205,7 +205,7 @@ impl<K: Key + Drop, V: Value, A: Allocator + Copy> StagedMap<K, V, A> {
         alloc: A,
         query: Q,
         addend: M,
-        guess: Place,
+        guess: SlotIndex,
     ) -> Result<Sum<V>, AllocError>
         requires { M.fits addend (value_of K.cmp (Q.named query) self.old.staged) }
         ensures committed { self.new.committed ≡ self.old.committed }

@@ -7,7 +7,7 @@
 ghost use Rattle.std.specs.Prelude.{◌≡◌, ◌+◌, ◌^◌, ◌<◌, None, [], ◌∷◌, ◌++◌, IfErr, IfNone, IfOk, IfSome, OnErr, OnOk, true, is_some, length, option_map};
 ghost use Rattle.std.specs.declared.cmp.Ordering.TheVariants.{Less};
 ghost use Rattle.std.specs.List.{AllByRecursion};
-ghost use Rattle.covmap.specs.Slots.{AreSlots, IsAscending, IsCut, IsGap, IsPlace, behind, ends_before, filled, lead, order_at, page_at, slot_at, slots_of, value_at, with_empty, with_page_split};
+ghost use Rattle.covmap.specs.Slots.{AreSlots, IsAscending, IsCut, IsGap, IsPlace, following, ends_before, filled, lead, order_at, page_at, slot_at, slots_of, value_at, with_empty, with_page_split};
 ghost use Rattle.covmap.specs.Staged.{column_of, with_page};
 ghost use Rattle.covmap.specs.Assigned.{with_slot};
 ghost use Rattle.covmap.specs.SlotPlace.{at};
@@ -25,22 +25,22 @@ use std::cmp::Ordering;
 use std::marker::Model;
 
 /// How many slots fit on a page.
-const PAGE: usize = 256;
+const PAGE_SLOTS: usize = 256;
 
 /// How many slots a full page keeps where it is split.
 const HALF: usize = 128;
 
 /// Where a key stands: the number of a page, and of a slot on it.
 #[derive(Clone, Copy)]
-pub struct Place {
+pub struct SlotIndex {
     page: usize,
     index: usize,
 }
 
-impl Place {
+impl SlotIndex {
     /// The place of the first slot.
-    pub fn first() -> Place {
-        Place { page: 0, index: 0 }
+    pub fn first() -> SlotIndex {
+        SlotIndex { page: 0, index: 0 }
     }
 }
 
@@ -92,7 +92,7 @@ impl<K: Key, V, A: Allocator> Slots<K, V, A> {
 
 impl<K: Key, V, A: Allocator> Slots<K, V, A> {
     /// Where what is asked for would stand: what is before the place comes before it, and nothing from the place on.
-    fn cut<Q: Query<K, A>>(&self, query: Q) -> Place
+    fn cut<Q: Query<K, A>>(&self, query: Q) -> SlotIndex
         ensures cut { IsCut (λ key. K.cmp key (Q.named query)) self.now (at result) }
         ensures whole { AreSlots K.cmp self.now }
     {
@@ -101,47 +101,55 @@ impl<K: Key, V, A: Allocator> Slots<K, V, A> {
             Some(page) => page.index_of(query),
             None => 0,
         };
-        Place { page, index }
+        SlotIndex { page, index }
     }
 
     /// Where what is asked for stands, or would go. Costs no search where that is the guess or the slot after it, or where it
     /// would go to the guess.
-    pub(crate) fn find<Q: Query<K, A>>(&self, query: Q, guess: Place) -> Result<Place, Place>
+    pub(crate) fn find<Q: Query<K, A>>(
+        &self,
+        query: Q,
+        guess: SlotIndex,
+    ) -> Result<SlotIndex, SlotIndex>
         ensures found { IfOk result (λ place. IsPlace (λ key. K.cmp key (Q.named query)) self.now (at place)) }
         ensures absent { IfErr result (λ place. IsGap (λ key. K.cmp key (Q.named query)) self.now (at place)) }
         ensures whole { AreSlots K.cmp self.now }
     {
         match self.compare_at(guess, query) {
-            Ordering::Less => self.find_behind(query, guess),
+            Ordering::Less => self.find_after(query, guess),
             Ordering::Equal => Ok(guess),
             Ordering::Greater => self.find_before(query, guess),
         }
     }
 
     /// The same as `find`. Costs no search where it would go right after the slot before the guess.
-    fn find_before<Q: Query<K, A>>(&self, query: Q, guess: Place) -> Result<Place, Place>
+    fn find_before<Q: Query<K, A>>(
+        &self,
+        query: Q,
+        guess: SlotIndex,
+    ) -> Result<SlotIndex, SlotIndex>
         ensures found { IfOk result (λ place. IsPlace (λ key. K.cmp key (Q.named query)) self.now (at place)) }
         ensures absent { IfErr result (λ place. IsGap (λ key. K.cmp key (Q.named query)) self.now (at place)) }
     {
         if guess.index > 0 {
-            let before = Place {
+            let before = SlotIndex {
                 page: guess.page,
                 index: guess.index - 1,
             };
             if self.compare_at(before, query).is_lt() {
-                return self.find_behind(query, before);
+                return self.find_after(query, before);
             }
         }
         self.search(query)
     }
 
     /// The same as `find`, where the slot at a place comes before what is asked for.
-    fn find_behind<Q: Query<K, A>>(&self, query: Q, place: Place) -> Result<Place, Place>
+    fn find_after<Q: Query<K, A>>(&self, query: Q, place: SlotIndex) -> Result<SlotIndex, SlotIndex>
         requires { order_at (λ key. K.cmp key (Q.named query)) (slot_at self.now (at place)) ≡ Less }
         ensures found { IfOk result (λ place. IsPlace (λ key. K.cmp key (Q.named query)) self.now (at place)) }
         ensures absent { IfErr result (λ place. IsGap (λ key. K.cmp key (Q.named query)) self.now (at place)) }
     {
-        let next = self.behind(place);
+        let next = self.following(place);
         match self.compare_at(next, query) {
             Ordering::Less => self.search(query),
             Ordering::Equal => Ok(next),
@@ -150,7 +158,7 @@ impl<K: Key, V, A: Allocator> Slots<K, V, A> {
     }
 
     /// The same as `find`, by a search among all slots.
-    fn search<Q: Query<K, A>>(&self, query: Q) -> Result<Place, Place>
+    fn search<Q: Query<K, A>>(&self, query: Q) -> Result<SlotIndex, SlotIndex>
         ensures found { IfOk result (λ place. IsPlace (λ key. K.cmp key (Q.named query)) self.now (at place)) }
         ensures absent { IfErr result (λ place. IsGap (λ key. K.cmp key (Q.named query)) self.now (at place)) }
     {
@@ -162,7 +170,7 @@ impl<K: Key, V, A: Allocator> Slots<K, V, A> {
     }
 
     /// How the key of the slot at a place stands to what is asked for. Where there is no slot, all keys come before it.
-    fn compare_at<Q: Query<K, A>>(&self, place: Place, query: Q) -> Ordering
+    fn compare_at<Q: Query<K, A>>(&self, place: SlotIndex, query: Q) -> Ordering
         ensures order { result ≡ order_at (λ key. K.cmp key (Q.named query)) (slot_at self.now (at place)) }
         ensures whole { AreSlots K.cmp self.now }
     {
@@ -173,27 +181,27 @@ impl<K: Key, V, A: Allocator> Slots<K, V, A> {
     }
 
     /// The place right after that of a slot: the next one of its page, or the first one of the next page.
-    fn behind(&self, place: Place) -> Place
+    fn following(&self, place: SlotIndex) -> SlotIndex
         requires { place.index < length (page_at self.now place.page) }
-        ensures next { at result ≡ behind self.now (at place) }
+        ensures next { at result ≡ following self.now (at place) }
         ensures whole { AreSlots K.cmp self.now }
     {
         let len = self.len_of(place.page);
         let index = place.index + 1;
         if index < len {
-            return Place {
+            return SlotIndex {
                 page: place.page,
                 index,
             };
         }
-        Place {
+        SlotIndex {
             page: place.page + 1,
             index: 0,
         }
     }
 
     /// The key of the slot at a place.
-    fn key_at(&self, place: Place) -> Option<&K>
+    fn key_at(&self, place: SlotIndex) -> Option<&K>
         ensures key { option_map (λ key. key.now) result ≡ option_map (λ slot. slot.0) (slot_at self.now (at place)) }
         ensures whole { AreSlots K.cmp self.now }
     {
@@ -252,7 +260,7 @@ impl<K: Key, V, A: Allocator> Slots<K, V, A> {
 
 impl<K: Key, V: Value, A: Allocator> Slots<K, V, A> {
     /// The value in the slot at a place.
-    pub(crate) fn value_at(&self, place: Place) -> Option<V>
+    pub(crate) fn value_at(&self, place: SlotIndex) -> Option<V>
         ensures { result ≡ value_at self.now (at place) }
     {
         match self.page(place.page) {
@@ -281,7 +289,7 @@ impl<K: Key, V: Value, A: Allocator> Slots<K, V, A> {
     }
 
     /// Writes a value, or none, into the slot at a place, which has one.
-    pub(crate) fn write(&mut self, place: Place, value: Option<V>)
+    pub(crate) fn write(&mut self, place: SlotIndex, value: Option<V>)
         requires page { place.page < length self.old }
         requires slot { is_some (value_at self.old (at place)) ≡ true }
         ensures { self.new ≡ with_slot (at place) value self.old }
@@ -292,7 +300,7 @@ impl<K: Key, V: Value, A: Allocator> Slots<K, V, A> {
 
 impl<K: Key + Drop, V: Value, A: Allocator + Copy> Slots<K, V, A> {
     /// Puts an empty slot on a page that has room for it.
-    fn insert(&mut self, place: Place, key: K) -> Result<(), AllocError>
+    fn insert(&mut self, place: SlotIndex, key: K) -> Result<(), AllocError>
         requires there { place.page < length self.old }
         requires room { length (page_at self.old place.page) < 256 }
         requires gap { IsGap (λ other. K.cmp other key) self.old (at place) }
@@ -322,8 +330,8 @@ impl<K: Key + Drop, V: Value, A: Allocator + Copy> Slots<K, V, A> {
         ensures err { OnErr result (self.new ≡ self.old) }
     {
         self.pages.reserve(1)?;
-        let behind = self.pages[number].split(alloc)?;
-        self.pages.insert(number + 1, behind)?;
+        let following = self.pages[number].split(alloc)?;
+        self.pages.insert(number + 1, following)?;
         Ok(())
     }
 }

@@ -3,16 +3,16 @@ use Rattle.std.proofs.Common.{◌≡◌, ℕ, suc, ◌+◌, ◌*◌, ◌<◌, �
 use Rattle.std.proofs.lemmas.Nat.{mul-le}
 use Rattle.covreport.specs.Pattern.{AnyRun, OneByte, ByteSet, takes, fits, parts_of}
 use Rattle.covreport.specs.PatternSteps.{fits_at, fits_following, steps_from, GoesOnFrom, Proceeds}
-use Rattle.covreport.specs.declared.pattern.steps.Place.{Place}
+use Rattle.covreport.specs.declared.pattern.steps.Position.{Position}
 use Rattle.covreport.proofs.Heads.{IsRead}
 use Rattle.covreport.proofs.Stars.{fits_run, fits_after, star_over_byte, star_star}
 
 -- ---- one byte taken
 
-taken_fits : (set : ByteSet) (b : ℕ) (old new : Place) → parts_of old.pattern.now ≡ OneByte set ∷ parts_of new.pattern.now → old.path.now ≡ b ∷ new.path.now → takes set b ≡ true → fits_at new ≡ fits_at old
+taken_fits : (set : ByteSet) (b : ℕ) (old new : Position) → parts_of old.pattern.now ≡ OneByte set ∷ parts_of new.pattern.now → old.path.now ≡ b ∷ new.path.now → takes set b ≡ true → fits_at new ≡ fits_at old
 taken_fits set b old new parts path is = rw (parts, path, is) refl
 
-taken_goes_on : (set : ByteSet) (b : ℕ) (old new : Place) (star : Option Place) → IsRead old.pattern.now (OneByte set) new.pattern.now → old.path.now ≡ b ∷ new.path.now → GoesOnFrom star old → GoesOnFrom star new
+taken_goes_on : (set : ByteSet) (b : ℕ) (old new : Position) (star : Option Position) → IsRead old.pattern.now (OneByte set) new.pattern.now → old.path.now ≡ b ∷ new.path.now → GoesOnFrom star old → GoesOnFrom star new
 taken_goes_on set b old new None read path goes = tt
 taken_goes_on set b old new (Some star) read path goes = record {
   pattern = omega (arith, read.less, goes.pattern);
@@ -22,14 +22,14 @@ taken_goes_on set b old new (Some star) read path goes = record {
       star_over_byte set (parts_of new.pattern.now) b new.path.now fit_old;
 }
 
-taken_fewer : (set : ByteSet) (b : ℕ) (old new : Place) (star : Option Place) → IsRead old.pattern.now (OneByte set) new.pattern.now → old.path.now ≡ b ∷ new.path.now → steps_from new star < steps_from old star
+taken_fewer : (set : ByteSet) (b : ℕ) (old new : Position) (star : Option Position) → IsRead old.pattern.now (OneByte set) new.pattern.now → old.path.now ≡ b ∷ new.path.now → steps_from new star < steps_from old star
 taken_fewer set b old new None read path =
     let longer : length old.path.now ≡ suc (length new.path.now) = ap length path in
     let most : (length new.pattern.now + 1) * (length new.path.now + 1) ≤ length old.pattern.now * (length new.path.now + 1) = mul-le _ _ _ _ read.less (omega arith) in
     rw longer (omega (arith, most))
 taken_fewer set b old new (Some star) read path = omega (arith, read.less)
 
-pub byte_taken : (set : ByteSet) (b : ℕ) (old new : Place) (star : Option Place) → IsRead old.pattern.now (OneByte set) new.pattern.now → old.path.now ≡ b ∷ new.path.now → takes set b ≡ true → GoesOnFrom star old →
+pub byte_taken : (set : ByteSet) (b : ℕ) (old new : Position) (star : Option Position) → IsRead old.pattern.now (OneByte set) new.pattern.now → old.path.now ≡ b ∷ new.path.now → takes set b ≡ true → GoesOnFrom star old →
     Proceeds (record { here = old; star = star }) (record { here = new; star = star })
 byte_taken set b old new star read path is goes = record {
   answer = ap (λ (f : Bool). f || fits_following star) (taken_fits set b old new read.parts path is);
@@ -45,14 +45,14 @@ absorbs false true under = under refl
 absorbs false false under = refl
 
 -- what the star before could find, this one finds
-covered : (old new : Place) (star : Option Place) → IsRead old.pattern.now AnyRun new.pattern.now → old.path.now ≡ new.path.now → GoesOnFrom star old →
+covered : (old new : Position) (star : Option Position) → IsRead old.pattern.now AnyRun new.pattern.now → old.path.now ≡ new.path.now → GoesOnFrom star old →
     fits_following star ≡ true → fits (AnyRun ∷ parts_of new.pattern.now) new.path.now ≡ true
 covered old new None read path goes fit = absurd cc
 covered old new (Some star) read path goes fit =
     let before : fits (AnyRun ∷ AnyRun ∷ parts_of new.pattern.now) new.path.now ≡ true = rw (read.parts, path) at (goes.fits_too (fits_after (parts_of star.pattern.now) star.path.now fit)) in
     star_star (parts_of new.pattern.now) new.path.now before
 
-starred_fewer : (old new : Place) (star : Option Place) → IsRead old.pattern.now AnyRun new.pattern.now → old.path.now ≡ new.path.now → GoesOnFrom star old → steps_from new (Some new) < steps_from old star
+starred_fewer : (old new : Position) (star : Option Position) → IsRead old.pattern.now AnyRun new.pattern.now → old.path.now ≡ new.path.now → GoesOnFrom star old → steps_from new (Some new) < steps_from old star
 starred_fewer old new None read path goes =
     let same : length old.path.now ≡ length new.path.now = ap length path in
     let most : (length new.pattern.now + 1) * (length new.path.now + 1) ≤ length old.pattern.now * (length new.path.now + 1) = mul-le _ _ _ _ read.less (omega arith) in
@@ -62,7 +62,7 @@ starred_fewer old new (Some star) read path goes =
     let most : (length new.pattern.now + 1) * length new.path.now ≤ (length star.pattern.now + 1) * length star.path.now = mul-le _ _ _ _ (omega (arith, read.less, goes.pattern)) (omega (arith, goes.path)) in
     omega (arith, most, read.less)
 
-pub star_seen : (old new : Place) (star : Option Place) → IsRead old.pattern.now AnyRun new.pattern.now → old.path.now ≡ new.path.now → GoesOnFrom star old →
+pub star_seen : (old new : Position) (star : Option Position) → IsRead old.pattern.now AnyRun new.pattern.now → old.path.now ≡ new.path.now → GoesOnFrom star old →
     Proceeds (record { here = old; star = star }) (record { here = new; star = Some new })
 star_seen old new star read path goes = record {
   answer =

@@ -1,11 +1,11 @@
 -- How far a match has come: what its answer will be, at most how many steps are left, and what a step keeps.
 use Rattle.std.specs.Prelude.{◌≡◌, ◌<◌, ◌≤◌, ◌+◌, ◌*◌, ℕ, Bool, true, false, ◌||◌, List, [], ◌∷◌, length, Option, None, Some}
 use Rattle.covreport.specs.Pattern.{Part, AnyRun, parts_of, fits}
-use Rattle.covreport.specs.declared.pattern.steps.Place.{Place}
+use Rattle.covreport.specs.declared.pattern.steps.Position.{Position}
 use Rattle.covreport.specs.declared.pattern.steps.Matcher.{Matcher}
 
 -- what is left of the pattern fits what is left of the path
-abbrev pub fits_at : Place → Bool
+abbrev pub fits_at : Position → Bool
 fits_at place = fits (parts_of place.pattern.now) place.path.now
 
 -- parts fit some end of a path, but for the whole path
@@ -14,7 +14,7 @@ fits_later parts [] = false
 fits_later parts (b ∷ path) = fits (AnyRun ∷ parts) path
 
 -- the parts after the last star fit where its run ends later than it was last taken to
-abbrev pub fits_following : Option Place → Bool
+abbrev pub fits_following : Option Position → Bool
 fits_following None = false
 fits_following (Some star) = fits_later (parts_of star.pattern.now) star.path.now
 
@@ -23,7 +23,7 @@ abbrev pub answer_of : Matcher → Bool
 answer_of matcher = fits_at matcher.here || fits_following matcher.star
 
 -- the most steps that a match takes from this place, with this last star
-abbrev pub steps_from : Place → Option Place → ℕ
+abbrev pub steps_from : Position → Option Position → ℕ
 steps_from here None = (length here.pattern.now + 1) * (length here.path.now + 1)
 steps_from here (Some star) = length here.pattern.now + 1 + (length star.pattern.now + 1) * length star.path.now
 
@@ -32,12 +32,12 @@ steps_left matcher = steps_from matcher.here matcher.star
 
 -- what is left here comes from what was left after the star: if the star's parts fit some end of its path, the parts
 -- that are left here fit some end of the path that is left here
-pub record ComesFrom (star here : Place) : Type 0 where
+pub record ComesFrom (star here : Position) : Type 0 where
   pub pattern : length here.pattern.now ≤ length star.pattern.now
   pub path : length here.path.now ≤ length star.path.now
   pub fits_too : fits (AnyRun ∷ parts_of star.pattern.now) star.path.now ≡ true → fits (AnyRun ∷ parts_of here.pattern.now) here.path.now ≡ true
 
-abbrev pub GoesOnFrom : Option Place → Place → Type 0
+abbrev pub GoesOnFrom : Option Position → Position → Type 0
 GoesOnFrom None here = Unit {0}
 GoesOnFrom (Some star) here = ComesFrom star here
 

@@ -13,7 +13,7 @@ use Rattle.covstore.specs.declared.sums.Tests.{Tests}
 use Rattle.covstore.specs.Ascending.{ascending}
 use Rattle.covstore.specs.KindIndexCounts.{AreCounts}
 use Rattle.covmap.specs.Puts.{value_of}
-use Rattle.covstore.specs.State.{FileData, IsStateOf, IsWholeFile, points_in, tests_in}
+use Rattle.covstore.specs.State.{FileData, IsStateOf, IsConsistentFile, points_in, tests_in}
 use Rattle.covstore.specs.Sums.{TestData, sum_at, test_of}
 use Rattle.covstore.specs.Value.{Key, has_key, items_at}
 use Rattle.covstore.specs.Kinds.{KeyOf, Kind, PointsOf, SumOf, at, cmp_of, point_of}
@@ -50,7 +50,7 @@ length-within {X} {cmp} t (x ∷ xs) (y ∷ ys) sorted ordered within =
     let later : (z : X) → In z (x ∷ xs) → In z ys =
     λ z i. not_first t y z ys
     (⊎_elim {C = cmp y z ≡ Less} (λ (same : x ≡ z). subst (λ (w : X). cmp y w ≡ Less) same before)
-    (λ (behind : In z xs). t.trans y x z before (All-in (λ (w : X). cmp x w ≡ Less) xs z sorted.0 behind)) i) (within z i) in
+    (λ (following : In z xs). t.trans y x z before (All-in (λ (w : X). cmp x w ≡ Less) xs z sorted.0 following)) i) (within z i) in
     omega (arith, length-within t (x ∷ xs) ys sorted ordered.1 later))
     (within x (inl refl))
 
@@ -71,8 +71,8 @@ kept_within {K} {V} {cmp} o tests counts are all within =
     )
 
 module _ (rows : List Row) (files : List (List ℕ × FileData)) (state : IsStateOf rows files) (name : List ℕ) (file : FileData) (there : value_of (slice_cmp nat_cmp) name files ≡ Some file) where
-  its_whole : IsWholeFile file
-  its_whole = All-in (λ (pair : List ℕ × FileData). IsWholeFile pair.1) files (name, file) state.whole (pair_in names_order name file files there)
+  its_whole : IsConsistentFile file
+  its_whole = All-in (λ (pair : List ℕ × FileData). IsConsistentFile pair.1) files (name, file) state.whole (pair_in names_order name file files there)
 
   -- a test of the file is what the items of some key add up to
   test_sums : (test : TestData) → In test (tests_in file) → (key : Key) × (test ≡ test_of (items_at key rows))

@@ -8,8 +8,8 @@ use Rattle.std.specs.Option.{is_some}
 use Rattle.std.specs.Ordering.{nat_cmp}
 use Rattle.std.proofs.lemmas.Bool.{false≢true}
 use Rattle.covline.specs.Row.{ItemData, Row}
-use Rattle.covstore.specs.declared.stop.Stop.{Stop}
-use Rattle.covstore.specs.declared.stop.Stop.TheVariants.{Clash, Memory}
+use Rattle.covstore.specs.declared.stage_fault.StageFault.{StageFault}
+use Rattle.covstore.specs.declared.stage_fault.StageFault.TheVariants.{Clash, Memory}
 use Rattle.covstore.specs.Section.{Adds, Clashes, HasRoomFor, IsIn}
 use Rattle.covstore.specs.FileSection.{AddsItems, ClashesIn, HasFile, HasRoomIn}
 use Rattle.covstore.specs.FileIndex.{FileIndexData}
@@ -44,7 +44,7 @@ module _ (items : List ItemData) (test : List ℕ) (tests : List (List ℕ × Te
       let added = adds rows files name test tests (its_place rows files name has) in
       (added.0, record { state = added.1.state; agree = added.1.agree; there = added.1.its_file })
 
-  pub clashes_in : {A : Type 0} (stop : Stop A) → Clashes items points index stop → ClashesIn items test (file_with tests index) stop
+  pub clashes_in : {A : Type 0} (stop : StageFault A) → Clashes items points index stop → ClashesIn items test (file_with tests index) stop
   clashes_in Memory clash = tt
   clashes_in (Clash line committed given) clash = λ rows files name has. clash rows files name test tests (its_place rows files name has)
 

@@ -27,7 +27,7 @@ module _ {K V : Type 0} {cmp : K → K → Ordering} (o : IsExactOrder cmp) wher
   place_at : (key : K) (value : V) (pair : K × V) (pairs : List (K × V)) (order : Ordering) → cmp pair.0 key ≡ order → AllByRecursion (λ next. cmp pair.0 next.0 ≡ Less) pairs
       → (value_of cmp key pairs ≡ Some value → IsPlaceOf key value pairs (λ other. put cmp key other pairs)) → cond (is_eq order) (Some pair.1) (value_of cmp key pairs) ≡ Some value
       → IsPlaceOf key value (pair ∷ pairs) (λ other. match_ordering order (pair ∷ put cmp key other pairs) ((key, other) ∷ pairs) ((key, other) ∷ pair ∷ pairs))
-  place_at key value pair pairs Less e behind rest h =
+  place_at key value pair pairs Less e following rest h =
       let later = rest h in
       record {
         front = pair ∷ later.front;
@@ -35,12 +35,12 @@ module _ {K V : Type 0} {cmp : K → K → Ordering} (o : IsExactOrder cmp) wher
         place = ap (λ (ps : List (K × V)). pair ∷ ps) later.place;
         after = λ other. ap (λ (ps : List (K × V)). pair ∷ ps) (later.after other);
       }
-  place_at key value pair pairs Equal e behind rest h =
+  place_at key value pair pairs Equal e following rest h =
       record { front = []; back = pairs; place = ap (λ (p : K × V). p ∷ pairs) (same_pair (o.exact pair.0 key e) (same_Some pair.1 value h)); after = λ other. refl }
-  place_at key value pair pairs Greater e behind rest h =
+  place_at key value pair pairs Greater e following rest h =
       let first : cmp key pair.0 ≡ Less = flips o.total pair.0 key e in
       let none : value_of cmp key pairs ≡ None =
-      value_of_before o key pairs (All-weaker (λ next. cmp pair.0 next.0 ≡ Less) (λ next. cmp key next.0 ≡ Less) pairs (λ next l. o.total.trans key pair.0 next.0 first l) behind) in
+      value_of_before o key pairs (All-weaker (λ next. cmp pair.0 next.0 ≡ Less) (λ next. cmp key next.0 ≡ Less) pairs (λ next l. o.total.trans key pair.0 next.0 first l) following) in
       absurd (none-some value (sym none ∙ h))
 
   pub place_of : (key : K) (value : V) (pairs : List (K × V)) → ArePairs cmp pairs → value_of cmp key pairs ≡ Some value → IsPlaceOf key value pairs (λ other. put cmp key other pairs)
@@ -82,11 +82,11 @@ joined_at x (Some other) front whole back rest none = absurd (none-some (clash_w
 joined_at x None front whole back rest none = rest none
 
 -- where the first list doesn't clash, it counts as held
-pub clash_behind : (committed xs ys : List Checksum) → first_clash committed xs ≡ None → first_clash committed (xs ++ ys) ≡ first_clash (committed ++ xs) ys
-clash_behind committed [] ys none = ap (λ (all : List Checksum). first_clash all ys) (sym (append-nil committed))
-clash_behind committed (x ∷ xs) ys none =
+pub clash_after : (committed xs ys : List Checksum) → first_clash committed xs ≡ None → first_clash committed (xs ++ ys) ≡ first_clash (committed ++ xs) ys
+clash_after committed [] ys none = ap (λ (all : List Checksum). first_clash all ys) (sym (append-nil committed))
+clash_after committed (x ∷ xs) ys none =
     joined_at x (find (differs x) committed) (first_clash (committed ++ x ∷ []) xs) (first_clash (committed ++ x ∷ []) (xs ++ ys)) (first_clash (committed ++ x ∷ xs) ys)
-    (λ later. clash_behind (committed ++ x ∷ []) xs ys later ∙ ap (λ (all : List Checksum). first_clash all ys) (append_assoc committed (x ∷ []) xs)) none
+    (λ later. clash_after (committed ++ x ∷ []) xs ys later ∙ ap (λ (all : List Checksum). first_clash all ys) (append_assoc committed (x ∷ []) xs)) none
 
 front_at : (x : Checksum) (found : Option Checksum) (front whole : Option ClashData) (clash : ClashData) → (front ≡ Some clash → whole ≡ Some clash) → or_later x found front ≡ Some clash
     → or_later x found whole ≡ Some clash

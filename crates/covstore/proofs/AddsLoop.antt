@@ -3,8 +3,8 @@ use Rattle.std.proofs.Common.{◌≡◌, ℕ, ◌+◌, ◌<◌, List, [], ◌∷
 use Rattle.std.proofs.lemmas.List.{drop_more, map-append, map_more, take-append-drop}
 use Rattle.covline.specs.Row.{ItemData}
 use Rattle.covstore.specs.declared.index.FileIndex.{FileIndex}
-use Rattle.covstore.specs.declared.stop.Stop.{Stop}
-use Rattle.covstore.specs.declared.stop.Stop.TheVariants.{Clash, Memory}
+use Rattle.covstore.specs.declared.stage_fault.StageFault.{StageFault}
+use Rattle.covstore.specs.declared.stage_fault.StageFault.TheVariants.{Clash, Memory}
 use Rattle.covstore.specs.declared.test.Test.{Test}
 use Rattle.covstore.specs.Section.{Adds, Clashes, HasRoomFor}
 use Rattle.covstore.specs.FileIndexView.{KeepsCommitted, index_staged}
@@ -57,7 +57,7 @@ module _ {A : Type 0} (taken : List ItemData) (item : ItemData) (left : List Ite
       some_taken taken (item ∷ []) left test index test_now index_now so_far test_later index_later same keeps
       (item_adds item (test_staged test_now) (test_staged test_later) (index_staged index_now) (index_staged index_later) more counts own texts)
 
-  pub next_clashes : (stop : Stop A) → IsClashOf item (index_staged index_now) stop → Clashes (taken ++ item ∷ left) (test_staged test) (index_staged index) stop
+  pub next_clashes : (stop : StageFault A) → IsClashOf item (index_staged index_now) stop → Clashes (taken ++ item ∷ left) (test_staged test) (index_staged index) stop
   next_clashes Memory clash = tt
   next_clashes (Clash line committed given) clash =
       clash_later taken (item ∷ left) (test_staged test) (test_staged test_now) (index_staged index) (index_staged index_now) line committed given so_far.adds

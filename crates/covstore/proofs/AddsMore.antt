@@ -16,7 +16,7 @@ use Rattle.covmap.specs.Puts.{put}
 use Rattle.covstore.specs.State.{FileData, file_with}
 use Rattle.covstore.specs.Items.{IsClashAt, IsOtherText}
 use Rattle.covstore.specs.Sums.{TestData}
-use Rattle.covstore.proofs.AddsLists.{clash_before, clash_behind, put_there, put_twice}
+use Rattle.covstore.proofs.AddsLists.{clash_before, clash_after, put_there, put_twice}
 use Rattle.covstore.proofs.AddsPlace.{held_text, its_whole}
 use Rattle.covstore.proofs.Clashes.{told_first}
 use Rattle.covstore.proofs.Members.{Contains-from}
@@ -59,7 +59,7 @@ clash_joined : (rows : List Row) (file name : List ℕ) (xs ys : List ItemData) 
 clash_joined rows file name xs ys none =
     let front = checksums_in (rows_of_sect (section_of_items file name xs)) in
     let back = checksums_in (rows_of_sect (section_of_items file name ys)) in
-    ap (first_clash (checksums_in rows)) (checksums_joined file name xs ys) ∙ clash_behind (checksums_in rows) front back none
+    ap (first_clash (checksums_in rows)) (checksums_joined file name xs ys) ∙ clash_after (checksums_in rows) front back none
     ∙ ap (λ (committed : List Checksum). first_clash committed back) (sym (flat_map-append checksum_of_row rows (rows_of_sect (section_of_items file name xs))))
 
 pub adds_more : (xs ys : List ItemData) (a b c : TestData) (m n o : FileIndexData) → Adds xs a m b n → Adds ys b n c o → Adds (xs ++ ys) a m c o

@@ -9,7 +9,7 @@ use Rattle.std.specs.Ordering.{nat_cmp}
 use Rattle.std.proofs.lemmas.List.{length-map}
 use Rattle.covline.specs.Row.{ItemData}
 use Rattle.covstore.specs.declared.index.FileIndex.{FileIndex}
-use Rattle.covstore.specs.declared.stop.Stop.{Stop}
+use Rattle.covstore.specs.declared.stage_fault.StageFault.{StageFault}
 use Rattle.covstore.specs.declared.test.Test.{Test}
 use Rattle.covstore.specs.FileIndex.{FileIndexData}
 use Rattle.covstore.specs.FileIndexView.{KeepsCommitted, index_committed}
@@ -45,7 +45,7 @@ module _ (items : List ItemData) (test : List ℕ) (tests : List (List ℕ × Te
       (subst (λ (list : List (List ℕ × TestData)). AddsItems items test (file_with (tests_more test tests new) index) (file_with list index_after)) (put_twice names_order test (test_of []) after tests)
       (adds_in items test (tests_more test tests new) points index its_test after index_after adds))
 
-  pub clashes_new : {A : Type 0} (stop : Stop A) → Clashes items points index stop → ClashesIn items test (file_with tests index) stop
+  pub clashes_new : {A : Type 0} (stop : StageFault A) → Clashes items points index stop → ClashesIn items test (file_with tests index) stop
   clashes_new stop clash =
       clashes_ready (file_with tests index) (file_with (tests_more test tests new) index) (new_keeps test tests new index) items test stop
       (clashes_in items test (tests_more test tests new) points index its_test stop clash)

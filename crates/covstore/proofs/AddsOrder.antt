@@ -35,8 +35,8 @@ either_there : {X : Type 0} (front xs ys : List X) (x : X) → (In x xs → In x
 either_there front xs ys x there (inl i) = inl i
 either_there front xs ys x there (inr i) = inr (there i)
 
-alike_behind : {X : Type 0} (front xs ys : List X) → AreAlike xs ys → AreAlike (front ++ xs) (front ++ ys)
-alike_behind {X} front xs ys alike = record {
+alike_after : {X : Type 0} (front xs ys : List X) → AreAlike xs ys → AreAlike (front ++ xs) (front ++ ys)
+alike_after {X} front xs ys alike = record {
   there = λ x i. In-joined front ys x (either_there front xs ys x (alike.there x) (In-parts front xs x i));
   back = λ x i. In-joined front xs x (either_there front ys xs x (alike.back x) (In-parts front ys x i));
   sums = λ f. sum_by-append f front xs ∙ ap (λ (n : ℕ). sum_by f front + n) (alike.sums f) ∙ sym (sum_by-append f front ys);
@@ -45,11 +45,11 @@ alike_behind {X} front xs ys alike = record {
 row_with : List ℕ → List ℕ → ItemData → Row
 row_with file name item = record { test = name; file = file; item = item }
 
-rows_behind : (rows : List Row) (file name : List ℕ) (xs ys : List ItemData) → AreAlike xs ys
+rows_follow : (rows : List Row) (file name : List ℕ) (xs ys : List ItemData) → AreAlike xs ys
     → AreAlike (rows ++ rows_of_sect (section_of_items file name xs)) (rows ++ rows_of_sect (section_of_items file name ys))
 unfolding row_with
-rows_behind rows file name xs ys alike =
-    alike_behind rows (map (λ (item : ItemData). row_with file name item) xs) (map (λ (item : ItemData). row_with file name item) ys)
+rows_follow rows file name xs ys alike =
+    alike_after rows (map (λ (item : ItemData). row_with file name item) xs) (map (λ (item : ItemData). row_with file name item) ys)
     (alike_mapped (λ (item : ItemData). row_with file name item) xs ys alike)
 
 pub adds_alike : (xs ys : List ItemData) (a b : TestData) (m n : FileIndexData) → AreAlike xs ys → Adds xs a m b n → Adds ys a m b n
@@ -58,7 +58,7 @@ adds_alike xs ys a b m n alike adds rows files file name tests is =
     let others = rows_of_sect (section_of_items file name ys) in
     let after = files_with file name tests b n files in
     let one = adds rows files file name tests is in
-    let both : AreAlike (rows ++ some) (rows ++ others) = rows_behind rows file name xs ys alike in
+    let both : AreAlike (rows ++ some) (rows ++ others) = rows_follow rows file name xs ys alike in
     let agree : Agree (checksums_in (rows ++ others)) = agree_alike (rows ++ some) (rows ++ others) both one.1.agree in (
       agree_none (checksums_in rows) (checksums_in others) is.agree (subst Agree (flat_map-append checksum_of_row rows others) agree),
       record {

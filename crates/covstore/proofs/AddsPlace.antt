@@ -19,7 +19,7 @@ use Rattle.covstore.specs.Clash.{Agree, Checksum, checksum_of_row, checksums_in}
 use Rattle.covstore.specs.KindIndexCounts.{is_above_at}
 use Rattle.covstore.specs.FileIndex.{FileIndexData}
 use Rattle.covmap.specs.Puts.{put, value_of}
-use Rattle.covstore.specs.State.{FileData, IsIndexOf, IsStateOf, IsWholeFile, file_with, has_checksum, holders_at, holding, points_in, tests_in, text_in}
+use Rattle.covstore.specs.State.{FileData, IsIndexOf, IsStateOf, IsConsistentFile, file_with, has_checksum, holders_at, holding, points_in, tests_in, text_in}
 use Rattle.covstore.specs.Items.{KeepsCounts}
 use Rattle.covstore.specs.Sums.{TestData, line_sum, test_of}
 use Rattle.covstore.specs.Value.{Key, checksum_said, first_of, items_at, key_of_row, has_key, line_checksum}
@@ -114,8 +114,8 @@ holder_of line tests e =
 -- ---- where a test stands
 
 module _ {rows : List Row} {files : List (List ℕ × FileData)} {file name : List ℕ} {tests : List (List ℕ × TestData)} {test : TestData} {index : FileIndexData} (is : IsIn rows files file name tests test index) where
-  pub its_whole : IsWholeFile (file_with tests index)
-  its_whole = All-in (λ (pair : List ℕ × FileData). IsWholeFile pair.1) files (file, file_with tests index) is.state.whole (pair_in names_order file (file_with tests index) files is.its_file)
+  pub its_whole : IsConsistentFile (file_with tests index)
+  its_whole = All-in (λ (pair : List ℕ × FileData). IsConsistentFile pair.1) files (file, file_with tests index) is.state.whole (pair_in names_order file (file_with tests index) files is.its_file)
 
   -- each of its tests is what the items of that test add up to
   pub test_at : (other : List ℕ) (found : TestData) → value_of (slice_cmp nat_cmp) other tests ≡ Some found → found ≡ test_of (items_at (record { file = file; test = other }) rows)
@@ -146,7 +146,7 @@ module _ {rows : List Row} {files : List (List ℕ × FileData)} {file name : Li
   pub its_kept : IsIndexOf (its_front ++ test ∷ its_back) index
   its_kept = subst (λ (list : List TestData). IsIndexOf list index) tests_before its_whole.kept
 
-  pub whole_after : (other : TestData) (more : FileIndexData) → KeepsCounts test other index more → IsWholeFile (file_with (put (slice_cmp nat_cmp) name other tests) more)
+  pub whole_after : (other : TestData) (more : FileIndexData) → KeepsCounts test other index more → IsConsistentFile (file_with (put (slice_cmp nat_cmp) name other tests) more)
   whole_after other more keeps = record {
     ascending = ArePairs-put names_order name other tests its_whole.ascending;
     kept = subst (λ (all : List TestData). IsIndexOf all more) (sym (tests_after other)) (keeps its_front its_back its_kept);

@@ -7,14 +7,14 @@ use Rattle.covline.specs.Row.{Row, SectData, rows_of_sect}
 use Rattle.covstore.specs.Clash.{Agree, Checksum, checksum_of_row, checksums_in, clash_of, first_clash}
 use Rattle.covstore.specs.Store.{AddsRows, ClashesWith, HasRoomForRows, SameCommitted, StoreData, RefuseData, ClashRefuse, MemoryRefuse}
 use Rattle.covstore.specs.State.{IsStateOf}
-use Rattle.covstore.proofs.AddsLists.{clash_before, clash_behind}
+use Rattle.covstore.proofs.AddsLists.{clash_before, clash_after}
 
 -- ---- rows and then others
 
 pub clash_of_more : (rows xs ys : List Row) → clash_of rows xs ≡ None → clash_of rows (xs ++ ys) ≡ clash_of (rows ++ xs) ys
 clash_of_more rows xs ys none =
     ap (first_clash (checksums_in rows)) (flat_map-append checksum_of_row xs ys)
-    ∙ clash_behind (checksums_in rows) (checksums_in xs) (checksums_in ys) none
+    ∙ clash_after (checksums_in rows) (checksums_in xs) (checksums_in ys) none
     ∙ ap (λ (committed : List Checksum). first_clash committed (checksums_in ys)) (sym (flat_map-append checksum_of_row rows xs))
 
 pub no_rows_added : (store : StoreData) → AddsRows [] store store

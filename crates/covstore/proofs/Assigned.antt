@@ -75,13 +75,13 @@ module _ {K V : Type 0} {cmp : K → K → Ordering} (o : IsExactOrder cmp) wher
   sum_without_at : (f : K × V → ℕ) (key : K) (pair : K × V) (pairs rest : List (K × V)) (order : Ordering) → cmp pair.0 key ≡ order → AllByRecursion (λ next. cmp pair.0 next.0 ≡ Less) pairs
       → sum_by f rest + at_before f key (value_of cmp key pairs) ≡ sum_by f pairs
       → sum_by f (cond (is_eq order) rest (pair ∷ rest)) + at_before f key (cond (is_eq order) (Some pair.1) (value_of cmp key pairs)) ≡ sum_by f (pair ∷ pairs)
-  sum_without_at f key pair pairs rest Less e behind same = omega (arith, sum_by-cons f pair rest, sum_by-cons f pair pairs, same)
-  sum_without_at f key pair pairs rest Greater e behind same = omega (arith, sum_by-cons f pair rest, sum_by-cons f pair pairs, same)
-  sum_without_at f key pair pairs rest Equal e behind same =
+  sum_without_at f key pair pairs rest Less e following same = omega (arith, sum_by-cons f pair rest, sum_by-cons f pair pairs, same)
+  sum_without_at f key pair pairs rest Greater e following same = omega (arith, sum_by-cons f pair rest, sum_by-cons f pair pairs, same)
+  sum_without_at f key pair pairs rest Equal e following same =
       let here : pair.0 ≡ key = o.exact pair.0 key e in
       let own : f pair ≡ f (key, pair.1) = ap (λ (k : K). f (k, pair.1)) here in
       let none : at_before f key (value_of cmp key pairs) ≡ 0 =
-      ap (at_before f key) (value_of_before o key pairs (subst (λ (k : K). AllByRecursion (λ (next : K × V). cmp k next.0 ≡ Less) pairs) here behind)) in
+      ap (at_before f key) (value_of_before o key pairs (subst (λ (k : K). AllByRecursion (λ (next : K × V). cmp k next.0 ≡ Less) pairs) here following)) in
       omega (arith, sum_by-cons f pair pairs, same, own, none)
 
   sum_without : (f : K × V → ℕ) (key : K) (pairs : List (K × V)) → ArePairs cmp pairs → sum_by f (without cmp key pairs) + at_before f key (value_of cmp key pairs) ≡ sum_by f pairs

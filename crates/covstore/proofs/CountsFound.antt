@@ -115,12 +115,12 @@ module _ {K Y : Type 0} {cmp : K → K → Ordering} (o : IsExactOrder cmp) (at 
 
   above_at : (order : Ordering) (y : Y) (ys : List Y) → cmp (at y) key ≡ order → AllByRecursion (λ (next : K × Y). cmp (at y) next.0 ≡ Less) (valued ys)
       → is_above_at above (value_of cmp key (valued ys)) ≡ list_any test ys → is_above_at above (cond (is_eq order) (Some y) (value_of cmp key (valued ys))) ≡ (test y || list_any test ys)
-  above_at Less y ys e behind rest = rest ∙ sym (ap (λ (b : Bool). b || list_any test ys) (is y ∙ ap (λ (order : Ordering). is_eq order && above y) e))
-  above_at Equal y ys e behind rest =
+  above_at Less y ys e following rest = rest ∙ sym (ap (λ (b : Bool). b || list_any test ys) (is y ∙ ap (λ (order : Ordering). is_eq order && above y) e))
+  above_at Equal y ys e following rest =
       let none : value_of cmp key (valued ys) ≡ None =
-      value_of_before o key (valued ys) (subst (λ (k : K). AllByRecursion (λ (next : K × Y). cmp k next.0 ≡ Less) (valued ys)) (o.exact (at y) key e) behind) in
+      value_of_before o key (valued ys) (subst (λ (k : K). AllByRecursion (λ (next : K × Y). cmp k next.0 ≡ Less) (valued ys)) (o.exact (at y) key e) following) in
       sym (any_here (test y) (is_eq (cmp (at y) key)) (above y) (list_any test ys) (is y) (ap is_eq e) (sym rest ∙ ap (is_above_at above) none))
-  above_at Greater y ys e behind rest = rest ∙ sym (ap (λ (b : Bool). b || list_any test ys) (is y ∙ ap (λ (order : Ordering). is_eq order && above y) e))
+  above_at Greater y ys e following rest = rest ∙ sym (ap (λ (b : Bool). b || list_any test ys) (is y ∙ ap (λ (order : Ordering). is_eq order && above y) e))
 
   -- a test has the point above 0 where a member of its list is the point and above 0
   pub above_in : (ys : List Y) → ArePairs cmp (map (λ y. (at y, y)) ys) → is_above_at above (value_of cmp key (map (λ y. (at y, y)) ys)) ≡ list_any test ys

@@ -98,17 +98,17 @@ All-made {X} {Y} P p make all (x ∷ xs) = by (p (make x)) (filter p (map make x
     by true ys rest = (all x, rest)
     by false ys rest = rest
 
-made_behind : {X Y : Type 0} (P : X → Type 0) (at : Y → X) (make : X → Y) → ((x : X) → at (make x) ≡ x) → (xs : List X) → AllByRecursion P xs
+made_after : {X Y : Type 0} (P : X → Type 0) (at : Y → X) (make : X → Y) → ((x : X) → at (make x) ≡ x) → (xs : List X) → AllByRecursion P xs
     → AllByRecursion (λ (next : X × Y). P next.0) (map (λ y. (at y, y)) (map make xs))
-made_behind P at make same [] all = tt
-made_behind P at make same (x ∷ xs) all = (subst P (sym (same x)) all.0, made_behind P at make same xs all.1)
+made_after P at make same [] all = tt
+made_after P at make same (x ∷ xs) all = (subst P (sym (same x)) all.0, made_after P at make same xs all.1)
 
 made_ascending : {X Y : Type 0} (cmp : X → X → Ordering) (at : Y → X) (make : X → Y) → ((x : X) → at (make x) ≡ x) → (xs : List X) → IsStrictlySortedBy cmp xs
     → ArePairs cmp (map (λ y. (at y, y)) (map make xs))
 unfolding IsStrictlySortedBy
 made_ascending cmp at make same [] sorted = tt
 made_ascending {X} {Y} cmp at make same (x ∷ xs) sorted =
-    (made_behind (λ z. cmp (at (make x)) z ≡ Less) at make same xs (subst (λ (z : X). AllByRecursion (λ w. cmp z w ≡ Less) xs) (sym (same x)) sorted.0), made_ascending cmp at make same xs sorted.1)
+    (made_after (λ z. cmp (at (make x)) z ≡ Less) at make same xs (subst (λ (z : X). AllByRecursion (λ w. cmp z w ≡ Less) xs) (sym (same x)) sorted.0), made_ascending cmp at make same xs sorted.1)
 
 section_ascends : (kind : Kind) (items : List ItemData) (key : Key) → ArePairs (cmp_of kind) (valued kind (section_with key items))
 section_ascends Line items key = made_ascending nat_cmp (λ (l : LineValueData). l.line) (line_at items) (λ x. refl) (lines_in items) (ascending_sorted lines_order.total (line_points items))

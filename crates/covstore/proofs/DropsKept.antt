@@ -10,7 +10,7 @@ use Rattle.covstore.specs.KindIndexCounts.{AreCounts, is_above_at}
 use Rattle.covstore.specs.FileDrops.{IsWithoutTest, tests_without}
 use Rattle.covstore.specs.FileIndex.{FileIndexData, counts_totals, index_totals}
 use Rattle.covmap.specs.Puts.{value_of}
-use Rattle.covstore.specs.State.{FileData, IsIndexOf, IsWholeFile, file_totals, file_with, has_checksum, holders_at, tests_in}
+use Rattle.covstore.specs.State.{FileData, IsIndexOf, IsConsistentFile, file_totals, file_with, has_checksum, holders_at, tests_in}
 use Rattle.covstore.specs.Sums.{TestData}
 use Rattle.covstore.proofs.Counts.{count_by-between, tests_at-between}
 use Rattle.covstore.proofs.DropsTests.{IsBetween, between, others_ascend, others_of_none}
@@ -52,7 +52,7 @@ one_totals tests index other kept also =
 abbrev pub points_of_all : List (List ℕ × TestData) → List TestData
 points_of_all tests = map (λ pair. pair.1) tests
 
-module _ (name : List ℕ) (points : TestData) (tests : List (List ℕ × TestData)) (index : FileIndexData) (whole : IsWholeFile (file_with tests index))
+module _ (name : List ℕ) (points : TestData) (tests : List (List ℕ × TestData)) (index : FileIndexData) (whole : IsConsistentFile (file_with tests index))
     (found : value_of (slice_cmp nat_cmp) name tests ≡ Some points) where
   place : IsBetween name points tests
   place = between name points tests whole.ascending found
@@ -78,7 +78,7 @@ pub index_after : (name : List ℕ) (before after : FileData) → IsWithoutTest 
 index_after name before after is = subst (λ (tests : List (List ℕ × TestData)). IsIndexOf (points_of_all tests) after.index) is.tests is.whole.kept
 
 -- the test isn't there
-module _ (name : List ℕ) (file : FileData) (whole : IsWholeFile file) (none : value_of (slice_cmp nat_cmp) name file.tests ≡ None) where
+module _ (name : List ℕ) (file : FileData) (whole : IsConsistentFile file) (none : value_of (slice_cmp nat_cmp) name file.tests ≡ None) where
   pub without_unfound : IsWithoutTest name file file
   without_unfound = record { tests = sym (others_of_none name file.tests none); texts = refl; whole = whole }
 

@@ -5,7 +5,7 @@ use Rattle.std.proofs.lemmas.List.Sums.{count_by-le-length, sum_by-cons}
 use Rattle.covstore.specs.declared.totals.Totals.{Totals}
 use Rattle.covstore.specs.FileDrops.{AreWithoutTest, IsWithoutTest}
 use Rattle.covstore.specs.TotalsExchanged.{FitTogether, FitTotals, no_totals, together}
-use Rattle.covstore.specs.State.{FileData, IsWholeFile, file_totals, found_at, has_points_of, hit_at, totals_in}
+use Rattle.covstore.specs.State.{FileData, IsConsistentFile, file_totals, found_at, has_points_of, hit_at, totals_in}
 use Rattle.covstore.specs.Kinds.{Branch, Function, Line}
 use Rattle.covstore.proofs.TotalsKinds.{same_totals}
 
@@ -14,8 +14,8 @@ use Rattle.covstore.proofs.TotalsKinds.{same_totals}
 pub no_totals_more : (totals : Totals) → together no_totals totals ≡ totals
 no_totals_more totals = same_totals (together no_totals totals) totals (omega arith) (omega arith) (omega arith) (omega arith) (omega arith) (omega arith)
 
-pub no_totals_behind : (totals : Totals) → together totals (totals_in []) ≡ totals
-no_totals_behind totals = same_totals (together totals (totals_in [])) totals (omega arith) (omega arith) (omega arith) (omega arith) (omega arith) (omega arith)
+pub no_totals_after : (totals : Totals) → together totals (totals_in []) ≡ totals
+no_totals_after totals = same_totals (together totals (totals_in [])) totals (omega arith) (omega arith) (omega arith) (omega arith) (omega arith) (omega arith)
 
 -- the first of the files that are left is taken
 one_more : (f : List ℕ × FileData → ℕ) (pair : List ℕ × FileData) (files : List (List ℕ × FileData)) (n : ℕ) → (n + f pair) + sum_by f files ≡ n + sum_by f (pair ∷ files)
@@ -48,14 +48,14 @@ module _ (test : List ℕ) (all : List (List ℕ × FileData)) where
   -- what is counted so far, with the files that are left, is all of it
   pub record IsCounted (left : List (List ℕ × FileData)) (sections : ℕ) (totals : Totals) : Type 0 where
     pub counted : sections + count_by has_points left ≡ count_by has_points all
-    pub whole : AllByRecursion (λ pair. IsWholeFile pair.1) left
+    pub whole : AllByRecursion (λ pair. IsConsistentFile pair.1) left
     pub rest : (after : List (List ℕ × FileData)) → AreWithoutTest test all after → (later : List (List ℕ × FileData)) × AreWithoutTest test left later × (together totals (totals_in later) ≡ totals_in after)
 
-  pub none_counted : AllByRecursion (λ pair. IsWholeFile pair.1) all → IsCounted all 0 no_totals
+  pub none_counted : AllByRecursion (λ pair. IsConsistentFile pair.1) all → IsCounted all 0 no_totals
   none_counted whole = record { counted = omega arith; whole = whole; rest = λ after are. (after, are, no_totals_more (totals_in after)) }
 
   module _ (pair : List ℕ × FileData) (left : List (List ℕ × FileData)) (sections : ℕ) (totals : Totals) (is : IsCounted (pair ∷ left) sections totals) where
-    pub next_whole : IsWholeFile pair.1
+    pub next_whole : IsConsistentFile pair.1
     next_whole = is.whole.0
 
     module _ (own : Totals) (own_is : (after : FileData) → IsWithoutTest test pair.1 after → own ≡ file_totals after) where
@@ -91,5 +91,5 @@ module _ (test : List ℕ) (all : List (List ℕ × FileData)) where
     all_totals after are = let later = is.rest after are in ends later.0 later.1 later.2
       where
         ends : (later : List (List ℕ × FileData)) → AreWithoutTest test [] later → together totals (totals_in later) ≡ totals_in after → totals ≡ totals_in after
-        ends [] none e = sym (no_totals_behind totals) ∙ e
+        ends [] none e = sym (no_totals_after totals) ∙ e
         ends (first ∷ others) none e = absurd none

@@ -16,7 +16,7 @@ use Rattle.covstore.specs.KindIndexCounts.{AreCounts, count_above, count_with, i
 use Rattle.covstore.specs.FileDrops.{AreWithoutTest, IsWithoutTest, tests_without}
 use Rattle.covstore.specs.FileIndex.{FileIndexData}
 use Rattle.covmap.specs.Puts.{ArePairs, value_of}
-use Rattle.covstore.specs.State.{FileData, IsIndexOf, IsWholeFile, file_with, has_checksum, holders_at, holding}
+use Rattle.covstore.specs.State.{FileData, IsIndexOf, IsConsistentFile, file_with, has_checksum, holders_at, holding}
 use Rattle.covstore.specs.Sums.{TestData}
 use Rattle.covstore.proofs.Ascend.{IsExactOrder}
 use Rattle.covstore.proofs.DropsKept.{index_first, points_of_all, without_found, without_unfound}
@@ -48,8 +48,8 @@ module _ {K V : Type 0} (again : K → Option V) where
     renewed_ascend (pair ∷ pairs) sorted = by (again pair.0) (All-renewed (λ next. cmp pair.0 next ≡ Less) pairs sorted.0) (renewed_ascend pairs sorted.1)
       where
         by : (found : Option V) → AllByRecursion (λ next. cmp pair.0 next.0 ≡ Less) (renewed pairs) → ArePairs cmp (renewed pairs) → ArePairs cmp (pair_of pair.0 found ++ renewed pairs)
-        by None behind rest = rest
-        by (Some value) behind rest = (behind, rest)
+        by None following rest = rest
+        by (Some value) following rest = (following, rest)
 
     -- what is found of a key is its new value, where it had one
     abbrev again_at : K → Option V → Option V
@@ -138,7 +138,7 @@ rest_of test others index are = (
 -- ---- files
 
 -- a whole file can be told without the test
-pub file_without : (name : List ℕ) (tests : List (List ℕ × TestData)) (index : FileIndexData) → IsWholeFile (file_with tests index) → (after : FileData) × IsWithoutTest name (file_with tests index) after
+pub file_without : (name : List ℕ) (tests : List (List ℕ × TestData)) (index : FileIndexData) → IsConsistentFile (file_with tests index) → (after : FileData) × IsWithoutTest name (file_with tests index) after
 file_without name tests index whole = by (value_of (slice_cmp nat_cmp) name tests) refl
   where
     by : (found : Option TestData) → value_of (slice_cmp nat_cmp) name tests ≡ found → (after : FileData) × IsWithoutTest name (file_with tests index) after
@@ -147,7 +147,7 @@ file_without name tests index whole = by (value_of (slice_cmp nat_cmp) name test
         let rest = rest_of points (points_of_all (tests_without name tests)) index (index_first name points tests index whole e) in
         (file_with (tests_without name tests) rest.0, without_found name points tests index whole e rest.0 rest.1 rest.2)
 
-pub files_without : (name : List ℕ) (files : List (List ℕ × FileData)) → AllByRecursion (λ pair. IsWholeFile pair.1) files → (after : List (List ℕ × FileData)) × AreWithoutTest name files after
+pub files_without : (name : List ℕ) (files : List (List ℕ × FileData)) → AllByRecursion (λ pair. IsConsistentFile pair.1) files → (after : List (List ℕ × FileData)) × AreWithoutTest name files after
 files_without name [] whole = ([], tt)
 files_without name (pair ∷ files) whole =
     let one = file_without name pair.1.tests pair.1.index whole.0 in

@@ -93,8 +93,8 @@ module _ (name : List ℕ) {V : Type 0} where
           ∙ ap (λ (ps : List (List ℕ × V)). pair ∷ ps) (rest (sym (value_of_later names_order name pair pairs (is_eq-slice_cmp pair.0 name ∙ e)) ∙ none))
 
   -- after the name itself it comes no more
-  none_behind : (pair : List ℕ × V) (pairs : List (List ℕ × V)) → ArePairs (slice_cmp nat_cmp) (pair ∷ pairs) → bytes_eq pair.0 name ≡ true → none_at pairs
-  none_behind pair pairs sorted e =
+  none_after : (pair : List ℕ × V) (pairs : List (List ℕ × V)) → ArePairs (slice_cmp nat_cmp) (pair ∷ pairs) → bytes_eq pair.0 name ≡ true → none_at pairs
+  none_after pair pairs sorted e =
       subst (λ (n : List ℕ). value_of (slice_cmp nat_cmp) n pairs ≡ None) ((bytes_eq-Decides pair.0 name).0 e) (value_of_before names_order pair.0 pairs sorted.0)
 
   -- ---- where it stood
@@ -120,7 +120,7 @@ module _ (name : List ℕ) {V : Type 0} where
             front = [];
             back = pairs;
             all = ap (λ (p : List ℕ × V). p ∷ pairs) (same_pair pair value ((bytes_eq-Decides pair.0 name).0 e) own);
-            without = others_first pair pairs e ∙ others_of_none pairs (none_behind pair pairs sorted e);
+            without = others_first pair pairs e ∙ others_of_none pairs (none_after pair pairs sorted e);
           }
       by false e rest =
           let later = rest (sym (value_of_later names_order name pair pairs (is_eq-slice_cmp pair.0 name ∙ e)) ∙ found) in
@@ -147,7 +147,7 @@ module _ {K X V : Type 0} (name_of : K → List ℕ) (f : X → V) (name : List 
           → names_with name_of f (remove_entry (has_name name_of name) (entry ∷ entries)) ≡ others name ((name_of entry.0, f entry.1) ∷ names_with name_of f entries)
       by true e rest =
           ap (names_with name_of f) (cond-true (has_name name_of name entry.0) entries (entry ∷ remove_entry (has_name name_of name) entries) (here ∙ e))
-          ∙ sym (others_of_none name (names_with name_of f entries) (none_behind name (name_of entry.0, f entry.1) (names_with name_of f entries) sorted e))
+          ∙ sym (others_of_none name (names_with name_of f entries) (none_after name (name_of entry.0, f entry.1) (names_with name_of f entries) sorted e))
           ∙ sym (others_first name (name_of entry.0, f entry.1) (names_with name_of f entries) e)
       by false e rest =
           ap (names_with name_of f) (cond-false (has_name name_of name entry.0) entries (entry ∷ remove_entry (has_name name_of name) entries) (here ∙ e))

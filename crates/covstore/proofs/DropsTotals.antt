@@ -5,7 +5,7 @@ use Rattle.std.proofs.lemmas.List.Sums.{count_by-le-length, sum_by-cons}
 use Rattle.covstore.specs.declared.totals.Totals.{Totals}
 use Rattle.covstore.specs.TotalsExchanged.{FitTogether, FitTotals, no_totals, together}
 use Rattle.covstore.specs.State.{FileData, file_totals, has_points_of, totals_in}
-use Rattle.covstore.proofs.DropsLoop.{no_totals_behind, no_totals_more, part_fits, totals_taken}
+use Rattle.covstore.proofs.DropsLoop.{no_totals_after, no_totals_more, part_fits, totals_taken}
 
 -- ---- totals
 
@@ -25,7 +25,7 @@ module _ (all : List (List ℕ × FileData)) where
     one_fits fit = part_fits totals (file_totals pair.1) (totals_in left) (totals_in all) one_added fit
 
   pub all_added : (totals : Totals) → IsAddedUp [] totals → totals ≡ totals_in all
-  all_added totals is = sym (no_totals_behind totals) ∙ is
+  all_added totals is = sym (no_totals_after totals) ∙ is
 
 -- ---- sections
 

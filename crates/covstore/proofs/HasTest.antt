@@ -15,7 +15,7 @@ use Rattle.covstore.specs.declared.sums.LineSum.{LineSum}
 use Rattle.covstore.specs.declared.sums.BranchSum.{BranchSum}
 use Rattle.covstore.specs.Content.{SectionData}
 use Rattle.covmap.specs.Puts.{ArePairs, value_of}
-use Rattle.covstore.specs.State.{FileData, IsWholeFile, has_no_points, has_none, has_points_of, points_or_none, section_seen, section_with_points, sections_of, sections_of_file}
+use Rattle.covstore.specs.State.{FileData, IsConsistentFile, has_no_points, has_none, has_points_of, points_or_none, section_seen, section_with_points, sections_of, sections_of_file}
 use Rattle.covstore.specs.Sums.{TestData}
 use Rattle.covstore.proofs.MapNames.{names_with}
 use Rattle.covstore.proofs.Orders.{names_order}
@@ -71,12 +71,12 @@ module _ (test : List ℕ) where
       ∙ found_at (is_eq (slice_cmp nat_cmp pair.0 test)) pair.1 (list_any points_of_test tests) (value_of (slice_cmp nat_cmp) test tests) (any_found tests sorted.1)
       (λ e. subst (λ (name : List ℕ). value_of (slice_cmp nat_cmp) name tests ≡ None) (tells_apart names_order.exact pair.0 test e) (value_of_before names_order pair.0 tests sorted.0))
 
-  any_in_file : (pair : List ℕ × FileData) → IsWholeFile pair.1 → list_any (of_test test) (sections_of_file pair) ≡ has_points_of test pair.1
+  any_in_file : (pair : List ℕ × FileData) → IsConsistentFile pair.1 → list_any (of_test test) (sections_of_file pair) ≡ has_points_of test pair.1
   any_in_file pair whole = any_seen pair.0 pair.1.index.texts pair.1.tests ∙ any_found pair.1.tests whole.ascending
 
   -- ---- the files
 
-  pub any_in_files : (files : List (List ℕ × FileData)) → AllByRecursion (λ pair. IsWholeFile pair.1) files → list_any (of_test test) (sections_of files) ≡ list_any (λ pair. has_points_of test pair.1) files
+  pub any_in_files : (files : List (List ℕ × FileData)) → AllByRecursion (λ pair. IsConsistentFile pair.1) files → list_any (of_test test) (sections_of files) ≡ list_any (λ pair. has_points_of test pair.1) files
   any_in_files [] whole = refl
   any_in_files (pair ∷ files) whole =
       list_any-append (of_test test) (sections_of_file pair) (sections_of files)

@@ -15,7 +15,7 @@ use Rattle.covstore.specs.FileSection.{KeepsIn}
 use Rattle.covstore.specs.FileView.{KeepsFile, tests_with, with_test}
 use Rattle.covstore.specs.Store.{KeepsState}
 use Rattle.covmap.specs.Puts.{ArePairs, put, value_of}
-use Rattle.covstore.specs.State.{FileData, IsIndexOf, IsStateOf, IsWholeFile, file_with, found_at, hit_at, points_in, tests_in, totals_in}
+use Rattle.covstore.specs.State.{FileData, IsIndexOf, IsStateOf, IsConsistentFile, file_with, found_at, hit_at, points_in, tests_in, totals_in}
 use Rattle.covstore.specs.Sums.{TestData, test_of}
 use Rattle.covstore.proofs.AddsLists.{put_there, put_twice}
 use Rattle.covstore.proofs.AddsPlace.{checksum_held, state_agrees, text_kept}
@@ -77,7 +77,7 @@ made_ready {X} key new pairs = at (value_of (slice_cmp nat_cmp) key pairs) refl
 -- ---- texts of lines that nobody holds
 
 module _ (before after : FileData) (keeps : KeepsFile before after) where
-  still_whole : IsWholeFile before → IsWholeFile after
+  still_whole : IsConsistentFile before → IsConsistentFile after
   still_whole whole = record {
     ascending = subst (ArePairs (slice_cmp nat_cmp)) (sym keeps.tests) whole.ascending;
     kept = subst (λ (tests : List (List ℕ × TestData)). IsIndexOf (map (λ (pair : List ℕ × TestData). pair.1) tests) after.index) (sym keeps.tests) (record {

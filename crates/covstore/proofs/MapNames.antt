@@ -46,19 +46,19 @@ module _ {K : Type 0} (name : K → List ℕ) (key : List ℕ) where
     All-unfound P Q es none other all = All-others P Q es (none_passes_from_lookup has_name es none) other all
 
     -- no key after it has the same name
-    none_behind : (k : K) (es : List (K × X)) → name k ≡ key → AllByRecursion (λ next. slice_cmp nat_cmp (name k) (name next) ≡ Less) (keys_of es) → NonePasses has_name es
-    none_behind k [] e behind = tt
-    none_behind k (next ∷ es) e behind =
-        (ap is_eq (ap (λ (n : List ℕ). slice_cmp nat_cmp n (name next.0)) (sym e) ∙ behind.0), none_behind k es e behind.1)
+    none_after : (k : K) (es : List (K × X)) → name k ≡ key → AllByRecursion (λ next. slice_cmp nat_cmp (name k) (name next) ≡ Less) (keys_of es) → NonePasses has_name es
+    none_after k [] e following = tt
+    none_after k (next ∷ es) e following =
+        (ap is_eq (ap (λ (n : List ℕ). slice_cmp nat_cmp n (name next.0)) (sym e) ∙ following.0), none_after k es e following.1)
 
     -- what holds of all entries after a value was written
     All-written_at : (P Q : K × X → Type 0) (v w : X) (e : K × X) (es : List (K × X)) (here : Bool) → has_name e.0 ≡ here
         → AllByRecursion (λ next. slice_cmp nat_cmp (name e.0) (name next) ≡ Less) (keys_of es) → cond here (Some e.1) (lookup has_name es) ≡ Some v
         → ((k : K) → P (k, v) → name k ≡ key → Q (k, w)) → ((e : K × X) → P e → (name e.0 ≡ key → ⊥) → Q e) → AllByRecursion P (e ∷ es)
         → (lookup has_name es ≡ Some v → AllByRecursion Q (set_value has_name es w)) → AllByRecursion Q (cond here ((e.0, w) ∷ es) (e ∷ set_value has_name es w))
-    All-written_at P Q v w e es true is behind found own other all rest =
-        (own e.0 (subst (λ (x : X). P (e.0, x)) (same_Some e.1 v found) all.0) (named e.0 is), All-others P Q es (none_behind e.0 es (named e.0 is) behind) other all.1)
-    All-written_at P Q v w e es false is behind found own other all rest = (other e all.0 (not_named e.0 is), rest found)
+    All-written_at P Q v w e es true is following found own other all rest =
+        (own e.0 (subst (λ (x : X). P (e.0, x)) (same_Some e.1 v found) all.0) (named e.0 is), All-others P Q es (none_after e.0 es (named e.0 is) following) other all.1)
+    All-written_at P Q v w e es false is following found own other all rest = (other e all.0 (not_named e.0 is), rest found)
 
     pub All-written : (P Q : K × X → Type 0) (v w : X) (es : List (K × X)) → IsStrictlySortedBy (λ (a b : K). slice_cmp nat_cmp (name a) (name b)) (keys_of es) → lookup has_name es ≡ Some v
         → ((k : K) → P (k, v) → name k ≡ key → Q (k, w)) → ((e : K × X) → P e → (name e.0 ≡ key → ⊥) → Q e) → AllByRecursion P es → AllByRecursion Q (set_value has_name es w)

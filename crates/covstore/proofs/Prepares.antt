@@ -3,11 +3,11 @@ use Rattle.std.proofs.Common.{◌≡◌, ◌+◌, ◌*◌, ◌<◌, ◌≤◌, �
 use Rattle.std.specs.List.{AllByRecursion}
 use Rattle.std.proofs.lemmas.List.{length-append}
 use Rattle.covline.specs.Row.{SubmissionData, rows_of}
-use Rattle.covline.specs.Lawful.{IsLawful, most_items}
+use Rattle.covline.specs.Lawful.{IsLawful, max_items}
 use Rattle.covstore.specs.declared.totals.Totals.{Totals}
 use Rattle.covstore.specs.Clash.{Agree, checksums_in, clash_of}
 use Rattle.covstore.specs.Content.{content_at, content_of}
-use Rattle.covstore.specs.Store.{AddsRows, ClashesWith, HasRoomForRows, IsPlanOf, PlanData, SameCommitted, StandsFor, StoreData, IsRefusedAt, RefuseData, ClashRefuse, MemoryRefuse, most_members}
+use Rattle.covstore.specs.Store.{AddsRows, ClashesWith, HasRoomForRows, IsPlanOf, PlanData, SameCommitted, StandsFor, StoreData, IsRefusedAt, RefuseData, ClashRefuse, MemoryRefuse, max_members}
 use Rattle.covstore.specs.State.{IsStateOf, sections_of, totals_in}
 use Rattle.covstore.specs.StoreKept.{IsKept}
 use Rattle.covstore.specs.Table.{Table, all_rows, clash_at}
@@ -22,11 +22,11 @@ use Rattle.covstore.proofs.TotalsDifferent.{are_totals}
 
 -- ---- how many rows there are
 
-pub rows_in_table : (table : Table) → AllByRecursion (λ rows. length rows ≤ most_items) table → length (all_rows table) ≤ length table * most_items
+pub rows_in_table : (table : Table) → AllByRecursion (λ rows. length rows ≤ max_items) table → length (all_rows table) ≤ length table * max_items
 rows_in_table [] small = omega arith
 rows_in_table (rows ∷ table) small = omega (arith, length-append rows (all_rows table), small.0, rows_in_table table small.1)
 
-module _ (before : StoreData) (committed : Totals) (kept : IsKept before committed) (few : before.members < most_members) (s : SubmissionData) (lawful : IsLawful s) where
+module _ (before : StoreData) (committed : Totals) (kept : IsKept before committed) (few : before.members < max_members) (s : SubmissionData) (lawful : IsLawful s) where
   abbrev own : Table
   own = kept.is.own
 

@@ -40,9 +40,9 @@ module _ {K V : Type 0} {cmp : K → K → Ordering} (o : IsExactOrder cmp) wher
 
   -- a key before all others has no value among them
   pub value_of_before : (key : K) (pairs : List (K × V)) → AllByRecursion (λ next. cmp key next.0 ≡ Less) pairs → value_of cmp key pairs ≡ None
-  value_of_before key [] behind = refl
-  value_of_before key (pair ∷ pairs) behind =
-      value_of_later key pair pairs (ap is_eq (o.total.antisymm pair.0 key ∙ ap ordering_reverse behind.0)) ∙ value_of_before key pairs behind.1
+  value_of_before key [] following = refl
+  value_of_before key (pair ∷ pairs) following =
+      value_of_later key pair pairs (ap is_eq (o.total.antisymm pair.0 key ∙ ap ordering_reverse following.0)) ∙ value_of_before key pairs following.1
 
   -- a look-up finds only what is there
   pair_in_at : (key : K) (value : V) (pair : K × V) (pairs : List (K × V)) (order : Ordering) → cmp pair.0 key ≡ order → (value_of cmp key pairs ≡ Some value → In (key, value) pairs)
@@ -151,14 +151,14 @@ module _ {K V : Type 0} {cmp : K → K → Ordering} (o : IsExactOrder cmp) wher
       → AllByRecursion (λ next. cmp pair.0 next.0 ≡ Less) pairs → sum_by f (put cmp key value pairs) + at_before f key (value_of cmp key pairs) ≡ sum_by f pairs + f (key, value)
       → sum_by f (match_ordering order (pair ∷ put cmp key value pairs) ((key, value) ∷ pairs) ((key, value) ∷ pair ∷ pairs)) + at_before f key (cond (is_eq order) (Some pair.1) (value_of cmp key pairs))
       ≡ sum_by f (pair ∷ pairs) + f (key, value)
-  sum_by-put_at f key value pair pairs Less e behind rest = omega (arith, sum_by-cons f pair (put cmp key value pairs), sum_by-cons f pair pairs, rest)
-  sum_by-put_at f key value pair pairs Equal e behind rest =
+  sum_by-put_at f key value pair pairs Less e following rest = omega (arith, sum_by-cons f pair (put cmp key value pairs), sum_by-cons f pair pairs, rest)
+  sum_by-put_at f key value pair pairs Equal e following rest =
       let own : f pair ≡ f (key, pair.1) = ap (λ (k : K). f (k, pair.1)) (o.exact pair.0 key e) in
       omega (arith, sum_by-cons f (key, value) pairs, sum_by-cons f pair pairs, own)
-  sum_by-put_at f key value pair pairs Greater e behind rest =
+  sum_by-put_at f key value pair pairs Greater e following rest =
       let first = flips o.total pair.0 key e in
       let none : at_before f key (value_of cmp key pairs) ≡ 0 =
-      ap (at_before f key) (value_of_before key pairs (All-weaker (λ next. cmp pair.0 next.0 ≡ Less) (λ next. cmp key next.0 ≡ Less) pairs (λ next l. o.total.trans key pair.0 next.0 first l) behind)) in
+      ap (at_before f key) (value_of_before key pairs (All-weaker (λ next. cmp pair.0 next.0 ≡ Less) (λ next. cmp key next.0 ≡ Less) pairs (λ next l. o.total.trans key pair.0 next.0 first l) following)) in
       omega (arith, sum_by-cons f (key, value) (pair ∷ pairs), sum_by-cons f pair pairs, none)
 
   -- what the key had before goes, and what it has now comes

@@ -6,8 +6,8 @@ use Rattle.std.specs.Option.{is_some}
 use Rattle.std.specs.Ordering.{nat_cmp}
 use Rattle.std.proofs.lemmas.Bool.{cond-false}
 use Rattle.covline.specs.Row.{ItemData, Row, rows_of_sect}
-use Rattle.covstore.specs.declared.stop.Stop.{Stop}
-use Rattle.covstore.specs.declared.stop.Stop.TheVariants.{Clash, Memory}
+use Rattle.covstore.specs.declared.stage_fault.StageFault.{StageFault}
+use Rattle.covstore.specs.declared.stage_fault.StageFault.TheVariants.{Clash, Memory}
 use Rattle.covstore.specs.FileIndex.{FileIndexData}
 use Rattle.covstore.specs.FileSection.{AddsItems, ClashesIn, HasFile, HasRoomIn, KeepsIn}
 use Rattle.covstore.specs.FileView.{tests_with}
@@ -46,7 +46,7 @@ module _ (file ready : FileData) (keeps : KeepsIn file ready) where
         subst (λ (fs : List (List ℕ × FileData)). HasFile (rows ++ more) fs name after) (put_twice names_order name ready after files) added.1,
       )
 
-  pub clashes_ready : {A : Type 0} (items : List ItemData) (test : List ℕ) (stop : Stop A) → ClashesIn items test ready stop → ClashesIn items test file stop
+  pub clashes_ready : {A : Type 0} (items : List ItemData) (test : List ℕ) (stop : StageFault A) → ClashesIn items test ready stop → ClashesIn items test file stop
   clashes_ready items test Memory clash = tt
   clashes_ready items test (Clash line held given) clash = λ rows files name has. clash rows (put (slice_cmp nat_cmp) name ready files) name (stands_ready rows files name has)
 

@@ -7,7 +7,7 @@ use Rattle.std.specs.Str.{bytes_eq}
 use Rattle.std.proofs.lemmas.Bool.{false≢true}
 use Rattle.std.proofs.lemmas.List.{length-map, map-append}
 use Rattle.std.proofs.lemmas.Slice.Eq.{bytes_eq-Decides}
-use Rattle.covline.specs.Lawful.{most_items}
+use Rattle.covline.specs.Lawful.{max_items}
 use Rattle.covline.specs.Points.{line_point, func_point, branch_point}
 use Rattle.covline.specs.Row.{ItemData, Row}
 use Rattle.covstore.specs.Ascending.{ascending}
@@ -61,7 +61,7 @@ pub agree_in_renamed : (old new : List ℕ) (table : Table) → Agree (checksums
 agree_in_renamed old new table agree = subst Agree (sym (ap checksums_in (rows_renamed old new table) ∙ agree_renamed old new (all_rows table))) agree
 
 -- its members have as many rows as before
-pub small_renamed : (old new : List ℕ) (table : Table) → AllByRecursion (λ rows. length rows ≤ most_items) table → AllByRecursion (λ rows. length rows ≤ most_items) (renamed old new table)
+pub small_renamed : (old new : List ℕ) (table : Table) → AllByRecursion (λ rows. length rows ≤ max_items) table → AllByRecursion (λ rows. length rows ≤ max_items) (renamed old new table)
 small_renamed old new [] all = tt
 small_renamed old new (rows ∷ table) all = (omega (arith, all.0, length-map rows (renamed_row old new)), small_renamed old new table all.1)
 

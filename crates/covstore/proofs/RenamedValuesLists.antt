@@ -33,9 +33,9 @@ module _ {P : Type 0} {cmp : P → P → Ordering} (total : IsTotalOrder cmp) wh
       cc
 
   -- no member after the first is the first, and the first is none of them
-  behind_differs : (p : P) (ps : List P) → IsStrictlySortedBy cmp (p ∷ ps) → (q : P) → In q ps → q ≡ p → ⊥
+  after_differs : (p : P) (ps : List P) → IsStrictlySortedBy cmp (p ∷ ps) → (q : P) → In q ps → q ≡ p → ⊥
   unfolding IsStrictlySortedBy
-  behind_differs p ps up q i = less_differs p q (All-in (λ z. cmp p z ≡ Less) ps q up.0 i)
+  after_differs p ps up q i = less_differs p q (All-in (λ z. cmp p z ≡ Less) ps q up.0 i)
 
   rest_ascends : (p : P) (ps : List P) → IsStrictlySortedBy cmp (p ∷ ps) → IsStrictlySortedBy cmp ps
   unfolding IsStrictlySortedBy
@@ -44,17 +44,17 @@ module _ {P : Type 0} {cmp : P → P → Ordering} (total : IsTotalOrder cmp) wh
   pub flat_one : {Y : Type 0} (g : P → List Y) (ps : List P) (p : P) → IsStrictlySortedBy cmp ps → In p ps → ((q : P) → (q ≡ p → ⊥) → g q ≡ []) → flat_map g ps ≡ g p
   flat_one g [] p up i others = absurd i
   flat_one {Y} g (q ∷ ps) p up (inl is) others =
-      ap (λ (ys : List Y). g q ++ ys) (flat_nothing g ps (λ r j. others r (λ e. behind_differs q ps up r j (e ∙ sym is))))
+      ap (λ (ys : List Y). g q ++ ys) (flat_nothing g ps (λ r j. others r (λ e. after_differs q ps up r j (e ∙ sym is))))
       ∙ append-nil (g q) ∙ ap g is
   flat_one {Y} g (q ∷ ps) p up (inr i) others =
-      ap (λ (ys : List Y). ys ++ flat_map g ps) (others q (λ e. behind_differs q ps up p i (sym e))) ∙ flat_one g ps p (rest_ascends q ps up) i others
+      ap (λ (ys : List Y). ys ++ flat_map g ps) (others q (λ e. after_differs q ps up p i (sym e))) ∙ flat_one g ps p (rest_ascends q ps up) i others
 
   pub sum_one : (f : P → ℕ) (ps : List P) (p : P) → IsStrictlySortedBy cmp ps → In p ps → ((q : P) → (q ≡ p → ⊥) → f q ≡ 0) → sum_by f ps ≡ f p
   sum_one f [] p up i others = absurd i
   sum_one f (q ∷ ps) p up (inl is) others =
-      omega (arith, sum_by-cons f q ps, sum_nothing f ps (λ r j. others r (λ e. behind_differs q ps up r j (e ∙ sym is))), ap f is)
+      omega (arith, sum_by-cons f q ps, sum_nothing f ps (λ r j. others r (λ e. after_differs q ps up r j (e ∙ sym is))), ap f is)
   sum_one f (q ∷ ps) p up (inr i) others =
-      omega (arith, sum_by-cons f q ps, others q (λ e. behind_differs q ps up p i (sym e)), sum_one f ps p (rest_ascends q ps up) i others)
+      omega (arith, sum_by-cons f q ps, others q (λ e. after_differs q ps up p i (sym e)), sum_one f ps p (rest_ascends q ps up) i others)
 
 -- ---- members
 

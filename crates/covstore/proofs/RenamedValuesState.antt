@@ -12,7 +12,7 @@ use Rattle.covstore.specs.KindIndexCounts.{is_above_at}
 use Rattle.covmap.specs.Puts.{value_of}
 use Rattle.covstore.specs.Renaming.{key_of, copied_rows, line_item, function_item, branch_item, items_of_test}
 use Rattle.covstore.specs.StoreSection.{rows_of_items}
-use Rattle.covstore.specs.State.{FileData, IsStateOf, IsWholeFile, has_checksum, points_in, tests_in}
+use Rattle.covstore.specs.State.{FileData, IsStateOf, IsConsistentFile, has_checksum, points_in, tests_in}
 use Rattle.covstore.specs.Sums.{TestData, test_of, line_sum, function_sum, branch_sum}
 use Rattle.covstore.specs.Value.{Key, has_key, items_at, lines_in, names_in, branches_in, line_value, line_checksum}
 use Rattle.covstore.proofs.AddsPlace.{HasSum, above_sum, held_of}
@@ -123,7 +123,7 @@ pub holders_are : (rows : List Row) (files : List (List ℕ × FileData)) → Is
     → value_of (slice_cmp nat_cmp) name files ≡ Some file → value_of (slice_cmp nat_cmp) old file.tests ≡ Some source
     → (line : ℕ) → is_above_at has_checksum (value_of nat_cmp line source.lines) ≡ true → is_some (value_of nat_cmp line file.index.holders) ≡ true
 holders_are rows files state name old file source its_file its_test line has =
-    let whole : IsWholeFile file = All-in (λ (pair : List ℕ × FileData). IsWholeFile pair.1) files (name, file) state.whole (pair_in names_order name file files its_file) in
+    let whole : IsConsistentFile file = All-in (λ (pair : List ℕ × FileData). IsConsistentFile pair.1) files (name, file) state.whole (pair_in names_order name file files its_file) in
     let sum : HasSum source line = above_sum (value_of nat_cmp line source.lines) has in
     ap (λ (tests : Option ℕ). is_some tests) (whole.kept.holders line)
     ∙ held_of line (tests_in file) source (In-map (λ (pair : List ℕ × TestData). pair.1) file.tests (old, source) (pair_in names_order old source file.tests its_test)) sum

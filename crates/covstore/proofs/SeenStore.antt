@@ -2,7 +2,7 @@
 use Rattle.std.proofs.Common.{ℕ, ◌*◌, ◌^◌, ◌<◌, ◌≤◌, List, [], ◌∷◌, length, map, sym, subst, arith}
 use Rattle.std.specs.List.{AllByRecursion}
 use Rattle.std.proofs.lemmas.List.{length-append}
-use Rattle.covline.specs.Lawful.{most_items}
+use Rattle.covline.specs.Lawful.{max_items}
 use Rattle.covline.specs.Row.{Row}
 use Rattle.covstore.specs.declared.totals.Totals.{Totals}
 use Rattle.covstore.specs.Content.{section_of}
@@ -16,7 +16,7 @@ use Rattle.covstore.proofs.StateSections.{sections_are}
 
 -- ---- each section has few points
 
-rows_of_own : (own : Table) → AllByRecursion (λ rows. length rows ≤ most_items) own → length (all_rows own) ≤ length own * 67108864
+rows_of_own : (own : Table) → AllByRecursion (λ rows. length rows ≤ max_items) own → length (all_rows own) ≤ length own * 67108864
 rows_of_own [] small = omega arith
 rows_of_own (rows ∷ own) small =
     let few : length rows ≤ 67108864 = small.0 in

@@ -11,7 +11,7 @@ use Rattle.covline.specs.Row.{Row}
 use Rattle.covstore.specs.Kinds.{Kind, PointsOf, above_of, at, branch_above, cmp_of, function_above, line_above}
 use Rattle.covstore.specs.KindIndexCounts.{AreCounts, is_above_at}
 use Rattle.covmap.specs.Puts.{put, value_of}
-use Rattle.covstore.specs.State.{FileData, IsIndexOf, IsStateOf, IsWholeFile, file_with, has_checksum, holders_at, holding, points_in, tests_in, text_in}
+use Rattle.covstore.specs.State.{FileData, IsIndexOf, IsStateOf, IsConsistentFile, file_with, has_checksum, holders_at, holding, points_in, tests_in, text_in}
 use Rattle.covstore.specs.Sums.{TestData, test_of}
 use Rattle.covstore.specs.Value.{branch_cmp}
 use Rattle.covstore.specs.FileIndex.{FileIndexData}
@@ -48,7 +48,7 @@ put_one_more cmp key value (pair ∷ pairs) none =
 
 -- ---- a file without tests
 
-pub empty_whole : IsWholeFile no_file
+pub empty_whole : IsConsistentFile no_file
 empty_whole = record {
   ascending = tt;
   kept = record {
@@ -91,7 +91,7 @@ module _ (front back : List TestData) (index : FileIndexData) (kept : IsIndexOf 
   kept_with_test : IsIndexOf (front ++ test_of [] ∷ back) index
   kept_with_test = record { counts = counts_with_test; holders = λ line. kept.holders line ∙ sym (holders_with_test line) }
 
-pub whole_with_test : (test : List ℕ) (file : FileData) → IsWholeFile file → value_of (slice_cmp nat_cmp) test file.tests ≡ None → IsWholeFile (with_test test file)
+pub whole_with_test : (test : List ℕ) (file : FileData) → IsConsistentFile file → value_of (slice_cmp nat_cmp) test file.tests ≡ None → IsConsistentFile (with_test test file)
 whole_with_test test file whole none =
     let more = put_one_more (slice_cmp nat_cmp) test (test_of []) file.tests none in
     let alone = λ (pair : List ℕ × TestData). pair.1 in
@@ -115,7 +115,7 @@ points_with_test test file none other (inr apart) = points_same (with_test test 
 pub test_more : (rows : List Row) (files : List (List ℕ × FileData)) → IsStateOf rows files → (name test : List ℕ) (file : FileData) → value_of (slice_cmp nat_cmp) name files ≡ Some file
     → value_of (slice_cmp nat_cmp) test file.tests ≡ None → IsStateOf rows (put (slice_cmp nat_cmp) name (with_test test file) files)
 test_more rows files state name test file there none =
-    let whole : IsWholeFile file = file_whole rows files state name file there in
+    let whole : IsConsistentFile file = file_whole rows files state name file there in
     same_rows rows files state name (with_test test file) (whole_with_test test file whole none)
     (λ other. points_with_test test file none other (name_or_not test other) ∙ ap (λ (found : Option FileData). points_in found other) (sym there))
     (λ line text held. sym (ap (λ (found : Option FileData). text_in found line) there) ∙ held)

@@ -9,7 +9,7 @@ use Rattle.std.specs.Ordering.{nat_cmp, ordering_then}
 use Rattle.std.proofs.lemmas.Cmp.{tied_itself}
 use Rattle.covstore.specs.Content.{SectionData}
 use Rattle.covmap.specs.Puts.{ArePairs}
-use Rattle.covstore.specs.State.{FileData, IsWholeFile, section_seen, section_with_points, sections_of, sections_of_file}
+use Rattle.covstore.specs.State.{FileData, IsConsistentFile, section_seen, section_with_points, sections_of, sections_of_file}
 use Rattle.covstore.specs.Sums.{TestData}
 use Rattle.covstore.specs.Value.{Key, key_cmp}
 use Rattle.covstore.proofs.ContentsLists.{In-unflat}
@@ -78,7 +78,7 @@ section_of_test pair section i = In-unflat (λ (test : List ℕ × TestData). se
 pub key_of_section : (pair : List ℕ × FileData) (section : SectionData) → In section (sections_of_file pair) → (test : List ℕ) × ◌≡◌ {A = Key} (record { file = pair.0; test = test }) section.key
 key_of_section pair section i = let found = section_of_test pair section i in (found.0.0, seen_key pair.0 pair.1.index.texts found.0.0 found.0.1 section found.2)
 
-file_sorted : (pair : List ℕ × FileData) → IsWholeFile pair.1 → IsStrictlySortedBy section_cmp (sections_of_file pair)
+file_sorted : (pair : List ℕ × FileData) → IsConsistentFile pair.1 → IsStrictlySortedBy section_cmp (sections_of_file pair)
 file_sorted pair whole =
     sorted_parts (slice_cmp nat_cmp) section_cmp (λ (test : List ℕ × TestData). section_seen pair.0 pair.1.index.texts test.0 test.1) pair.1.tests whole.ascending
     (λ test i. seen_sorted pair.0 pair.1.index.texts test.0 test.1)
@@ -86,10 +86,10 @@ file_sorted pair whole =
     by_key a b (record { file = pair.0; test = test.0 }) (record { file = pair.0; test = next.0 }) (seen_key pair.0 pair.1.index.texts test.0 test.1 a i) (seen_key pair.0 pair.1.index.texts next.0 next.1 b j)
     (test_first pair.0 test.0 next.0 less))
 
-pub state_sorted : (files : List (List ℕ × FileData)) → ArePairs (slice_cmp nat_cmp) files → AllByRecursion (λ pair. IsWholeFile pair.1) files → IsStrictlySortedBy section_cmp (sections_of files)
+pub state_sorted : (files : List (List ℕ × FileData)) → ArePairs (slice_cmp nat_cmp) files → AllByRecursion (λ pair. IsConsistentFile pair.1) files → IsStrictlySortedBy section_cmp (sections_of files)
 state_sorted files ascending whole =
     sorted_parts (slice_cmp nat_cmp) section_cmp sections_of_file files ascending
-    (λ pair i. file_sorted pair (All-in (λ (p : List ℕ × FileData). IsWholeFile p.1) files pair whole i))
+    (λ pair i. file_sorted pair (All-in (λ (p : List ℕ × FileData). IsConsistentFile p.1) files pair whole i))
     (λ pair next a b less i j.
     let one = key_of_section pair a i in
     let other = key_of_section next b j in

@@ -13,7 +13,7 @@ use Rattle.covstore.specs.Clash.{Checksum, checksum_of_row, checksums_in}
 use Rattle.covmap.specs.Puts.{put, value_of}
 use Rattle.covstore.specs.Runs.{with_items}
 use Rattle.covstore.specs.Section.{section_of_items}
-use Rattle.covstore.specs.State.{FileData, IsStateOf, IsWholeFile, points_at, points_in, text_in}
+use Rattle.covstore.specs.State.{FileData, IsStateOf, IsConsistentFile, points_at, points_in, text_in}
 use Rattle.covstore.specs.Sums.{TestData, test_of}
 use Rattle.covstore.specs.Value.{Key, has_key, items_at}
 use Rattle.covstore.proofs.ContentsChecksums.{line_of_said, own_row}
@@ -29,14 +29,14 @@ pub name_or_not : (one other : List ℕ) → (one ≡ other) ⊎ (one ≡ other 
 name_or_not one other = same_or_not (slice_cmp nat_cmp) names_order one other (slice_cmp nat_cmp one other) refl
 
 -- a file that is there is whole
-pub file_whole : (rows : List Row) (files : List (List ℕ × FileData)) → IsStateOf rows files → (name : List ℕ) (file : FileData) → value_of (slice_cmp nat_cmp) name files ≡ Some file → IsWholeFile file
-file_whole rows files state name file there = All-in (λ (pair : List ℕ × FileData). IsWholeFile pair.1) files (name, file) state.whole (pair_in names_order name file files there)
+pub file_whole : (rows : List Row) (files : List (List ℕ × FileData)) → IsStateOf rows files → (name : List ℕ) (file : FileData) → value_of (slice_cmp nat_cmp) name files ≡ Some file → IsConsistentFile file
+file_whole rows files state name file there = All-in (λ (pair : List ℕ × FileData). IsConsistentFile pair.1) files (name, file) state.whole (pair_in names_order name file files there)
 
 -- ---- one file is as it is now, and the others as they were
 
 -- the file is what the rows add up to, and of other files the rows are the same as before
 pub record IsChange (rows more : List Row) (name : List ℕ) (after : FileData) : Type 0 where
-  pub whole : IsWholeFile after
+  pub whole : IsConsistentFile after
   pub points : (test : List ℕ) → points_in (Some after) test ≡ test_of (items_at (record { file = name; test = test }) more)
   pub others : (key : Key) → (name ≡ key.file → ⊥) → items_at key more ≡ items_at key rows
   pub texts : (committed : Checksum) → Contains (checksums_in more) committed → name ≡ committed.file → value_of nat_cmp committed.line after.index.texts ≡ Some committed.checksum
@@ -68,12 +68,12 @@ module _ (rows more : List Row) (files : List (List ℕ × FileData)) (state : I
     ascending = ArePairs-put names_order name after files state.ascending;
     points = λ key. points_after key (name_or_not name key.file);
     texts = λ committed i. texts_after committed i (name_or_not name committed.file);
-    whole = All-put names_order (λ (pair : List ℕ × FileData). IsWholeFile pair.1) name after files change.whole state.whole;
+    whole = All-put names_order (λ (pair : List ℕ × FileData). IsConsistentFile pair.1) name after files change.whole state.whole;
   }
 
 -- ---- a file that shows the same points and has the same texts
 
-pub same_rows : (rows : List Row) (files : List (List ℕ × FileData)) → IsStateOf rows files → (name : List ℕ) (after : FileData) → IsWholeFile after
+pub same_rows : (rows : List Row) (files : List (List ℕ × FileData)) → IsStateOf rows files → (name : List ℕ) (after : FileData) → IsConsistentFile after
     → ((test : List ℕ) → points_in (Some after) test ≡ points_in (value_of (slice_cmp nat_cmp) name files) test)
     → ((line : ℕ) (text : List ℕ) → text_in (value_of (slice_cmp nat_cmp) name files) line ≡ Some text → value_of nat_cmp line after.index.texts ≡ Some text)
     → IsStateOf rows (put (slice_cmp nat_cmp) name after files)
@@ -158,7 +158,7 @@ module _ (name test : List ℕ) where
 
     -- the state with the file as it is with the rows
     pub rows_more : IsStateOf rows files → value_of (slice_cmp nat_cmp) name files ≡ Some file → value_of (slice_cmp nat_cmp) test file.tests ≡ Some points
-        → after.tests ≡ put (slice_cmp nat_cmp) test (with_items items points) file.tests → IsWholeFile after
+        → after.tests ≡ put (slice_cmp nat_cmp) test (with_items items points) file.tests → IsConsistentFile after
         → ((committed : Checksum) → Contains (checksums_in (rows ++ more_rows items)) committed → committed.file ≡ name → value_of nat_cmp committed.line after.index.texts ≡ Some committed.checksum)
         → IsStateOf (rows ++ more_rows items) (put (slice_cmp nat_cmp) name after files)
     rows_more state in_files in_tests more whole texts = state_changed rows (rows ++ more_rows items) files state name after (record {

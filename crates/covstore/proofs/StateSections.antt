@@ -7,7 +7,7 @@ use Rattle.covline.specs.Row.{ItemData, Row}
 use Rattle.covstore.specs.Clash.{Agree, Checksum, checksums_in}
 use Rattle.covstore.specs.Content.{SectionData, section_of, content_of}
 use Rattle.covmap.specs.Puts.{value_of}
-use Rattle.covstore.specs.State.{FileData, IsStateOf, IsWholeFile, points_in, points_or_none, section_seen, sections_of, sections_of_file, text_in}
+use Rattle.covstore.specs.State.{FileData, IsStateOf, IsConsistentFile, points_in, points_or_none, section_seen, sections_of, sections_of_file, text_in}
 use Rattle.covstore.specs.Sums.{TestData, test_of}
 use Rattle.covstore.specs.Value.{Key, key_cmp, key_of_row, keys_of, has_key, items_at}
 use Rattle.covstore.proofs.Ascend.{In-ascending, In-to_ascending, ascending_sorted, one_sorted}
@@ -48,7 +48,7 @@ module _ (rows : List Row) (files : List (List ℕ × FileData)) (state : IsStat
 
   points_of_pair : (pair : List ℕ × FileData) (test : List ℕ × TestData) → In pair files → In test pair.1.tests → test.1 ≡ test_of (items_at (record { file = pair.0; test = test.0 }) rows)
   points_of_pair pair test i j =
-      let whole : IsWholeFile pair.1 = All-in (λ (p : List ℕ × FileData). IsWholeFile p.1) files pair state.whole i in
+      let whole : IsConsistentFile pair.1 = All-in (λ (p : List ℕ × FileData). IsConsistentFile p.1) files pair state.whole i in
       sym (points_there pair.1 test.0 test.1 (value_of_pair names_order test.0 test.1 pair.1.tests whole.ascending j))
       ∙ ap (λ (found : Option FileData). points_in found test.0) (sym (file_of_pair pair i))
       ∙ state.points (record { file = pair.0; test = test.0 })

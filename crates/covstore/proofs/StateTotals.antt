@@ -13,7 +13,7 @@ use Rattle.covstore.specs.Clash.{Agree, checksums_in}
 use Rattle.covstore.specs.Content.{BranchValueData, FunctionValueData, LineValueData, SectionData, content_of}
 use Rattle.covstore.specs.KindIndexCounts.{AreCounts, found_of, hit_of}
 use Rattle.covmap.specs.Puts.{ArePairs}
-use Rattle.covstore.specs.State.{FileData, IsStateOf, IsWholeFile, branch_seen, found_at, function_seen, hit_at, line_seen, section_seen, section_with_points, sections_of, sections_of_file, totals_in}
+use Rattle.covstore.specs.State.{FileData, IsStateOf, IsConsistentFile, branch_seen, found_at, function_seen, hit_at, line_seen, section_seen, section_with_points, sections_of, sections_of_file, totals_in}
 use Rattle.covstore.specs.Sums.{TestData}
 use Rattle.covstore.specs.Totals.{over_files, sections_of as own_sections, totals_of}
 use Rattle.covstore.proofs.Counts.{counts_unempty}
@@ -90,7 +90,7 @@ whole_at Line file texts name test = map_of_map (line_seen texts) (λ (l : LineV
 whole_at Function file texts name test = map_of_map function_seen (λ (f : FunctionValueData). (f.name, f)) (λ (pair : List ℕ × FunctionSum). (pair.0, function_seen (pair.0, pair.1))) test.functions (λ pair. refl)
 whole_at Branch file texts name test = map_of_map branch_seen (λ (b : BranchValueData). (b.point, b)) (λ (pair : BranchPoint × BranchSum). (pair.0, branch_seen (pair.0, pair.1))) test.branches (λ pair. refl)
 
-kind_seen : (kind : Kind) (pair : List ℕ × FileData) → IsWholeFile pair.1 → AreCounts (cmp_of kind) (above_in kind) (map (valued kind) (sections_of_file pair)) (at kind pair.1.index.counts)
+kind_seen : (kind : Kind) (pair : List ℕ × FileData) → IsConsistentFile pair.1 → AreCounts (cmp_of kind) (above_in kind) (map (valued kind) (sections_of_file pair)) (at kind pair.1.index.counts)
 kind_seen kind pair whole =
     let texts = pair.1.index.texts in
     seen_counts (cmp_of kind) (above_of kind) (above_in kind) (seen_of kind texts) (seen_above kind texts) (at kind) (valued kind) pair.0 texts (none_at kind) (whole_at kind pair.0 texts)
@@ -105,8 +105,8 @@ module _ (rows : List Row) (files : List (List ℕ × FileData)) (state : IsStat
       subst (AllByRecursion P) (own_seen files state.ascending pair i)
       (subst (λ (sections : List SectionData). AllByRecursion P (own_sections pair.0 sections)) (sym (sections_as rows files state)) all)
 
-  pair_whole : (pair : List ℕ × FileData) → In pair files → IsWholeFile pair.1
-  pair_whole pair i = All-in (λ (p : List ℕ × FileData). IsWholeFile p.1) files pair state.whole i
+  pair_whole : (pair : List ℕ × FileData) → In pair files → IsConsistentFile pair.1
+  pair_whole pair i = All-in (λ (p : List ℕ × FileData). IsConsistentFile p.1) files pair state.whole i
 
   kept : (kind : Kind) (pair : List ℕ × FileData) → In pair files
       → (length (found_in kind (sections_of_file pair)) ≡ found_at kind pair) × (count_by (is_hit_in kind (sections_of_file pair)) (found_in kind (sections_of_file pair)) ≡ hit_at kind pair)

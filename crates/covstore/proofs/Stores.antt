@@ -5,7 +5,7 @@ use Rattle.std.specs.List.{AllByRecursion}
 use Rattle.std.proofs.lemmas.List.{append-nil, length_push}
 use Rattle.std.proofs.lemmas.List.Concat.{flat_map-append}
 use Rattle.covline.specs.Row.{Row, SubmissionData, rows_of}
-use Rattle.covline.specs.Lawful.{IsLawful, most_items}
+use Rattle.covline.specs.Lawful.{IsLawful, max_items}
 use Rattle.covstore.specs.declared.totals.Totals.{Totals}
 use Rattle.covstore.specs.Clash.{Agree, checksums_in, clash_of}
 use Rattle.covstore.specs.Content.{content_of}
@@ -26,7 +26,7 @@ use Rattle.covstore.proofs.TotalsDifferent.{are_totals}
 pub rows_accepted : (table : Table) (rows : List Row) → all_rows (table ++ rows ∷ []) ≡ all_rows table ++ rows
 rows_accepted table rows = flat_map-append (λ (xs : List Row). xs) table (rows ∷ []) ∙ ap (λ (xs : List Row). all_rows table ++ xs) (append-nil rows)
 
-pub few_rows : (s : SubmissionData) → IsLawful s → length (rows_of s) ≤ most_items
+pub few_rows : (s : SubmissionData) → IsLawful s → length (rows_of s) ≤ max_items
 few_rows s lawful = omega (arith, length-rows_of_sects s.sects, lawful.few)
 
 pub All-joined : {X : Type 0} (P : X → Type 0) (xs ys : List X) → AllByRecursion P xs → AllByRecursion P ys → AllByRecursion P (xs ++ ys)
@@ -77,7 +77,7 @@ module _ (members : ℕ) (totals : Totals) (committed staged : List (List ℕ ×
     agree = subst (λ (rows : List Row). Agree (checksums_in rows)) (sym rows_more) more.2;
     counted = omega (arith, is.counted, length_push is.own (rows_of s));
     few = omega (arith, is.counted, p.few, length_push is.own (rows_of s));
-    small = All-joined (λ (rows : List Row). length rows ≤ most_items) is.own (rows_of s ∷ []) is.small (few_rows s p.lawful, tt);
+    small = All-joined (λ (rows : List Row). length rows ≤ max_items) is.own (rows_of s ∷ []) is.small (few_rows s p.lawful, tt);
     totals = p.planned ∙ p.totals;
   }
 
@@ -98,7 +98,7 @@ module _ (members : ℕ) (totals : Totals) (committed staged : List (List ℕ ×
       members = omega (arith, stands.members, length_push table (rows_of s));
       agree = agree_submitted table s no_clash stands.agree;
       few = omega (arith, stands.members, p.few, length_push table (rows_of s));
-      small = All-joined (λ (rows : List Row). length rows ≤ most_items) table (rows_of s ∷ []) stands.small (few_rows s p.lawful, tt);
+      small = All-joined (λ (rows : List Row). length rows ≤ max_items) table (rows_of s ∷ []) stands.small (few_rows s p.lawful, tt);
     }
 
 -- ---- stores that are equal part by part

@@ -41,8 +41,8 @@ picked_sorted cmp p [] sorted = tt
 picked_sorted {X} cmp p (x ∷ xs) sorted = by (p x) (All-picked (λ y. cmp x y ≡ Less) p xs sorted.0) (picked_sorted cmp p xs sorted.1)
   where
     by : (b : Bool) → AllByRecursion (λ y. cmp x y ≡ Less) (filter p xs) → IsStrictlySortedBy cmp (filter p xs) → IsStrictlySortedBy cmp (cond b (x ∷ filter p xs) (filter p xs))
-    by true behind rest = (behind, rest)
-    by false behind rest = rest
+    by true following rest = (following, rest)
+    by false following rest = rest
 
 ascending_picked : {X : Type 0} {cmp : X → X → Ordering} → IsExactOrder cmp → (p : X → Bool) (xs : List X) → ascending cmp (filter p xs) ≡ filter p (ascending cmp xs)
 ascending_picked {X} {cmp} o p xs =

@@ -9,7 +9,7 @@ use Rattle.std.proofs.lemmas.Map.Text.{is_eq-slice_cmp}
 use Rattle.std.proofs.lemmas.Map.Views.{tells_apart}
 use Rattle.covstore.specs.Content.{SectionData}
 use Rattle.covmap.specs.Puts.{ArePairs, value_of}
-use Rattle.covstore.specs.State.{FileData, IsWholeFile, has_no_points, has_points_of, points_or_none, section_seen, section_with_points, sections_of, sections_of_file}
+use Rattle.covstore.specs.State.{FileData, IsConsistentFile, has_no_points, has_points_of, points_or_none, section_seen, section_with_points, sections_of, sections_of_file}
 use Rattle.covstore.specs.Sums.{TestData}
 use Rattle.covstore.proofs.Orders.{names_order}
 use Rattle.covstore.proofs.Puts.{value_of_before}
@@ -70,7 +70,7 @@ module _ (test : List ℕ) where
 
   -- ---- the files
 
-  pub count_in_files : (files : List (List ℕ × FileData)) → AllByRecursion (λ pair. IsWholeFile pair.1) files → count_by (λ pair. has_points_of test pair.1) files ≡ count_of (sections_of files)
+  pub count_in_files : (files : List (List ℕ × FileData)) → AllByRecursion (λ pair. IsConsistentFile pair.1) files → count_by (λ pair. has_points_of test pair.1) files ≡ count_of (sections_of files)
   count_in_files [] whole = refl
   count_in_files (pair ∷ files) whole =
       sum_by-cons (λ p. one_for (has_points_of test p.1)) pair files

@@ -10,14 +10,14 @@ use Rattle.std.proofs.lemmas.Bool.{false≢true}
 use Rattle.std.proofs.lemmas.List.{length-map}
 use Rattle.std.proofs.lemmas.List.Sums.{count_by-le-length, length-filter}
 use Rattle.std.proofs.lemmas.Slice.Eq.{bytes_eq-Decides}
-use Rattle.covline.specs.Lawful.{most_items}
+use Rattle.covline.specs.Lawful.{max_items}
 use Rattle.covline.specs.Row.{Row}
 use Rattle.covstore.specs.declared.totals.Totals.{Totals}
 use Rattle.covstore.specs.Clash.{Agree, Checksum, checksum_of_row, checksums_in}
 use Rattle.covstore.specs.FileDrops.{AreWithoutTest, IsWithoutTest}
 use Rattle.covstore.specs.StoreView.{IsStore}
 use Rattle.covmap.specs.Puts.{ArePairs, value_of}
-use Rattle.covstore.specs.State.{FileData, IsStateOf, IsWholeFile, points_at, points_in, points_or_none, text_in, totals_in}
+use Rattle.covstore.specs.State.{FileData, IsStateOf, IsConsistentFile, points_at, points_in, points_or_none, text_in, totals_in}
 use Rattle.covstore.specs.Sums.{TestData, test_of}
 use Rattle.covstore.specs.Table.{Table, all_rows}
 use Rattle.covstore.specs.Value.{Key, items_at}
@@ -49,9 +49,9 @@ module _ (test : List ℕ) where
   found_without name (pair ∷ pairs) [] are = absurd are
   found_without name (pair ∷ pairs) (later ∷ laters) are =
       let found = value_of (slice_cmp nat_cmp) name pairs in
-      let behind = value_of (slice_cmp nat_cmp) name laters in
-      subst (λ (key : List ℕ). IsFileWithout (cond (is_eq (slice_cmp nat_cmp pair.0 name)) (Some pair.1) found) (cond (is_eq (slice_cmp nat_cmp key name)) (Some later.1) behind)) (sym are.0)
-      (found_at (is_eq (slice_cmp nat_cmp pair.0 name)) pair.1 later.1 found behind are.1 (found_without name pairs laters are.2))
+      let following = value_of (slice_cmp nat_cmp) name laters in
+      subst (λ (key : List ℕ). IsFileWithout (cond (is_eq (slice_cmp nat_cmp pair.0 name)) (Some pair.1) found) (cond (is_eq (slice_cmp nat_cmp key name)) (Some later.1) following)) (sym are.0)
+      (found_at (is_eq (slice_cmp nat_cmp pair.0 name)) pair.1 later.1 found following are.1 (found_without name pairs laters are.2))
 
   points_of_others : (name : List ℕ) → (name ≡ test → ⊥) → (found later : Option FileData) → IsFileWithout found later → points_in later name ≡ points_in found name
   points_of_others name apart None None is = refl
@@ -75,21 +75,21 @@ module _ (test : List ℕ) where
 
   -- ---- the files
 
-  names_behind : (name : List ℕ) (files after : List (List ℕ × FileData)) → AreWithoutTest test files after → AllByRecursion (λ next. slice_cmp nat_cmp name next.0 ≡ Less) files
+  names_after : (name : List ℕ) (files after : List (List ℕ × FileData)) → AreWithoutTest test files after → AllByRecursion (λ next. slice_cmp nat_cmp name next.0 ≡ Less) files
       → AllByRecursion (λ next. slice_cmp nat_cmp name next.0 ≡ Less) after
-  names_behind name [] [] are all = tt
-  names_behind name [] (later ∷ laters) are all = absurd are
-  names_behind name (pair ∷ pairs) [] are all = absurd are
-  names_behind name (pair ∷ pairs) (later ∷ laters) are all = (ap (slice_cmp nat_cmp name) are.0 ∙ all.0, names_behind name pairs laters are.2 all.1)
+  names_after name [] [] are all = tt
+  names_after name [] (later ∷ laters) are all = absurd are
+  names_after name (pair ∷ pairs) [] are all = absurd are
+  names_after name (pair ∷ pairs) (later ∷ laters) are all = (ap (slice_cmp nat_cmp name) are.0 ∙ all.0, names_after name pairs laters are.2 all.1)
 
   names_ascend : (files after : List (List ℕ × FileData)) → AreWithoutTest test files after → ArePairs (slice_cmp nat_cmp) files → ArePairs (slice_cmp nat_cmp) after
   names_ascend [] [] are sorted = tt
   names_ascend [] (later ∷ laters) are sorted = absurd are
   names_ascend (pair ∷ pairs) [] are sorted = absurd are
   names_ascend (pair ∷ pairs) (later ∷ laters) are sorted =
-      (subst (λ (name : List ℕ). AllByRecursion (λ next. slice_cmp nat_cmp name next.0 ≡ Less) laters) (sym are.0) (names_behind pair.0 pairs laters are.2 sorted.0), names_ascend pairs laters are.2 sorted.1)
+      (subst (λ (name : List ℕ). AllByRecursion (λ next. slice_cmp nat_cmp name next.0 ≡ Less) laters) (sym are.0) (names_after pair.0 pairs laters are.2 sorted.0), names_ascend pairs laters are.2 sorted.1)
 
-  all_whole : (files after : List (List ℕ × FileData)) → AreWithoutTest test files after → AllByRecursion (λ pair. IsWholeFile pair.1) after
+  all_whole : (files after : List (List ℕ × FileData)) → AreWithoutTest test files after → AllByRecursion (λ pair. IsConsistentFile pair.1) after
   all_whole [] [] are = tt
   all_whole [] (later ∷ laters) are = absurd are
   all_whole (pair ∷ pairs) [] are = absurd are
@@ -131,7 +131,7 @@ module _ (test : List ℕ) where
 
   -- ---- the store
 
-  pub fewer : (table : Table) → AllByRecursion (λ rows. length rows ≤ most_items) table → AllByRecursion (λ rows. length rows ≤ most_items) (without_test test table)
+  pub fewer : (table : Table) → AllByRecursion (λ rows. length rows ≤ max_items) table → AllByRecursion (λ rows. length rows ≤ max_items) (without_test test table)
   fewer [] all = tt
   fewer (rows ∷ table) all =
       (omega (arith, all.0, length-filter (λ row. not (is_of_test test row)) rows, count_by-le-length (λ row. not (is_of_test test row)) rows), fewer table all.1)

@@ -12,7 +12,7 @@ use Rattle.covstore.specs.TotalsExchanged.{FitTotals}
 use Rattle.covstore.specs.FileView.{file_committed}
 use Rattle.covstore.specs.Renaming.{names_with}
 use Rattle.covstore.specs.StoreView.{IsStore, files_committed}
-use Rattle.covstore.specs.State.{FileData, IsWholeFile, has_points_of, sections_of, totals_in}
+use Rattle.covstore.specs.State.{FileData, IsConsistentFile, has_points_of, sections_of, totals_in}
 use Rattle.covstore.specs.Store.{StandsFor, StoreData}
 use Rattle.covstore.specs.Table.{Table, all_rows}
 use Rattle.covstore.specs.Totals.{AreTotals, totals_of}
@@ -102,6 +102,6 @@ stands_too store other table sections members stands = record {
 }
 
 -- whole files, by their names or not
-pub whole_files : {K A : Type 0} (name : K → List ℕ) (pairs : List (K × File A)) → AllByRecursion (λ pair. IsWholeFile pair.1) (files_committed name pairs) → AllByRecursion (λ pair. IsWholeFile (file_committed pair.1)) pairs
+pub whole_files : {K A : Type 0} (name : K → List ℕ) (pairs : List (K × File A)) → AllByRecursion (λ pair. IsConsistentFile pair.1) (files_committed name pairs) → AllByRecursion (λ pair. IsConsistentFile (file_committed pair.1)) pairs
 whole_files name [] whole = tt
 whole_files name (pair ∷ pairs) whole = (whole.0, whole_files name pairs whole.1)

@@ -2,8 +2,8 @@
 use Rattle.std.specs.Prelude.{◌≡◌, ℕ, ◌+◌, Bool, true, false, Option, Some, None, List}
 use Rattle.std.specs.Option.{is_some}
 use Rattle.std.specs.Ordering.{nat_cmp}
-use Rattle.covstore.specs.declared.stop.Stop.{Stop}
-use Rattle.covstore.specs.declared.stop.Stop.TheVariants.{Clash, Memory}
+use Rattle.covstore.specs.declared.stage_fault.StageFault.{StageFault}
+use Rattle.covstore.specs.declared.stage_fault.StageFault.TheVariants.{Clash, Memory}
 use Rattle.covmap.specs.Puts.{put, value_of}
 
 -- how many tests hold a checksum of a line, committed and staged; and the texts
@@ -51,6 +51,6 @@ pub record IsOther (before : ChecksumsData) (line : ℕ) (held given : List ℕ)
   pub other : held ≡ given → ⊥
 
 -- a clash is told only where another checksum of the line is held, and then that one
-abbrev pub IsToldOf : {A : Type 0} → ChecksumsData → ℕ → List ℕ → Stop A → Type 0
+abbrev pub IsToldOf : {A : Type 0} → ChecksumsData → ℕ → List ℕ → StageFault A → Type 0
 IsToldOf before line text Memory = Unit {0}
 IsToldOf before line text (Clash told held given) = (told ≡ line) × (given ≡ text) × IsOther before line held text

@@ -1,7 +1,7 @@
 -- Files of which a test is gone.
 use Rattle.std.specs.Prelude.{◌≡◌, ℕ, not, List, [], ◌∷◌, filter}
 use Rattle.std.specs.Str.{bytes_eq}
-use Rattle.covstore.specs.State.{FileData, IsWholeFile}
+use Rattle.covstore.specs.State.{FileData, IsConsistentFile}
 use Rattle.covstore.specs.Sums.{TestData}
 
 abbrev pub tests_without : List ℕ → List (List ℕ × TestData) → List (List ℕ × TestData)
@@ -12,7 +12,7 @@ tests_without test tests = filter (λ pair. not (bytes_eq pair.0 test)) tests
 pub record IsWithoutTest (test : List ℕ) (before after : FileData) : Type 0 where
   pub tests : after.tests ≡ tests_without test before.tests
   pub texts : after.index.texts ≡ before.index.texts
-  pub whole : IsWholeFile after
+  pub whole : IsConsistentFile after
 
 -- the same files, each without the test
 abbrev pub AreWithoutTest : List ℕ → List (List ℕ × FileData) → List (List ℕ × FileData) → Type 0

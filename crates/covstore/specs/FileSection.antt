@@ -3,8 +3,8 @@ use Rattle.std.specs.Prelude.{◌≡◌, ℕ, ◌+◌, ◌≤◌, ◌^◌, Some,
 use Rattle.std.specs.Cmp.Lexicographic.{slice_cmp}
 use Rattle.std.specs.Ordering.{nat_cmp}
 use Rattle.covline.specs.Row.{ItemData, Row, rows_of_sect}
-use Rattle.covstore.specs.declared.stop.Stop.{Stop}
-use Rattle.covstore.specs.declared.stop.Stop.TheVariants.{Clash, Memory}
+use Rattle.covstore.specs.declared.stage_fault.StageFault.{StageFault}
+use Rattle.covstore.specs.declared.stage_fault.StageFault.TheVariants.{Clash, Memory}
 use Rattle.covstore.specs.Section.{clash_told, section_of_items}
 use Rattle.covstore.specs.Clash.{Agree, checksums_in, clash_of}
 use Rattle.covmap.specs.Puts.{ArePairs, put, value_of}
@@ -30,7 +30,7 @@ AddsItems items test before after =
     × HasFile (rows ++ rows_of_sect (section_of_items name test items)) (put (slice_cmp nat_cmp) name after files) name after
 
 -- wherever the file stands, these items clash, and this is the first clash
-abbrev pub ClashesIn : {A : Type 0} → List ItemData → List ℕ → FileData → Stop A → Type 0
+abbrev pub ClashesIn : {A : Type 0} → List ItemData → List ℕ → FileData → StageFault A → Type 0
 ClashesIn items test file Memory = Unit {0}
 ClashesIn items test file (Clash line held given) =
     (rows : List Row) (files : List (List ℕ × FileData)) (name : List ℕ) → HasFile rows files name file

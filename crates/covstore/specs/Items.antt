@@ -4,8 +4,8 @@ use Rattle.std.specs.declared.cmp.Ordering.{Ordering}
 use Rattle.std.specs.Option.{is_some}
 use Rattle.std.specs.Ordering.{nat_cmp}
 use Rattle.covline.specs.Row.{ItemData, LineItem, FuncItem, BranchItem}
-use Rattle.covstore.specs.declared.stop.Stop.{Stop}
-use Rattle.covstore.specs.declared.stop.Stop.TheVariants.{Clash, Memory}
+use Rattle.covstore.specs.declared.stage_fault.StageFault.{StageFault}
+use Rattle.covstore.specs.declared.stage_fault.StageFault.TheVariants.{Clash, Memory}
 use Rattle.covstore.specs.declared.sums.Tests.{Tests}
 use Rattle.covstore.specs.Checksums.{KeepsTexts}
 use Rattle.covstore.specs.FileIndex.{FileIndexData}
@@ -82,6 +82,6 @@ IsClashAt (LineItem line count None) index told held given = ⊥
 IsClashAt (FuncItem name line count) index told held given = ⊥
 IsClashAt (BranchItem line block branch taken) index told held given = ⊥
 
-abbrev pub IsClashOf : {A : Type 0} → ItemData → FileIndexData → Stop A → Type 0
+abbrev pub IsClashOf : {A : Type 0} → ItemData → FileIndexData → StageFault A → Type 0
 IsClashOf item index Memory = Unit {0}
 IsClashOf item index (Clash told held given) = IsClashAt item index told held given

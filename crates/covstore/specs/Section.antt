@@ -3,8 +3,8 @@ use Rattle.std.specs.Prelude.{◌≡◌, ℕ, ◌+◌, ◌≤◌, ◌^◌, Some,
 use Rattle.std.specs.Cmp.Lexicographic.{slice_cmp}
 use Rattle.std.specs.Ordering.{nat_cmp}
 use Rattle.covline.specs.Row.{ItemData, Row, SectData, rows_of_sect}
-use Rattle.covstore.specs.declared.stop.Stop.{Stop}
-use Rattle.covstore.specs.declared.stop.Stop.TheVariants.{Clash, Memory}
+use Rattle.covstore.specs.declared.stage_fault.StageFault.{StageFault}
+use Rattle.covstore.specs.declared.stage_fault.StageFault.TheVariants.{Clash, Memory}
 use Rattle.covstore.specs.Clash.{ClashData, Agree, checksums_in, clash_of}
 use Rattle.covstore.specs.FileIndex.{FileIndexData}
 use Rattle.covmap.specs.Puts.{put, value_of}
@@ -43,7 +43,7 @@ ClashesAt items test index line held given =
     (rows : List Row) (files : List (List ℕ × FileData)) (file name : List ℕ) (tests : List (List ℕ × TestData)) → IsIn rows files file name tests test index
     → clash_of rows (rows_of_sect (section_of_items file name items)) ≡ Some (clash_told file line held given)
 
-abbrev pub Clashes : {A : Type 0} → List ItemData → TestData → FileIndexData → Stop A → Type 0
+abbrev pub Clashes : {A : Type 0} → List ItemData → TestData → FileIndexData → StageFault A → Type 0
 Clashes items test index Memory = Unit {0}
 Clashes items test index (Clash line held given) = ClashesAt items test index line held given
 

@@ -136,7 +136,7 @@ text_in None line = None
 text_in (Some file) line = value_of nat_cmp line file.index.texts
 
 -- one file is whole: its tests stand in order, and its numbers count them
-pub record IsWholeFile (file : FileData) : Type 0 where
+pub record IsConsistentFile (file : FileData) : Type 0 where
   pub ascending : ArePairs (slice_cmp nat_cmp) file.tests
   pub kept : AreKept (tests_in file) file
 
@@ -146,4 +146,4 @@ pub record IsStateOf (rows : List Row) (files : List (List ℕ × FileData)) : T
   pub ascending : ArePairs (slice_cmp nat_cmp) files
   pub points : (key : Key) → points_at key files ≡ test_of (items_at key rows)
   pub texts : (checksum : Checksum) → Contains (checksums_in rows) checksum → text_in (value_of (slice_cmp nat_cmp) checksum.file files) checksum.line ≡ Some checksum.checksum
-  pub whole : AllByRecursion (λ pair. IsWholeFile pair.1) files
+  pub whole : AllByRecursion (λ pair. IsConsistentFile pair.1) files

@@ -2,7 +2,7 @@
 use Rattle.std.specs.Prelude.{◌≡◌, ℕ, ◌+◌, ◌<◌, ◌≤◌, ◌^◌, List, ◌++◌, Some, None, length}
 use Rattle.std.specs.List.{AllByRecursion}
 use Rattle.covline.specs.Row.{Row, SubmissionData, rows_of}
-use Rattle.covline.specs.Lawful.{IsLawful, most_items}
+use Rattle.covline.specs.Lawful.{IsLawful, max_items}
 use Rattle.covstore.specs.declared.totals.Totals.{Totals}
 use Rattle.covstore.specs.Clash.{ClashData, Agree, checksums_in, clash_of}
 use Rattle.covstore.specs.Content.{SectionData, content_at}
@@ -10,8 +10,8 @@ use Rattle.covstore.specs.State.{FileData, IsStateOf, totals_in}
 use Rattle.covstore.specs.Table.{Table, all_rows, clash_at}
 
 -- how many submissions a store holds at the most
-abbrev pub most_members : ℕ
-most_members = 1048576
+abbrev pub max_members : ℕ
+max_members = 1048576
 
 -- the sections, and how many submissions there are; what is kept of the files, committed and staged, and the totals
 -- that are to be
@@ -43,8 +43,8 @@ pub record StandsFor (store : StoreData) (table : Table) : Type 0 where
   pub content : store.sections ≡ content_at table
   pub members : store.members ≡ length table
   pub agree : Agree (checksums_in (all_rows table))
-  pub few : length table ≤ most_members
-  pub small : AllByRecursion (λ rows. length rows ≤ most_items) table
+  pub few : length table ≤ max_members
+  pub small : AllByRecursion (λ rows. length rows ≤ max_items) table
 
 -- what is planned: the totals with it. It is the store's own, and so is what makes it a plan of a store
 pub record PlanData : Type 0 where
@@ -64,7 +64,7 @@ pub record IsPlanOf (store : StoreData) (submission : SubmissionData) (plan : Pl
   pub adds : AddsTo (rows_of submission) store.committed store.staged
   pub planned : plan.after ≡ store.after
   pub totals : store.after ≡ totals_in store.staged
-  pub few : store.members < most_members
+  pub few : store.members < max_members
 
 -- why no plan is made
 pub data RefuseData : Type 0 where

@@ -2,7 +2,7 @@
 use Rattle.std.specs.Prelude.{◌≡◌, ℕ, ◌≤◌, false, List, [], length, map, filter}
 use Rattle.std.specs.List.{AllByRecursion, list_any}
 use Rattle.std.specs.Str.{bytes_eq}
-use Rattle.covline.specs.Lawful.{most_items}
+use Rattle.covline.specs.Lawful.{max_items}
 use Rattle.covstore.specs.declared.file.File.{File}
 use Rattle.covstore.specs.declared.store.Touched.{Touched}
 use Rattle.covstore.specs.declared.totals.Totals.{Totals}
@@ -10,7 +10,7 @@ use Rattle.covstore.specs.Clash.{Agree, checksums_in}
 use Rattle.covstore.specs.FileView.{file_staged, file_committed}
 use Rattle.covstore.specs.FileIndexView.{index_staged, index_committed}
 use Rattle.covstore.specs.State.{FileData, IsStateOf, totals_in}
-use Rattle.covstore.specs.Store.{most_members}
+use Rattle.covstore.specs.Store.{max_members}
 use Rattle.covstore.specs.Table.{Table, all_rows}
 use Rattle.covstore.specs.TestView.{test_staged, test_committed}
 
@@ -27,8 +27,8 @@ pub record IsStore (members : ℕ) (committed : Totals) (files : List (List ℕ 
   pub state : IsStateOf (all_rows own) files
   pub agree : Agree (checksums_in (all_rows own))
   pub counted : members ≡ length own
-  pub few : length own ≤ most_members
-  pub small : AllByRecursion (λ rows. length rows ≤ most_items) own
+  pub few : length own ≤ max_members
+  pub small : AllByRecursion (λ rows. length rows ≤ max_items) own
   pub totals : committed ≡ totals_in files
 
 -- ---- what is staged

@@ -4,10 +4,10 @@ ghost use Rattle.std.specs.Prelude.{◌≡◌, ◌≤◌, ◌^◌, [], true, Som
 ghost use Rattle.covstore.specs.Checksums.{IsToldOf, IsHeldToo, KeepsTexts, StayTexts, held_more};
 ghost use Rattle.covstore.specs.KindIndexDrops.{held_less, one_less};
 ghost use Rattle.covmap.specs.Puts.{put, value_of};
-ghost use Rattle.covstore.specs.declared.stop.Stop.TheVariants as stops;
+ghost use Rattle.covstore.specs.declared.stage_fault.StageFault.TheVariants as stops;
 ghost use Rattle.std.specs.Ordering.{nat_cmp};
 
-use crate::stop::Stop;
+use crate::stage_fault::StageFault;
 use covline::Bytes;
 use covmap::StagedMap;
 use std::alloc::Allocator;
@@ -53,7 +53,7 @@ impl<A: Allocator + Copy> Checksums<A> {
         line: u64,
         text: &[u8],
         is_held: bool,
-    ) -> Result<(), Stop<A>>
+    ) -> Result<(), StageFault<A>>
         requires holds { is_held ≡ true → is_some (value_of nat_cmp line self.old.staged) ≡ true }
         requires room { IfSome (value_of nat_cmp line self.old.staged) (λ tests. tests ≤ 2 ^ 63) }
         ensures committed { self.new.committed ≡ self.old.committed }
@@ -75,7 +75,7 @@ impl<A: Allocator + Copy> Checksums<A> {
     }
 
     /// Stages how many tests hold the checksum of a line, which has a text. A refusal forgets what is staged.
-    fn count(&mut self, alloc: A, line: u64, tests: u64) -> Result<(), Stop<A>>
+    fn count(&mut self, alloc: A, line: u64, tests: u64) -> Result<(), StageFault<A>>
         requires { is_some (value_of nat_cmp line self.old.texts) ≡ true }
         ensures committed { self.new.committed ≡ self.old.committed }
         ensures texts { self.new.texts ≡ self.old.texts }
@@ -84,13 +84,13 @@ impl<A: Allocator + Copy> Checksums<A> {
     {
         if self.holders.stage(alloc, line, tests).is_err() {
             self.holders.rollback();
-            return Err(Stop::Memory);
+            return Err(StageFault::Memory);
         }
         Ok(())
     }
 
     /// Compares a checksum with the one that is held of the line. They clash where they differ.
-    fn agrees(&self, alloc: A, line: u64, text: &[u8]) -> Result<(), Stop<A>>
+    fn agrees(&self, alloc: A, line: u64, text: &[u8]) -> Result<(), StageFault<A>>
         requires held { is_some (value_of nat_cmp line self.now.staged) ≡ true }
         requires kept { is_some (value_of nat_cmp line self.now.texts) ≡ true }
         ensures ok { OnOk result (value_of nat_cmp line self.now.texts ≡ Some text.now) }
@@ -100,7 +100,7 @@ impl<A: Allocator + Copy> Checksums<A> {
             unreachable!();
         };
         if held != text {
-            return Err(Stop::Clash {
+            return Err(StageFault::Clash {
                 line,
                 held: Bytes::of(alloc, held)?,
                 given: Bytes::of(alloc, text)?,

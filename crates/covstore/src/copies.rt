@@ -10,9 +10,9 @@ ghost use Rattle.covstore.specs.Sums.{with_item};
 ghost use Rattle.covstore.specs.TestView.{test_staged, test_committed};
 
 use crate::index::FileIndex;
-use crate::items::{add_branch, add_function, add_line};
+use crate::items::{stage_branch, stage_function, stage_line};
 use crate::keys::{Branch, FunctionName};
-use crate::stop::Stop;
+use crate::stage_fault::StageFault;
 use crate::sums::{BranchSum, FunctionSum, LineSum};
 use crate::test::Test;
 use covline::Memory;
@@ -20,7 +20,7 @@ use covmap::StagedMap;
 use std::alloc::Allocator;
 
 /// Stages the values that a test has for another one. Both are of the file that the index is of.
-pub(crate) fn add_values<A: Allocator + Copy>(
+pub(crate) fn stage_values<A: Allocator + Copy>(
     test: &mut Test<A>,
     index: &mut FileIndex<A>,
     alloc: A,
@@ -76,10 +76,10 @@ fn add_line_value<A: Allocator + Copy>(
     ensures others { OnOk result (KeepsTextsOf (index_staged index.old) (index_staged index.new)) }
 {
     let checksum = copied_text(index, line, sum.has_checksum, text)?;
-    match add_line(test, index, alloc, line, sum.count.get(), checksum) {
+    match stage_line(test, index, alloc, line, sum.count.get(), checksum) {
         Ok(()) => Ok(()),
-        Err(Stop::Memory) => Err(Memory),
-        Err(Stop::Clash { .. }) => unreachable!(),
+        Err(StageFault::Memory) => Err(Memory),
+        Err(StageFault::Clash { .. }) => unreachable!(),
     }
 }
 
@@ -118,7 +118,7 @@ fn add_functions<A: Allocator + Copy>(
     for (name, sum) in functions.entries() {
         let line = sum.line.get();
         let count = sum.count.get();
-        if add_function(test, index, alloc, name.get(), line, count).is_err() {
+        if stage_function(test, index, alloc, name.get(), line, count).is_err() {
             return Err(Memory);
         }
     }
@@ -138,7 +138,7 @@ fn add_branches<A: Allocator + Copy>(
     ensures ok { OnOk result (Adds (map branch_item branches.now.committed) (test_staged test.old) (index_staged index.old) (test_staged test.new) (index_staged index.new)) }
 {
     for (point, sum) in branches.entries() {
-        if add_branch(test, index, alloc, point.get(), sum.times.get()).is_err() {
+        if stage_branch(test, index, alloc, point.get(), sum.times.get()).is_err() {
             return Err(Memory);
         }
     }

@@ -7,7 +7,7 @@ ghost use Rattle.covstore.specs.TotalsExchanged.{FitTotals};
 ghost use Rattle.covstore.specs.FileView.{file_committed};
 ghost use Rattle.covstore.specs.StoreView.{AreSettledBut, IsSettledBut, files_committed};
 ghost use Rattle.covstore.specs.Renaming.{names_with};
-ghost use Rattle.covstore.specs.State.{FileData, IsWholeFile, has_points_of, totals_in};
+ghost use Rattle.covstore.specs.State.{FileData, IsConsistentFile, has_points_of, totals_in};
 
 use crate::boxed::Boxed;
 use crate::file::File;
@@ -21,14 +21,14 @@ pub(crate) fn drop_from_files<K: Ord + Drop, A: Allocator + Copy>(
     files: &mut BTreeMap<K, Boxed<File<A>, A>, A>,
     test: &[u8],
 )
-    requires { AllByRecursion (λ pair. IsWholeFile (file_committed pair.1)) files.old.entries }
+    requires { AllByRecursion (λ pair. IsConsistentFile (file_committed pair.1)) files.old.entries }
     ensures committed { (name : K → List ℕ) → AreWithoutTest test.now (files_committed name files.old.entries) (files_committed name files.new.entries) }
     ensures settled { (name : K → List ℕ) (touched : List (List ℕ × List ℕ)) → AreSettledBut name touched files.old.entries → AreSettledBut name touched files.new.entries }
 {
     // A walk over the values would not say what it leaves of them.
     files.retain(
         |_, file|
-            requires { IsWholeFile (file_committed file.old) }
+            requires { IsConsistentFile (file_committed file.old) }
             ensures stays { result ≡ true }
             ensures committed { IsWithoutTest test.entry.now (file_committed file.old) (file_committed file.new) }
             ensures settled { (tests : List (List ℕ)) → IsSettledBut tests file.old → IsSettledBut tests file.new }
@@ -44,7 +44,7 @@ pub(crate) fn count_without<A: Allocator + Copy>(
     files: &BTreeMap<Vec<u8, A>, Boxed<File<A>, A>, A>,
     test: &[u8],
 ) -> (u64, Totals)
-    requires whole { AllByRecursion (λ pair. IsWholeFile pair.1) (files_committed (λ name. name.items) files.now.entries) }
+    requires whole { AllByRecursion (λ pair. IsConsistentFile pair.1) (files_committed (λ name. name.items) files.now.entries) }
     requires fits { (after : List (List ℕ × FileData)) × AreWithoutTest test.now (files_committed (λ name. name.items) files.now.entries) after × FitTotals (totals_in after) }
     ensures sections { result.0 ≡ count_by (λ pair. has_points_of test.now pair.1) (files_committed (λ name. name.items) files.now.entries) }
     ensures totals { (after : List (List ℕ × FileData)) → AreWithoutTest test.now (files_committed (λ name. name.items) files.now.entries) after → result.1 ≡ totals_in after }

@@ -4,11 +4,11 @@ ghost use Rattle.std.specs.Prelude.{◌≡◌, ℕ, List, [], ◌∷◌, ◌++�
 
 use crate::boxed::Boxed;
 use crate::content::FileSections;
-use crate::copies::add_values;
+use crate::copies::stage_values;
 use crate::index::FileIndex;
 use crate::refuse::Refuse;
-use crate::section::add_items;
-use crate::stop::Stop;
+use crate::stage_fault::StageFault;
+use crate::stage_section::stage_items;
 use crate::test::Test;
 use crate::totals::Totals;
 use covline::{Bytes, Item, Memory};
@@ -54,7 +54,7 @@ impl<A: Allocator + Copy> File<A> {
     ghost use Rattle.covstore.specs.RefuseView.{refuse_data};
     ghost use Rattle.covstore.specs.Renaming.{CopiesIn, HasRoomToCopyIn};
     ghost use Rattle.covstore.specs.StoreSection.{RefusedIn};
-    ghost use Rattle.covstore.specs.State.{FileData, IsWholeFile, file_totals, has_points_of};
+    ghost use Rattle.covstore.specs.State.{FileData, IsConsistentFile, file_totals, has_points_of};
 
     /// No tests.
     pub(crate) fn new(alloc: A) -> File<A>
@@ -69,7 +69,7 @@ impl<A: Allocator + Copy> File<A> {
     }
 
     /// Stages the items of a test, in order, up to the first that clashes. A test that isn't there is put in with them.
-    fn add(&mut self, alloc: A, test: &[u8], items: &[Item<A>]) -> Result<(), Stop<A>>
+    fn add(&mut self, alloc: A, test: &[u8], items: &[Item<A>]) -> Result<(), StageFault<A>>
         requires { HasRoomIn (map item_data items.now) (file_staged self.old) }
         ensures committed { KeepsIn (file_committed self.old) (file_committed self.new) }
         ensures ok { OnOk result (AddsItems (map item_data items.now) test.now (file_staged self.old) (file_staged self.new)) }
@@ -79,13 +79,13 @@ impl<A: Allocator + Copy> File<A> {
         // Tells that a map has fewer than 2^63 entries.
         self.tests.len();
         if let Some(points) = self.tests.get_mut(test) {
-            return add_items(points.get_mut(), &mut self.index, alloc, items);
+            return stage_items(points.get_mut(), &mut self.index, alloc, items);
         }
-        self.add_new(alloc, test, items)
+        self.stage_new(alloc, test, items)
     }
 
     /// The same of a test that isn't there.
-    fn add_new(&mut self, alloc: A, test: &[u8], items: &[Item<A>]) -> Result<(), Stop<A>>
+    fn stage_new(&mut self, alloc: A, test: &[u8], items: &[Item<A>]) -> Result<(), StageFault<A>>
         requires room { HasRoomIn (map item_data items.now) (file_staged self.old) }
         requires new { is_some (value_of (slice_cmp nat_cmp) test.now (file_staged self.old).tests) ≡ false }
         ensures committed { KeepsIn (file_committed self.old) (file_committed self.new) }
@@ -95,13 +95,13 @@ impl<A: Allocator + Copy> File<A> {
     {
         self.tests.len();
         let mut points = Boxed::new(alloc, Test::new(alloc))?;
-        add_items(points.get_mut(), &mut self.index, alloc, items)?;
+        stage_items(points.get_mut(), &mut self.index, alloc, items)?;
         self.tests.insert(Vec::from_slice(alloc, test)?, points)?;
         Ok(())
     }
 
     /// Stages the items of a test of this file, whose name comes with them, and tells its staged totals before and after.
-    pub(crate) fn exchange(
+    pub(crate) fn stage_section(
         &mut self,
         alloc: A,
         file: &[u8],
@@ -118,8 +118,8 @@ impl<A: Allocator + Copy> File<A> {
         let before = self.totals();
         match self.add(alloc, test, items) {
             Ok(()) => Ok((before, self.totals())),
-            Err(Stop::Memory) => Err(Refuse::Memory),
-            Err(Stop::Clash { line, held, given }) => Err(Refuse::Clash {
+            Err(StageFault::Memory) => Err(Refuse::Memory),
+            Err(StageFault::Clash { line, held, given }) => Err(Refuse::Clash {
                 file: Bytes::of(alloc, file)?,
                 line,
                 held,
@@ -179,7 +179,7 @@ impl<A: Allocator + Copy> File<A> {
         let Some(source) = self.tests.get(old) else {
             unreachable!();
         };
-        let added = add_values(points.get_mut(), &mut self.index, alloc, source.get());
+        let added = stage_values(points.get_mut(), &mut self.index, alloc, source.get());
         let Some(place) = self.tests.get_mut(new) else {
             unreachable!();
         };
@@ -235,7 +235,7 @@ impl<A: Allocator + Copy> File<A> {
 
     /// The test is gone, with its points. Takes no memory.
     pub(crate) fn drop_test(&mut self, test: &[u8])
-        requires { IsWholeFile (file_committed self.old) }
+        requires { IsConsistentFile (file_committed self.old) }
         ensures committed { IsWithoutTest test.now (file_committed self.old) (file_committed self.new) }
         ensures settled { (tests : List (List ℕ)) → IsSettledBut tests self.old → IsSettledBut tests self.new }
     {
@@ -246,7 +246,7 @@ impl<A: Allocator + Copy> File<A> {
 
     /// Whether the test has points now, and the file's totals where it is gone. Takes no memory.
     pub(crate) fn without_test(&self, test: &[u8]) -> (bool, Totals)
-        requires { IsWholeFile (file_committed self.now) }
+        requires { IsConsistentFile (file_committed self.now) }
         ensures has_points { result.0 ≡ has_points_of test.now (file_committed self.now) }
         ensures totals { (after : FileData) → IsWithoutTest test.now (file_committed self.now) after → result.1 ≡ file_totals after }
     {

@@ -8,11 +8,11 @@ ghost use Rattle.covstore.specs.TestView.{test_staged, test_committed};
 ghost use Rattle.covstore.specs.Sums.{with_item};
 ghost use Rattle.covstore.specs.Items.{HasRoom, HasRoomOfKind, IsClashOf, IsTextOf, KeepsCounts, KeepsCountsOfKind, KeepsTextsOf};
 ghost use Rattle.covstore.specs.FileIndexView.{KeepsCommitted};
-ghost use Rattle.covstore.specs.declared.stop.Stop.TheVariants as stops;
+ghost use Rattle.covstore.specs.declared.stage_fault.StageFault.TheVariants as stops;
 
 use crate::index::FileIndex;
 use crate::kind_index::KindIndex;
-use crate::stop::Stop;
+use crate::stage_fault::StageFault;
 use crate::sums::{BranchAddend, FunctionAddend, LineAddend, LineSum, PointAddend, PointSum};
 use crate::test::Test;
 use covline::{BranchPoint, Item};
@@ -21,12 +21,12 @@ use std::alloc::{AllocError, Allocator};
 
 /// Stages an item.
 #[inline(always)]
-pub(crate) fn add_item<A: Allocator + Copy>(
+pub(crate) fn stage_item<A: Allocator + Copy>(
     test: &mut Test<A>,
     index: &mut FileIndex<A>,
     alloc: A,
     item: &Item<A>,
-) -> Result<(), Stop<A>>
+) -> Result<(), StageFault<A>>
     requires room { HasRoom (test_staged test.old) (index_staged index.old) }
     ensures test_committed { test_committed test.new ≡ test_committed test.old }
     ensures index_committed { KeepsCommitted index.old index.new }
@@ -46,10 +46,10 @@ pub(crate) fn add_item<A: Allocator + Copy>(
                 Some(text) => Some(text.get()),
                 None => None,
             };
-            add_line(test, index, alloc, *line, *count, text)
+            stage_line(test, index, alloc, *line, *count, text)
         }
         Item::Func { name, line, count } => {
-            add_function(test, index, alloc, name.get(), *line, *count)
+            stage_function(test, index, alloc, name.get(), *line, *count)
         }
         Item::Branch {
             line,
@@ -62,20 +62,20 @@ pub(crate) fn add_item<A: Allocator + Copy>(
                 block: *block,
                 branch: *branch,
             };
-            add_branch(test, index, alloc, point, *taken)
+            stage_branch(test, index, alloc, point, *taken)
         }
     }
 }
 
 /// Stages a line's item.
-pub(crate) fn add_line<A: Allocator + Copy>(
+pub(crate) fn stage_line<A: Allocator + Copy>(
     test: &mut Test<A>,
     index: &mut FileIndex<A>,
     alloc: A,
     line: u64,
     count: u128,
     checksum: Option<&[u8]>,
-) -> Result<(), Stop<A>>
+) -> Result<(), StageFault<A>>
     requires room { HasRoom (test_staged test.old) (index_staged index.old) }
     ensures test_committed { test_committed test.new ≡ test_committed test.old }
     ensures index_committed { KeepsCommitted index.old index.new }
@@ -89,7 +89,7 @@ pub(crate) fn add_line<A: Allocator + Copy>(
         count,
         has_checksum: checksum.is_some(),
     };
-    let before = add_to_point(&mut test.lines, &mut index.lines, alloc, line, addend)?;
+    let before = stage_at_point(&mut test.lines, &mut index.lines, alloc, line, addend)?;
     if let Some(text) = checksum {
         let is_held = LineSum::is_checked(&before);
         index.checksums.hold(alloc, line, text, is_held)?;
@@ -98,14 +98,14 @@ pub(crate) fn add_line<A: Allocator + Copy>(
 }
 
 /// Stages a function's item.
-pub(crate) fn add_function<A: Allocator + Copy>(
+pub(crate) fn stage_function<A: Allocator + Copy>(
     test: &mut Test<A>,
     index: &mut FileIndex<A>,
     alloc: A,
     name: &[u8],
     line: u64,
     count: u128,
-) -> Result<(), Stop<A>>
+) -> Result<(), StageFault<A>>
     requires room { HasRoom (test_staged test.old) (index_staged index.old) }
     ensures test_committed { test_committed test.new ≡ test_committed test.old }
     ensures index_committed { KeepsCommitted index.old index.new }
@@ -115,7 +115,7 @@ pub(crate) fn add_function<A: Allocator + Copy>(
     ensures clash { IfErr result (λ stop. stop ≡ stops.Memory) }
 {
     let addend = FunctionAddend { line, count };
-    add_to_point(
+    stage_at_point(
         &mut test.functions,
         &mut index.functions,
         alloc,
@@ -126,13 +126,13 @@ pub(crate) fn add_function<A: Allocator + Copy>(
 }
 
 /// Stages a branch's item.
-pub(crate) fn add_branch<A: Allocator + Copy>(
+pub(crate) fn stage_branch<A: Allocator + Copy>(
     test: &mut Test<A>,
     index: &mut FileIndex<A>,
     alloc: A,
     point: BranchPoint,
     taken: Option<u128>,
-) -> Result<(), Stop<A>>
+) -> Result<(), StageFault<A>>
     requires room { HasRoom (test_staged test.old) (index_staged index.old) }
     ensures test_committed { test_committed test.new ≡ test_committed test.old }
     ensures index_committed { KeepsCommitted index.old index.new }
@@ -142,7 +142,7 @@ pub(crate) fn add_branch<A: Allocator + Copy>(
     ensures clash { IfErr result (λ stop. stop ≡ stops.Memory) }
 {
     let addend = BranchAddend { times: taken };
-    add_to_point(
+    stage_at_point(
         &mut test.branches,
         &mut index.branches,
         alloc,
@@ -153,7 +153,13 @@ pub(crate) fn add_branch<A: Allocator + Copy>(
 }
 
 /// Stages what an item adds at a point of a kind, in its test and in the file's numbers of the point. Tells the sum before.
-fn add_to_point<K: Key + Drop, S: PointSum, A: Allocator + Copy, Q: Query<K, A>, M: PointAddend<S>>(
+fn stage_at_point<
+    K: Key + Drop,
+    S: PointSum,
+    A: Allocator + Copy,
+    Q: Query<K, A>,
+    M: PointAddend<S>,
+>(
     points: &mut StagedMap<K, S, A>,
     kept: &mut KindIndex<K, A>,
     alloc: A,

@@ -7,7 +7,7 @@ ghost use Rattle.covmap.specs.Puts.{ArePairs, value_of};
 ghost use Rattle.covmap.specs.Run.{FitRun, summed};
 
 use crate::sums::{Tests, TestsAddend};
-use covmap::{Key, Place, Query, StagedMap};
+use covmap::{Key, Query, SlotIndex, StagedMap};
 use std::alloc::{AllocError, Allocator};
 use std::marker::Model;
 
@@ -73,7 +73,7 @@ impl KindTotals {
 #[derive(Clone, Copy)]
 pub(crate) struct Walk {
     pub tally: KindTotals,
-    place: Place,
+    place: SlotIndex,
 }
 
 /// For each point of a kind in how many tests of a file it is, committed and staged. Contracts see the points.
@@ -117,7 +117,7 @@ impl<K: Key + Drop, A: Allocator + Copy> KindIndex<K, A> {
         alloc: A,
         query: Q,
         change: Option<TestsAddend>,
-        guess: Place,
+        guess: SlotIndex,
     ) -> Result<(), AllocError>
         requires few { length self.old.staged < 2 ^ 63 }
         requires room { IfSome (value_of K.cmp (Q.named query) self.old.staged) (λ numbers. (numbers.tests ≤ 2 ^ 63) × (numbers.hit ≤ 2 ^ 63)) }
@@ -222,7 +222,7 @@ impl<K: Key, A: Allocator> KindIndex<K, A> {
     {
         Walk {
             tally: self.totals,
-            place: Place::first(),
+            place: SlotIndex::first(),
         }
     }
 

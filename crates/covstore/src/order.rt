@@ -11,19 +11,19 @@ ghost use Rattle.covstore.specs.Runs.{runs_of};
 ghost use Rattle.covstore.specs.RunsView.{runs_seen};
 
 use crate::index::FileIndex;
-use crate::runs::{MOST, Runs, add_as_they_stand, add_runs};
+use crate::runs::{MAX_STAGED_AT_ONCE, Runs, stage_as_they_are, stage_runs};
 use crate::test::Test;
 use covline::Item;
 use std::alloc::{AllocError, Allocator};
 
 /// How many items a section has at least whose items are sorted.
-const MANY: usize = 1024;
+const MIN_SORTED: usize = 1024;
 
 /// One item of so many is looked at to see whether lines ascend.
-const RUN: usize = 16;
+const SAMPLE_STRIDE: usize = 16;
 
 /// Items are sorted where the lines fall at more than one of so many that are looked at.
-const FALLS: usize = 4;
+const SAMPLES_PER_FALL: usize = 4;
 
 /// Where an item stands in its section. Spots ascend by lines, and at one line as the items stand.
 #[derive(PartialEq, Eq, PartialOrd, Ord, Drop)]
@@ -33,7 +33,7 @@ struct Spot {
 }
 
 /// Stages the items, of which none has a checksum: in the order of their lines where these fall often, else as they stand.
-pub(crate) fn add_plain<A: Allocator + Copy>(
+pub(crate) fn stage_plain<A: Allocator + Copy>(
     test: &mut Test<A>,
     index: &mut FileIndex<A>,
     alloc: A,
@@ -45,18 +45,18 @@ pub(crate) fn add_plain<A: Allocator + Copy>(
     ensures index_committed { KeepsCommitted index.old index.new }
     ensures ok { OnOk result (Adds (map item_data items.now) (test_staged test.old) (index_staged index.old) (test_staged test.new) (index_staged index.new)) }
 {
-    if items.len() >= MANY && falls_often(items) {
-        return add_in_order(test, index, alloc, items);
+    if items.len() >= MIN_SORTED && falls_often(items) {
+        return stage_in_order(test, index, alloc, items);
     }
-    add_as_they_stand(test, index, alloc, items)
+    stage_as_they_are(test, index, alloc, items)
 }
 
 /// Whether the lines of the items fall often.
 fn falls_often<A: Allocator>(items: &[Item<A>]) -> bool {
-    let most = items.len() / RUN / FALLS;
+    let most = items.len() / SAMPLE_STRIDE / SAMPLES_PER_FALL;
     let mut falls = 0;
     let mut last = 0;
-    for run in items.chunks(RUN) {
+    for run in items.chunks(SAMPLE_STRIDE) {
         if let Some(item) = run.first() {
             let line = line_of(item);
             if line < last && falls <= most {
@@ -96,7 +96,7 @@ fn line_of<A: Allocator>(item: &Item<A>) -> u64 {
 }
 
 /// Stages the items, of which none has a checksum, in the order of their lines.
-fn add_in_order<A: Allocator + Copy>(
+fn stage_in_order<A: Allocator + Copy>(
     test: &mut Test<A>,
     index: &mut FileIndex<A>,
     alloc: A,
@@ -109,12 +109,12 @@ fn add_in_order<A: Allocator + Copy>(
     ensures ok { OnOk result (Adds (map item_data items.now) (test_staged test.old) (index_staged index.old) (test_staged test.new) (index_staged index.new)) }
 {
     let spots = sorted_spots(alloc, items)?;
-    add_at(test, index, alloc, items, &spots)?;
+    stage_at(test, index, alloc, items, &spots)?;
     Ok(())
 }
 
 /// Stages the items at these spots, in the order of the spots.
-fn add_at<A: Allocator + Copy>(
+fn stage_at<A: Allocator + Copy>(
     test: &mut Test<A>,
     index: &mut FileIndex<A>,
     alloc: A,
@@ -127,9 +127,9 @@ fn add_at<A: Allocator + Copy>(
     ensures index_committed { KeepsCommitted index.old index.new }
     ensures ok { OnOk result (Adds (map item_data (picked items.now spots.now)) (test_staged test.old) (index_staged index.old) (test_staged test.new) (index_staged index.new)) }
 {
-    for some in spots.chunks(MOST) {
+    for some in spots.chunks(MAX_STAGED_AT_ONCE) {
         let runs = runs_at(alloc, items, some)?;
-        add_runs(test, index, alloc, &runs)?;
+        stage_runs(test, index, alloc, &runs)?;
     }
     Ok(())
 }

@@ -10,7 +10,7 @@ use covmap::{Key, Query, StagedMap};
 use std::alloc::{AllocError, Allocator};
 
 /// Stages a run of items at their points of a kind, in their test and in the file's numbers of these points.
-pub(crate) fn add_to_points<
+pub(crate) fn stage_at_points<
     K: Key + Drop,
     S: PointSum,
     A: Allocator + Copy,

@@ -11,14 +11,14 @@ ghost use Rattle.covstore.specs.FileIndexView.{KeepsCommitted, index_staged};
 ghost use Rattle.covstore.specs.TestView.{test_staged, test_committed};
 
 use crate::index::FileIndex;
-use crate::points::add_to_points;
+use crate::points::stage_at_points;
 use crate::sums::{BranchAddend, FunctionAddend, LineAddend};
 use crate::test::Test;
 use covline::{BranchPoint, Item};
 use std::alloc::{AllocError, Allocator};
 
 /// How many items are staged at once at most. Their runs take memory beside them, and are to stay in the processor's caches.
-pub(crate) const MOST: usize = 1024;
+pub(crate) const MAX_STAGED_AT_ONCE: usize = 1024;
 
 /// Items of a section, none of which has a checksum, cut into a run for each kind of point.
 #[derive(Drop)]
@@ -96,7 +96,7 @@ fn runs_in<'a, A: Allocator + Copy>(
 }
 
 /// Stages runs, each at the points of its kind.
-pub(crate) fn add_runs<'a, A: Allocator + Copy>(
+pub(crate) fn stage_runs<'a, A: Allocator + Copy>(
     test: &mut Test<A>,
     index: &mut FileIndex<A>,
     alloc: A,
@@ -109,14 +109,14 @@ pub(crate) fn add_runs<'a, A: Allocator + Copy>(
     ensures counts { OnOk result (KeepsCountsOfKinds (test_staged test.old) (test_staged test.new) (index_staged index.old) (index_staged index.new)) }
     ensures held { OnOk result (KeepsHeld (index_staged index.old) (index_staged index.new)) }
 {
-    add_to_points(&mut test.lines, &mut index.lines, alloc, &runs.lines)?;
-    add_to_points(
+    stage_at_points(&mut test.lines, &mut index.lines, alloc, &runs.lines)?;
+    stage_at_points(
         &mut test.functions,
         &mut index.functions,
         alloc,
         &runs.functions,
     )?;
-    add_to_points(
+    stage_at_points(
         &mut test.branches,
         &mut index.branches,
         alloc,
@@ -126,7 +126,7 @@ pub(crate) fn add_runs<'a, A: Allocator + Copy>(
 }
 
 /// Stages the items, of which none has a checksum, as they stand.
-pub(crate) fn add_as_they_stand<A: Allocator + Copy>(
+pub(crate) fn stage_as_they_are<A: Allocator + Copy>(
     test: &mut Test<A>,
     index: &mut FileIndex<A>,
     alloc: A,
@@ -138,9 +138,9 @@ pub(crate) fn add_as_they_stand<A: Allocator + Copy>(
     ensures index_committed { KeepsCommitted index.old index.new }
     ensures ok { OnOk result (Adds (map item_data items.now) (test_staged test.old) (index_staged index.old) (test_staged test.new) (index_staged index.new)) }
 {
-    for some in items.chunks(MOST) {
+    for some in items.chunks(MAX_STAGED_AT_ONCE) {
         let runs = runs_in(alloc, some)?;
-        add_runs(test, index, alloc, &runs)?;
+        stage_runs(test, index, alloc, &runs)?;
     }
     Ok(())
 }

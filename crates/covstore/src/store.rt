@@ -76,7 +76,7 @@ fn commit_staged<A: Allocator + Copy>(
 
 /// Stages the items of a test of a file, and tells the file's staged totals before and after. Looks the file up once; one
 /// that isn't there is put in with its items.
-fn add_to_files<A: Allocator + Copy>(
+fn stage_in_files<A: Allocator + Copy>(
     files: &mut BTreeMap<Vec<u8, A>, Boxed<File<A>, A>, A>,
     alloc: A,
     file: &[u8],
@@ -91,13 +91,13 @@ fn add_to_files<A: Allocator + Copy>(
     ensures settled { (touched : List (List ℕ × List ℕ)) → AreSettledBut (λ name. name.items) touched files.old.entries → AreSettledBut (λ name. name.items) (touched ++ (file.now, test.now) ∷ []) files.new.entries }
 {
     if let Some(found) = files.get_mut(file) {
-        return found.get_mut().exchange(alloc, file, test, items);
+        return found.get_mut().stage_section(alloc, file, test, items);
     }
-    add_new_file(files, alloc, file, test, items)
+    stage_in_new_file(files, alloc, file, test, items)
 }
 
 /// The same of a file that isn't there.
-fn add_new_file<A: Allocator + Copy>(
+fn stage_in_new_file<A: Allocator + Copy>(
     files: &mut BTreeMap<Vec<u8, A>, Boxed<File<A>, A>, A>,
     alloc: A,
     file: &[u8],
@@ -113,7 +113,7 @@ fn add_new_file<A: Allocator + Copy>(
     ensures settled { (touched : List (List ℕ × List ℕ)) → AreSettledBut (λ name. name.items) touched files.old.entries → AreSettledBut (λ name. name.items) (touched ++ (file.now, test.now) ∷ []) files.new.entries }
 {
     let mut made = Boxed::new(alloc, File::new(alloc))?;
-    let totals = made.get_mut().exchange(alloc, file, test, items)?;
+    let totals = made.get_mut().stage_section(alloc, file, test, items)?;
     files.insert(Vec::from_slice(alloc, file)?, made)?;
     Ok(totals)
 }
@@ -150,7 +150,7 @@ impl<A: Allocator + Copy> Store<A> {
     ghost use Rattle.covline.specs.Row.{SubmissionData, item_data, rows_of, rows_of_sect};
     ghost use Rattle.covline.specs.SectView.{sect_data};
     ghost use Rattle.covstore.specs.Content.{content_at};
-    ghost use Rattle.covstore.specs.Store.{AddsRows, ClashesWith, HasRoomForRows, IsPlanOf, SameContent, SameCommitted, StandsFor, IsRefusedAt, most_members};
+    ghost use Rattle.covstore.specs.Store.{AddsRows, ClashesWith, HasRoomForRows, IsPlanOf, SameContent, SameCommitted, StandsFor, IsRefusedAt, max_members};
     ghost use Rattle.covstore.specs.StoreSection.{rows_of_items};
     ghost use Rattle.covstore.specs.StoreKept.{IsKept};
     ghost use Rattle.covstore.specs.RefuseView.{refuse_data};
@@ -184,7 +184,7 @@ impl<A: Allocator + Copy> Store<A> {
     /// that memory suffices, so a submission that clashes may be answered `Memory` too. A submission without a row is never
     /// refused, since nothing grows for it.
     pub fn prepare(&mut self, alloc: A, submission: &Submission<A>) -> Result<Plan, Refuse<A>>
-        requires { self.old.members < most_members }
+        requires { self.old.members < max_members }
         ensures content { SameContent self.old self.new }
         ensures planned { IfOk result (λ plan. IsPlanOf self.new submission.now plan) }
         ensures after { IfOk result (λ plan. (table : Table) → StandsFor self.old table → plan.after ≡ totals_of (content_at (table ++ rows_of submission.now ∷ []))) }
@@ -325,11 +325,11 @@ impl<A: Allocator + Copy> Store<A> {
         if items.is_empty() {
             return Ok(());
         }
-        self.add_items(alloc, sect.file.get(), sect.test.get(), items)
+        self.stage_items(alloc, sect.file.get(), sect.test.get(), items)
     }
 
     /// Stages the items of a test, and notes that something is staged of it.
-    fn add_items(
+    fn stage_items(
         &mut self,
         alloc: A,
         file: &[u8],
@@ -342,7 +342,7 @@ impl<A: Allocator + Copy> Store<A> {
         ensures clash { IfErr result (λ e. ClashesWith (rows_of_items file.now test.now (map item_data items.now)) self.old (refuse_data e)) }
     {
         Touched::push(&mut self.touched, alloc, file, test)?;
-        let totals = add_to_files(&mut self.files, alloc, file, test, items)?;
+        let totals = stage_in_files(&mut self.files, alloc, file, test, items)?;
         self.totals_after = self.totals_after.exchanged(totals.0, totals.1);
         Ok(())
     }

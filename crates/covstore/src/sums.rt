@@ -9,9 +9,9 @@ ghost use Rattle.covstore.specs.State.{has_checksum};
 ghost use Rattle.covstore.specs.Stays.{branch_stays, function_stays, line_stays};
 ghost use Rattle.covstore.specs.Sums.{branch_with, function_with, line_with};
 
-use crate::split::Split;
-use crate::times::Times;
-use crate::wide::Wide;
+use crate::packed_taken::PackedTaken;
+use crate::packed_u64::PackedU64;
+use crate::packed_u128::PackedU128;
 use covmap::{Addend, Telling, Value};
 
 /// What the items of a test add up to at a point.
@@ -45,21 +45,21 @@ pub(crate) fn is_hit<S: PointSum>(value: &Option<S>) -> bool
 /// A line: the sum of its execution counts, and whether an item has a checksum of it (geninfo(1): `DA:`).
 #[derive(Drop)]
 pub(crate) struct LineSum {
-    pub count: Wide,
+    pub count: PackedU128,
     pub has_checksum: bool,
 }
 
 /// A function: its least start line and the sum of its execution counts (geninfo(1): `FN:`, `FNDA:`).
 #[derive(Drop)]
 pub(crate) struct FunctionSum {
-    pub line: Split,
-    pub count: Wide,
+    pub line: PackedU64,
+    pub count: PackedU128,
 }
 
 /// A branch: how often it was taken, none where its block was never executed (geninfo(1): `BRDA:`).
 #[derive(Drop)]
 pub(crate) struct BranchSum {
-    pub times: Times,
+    pub times: PackedTaken,
 }
 
 // A map has an option of these for each point.
@@ -92,7 +92,7 @@ impl Addend<LineSum> for LineAddend {
                 has_checksum: sum.has_checksum || self.has_checksum,
             },
             None => LineSum {
-                count: Wide::of(self.count),
+                count: PackedU128::of(self.count),
                 has_checksum: self.has_checksum,
             },
         }
@@ -132,10 +132,10 @@ impl Addend<FunctionSum> for FunctionAddend {
     {
         let (line, count) = match value {
             Some(sum) => (sum.line.get().min(self.line), sum.count.plus(self.count)),
-            None => (self.line, Wide::of(self.count)),
+            None => (self.line, PackedU128::of(self.count)),
         };
         FunctionSum {
-            line: Split::of(line),
+            line: PackedU64::of(line),
             count,
         }
     }
@@ -173,7 +173,7 @@ impl Addend<BranchSum> for BranchAddend {
     {
         let times = match value {
             Some(sum) => sum.times.plus(self.times),
-            None => Times::of(self.times),
+            None => PackedTaken::of(self.times),
         };
         BranchSum { times }
     }
@@ -233,8 +233,8 @@ impl Addend<Tests> for TestsAddend {
             None => (0, 0),
         };
         Tests {
-            tests: Split::of(if self.is_new { tests + 1 } else { tests }),
-            hit: Split::of(if self.is_hit { hit + 1 } else { hit }),
+            tests: PackedU64::of(if self.is_new { tests + 1 } else { tests }),
+            hit: PackedU64::of(if self.is_hit { hit + 1 } else { hit }),
         }
     }
 }
@@ -251,8 +251,8 @@ impl Telling<Tests, TestsAddend> for TestsAddend {
 /// How many tests of a file have a point, and how many have it above 0.
 #[derive(Drop)]
 pub(crate) struct Tests {
-    pub tests: Split,
-    pub hit: Split,
+    pub tests: PackedU64,
+    pub hit: PackedU64,
 }
 
 impl Tests {
@@ -278,8 +278,8 @@ impl Tests {
             return None;
         }
         Some(Tests {
-            tests: Split::of(tests - 1),
-            hit: Split::of(if was_above { hit - 1 } else { hit }),
+            tests: PackedU64::of(tests - 1),
+            hit: PackedU64::of(if was_above { hit - 1 } else { hit }),
         })
     }
 }

@@ -11,7 +11,7 @@ ghost use Rattle.covmap.specs.Slots.{IsGap, IsPlace, filled, page_at, slots_of, 
 
 use crate::key::{Key, Query, Value};
 use crate::slots::staged::StagedColumns;
-use crate::slots::{HALF, PAGE, Place, Slots};
+use crate::slots::{HALF, PAGE_SLOTS, SlotIndex, Slots};
 use std::alloc::{AllocError, Allocator};
 
 /// Returns the place of what is asked for, and puts in an empty slot where it has none.
@@ -20,8 +20,8 @@ pub(crate) fn make_slot<K: Key + Drop, V: Value, A: Allocator + Copy, Q: Query<K
     staged: &mut StagedColumns<V, A>,
     alloc: A,
     query: Q,
-    guess: Place,
-) -> Result<Place, AllocError>
+    guess: SlotIndex,
+) -> Result<SlotIndex, AllocError>
     requires { AreColumnsOf slots.old staged.old }
     ensures columns { AreColumnsOf slots.new staged.new }
     ensures committed { filled (slots_of slots.new) ≡ filled (slots_of slots.old) }
@@ -42,9 +42,9 @@ fn put_slot<K: Key + Drop, V: Value, A: Allocator + Copy>(
     slots: &mut Slots<K, V, A>,
     staged: &mut StagedColumns<V, A>,
     alloc: A,
-    place: Place,
+    place: SlotIndex,
     key: K,
-) -> Result<Place, AllocError>
+) -> Result<SlotIndex, AllocError>
     requires columns { AreColumnsOf slots.old staged.old }
     requires gap { IsGap (λ other. K.cmp other key) slots.old (at place) }
     ensures columns { AreColumnsOf slots.new staged.new }
@@ -55,7 +55,7 @@ fn put_slot<K: Key + Drop, V: Value, A: Allocator + Copy>(
     if place.page < slots.count() {
         return put_within(slots, staged, alloc, place, key);
     }
-    put_behind(slots, staged, alloc, key)
+    put_after(slots, staged, alloc, key)
 }
 
 /// Puts an empty slot on a page that is there.
@@ -63,9 +63,9 @@ fn put_within<K: Key + Drop, V: Value, A: Allocator + Copy>(
     slots: &mut Slots<K, V, A>,
     staged: &mut StagedColumns<V, A>,
     alloc: A,
-    place: Place,
+    place: SlotIndex,
     key: K,
-) -> Result<Place, AllocError>
+) -> Result<SlotIndex, AllocError>
     requires there { place.page < length slots.old }
     requires columns { AreColumnsOf slots.old staged.old }
     requires gap { IsGap (λ other. K.cmp other key) slots.old (at place) }
@@ -74,14 +74,14 @@ fn put_within<K: Key + Drop, V: Value, A: Allocator + Copy>(
     ensures staged { OnOk result (filled (slots_of (staged_of slots.new staged.new)) ≡ filled (slots_of (staged_of slots.old staged.old))) }
     ensures place { IfOk result (λ place. IsPlace (λ other. K.cmp other key) slots.new (at place)) }
 {
-    if slots.len_of(place.page) < PAGE {
+    if slots.len_of(place.page) < PAGE_SLOTS {
         return put_at(slots, staged, place, key);
     }
     split(slots, staged, alloc, place.page)?;
     if place.index <= HALF {
         return put_at(slots, staged, place, key);
     }
-    let place = Place {
+    let place = SlotIndex {
         page: place.page + 1,
         index: place.index - HALF,
     };
@@ -89,12 +89,12 @@ fn put_within<K: Key + Drop, V: Value, A: Allocator + Copy>(
 }
 
 /// Appends an empty slot.
-fn put_behind<K: Key + Drop, V: Value, A: Allocator + Copy>(
+fn put_after<K: Key + Drop, V: Value, A: Allocator + Copy>(
     slots: &mut Slots<K, V, A>,
     staged: &mut StagedColumns<V, A>,
     alloc: A,
     key: K,
-) -> Result<Place, AllocError>
+) -> Result<SlotIndex, AllocError>
     requires columns { AreColumnsOf slots.old staged.old }
     requires last { AllByRecursion (λ slot. K.cmp slot.0 key ≡ Less) (slots_of slots.old) }
     ensures columns { AreColumnsOf slots.new staged.new }
@@ -103,15 +103,15 @@ fn put_behind<K: Key + Drop, V: Value, A: Allocator + Copy>(
     ensures place { IfOk result (λ place. IsPlace (λ other. K.cmp other key) slots.new (at place)) }
 {
     let count = slots.count();
-    if count > 0 && slots.len_of(count - 1) < PAGE {
-        let place = Place {
+    if count > 0 && slots.len_of(count - 1) < PAGE_SLOTS {
+        let place = SlotIndex {
             page: count - 1,
             index: slots.len_of(count - 1),
         };
         return put_at(slots, staged, place, key);
     }
     slots.push_page(alloc, key)?;
-    Ok(Place {
+    Ok(SlotIndex {
         page: count,
         index: 0,
     })
@@ -121,9 +121,9 @@ fn put_behind<K: Key + Drop, V: Value, A: Allocator + Copy>(
 fn put_at<K: Key + Drop, V: Value, A: Allocator + Copy>(
     slots: &mut Slots<K, V, A>,
     staged: &mut StagedColumns<V, A>,
-    place: Place,
+    place: SlotIndex,
     key: K,
-) -> Result<Place, AllocError>
+) -> Result<SlotIndex, AllocError>
     requires there { place.page < length slots.old }
     requires room { length (page_at slots.old place.page) < 256 }
     requires columns { AreColumnsOf slots.old staged.old }

@@ -9,13 +9,13 @@ use crate::key::{Addend, Key, Query, Value};
 use crate::slots::growth::make_slot;
 use crate::slots::page::Page;
 use crate::slots::staged::StagedColumns;
-use crate::slots::{PAGE, Place, Slots, push};
+use crate::slots::{PAGE_SLOTS, SlotIndex, Slots, push};
 use std::alloc::{AllocError, Allocator};
 
-impl Place {
+impl SlotIndex {
     /// Another slot of its page.
-    pub(crate) fn at(self, index: usize) -> Place {
-        Place {
+    pub(crate) fn at(self, index: usize) -> SlotIndex {
+        SlotIndex {
             page: self.page,
             index,
         }
@@ -26,13 +26,13 @@ impl<K: Key, V, A: Allocator> Slots<K, V, A> {
     /// Whether the last page has room for a slot more.
     fn has_room(&self) -> bool {
         match self.pages.last() {
-            Some(page) => page.len() < PAGE,
+            Some(page) => page.len() < PAGE_SLOTS,
             None => false,
         }
     }
 
     /// A place to begin the search for a key at, no search among the pages: on the page of the guess.
-    fn near<Q: Query<K, A>>(&self, query: Q, guess: Place) -> Place
+    fn near<Q: Query<K, A>>(&self, query: Q, guess: SlotIndex) -> SlotIndex
     where
         V: Value,
     {
@@ -83,8 +83,8 @@ pub(crate) fn make_slots<
     staged: &mut StagedColumns<V, A>,
     alloc: A,
     run: &[(Q, M)],
-    guess: Place,
-) -> Result<Place, AllocError>
+    guess: SlotIndex,
+) -> Result<SlotIndex, AllocError>
     requires some { 0 < length run.now }
     requires columns { AreColumnsOf slots.old staged.old }
     ensures columns { AreColumnsOf slots.new staged.new }
@@ -113,7 +113,7 @@ fn make_ahead<K: Key + Drop, V: Value, A: Allocator + Copy, Q: Query<K, A>, M: A
     staged: &mut StagedColumns<V, A>,
     alloc: A,
     run: &[(Q, M)],
-    first: Place,
+    first: SlotIndex,
 ) -> Result<(), AllocError>
     requires { AreColumnsOf slots.old staged.old }
     ensures columns { AreColumnsOf slots.new staged.new }
@@ -126,7 +126,7 @@ fn make_ahead<K: Key + Drop, V: Value, A: Allocator + Copy, Q: Query<K, A>, M: A
         let (query, _) = run[count];
         let guess = slots.near(query, place);
         let next = make_slot(slots, staged, alloc, query, guess)?;
-        if next.page != first.page || slots.len_of(next.page) == PAGE {
+        if next.page != first.page || slots.len_of(next.page) == PAGE_SLOTS {
             return Ok(());
         }
         place = next;
@@ -141,7 +141,7 @@ fn put_run<K: Key + Drop, V: Value, A: Allocator + Copy, Q: Query<K, A>, M: Adde
     staged: &mut StagedColumns<V, A>,
     alloc: A,
     run: &[(Q, M)],
-) -> Result<Place, AllocError>
+) -> Result<SlotIndex, AllocError>
     requires some { 0 < length run.now }
     requires columns { AreColumnsOf slots.old staged.old }
     requires last { AreBefore K.cmp Q.named (slots_of slots.old) run.now }
@@ -152,7 +152,7 @@ fn put_run<K: Key + Drop, V: Value, A: Allocator + Copy, Q: Query<K, A>, M: Adde
 {
     let count = slots.count();
     slots.push_run(alloc, run)?;
-    Ok(Place {
+    Ok(SlotIndex {
         page: count,
         index: 0,
     })

@@ -11,7 +11,7 @@ pub(crate) mod run;
 
 use crate::key::{Addend, Key, Value, copy_of};
 use crate::map::Sum;
-use crate::slots::{HALF, Place, Slots};
+use crate::slots::{HALF, SlotIndex, Slots};
 use std::alloc::{AllocError, Allocator};
 use std::marker::Model;
 
@@ -135,7 +135,7 @@ impl<V: Value, A: Allocator> StagedColumns<V, A> {
         &mut self,
         alloc: A,
         slots: &Slots<K, V, A>,
-        place: Place,
+        place: SlotIndex,
         value: V,
     ) -> Result<(), AllocError>
         requires page { place.page < length slots.now }
@@ -155,7 +155,7 @@ impl<V: Value, A: Allocator> StagedColumns<V, A> {
         &mut self,
         alloc: A,
         slots: &Slots<K, V, A>,
-        place: Place,
+        place: SlotIndex,
         addend: M,
     ) -> Result<Sum<V>, AllocError>
         requires page { place.page < length slots.now }
@@ -180,7 +180,7 @@ impl<V: Value, A: Allocator> StagedColumns<V, A> {
     }
 
     /// The staged value at the place of a slot.
-    pub(crate) fn value_at<K: Key>(&self, slots: &Slots<K, V, A>, place: Place) -> Option<V>
+    pub(crate) fn value_at<K: Key>(&self, slots: &Slots<K, V, A>, place: SlotIndex) -> Option<V>
         requires page { place.page < length slots.now }
         requires columns { AreColumnsOf slots.now self.now }
         ensures { result ≡ value_at (staged_of slots.now self.now) (at place) }
@@ -208,7 +208,7 @@ impl<V: Value, A: Allocator> StagedColumns<V, A> {
 
 impl<V: Value, A: Allocator + Copy> StagedColumns<V, A> {
     /// Makes room for a slot that is put in at a place: nothing is staged into it.
-    pub(crate) fn insert_empty(&mut self, place: Place) -> Result<(), AllocError>
+    pub(crate) fn insert_empty(&mut self, place: SlotIndex) -> Result<(), AllocError>
         requires { AllByRecursion (λ column. column.0 ≡ place.page → place.index ≤ length column.1) self.old }
         ensures ok { OnOk result (IsWidened place.page place.index self.old self.new) }
     {
@@ -233,8 +233,8 @@ impl<V: Value, A: Allocator + Copy> StagedColumns<V, A> {
             return Ok(());
         }
         self.columns.reserve(1)?;
-        let behind = self.columns[index].1.split_off(HALF)?;
-        self.columns.insert(index + 1, (page + 1, behind))?;
+        let following = self.columns[index].1.split_off(HALF)?;
+        self.columns.insert(index + 1, (page + 1, following))?;
         Ok(())
     }
 

@@ -9,7 +9,7 @@ use crate::pattern::parts::{ByteSet, Part, read_head};
 
 /// What is left of a pattern, and of a path.
 #[derive(Clone, Copy)]
-struct Place<'a> {
+struct Position<'a> {
     pattern: &'a [u8],
     path: &'a [u8],
 }
@@ -18,9 +18,9 @@ struct Place<'a> {
 /// can, and fitting them later would leave that star no more to take.
 #[derive(Drop)]
 pub(crate) struct Matcher<'a> {
-    here: Place<'a>,
+    here: Position<'a>,
     /// What is left after the last star, where its run was last taken to end.
-    star: Option<Place<'a>>,
+    star: Option<Position<'a>>,
 }
 
 impl<'a> Matcher<'a> {
@@ -31,7 +31,7 @@ impl<'a> Matcher<'a> {
         ensures steps { steps_left result ≡ (length pattern.now + 1) * (length path.now + 1) }
     {
         Matcher {
-            here: Place { pattern, path },
+            here: Position { pattern, path },
             star: None,
         }
     }
@@ -77,7 +77,7 @@ impl<'a> Matcher<'a> {
     {
         match self.here.path {
             [byte, path @ ..] if set.takes(*byte) => {
-                self.here = Place {
+                self.here = Position {
                     pattern: rest,
                     path,
                 };
@@ -99,7 +99,7 @@ impl<'a> Matcher<'a> {
         let [_, path @ ..] = star.path else {
             return Some(false);
         };
-        self.here = Place {
+        self.here = Position {
             pattern: star.pattern,
             path,
         };

@@ -7,7 +7,7 @@ ghost use Rattle.covmap.specs.RunPage.{FirstHere, FitHere, IsAlong, IsNewPage, v
 ghost use Rattle.covmap.specs.Slots.{IsAscending, order_at, value_in};
 
 use crate::key::{Addend, Key, Query, Telling, Value};
-use crate::slots::PAGE;
+use crate::slots::PAGE_SLOTS;
 use crate::slots::page::Page;
 use std::alloc::{AllocError, Allocator};
 use std::cmp::Ordering;
@@ -96,7 +96,7 @@ impl<K: Drop, V: Value, A: Allocator + Copy> Page<K, V, A> {
         requires { 0 < length run.now }
         ensures { IfOk result (λ page. IsNewPage K.cmp Q.named run.now page) }
     {
-        let most = run.len().min(PAGE);
+        let most = run.len().min(PAGE_SLOTS);
         let mut page = Page {
             keys: Vec::with_capacity(alloc, most)?,
             values: Vec::new(alloc),

@@ -9,7 +9,7 @@ ghost use Rattle.covmap.specs.Staged.{AreColumnsOf, staged_of};
 use crate::key::{Key, Query, Telling, Value};
 use crate::slots::page::run::Along;
 use crate::slots::staged::StagedColumns;
-use crate::slots::{Place, Slots};
+use crate::slots::{SlotIndex, Slots};
 use std::alloc::{AllocError, Allocator};
 
 impl<V: Value, A: Allocator> StagedColumns<V, A> {
@@ -19,7 +19,7 @@ impl<V: Value, A: Allocator> StagedColumns<V, A> {
         &mut self,
         alloc: A,
         slots: &Slots<K, V, A>,
-        place: Place,
+        place: SlotIndex,
         run: &[(Q, M)],
         told: &mut Vec<(Q, N), A>,
     ) -> Result<Along, AllocError>

@@ -12,15 +12,15 @@ loop-point-init g c =
     copying_first branch_item c.args.branches.now.committed c.args.test.now c.args.index.now c.into_iter-point-iterator.result (c.into_iter-point-iterator.ensures.into_iter_gives ∙ c.entries-point-items.ensures)
     c.requires
 
-pub add_branch-requires : goal.add_branch-requires
-add_branch-requires g c = record {
+pub stage_branch-requires : goal.stage_branch-requires
+stage_branch-requires g c = record {
   room = copying_room branch_item c.args.branches.now.committed c.args.test.now c.args.index.now (c.in-Some.point.now, c.in-Some.sum.now) c.loop-point.point-iterator c.next.new.self c.in-Some.ensures.steps
       c.loop-point.test c.loop-point.index c.loop-point.invariant;
 }
 
 pub loop-point-preserved : goal.loop-point-preserved
 loop-point-preserved g c =
-    let e = c.add_branch.ensures in
+    let e = c.stage_branch.ensures in
     let is = c.is_err.ensures.value in
     let ok = c.if-is_err.false in
     let point = c.in-Some.point.now in
@@ -28,11 +28,11 @@ loop-point-preserved g c =
     copying_more branch_item c.args.branches.now.committed c.args.test.now c.args.index.now (c.in-Some.point.now, c.in-Some.sum.now) c.loop-point.point-iterator c.next.new.self c.in-Some.ensures.steps
     c.loop-point.test c.loop-point.index c.loop-point.invariant (BranchItem got.line got.block got.branch c.get-in-loop-point.result)
     (ap (λ (p : BranchPoint). BranchItem p.line p.block p.branch c.get-in-loop-point.result) c.get.ensures ∙ ap (BranchItem point.line point.block point.branch) c.get-in-loop-point.ensures)
-    c.add_branch.new.test c.add_branch.new.index e.test_committed e.index_committed (ok_unless c.add_branch.result is ok e.test) (ok_unless c.add_branch.result is ok e.counts) tt
-    (ok_unless c.add_branch.result is ok e.others)
+    c.stage_branch.new.test c.stage_branch.new.index e.test_committed e.index_committed (ok_unless c.stage_branch.result is ok e.test) (ok_unless c.stage_branch.result is ok e.counts) tt
+    (ok_unless c.stage_branch.result is ok e.others)
 
 pub returns-then-is_err-clause-index_committed : goal.returns-then-is_err-clause-index_committed
-returns-then-is_err-clause-index_committed g c = held_both c.args.index.now c.loop-point.index c.add_branch.new.index c.loop-point.invariant.takes.same_index c.add_branch.ensures.index_committed
+returns-then-is_err-clause-index_committed g c = held_both c.args.index.now c.loop-point.index c.stage_branch.new.index c.loop-point.invariant.takes.same_index c.stage_branch.ensures.index_committed
 
 pub returns-clause-ok : goal.returns-clause-ok
 returns-clause-ok g c =

@@ -9,15 +9,15 @@ use Rattle.covstore.proofs.copies.add_functions.Goals as goal
 pub loop-name-init : goal.loop-name-init
 loop-name-init g c = copying_first function_item c.args.functions.now.committed c.args.test.now c.args.index.now c.into_iter-name-iterator.result (c.into_iter-name-iterator.ensures.into_iter_gives ∙ c.entries-name-items.ensures) c.requires
 
-pub add_function-requires : goal.add_function-requires
-add_function-requires g c = record {
+pub stage_function-requires : goal.stage_function-requires
+stage_function-requires g c = record {
   room = copying_room function_item c.args.functions.now.committed c.args.test.now c.args.index.now (c.in-Some.name.now, c.in-Some.sum.now) c.loop-name.name-iterator c.next.new.self c.in-Some.ensures.steps
       c.loop-name.test c.loop-name.index c.loop-name.invariant;
 }
 
 pub loop-name-preserved : goal.loop-name-preserved
 loop-name-preserved g c =
-    let e = c.add_function.ensures in
+    let e = c.stage_function.ensures in
     let is = c.is_err.ensures.value in
     let ok = c.if-is_err.false in
     let line = c.get-line in
@@ -26,11 +26,11 @@ loop-name-preserved g c =
     c.loop-name.test c.loop-name.index c.loop-name.invariant (FuncItem c.get.result.now line.result count.result)
     (ap (λ (name : List ℕ). FuncItem name line.result count.result) c.get.ensures ∙ ap (λ n. FuncItem c.in-Some.name.now n count.result) line.ensures
     ∙ ap (FuncItem c.in-Some.name.now c.in-Some.sum.now.line) count.ensures)
-    c.add_function.new.test c.add_function.new.index e.test_committed e.index_committed (ok_unless c.add_function.result is ok e.test) (ok_unless c.add_function.result is ok e.counts) tt
-    (ok_unless c.add_function.result is ok e.others)
+    c.stage_function.new.test c.stage_function.new.index e.test_committed e.index_committed (ok_unless c.stage_function.result is ok e.test) (ok_unless c.stage_function.result is ok e.counts) tt
+    (ok_unless c.stage_function.result is ok e.others)
 
 pub returns-then-is_err-clause-index_committed : goal.returns-then-is_err-clause-index_committed
-returns-then-is_err-clause-index_committed g c = held_both c.args.index.now c.loop-name.index c.add_function.new.index c.loop-name.invariant.takes.same_index c.add_function.ensures.index_committed
+returns-then-is_err-clause-index_committed g c = held_both c.args.index.now c.loop-name.index c.stage_function.new.index c.loop-name.invariant.takes.same_index c.stage_function.ensures.index_committed
 
 pub returns-clause-ok : goal.returns-clause-ok
 returns-clause-ok g c =

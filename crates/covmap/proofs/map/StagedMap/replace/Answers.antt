@@ -9,7 +9,7 @@ use Rattle.covmap.specs.Slots.{filled, slots_of}
 use Rattle.covmap.proofs.StagedPages.{nothing_staged}
 use Rattle.covmap.proofs.MapAssigned.{committed_absent, committed_found, slot_assigned}
 use Rattle.covmap.proofs.MapPlaces.{place_within}
-use Rattle.covmap.proofs.SlotBehind.{number_within}
+use Rattle.covmap.proofs.SlotAfter.{number_within}
 use Rattle.covmap.proofs.map.StagedMap.replace.Goals as goal
 
 pub returns-in-Ok-clause-committed : goal.returns-in-Ok-clause-committed

@@ -3,7 +3,7 @@ use Rattle.covmap.specs.MapData.{MapData}
 use Rattle.covmap.specs.Puts.{put}
 use Rattle.covmap.specs.Slots.{filled, slots_of}
 use Rattle.covmap.proofs.MapPlaces.{staged_put, place_within}
-use Rattle.covmap.proofs.SlotBehind.{number_within}
+use Rattle.covmap.proofs.SlotAfter.{number_within}
 use Rattle.covmap.proofs.SlotWrites.{on_ok_more}
 use Rattle.covmap.proofs.map.StagedMap.stage.Goals as goal
 

@@ -4,7 +4,7 @@ use Rattle.covmap.specs.Query.{query_by_order}
 use Rattle.covmap.specs.SlotPlace.{at}
 use Rattle.covmap.proofs.SlotPages.{whole}
 use Rattle.covmap.proofs.SlotSearch.{gap_at_cut}
-use Rattle.covmap.proofs.SlotBehind.{not_equal}
+use Rattle.covmap.proofs.SlotAfter.{not_equal}
 use Rattle.covmap.proofs.slots.Slots.search.Goals as goal
 
 pub returns-clause-absent : goal.returns-clause-absent

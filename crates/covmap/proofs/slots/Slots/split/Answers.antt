@@ -11,7 +11,7 @@ returns-clause-ok g c =
     let within : c.args.number < length pages = omega (arith, c.requires.there, ap length view) in
     let here = page_here pages c.args.number c.index_mut.result.now within c.index_mut.ensures.value in
     c.in_ok-insert.ensures.items
-    ∙ split_seen pages c.args.number c.split.new.self c.in_ok-behind.behind within (c.in_ok-behind.ensures.front ∙ ap (take 128) (sym here)) (c.in_ok-behind.ensures.back ∙ ap (drop 128) (sym here))
+    ∙ split_seen pages c.args.number c.split.new.self c.in_ok-following.following within (c.in_ok-following.ensures.front ∙ ap (take 128) (sym here)) (c.in_ok-following.ensures.back ∙ ap (drop 128) (sym here))
     ∙ ap (with_page_split c.args.number) view
 
 pub invariant_of-self-2 : goal.invariant_of-self-2

@@ -3,7 +3,7 @@ use Rattle.std.specs.Prelude.{OnOk}
 use Rattle.covmap.specs.Staged.{staged_of}
 use Rattle.covmap.specs.Slots.{IsGap, filled, page_at, slots_of}
 use Rattle.covmap.proofs.SlotWrites.{page_le}
-use Rattle.covmap.proofs.SlotSplit.{page_low, split_length, length_high, gap_low, gap_behind_half}
+use Rattle.covmap.proofs.SlotSplit.{page_low, split_length, length_high, gap_low, gap_after_half}
 use Rattle.covmap.proofs.slots.growth.put_within.Goals as goal
 
 pub put_at-requires-then-place-le-HALF-clause-room : goal.put_at-requires-then-place-le-HALF-clause-room
@@ -14,7 +14,7 @@ put_at-requires-then-place-le-HALF-clause-room g c =
 pub put_at-requires-then-place-le-HALF-clause-gap : goal.put_at-requires-then-place-le-HALF-clause-gap
 put_at-requires-then-place-le-HALF-clause-gap g c =
     let at_most = page_le c.args.slots.now c.args.place.page c.len_of.ensures.whole.pages_fit in
-    let full : length (page_at c.args.slots.now c.args.place.page) ≡ 256 = omega (arith, at_most, c.len_of.ensures.long, c.if-len_of-lt-PAGE.false) in
+    let full : length (page_at c.args.slots.now c.args.place.page) ≡ 256 = omega (arith, at_most, c.len_of.ensures.long, c.if-len_of-lt-PAGE_SLOTS.false) in
     subst (λ pages. IsGap (λ other. g.K.Key.cmp other c.args.key) pages (c.args.place.page, c.args.place.index)) (sym c.in_ok-split.ensures.ok)
     (gap_low (λ other. g.K.Key.cmp other c.args.key) c.args.slots.now c.args.place.page c.args.place.index c.requires.there full c.if-place-le-HALF.true c.requires.gap)
 
@@ -26,15 +26,15 @@ put_at-requires-2-clause-room g c =
 pub put_at-requires-2-clause-gap : goal.put_at-requires-2-clause-gap
 put_at-requires-2-clause-gap g c =
     let at_most = page_le c.args.slots.now c.args.place.page c.len_of.ensures.whole.pages_fit in
-    let full : length (page_at c.args.slots.now c.args.place.page) ≡ 256 = omega (arith, at_most, c.len_of.ensures.long, c.if-len_of-lt-PAGE.false) in
+    let full : length (page_at c.args.slots.now c.args.place.page) ≡ 256 = omega (arith, at_most, c.len_of.ensures.long, c.if-len_of-lt-PAGE_SLOTS.false) in
     let order = λ (other : g.row.K.Denot). g.K.Key.cmp other c.args.key in
     subst (λ pages. IsGap order pages (c.args.place.page + 1, c.args.place.index - 128)) (sym c.in_ok-split.ensures.ok)
-    (gap_behind_half order c.args.slots.now c.args.place.page (c.args.place.page + 1) (c.args.place.index - 128) c.args.place.index c.requires.there full (omega arith) (omega (arith, c.if-place-le-HALF.false)) c.requires.gap)
+    (gap_after_half order c.args.slots.now c.args.place.page (c.args.place.page + 1) (c.args.place.index - 128) c.args.place.index c.requires.there full (omega arith) (omega (arith, c.if-place-le-HALF.false)) c.requires.gap)
 
 pub split-requires-clause-full : goal.split-requires-clause-full
 split-requires-clause-full g c =
     let at_most = page_le c.args.slots.now c.args.place.page c.len_of.ensures.whole.pages_fit in
-    omega (arith, at_most, c.len_of.ensures.long, c.if-len_of-lt-PAGE.false)
+    omega (arith, at_most, c.len_of.ensures.long, c.if-len_of-lt-PAGE_SLOTS.false)
 
 pub put_at-requires-then-place-le-HALF-clause-there : goal.put_at-requires-then-place-le-HALF-clause-there
 put_at-requires-then-place-le-HALF-clause-there g c =
@@ -64,7 +64,7 @@ pub put_at-requires-clause-there : goal.put_at-requires-clause-there
 put_at-requires-clause-there g c = c.requires.there
 
 pub put_at-requires-clause-room : goal.put_at-requires-clause-room
-put_at-requires-clause-room g c = omega (arith, c.len_of.ensures.long, c.if-len_of-lt-PAGE.true)
+put_at-requires-clause-room g c = omega (arith, c.len_of.ensures.long, c.if-len_of-lt-PAGE_SLOTS.true)
 
 pub put_at-requires-clause-gap : goal.put_at-requires-clause-gap
 put_at-requires-clause-gap g c = c.requires.gap
@@ -90,17 +90,17 @@ returns-in_err-split-clause-columns g c = c.in_err-split.ensures.columns
 pub returns-in_err-split-clause-committed : goal.returns-in_err-split-clause-committed
 returns-in_err-split-clause-committed g c = c.in_err-split.ensures.committed
 
-pub returns-then-len_of-lt-PAGE-clause-committed : goal.returns-then-len_of-lt-PAGE-clause-committed
-returns-then-len_of-lt-PAGE-clause-committed g c = c.put_at.ensures.committed
+pub returns-then-len_of-lt-PAGE_SLOTS-clause-committed : goal.returns-then-len_of-lt-PAGE_SLOTS-clause-committed
+returns-then-len_of-lt-PAGE_SLOTS-clause-committed g c = c.put_at.ensures.committed
 
-pub returns-then-len_of-lt-PAGE-clause-columns : goal.returns-then-len_of-lt-PAGE-clause-columns
-returns-then-len_of-lt-PAGE-clause-columns g c = c.put_at.ensures.columns
+pub returns-then-len_of-lt-PAGE_SLOTS-clause-columns : goal.returns-then-len_of-lt-PAGE_SLOTS-clause-columns
+returns-then-len_of-lt-PAGE_SLOTS-clause-columns g c = c.put_at.ensures.columns
 
-pub returns-then-len_of-lt-PAGE-clause-staged : goal.returns-then-len_of-lt-PAGE-clause-staged
-returns-then-len_of-lt-PAGE-clause-staged g c = c.put_at.ensures.staged
+pub returns-then-len_of-lt-PAGE_SLOTS-clause-staged : goal.returns-then-len_of-lt-PAGE_SLOTS-clause-staged
+returns-then-len_of-lt-PAGE_SLOTS-clause-staged g c = c.put_at.ensures.staged
 
-pub returns-then-len_of-lt-PAGE-clause-place : goal.returns-then-len_of-lt-PAGE-clause-place
-returns-then-len_of-lt-PAGE-clause-place g c = c.put_at.ensures.place
+pub returns-then-len_of-lt-PAGE_SLOTS-clause-place : goal.returns-then-len_of-lt-PAGE_SLOTS-clause-place
+returns-then-len_of-lt-PAGE_SLOTS-clause-place g c = c.put_at.ensures.place
 
 pub returns-then-place-le-HALF-clause-columns : goal.returns-then-place-le-HALF-clause-columns
 returns-then-place-le-HALF-clause-columns g c = c.put_at-then-place-le-HALF.ensures.columns

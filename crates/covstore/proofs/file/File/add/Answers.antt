@@ -23,8 +23,8 @@ use Rattle.covstore.proofs.MapKeys.{seen}
 use Rattle.covstore.proofs.Orders.{names_order}
 use Rattle.covstore.proofs.file.File.add.Goals as goal
 
-pub add_items-requires : goal.add_items-requires
-add_items-requires g c =
+pub stage_items-requires : goal.stage_items-requires
+stage_items-requires g c =
     let name = λ (key : Vec ℕ g.row.A.Denot). key.items in
     let pairs = c.args.self.now.tests.entries in
     let tests = seen names_order name test_staged pairs in
@@ -37,10 +37,10 @@ pub returns-in-Some-clause-committed : goal.returns-in-Some-clause-committed
 returns-in-Some-clause-committed g c =
     let name = λ (key : Vec ℕ g.row.A.Denot). key.items in
     let pairs = c.args.self.now.tests.entries in
-    let after = c.add_items.new.test in
-    file_keeps (file_committed c.args.self.now) (file_committed (record { tests = c.get_mut.follows.lender after; index = c.add_items.new.index })) (record {
-      tests = test_kept name test_committed c.args.test.now pairs c.get_mut-in-Some.result.now after (c.get_mut.follows.lender after).entries c.get_mut.ensures.ordered (sym c.in-Some.ensures.value ∙ ap Some (sym c.get_mut-in-Some.ensures.value)) (c.get_mut.follows.holds after).0 c.add_items.ensures.test_committed;
-      index = c.add_items.ensures.index_committed;
+    let after = c.stage_items.new.test in
+    file_keeps (file_committed c.args.self.now) (file_committed (record { tests = c.get_mut.follows.lender after; index = c.stage_items.new.index })) (record {
+      tests = test_kept name test_committed c.args.test.now pairs c.get_mut-in-Some.result.now after (c.get_mut.follows.lender after).entries c.get_mut.ensures.ordered (sym c.in-Some.ensures.value ∙ ap Some (sym c.get_mut-in-Some.ensures.value)) (c.get_mut.follows.holds after).0 c.stage_items.ensures.test_committed;
+      index = c.stage_items.ensures.index_committed;
     })
 
 pub returns-in-Some-clause-ok : goal.returns-in-Some-clause-ok
@@ -49,15 +49,15 @@ returns-in-Some-clause-ok g c =
     let pairs = c.args.self.now.tests.entries in
     let tests = seen names_order name test_staged pairs in
     let points = c.get_mut-in-Some.result.now in
-    let after = c.add_items.new.test in
+    let after = c.stage_items.new.test in
     let items = map item_data c.args.items.now in
     let test = c.args.test.now in
     let found = sym c.in-Some.ensures.value ∙ ap Some (sym c.get_mut-in-Some.ensures.value) in
     let written = test_written name test_staged test pairs points after (c.get_mut.follows.lender after).entries c.get_mut.ensures.ordered found (c.get_mut.follows.holds after).0 in
-    on_ok_weaker c.add_items.result
-    (λ adds. subst (λ (list : List (List ℕ × TestData)). AddsItems items test (file_with tests (index_staged c.args.self.now.index)) (file_with list (index_staged c.add_items.new.index))) (sym written)
-    (adds_in items test tests (test_staged points) (index_staged c.args.self.now.index) (test_value name test_staged test pairs points found) (test_staged after) (index_staged c.add_items.new.index) adds))
-    c.add_items.ensures.ok
+    on_ok_weaker c.stage_items.result
+    (λ adds. subst (λ (list : List (List ℕ × TestData)). AddsItems items test (file_with tests (index_staged c.args.self.now.index)) (file_with list (index_staged c.stage_items.new.index))) (sym written)
+    (adds_in items test tests (test_staged points) (index_staged c.args.self.now.index) (test_value name test_staged test pairs points found) (test_staged after) (index_staged c.stage_items.new.index) adds))
+    c.stage_items.ensures.ok
 
 pub returns-in-Some-clause-clash : goal.returns-in-Some-clause-clash
 returns-in-Some-clause-clash g c =
@@ -68,19 +68,19 @@ returns-in-Some-clause-clash g c =
     let items = map item_data c.args.items.now in
     let test = c.args.test.now in
     let index = index_staged c.args.self.now.index in
-    IfErr-weaker c.add_items.result (Clashes items (test_staged points) index) (ClashesIn items test (file_with tests index))
-    (λ stop. clashes_in items test tests (test_staged points) index (test_value name test_staged test pairs points (sym c.in-Some.ensures.value ∙ ap Some (sym c.get_mut-in-Some.ensures.value))) stop) c.add_items.ensures.clash
+    IfErr-weaker c.stage_items.result (Clashes items (test_staged points) index) (ClashesIn items test (file_with tests index))
+    (λ stop. clashes_in items test tests (test_staged points) index (test_value name test_staged test pairs points (sym c.in-Some.ensures.value ∙ ap Some (sym c.get_mut-in-Some.ensures.value))) stop) c.stage_items.ensures.clash
 
 pub returns-in-Some-clause-settled : goal.returns-in-Some-clause-settled
 returns-in-Some-clause-settled g c = λ tests among settled.
     let name = λ (key : Vec ℕ g.row.A.Denot). key.items in
-    let after = c.add_items.new.test in
-    test_settled tests c.args.test.now among c.args.self.now (record { tests = c.get_mut.follows.lender after; index = c.add_items.new.index }) after (c.get_mut.follows.holds after).0 settled
+    let after = c.stage_items.new.test in
+    test_settled tests c.args.test.now among c.args.self.now (record { tests = c.get_mut.follows.lender after; index = c.stage_items.new.index }) after (c.get_mut.follows.holds after).0 settled
 
 -- the test is new: the map is as it was
 
-pub add_new-requires-clause-new : goal.add_new-requires-clause-new
-add_new-requires-clause-new g c =
+pub stage_new-requires-clause-new : goal.stage_new-requires-clause-new
+stage_new-requires-clause-new g c =
     let name = λ (key : Vec ℕ g.row.A.Denot). key.items in
     let test = c.args.test.now in
     subst (λ (m : BTreeMap (Vec ℕ g.row.A.Denot) (Test g.row.A.Denot)). is_some (value_of (slice_cmp nat_cmp) test (seen names_order name test_staged m.entries)) ≡ false) (sym c.get_mut.follows.holds-at-none)
@@ -89,14 +89,14 @@ add_new-requires-clause-new g c =
 pub returns-clause-ok : goal.returns-clause-ok
 returns-clause-ok g c =
     let same = ap (λ (m : BTreeMap (Vec ℕ g.row.A.Denot) (Test g.row.A.Denot)). file_staged (record { tests = m; index = c.args.self.now.index })) c.get_mut.follows.holds-at-none in
-    subst (λ (file : FileData). OnOk c.add_new.result (AddsItems (map item_data c.args.items.now) c.args.test.now file (file_staged c.add_new.new.self))) same c.add_new.ensures.ok
+    subst (λ (file : FileData). OnOk c.stage_new.result (AddsItems (map item_data c.args.items.now) c.args.test.now file (file_staged c.stage_new.new.self))) same c.stage_new.ensures.ok
 
 pub returns-clause-clash : goal.returns-clause-clash
 returns-clause-clash g c =
     let same = ap (λ (m : BTreeMap (Vec ℕ g.row.A.Denot) (Test g.row.A.Denot)). file_staged (record { tests = m; index = c.args.self.now.index })) c.get_mut.follows.holds-at-none in
-    subst (λ (file : FileData). IfErr c.add_new.result (ClashesIn (map item_data c.args.items.now) c.args.test.now file)) same c.add_new.ensures.clash
+    subst (λ (file : FileData). IfErr c.stage_new.result (ClashesIn (map item_data c.args.items.now) c.args.test.now file)) same c.stage_new.ensures.clash
 
 pub returns-clause-settled : goal.returns-clause-settled
 returns-clause-settled g c = λ tests among settled.
-    c.add_new.ensures.settled tests among
+    c.stage_new.ensures.settled tests among
     (subst (λ (m : BTreeMap (Vec ℕ g.row.A.Denot) (Test g.row.A.Denot)). IsSettledBut tests (record { tests = m; index = c.args.self.now.index })) (sym c.get_mut.follows.holds-at-none) settled)

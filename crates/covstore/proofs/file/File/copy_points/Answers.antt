@@ -44,8 +44,8 @@ unreachable-requires-in_default-get_mut g c =
 
 -- the values are added
 
-pub add_values-added-requires-clause-room : goal.add_values-added-requires-clause-room
-add_values-added-requires-clause-room g c =
+pub stage_values-added-requires-clause-room : goal.stage_values-added-requires-clause-room
+stage_values-added-requires-clause-room g c =
     let name = λ (key : Vec ℕ g.row.A.Denot). key.items in
     let pairs = c.args.self.now.tests.entries in
     let tests = seen names_order name test_staged pairs in
@@ -60,8 +60,8 @@ add_values-added-requires-clause-room g c =
     let few : length tests ≤ 2 ^ 63 = omega (arith, length-map {B = List ℕ × TestData} pairs (λ pair. (name pair.0, test_staged pair.1)), c.len.ensures.len, c.len.ensures.small) in
     copies_room old new tests (index_staged c.args.self.now.index) (test_committed source) (test_staged target) its_source (test_value name test_staged new pairs target found) c.requires.room few
 
-pub add_values-added-requires-clause-holders : goal.add_values-added-requires-clause-holders
-add_values-added-requires-clause-holders g c =
+pub stage_values-added-requires-clause-holders : goal.stage_values-added-requires-clause-holders
+stage_values-added-requires-clause-holders g c =
     let name = λ (key : Vec ℕ g.row.A.Denot). key.items in
     let pairs = c.args.self.now.tests.entries in
     let tests = seen names_order name test_staged pairs in
@@ -83,13 +83,13 @@ returns-clause-committed g c =
     let new = c.args.new.now in
     let lent = c.get_mut-2.result.now in
     let empty = c.replace-points.new.dest in
-    let points = c.add_values-added.new.test in
+    let points = c.stage_values-added.new.test in
     let found = sym c.in-Some.ensures.value ∙ ap Some (sym c.replace-points.ensures.value) ∙ ap Some (sym c.get_mut-2.ensures.value) in
     record {
       tests = same_back name test_committed new c.args.self.now.tests.entries (c.get_mut.follows.lender empty).entries lent empty c.get_mut.ensures.ordered found (c.get_mut.follows.holds empty).0
           c.in-Some-get_mut.place.now points (c.get_mut-3.follows.lender points).entries c.get_mut-3.ensures.ordered (sym c.in-Some-get_mut.ensures.value) (c.get_mut-3.follows.holds points).0
-          c.add_values-added.ensures.test_committed;
-      index = c.add_values-added.ensures.index_committed;
+          c.stage_values-added.ensures.test_committed;
+      index = c.stage_values-added.ensures.index_committed;
     }
 
 pub returns-clause-ok : goal.returns-clause-ok
@@ -102,7 +102,7 @@ returns-clause-ok g c =
     let new = c.args.new.now in
     let lent = c.get_mut-2.result.now in
     let empty = c.replace-points.new.dest in
-    let points = c.add_values-added.new.test in
+    let points = c.stage_values-added.new.test in
     let found = sym c.in-Some.ensures.value ∙ ap Some (sym c.replace-points.ensures.value) ∙ ap Some (sym c.get_mut-2.ensures.value) in
     let lifted = (c.get_mut.follows.holds empty).0 in
     let source = c.get-2.result.now in
@@ -112,18 +112,18 @@ returns-clause-ok g c =
     (put_back name test_staged new pairs (c.get_mut.follows.lender empty).entries lent empty c.get_mut.ensures.ordered found lifted c.in-Some-get_mut.place.now points
     (c.get_mut-3.follows.lender points).entries c.get_mut-3.ensures.ordered (sym c.in-Some-get_mut.ensures.value) (c.get_mut-3.follows.holds points).0)
     refl in
-    on_ok_weaker c.add_values-added.result
+    on_ok_weaker c.stage_values-added.result
     (λ adds. subst (λ (file : FileData). CopiesIn old new (file_staged before) file) (sym is)
     (copies_in old new tests (index_staged before.index) (test_committed source) (test_staged lent) its_source (test_value name test_staged new pairs lent found)
-    (test_staged points) (index_staged c.add_values-added.new.index) adds))
-    c.add_values-added.ensures.ok
+    (test_staged points) (index_staged c.stage_values-added.new.index) adds))
+    c.stage_values-added.ensures.ok
 
 pub returns-clause-settled : goal.returns-clause-settled
 returns-clause-settled g c = λ tests among settled.
     let new = c.args.new.now in
     let empty = c.replace-points.new.dest in
-    let points = c.add_values-added.new.test in
-    let middle : File g.row.A.Denot = record { tests = c.get_mut.follows.lender empty; index = c.add_values-added.new.index } in
-    let after : File g.row.A.Denot = record { tests = c.get_mut-3.follows.lender points; index = c.add_values-added.new.index } in
+    let points = c.stage_values-added.new.test in
+    let middle : File g.row.A.Denot = record { tests = c.get_mut.follows.lender empty; index = c.stage_values-added.new.index } in
+    let after : File g.row.A.Denot = record { tests = c.get_mut-3.follows.lender points; index = c.stage_values-added.new.index } in
     test_settled tests new among middle after points (c.get_mut-3.follows.holds points).0
     (test_settled tests new among c.args.self.now middle empty (c.get_mut.follows.holds empty).0 settled)

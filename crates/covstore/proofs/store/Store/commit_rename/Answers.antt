@@ -3,7 +3,7 @@ use Rattle.covstore.specs.declared.store.Touched.{Touched}
 use Rattle.covstore.specs.FileDrops.{AreWithoutTest}
 use Rattle.covstore.specs.StoreView.{AreSettledBut, files_staged, files_committed, touched_data}
 use Rattle.covstore.specs.Renaming.{IsMoving, IsMovingIfAny}
-use Rattle.covstore.specs.State.{FileData, IsWholeFile}
+use Rattle.covstore.specs.State.{FileData, IsConsistentFile}
 use Rattle.covstore.specs.Store.{StandsFor, StoreData}
 use Rattle.covstore.specs.Table.{all_rows}
 use Rattle.std.specs.List.{AllByRecursion}
@@ -24,7 +24,7 @@ drop_from_files-requires g c =
     let first = store_of inside.members (files_committed file_name inside.files.entries) (files_staged file_name inside.files.entries) inside.totals_after in
     let is = moving c.args.self.now first c.self.view_is c.requires.0 c.requires.1 c.in-Some.old.now c.args.renaming.leaves c.in-Some.ensures c.requires.2 in
     whole_files file_name c.commit_staged.new.files.entries
-    (subst (λ (files : List (List ℕ × FileData)). AllByRecursion (λ pair. IsWholeFile pair.1) files) (sym c.commit_staged.ensures.committed) (is.moves (all_rows c.self.invariant.0.own) c.self.invariant.0.state).whole)
+    (subst (λ (files : List (List ℕ × FileData)). AllByRecursion (λ pair. IsConsistentFile pair.1) files) (sym c.commit_staged.ensures.committed) (is.moves (all_rows c.self.invariant.0.own) c.self.invariant.0.state).whole)
 
 pub invariant_of-self : goal.invariant_of-self
 invariant_of-self g c =

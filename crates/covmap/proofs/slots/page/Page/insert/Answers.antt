@@ -1,7 +1,7 @@
 use Rattle.std.proofs.Common.{◌≡◌, ◌∙◌, None, ap, length, arith}
 use Rattle.std.specs.List.{insert}
 use Rattle.covmap.specs.Slots.{beside}
-use Rattle.covmap.proofs.PageParts.{beside_behind, beside_insert, beside_length, insert_last}
+use Rattle.covmap.proofs.PageParts.{beside_after, beside_insert, beside_length, insert_last}
 use Rattle.covmap.proofs.slots.page.Page.insert.Goals as goal
 
 pub insert-requires : goal.insert-requires
@@ -14,7 +14,7 @@ returns-then-index-len-clause-ok g c =
     let values = c.self.inside.values.items in
     let last : c.args.index ≡ length keys = omega (arith, c.if-index-len.true, c.len.ensures, c.self.inside.keys.ok.0) in
     ap (λ keys. beside keys values) (c.in_ok-push.ensures.items ∙ insert_last keys c.args.index c.args.key last)
-    ∙ beside_behind keys values c.args.index c.args.key (omega (arith, last, c.self.invariant)) (omega (arith, last))
+    ∙ beside_after keys values c.args.index c.args.key (omega (arith, last, c.self.invariant)) (omega (arith, last))
     ∙ ap (λ slots. insert slots c.args.index (c.args.key, None)) c.self.view_is
 
 pub returns-then-len-index-clause-ok : goal.returns-then-len-index-clause-ok
@@ -22,7 +22,7 @@ returns-then-len-index-clause-ok g c =
     let keys = c.self.inside.keys.items in
     let values = c.self.inside.values.items in
     ap (λ keys. beside keys values) c.in_ok-insert.ensures.items
-    ∙ beside_behind keys values c.args.index c.args.key (omega (arith, c.if-len-index.true, c.len-2.ensures, c.self.inside.values.ok.0)) (omega (arith, c.requires, ap length c.self.view_is, beside_length keys values))
+    ∙ beside_after keys values c.args.index c.args.key (omega (arith, c.if-len-index.true, c.len-2.ensures, c.self.inside.values.ok.0)) (omega (arith, c.requires, ap length c.self.view_is, beside_length keys values))
     ∙ ap (λ slots. insert slots c.args.index (c.args.key, None)) c.self.view_is
 
 pub returns-clause-ok : goal.returns-clause-ok

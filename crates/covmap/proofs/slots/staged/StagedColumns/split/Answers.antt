@@ -1,7 +1,7 @@
 use Rattle.std.proofs.Common.{◌≡◌, suc, ◌+◌, ◌∙◌, ap, sym, subst, map, take, drop, length, arith, refl, None, Some}
 use Rattle.std.specs.List.{AllByRecursion}
 use Rattle.covmap.specs.Staged.{AreAscending, IsAmong}
-use Rattle.covmap.proofs.StagedGrowth.{front_length, none_among, one_among, here_is, behind_halves, halves_ascending, moved_full, seen_halves}
+use Rattle.covmap.proofs.StagedGrowth.{front_length, none_among, one_among, here_is, after_halves, halves_ascending, moved_full, seen_halves}
 use Rattle.covmap.proofs.StagedPut.{index_within, seen_column}
 use Rattle.covmap.proofs.SlotWrites.{not_there}
 use Rattle.covmap.proofs.slots.staged.StagedColumns.split.Goals as goal
@@ -81,8 +81,8 @@ returns g c =
     let column = c.index_mut.result.now in
     let same = seen_column (λ column. (column.0, column.1.items)) c.reserve.new.self.items now (take index now) (page, t.0) (drop (suc index) now) index view t.1.is at column c.index_mut.ensures.value in
     let next : page + 1 ≡ suc page = omega arith in
-    let first = ap (λ items. (column.0, items)) c.in_ok-behind.ensures.items ∙ ap (λ column. (column.0, take 128 column.1)) same in
-    let second = ap (λ items. (page + 1, items)) c.in_ok-behind.ensures.tail ∙ ap (λ column. (page + 1, drop 128 column.1)) same ∙ ap (λ next. (next, drop 128 t.0)) next in
+    let first = ap (λ items. (column.0, items)) c.in_ok-following.ensures.items ∙ ap (λ column. (column.0, take 128 column.1)) same in
+    let second = ap (λ items. (page + 1, items)) c.in_ok-following.ensures.tail ∙ ap (λ column. (page + 1, drop 128 column.1)) same ∙ ap (λ next. (next, drop 128 t.0)) next in
     record {
       ok = record {
         front = take index now;
@@ -91,7 +91,7 @@ returns g c =
         was = subst (λ columns. IsAmong page columns (take index now) (Some t.0) (drop (suc index) now)) c.renumber.ensures t.1;
         is = ap (map (λ column. (column.0, column.1.items))) c.in_ok-insert.ensures.items
             ∙ seen_halves (λ column. (column.0, column.1.items)) c.reserve.new.self.items now (take index now) (page, t.0) (drop (suc index) now) index view t.1.is at (column.0, c.split_off.new.self)
-            (page + 1, c.in_ok-behind.behind) (page, take 128 t.0) (suc page, drop 128 t.0) first second;
+            (page + 1, c.in_ok-following.following) (page, take 128 t.0) (suc page, drop 128 t.0) first second;
       };
     }
 
@@ -104,5 +104,5 @@ invariant_of-self-2 g c =
     let a = c.has.ensures.ascending in
     let t = one_among now page index c.index_of-index.ensures a (c.has.ensures.there.0 c.if-not-has.false) in
     let split = (returns g c).ok in
-    let behind = behind_halves page c.args.self.now (take index now) (Some t.0) (drop (suc index) now) split.was in
-    subst AreAscending (sym split.is) (halves_ascending page t.0 (take index now) (drop (suc index) now) (take 128 t.0) (drop 128 t.0) t.1.below behind (subst AreAscending t.1.is a))
+    let following = after_halves page c.args.self.now (take index now) (Some t.0) (drop (suc index) now) split.was in
+    subst AreAscending (sym split.is) (halves_ascending page t.0 (take index now) (drop (suc index) now) (take 128 t.0) (drop 128 t.0) t.1.below following (subst AreAscending t.1.is a))

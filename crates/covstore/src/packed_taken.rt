@@ -1,0 +1,88 @@
+//! How often a branch was taken, which may be missing, in 20 bytes. An `Option<u128>` takes 32, and 48 where it is an
+//! option's value once more.
+
+ghost use Rattle.std.specs.Prelude.{◌≡◌, None};
+ghost use Rattle.covstore.specs.Sums.{sum_taken};
+ghost use Rattle.covstore.specs.Value.{is_taken};
+
+use crate::packed_u128::PackedU128;
+use std::marker::Model;
+
+/// A number below 2^128, or none. Contracts see the one or the other.
+#[derive(Drop)]
+pub(crate) struct PackedTaken {
+    count: PackedU128,
+    is_known: bool,
+}
+
+impl Model for PackedTaken {
+    ghost use Rattle.std.specs.Prelude.{ℕ, Option, Some, None, cond};
+
+    ghost Value = { Option ℕ };
+
+    ghost view = { λ times. cond times.is_known (Some times.count) None };
+}
+
+impl PackedTaken {
+    /// This number, or none.
+    pub(crate) fn of(times: Option<u128>) -> PackedTaken
+        ensures { result ≡ times }
+    {
+        match times {
+            Some(number) => PackedTaken {
+                count: PackedU128::of(number),
+                is_known: true,
+            },
+            None => PackedTaken {
+                count: PackedU128::of(0),
+                is_known: false,
+            },
+        }
+    }
+
+    /// The same once more.
+    pub(crate) fn copy(&self) -> PackedTaken
+        ensures { result ≡ self.now }
+    {
+        PackedTaken {
+            count: self.count.copy(),
+            is_known: self.is_known,
+        }
+    }
+
+    /// The sum with a number that may be missing too. It stops at the largest number of 128 bits.
+    pub(crate) fn plus(&self, times: Option<u128>) -> PackedTaken
+        ensures { result ≡ sum_taken self.now times }
+    {
+        if !self.is_known {
+            return PackedTaken::of(times);
+        }
+        match times {
+            Some(number) => PackedTaken {
+                count: self.count.plus(number),
+                is_known: true,
+            },
+            None => self.copy(),
+        }
+    }
+
+    /// Whether there is a number above 0.
+    pub(crate) fn is_above(&self) -> bool
+        ensures { result ≡ is_taken self.now }
+    {
+        if self.is_known {
+            return self.count.is_above();
+        }
+        false
+    }
+
+    /// The number, where there is one.
+    pub(crate) fn get(&self) -> Option<u128>
+        ensures { result ≡ self.now }
+    {
+        if self.is_known {
+            return Some(self.count.get());
+        }
+        None
+    }
+}

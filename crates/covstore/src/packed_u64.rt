@@ -1,0 +1,50 @@
+//! A number of 64 bits in two words of 32. A struct of these may lie at each multiple of 4, and an option of it takes 4
+//! bytes more, where a word of 64 bits takes 8.
+
+ghost use Rattle.std.specs.Prelude.{◌≡◌};
+
+use std::marker::Model;
+
+/// A number below 2^64. Contracts see the number.
+#[derive(Drop)]
+pub(crate) struct PackedU64 {
+    low: u32,
+    high: u32,
+}
+
+impl Model for PackedU64 {
+    ghost use Rattle.std.specs.Prelude.{ℕ, ◌+◌, ◌*◌};
+
+    ghost Value = { ℕ };
+
+    ghost view = { λ split. split.high * 4294967296 + split.low };
+}
+
+impl PackedU64 {
+    /// This number.
+    pub(crate) fn of(number: u64) -> PackedU64
+        ensures { result ≡ number }
+    {
+        PackedU64 {
+            low: (number % 4294967296) as u32,
+            high: (number / 4294967296) as u32,
+        }
+    }
+
+    /// The same number once more.
+    pub(crate) fn copy(&self) -> PackedU64
+        ensures { result ≡ self.now }
+    {
+        PackedU64 {
+            low: self.low,
+            high: self.high,
+        }
+    }
+
+    /// The number.
+    pub(crate) fn get(&self) -> u64
+        ensures { result ≡ self.now }
+    {
+        u64::from(self.high) * 4294967296 + u64::from(self.low)
+    }
+}

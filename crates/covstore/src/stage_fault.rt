@@ -1,0 +1,50 @@
+//! Why a section isn't taken.
+
+use covline::{Bytes, Memory};
+use std::alloc::{AllocError, AllocFailed, Allocator};
+
+/// Why the items of a section can't be taken.
+#[derive(Drop)]
+pub(crate) enum StageFault<A: Allocator> {
+    /// The line's checksum differs from the one that is held, or from an earlier one of the submission.
+    Clash {
+        line: u64,
+        held: Bytes<A>,
+        given: Bytes<A>,
+    },
+    /// A growth was refused.
+    Memory,
+}
+
+impl<A: Allocator> From<Memory> for StageFault<A> {
+    ghost use Rattle.std.specs.Prelude.{◌≡◌};
+    ghost use Rattle.covstore.specs.declared.stage_fault.StageFault.TheVariants as stops;
+
+    ghost from_gives = { λ _ e. e ≡ stops.Memory };
+
+    fn from(_refused: Memory) -> StageFault<A> {
+        StageFault::Memory
+    }
+}
+
+impl<A: Allocator> From<AllocError> for StageFault<A> {
+    ghost use Rattle.std.specs.Prelude.{◌≡◌};
+    ghost use Rattle.covstore.specs.declared.stage_fault.StageFault.TheVariants as stops;
+
+    ghost from_gives = { λ _ e. e ≡ stops.Memory };
+
+    fn from(_refused: AllocError) -> StageFault<A> {
+        StageFault::Memory
+    }
+}
+
+impl<T: Drop, A: Allocator> From<AllocFailed<T>> for StageFault<A> {
+    ghost use Rattle.std.specs.Prelude.{◌≡◌};
+    ghost use Rattle.covstore.specs.declared.stage_fault.StageFault.TheVariants as stops;
+
+    ghost from_gives = { λ _ e. e ≡ stops.Memory };
+
+    fn from(_refused: AllocFailed<T>) -> StageFault<A> {
+        StageFault::Memory
+    }
+}
