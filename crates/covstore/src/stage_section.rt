@@ -14,7 +14,7 @@ use crate::test::Test;
 use covline::Item;
 use std::alloc::Allocator;
 
-/// Stages the items, up to the first that clashes. Where none has a checksum, those of one kind are staged at once.
+/// Stages the items, up to the first that clashes. If none has a checksum, runs of items of one kind are staged.
 pub(crate) fn stage_items<A: Allocator + Copy>(
     test: &mut Test<A>,
     index: &mut FileIndex<A>,

@@ -33,7 +33,7 @@ pub(crate) trait PointAddend<S: PointSum>: Telling<S, TestsAddend> {
 }
 
 /// Whether the point is there, above 0.
-pub(crate) fn is_hit<S: PointSum>(value: &Option<S>) -> bool
+fn is_hit<S: PointSum>(value: &Option<S>) -> bool
     ensures { result ≡ is_above_at S.above value.now }
 {
     match value {
