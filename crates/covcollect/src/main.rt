@@ -23,7 +23,7 @@ use covcommand::{CommandFault, word_at};
 pub use covlaws::{
     a_merge_of_merges_is_the_merge_of_all, each_report_of_a_history_reads_back, reports_read_back,
 };
-use covrun::{refuse, run};
+use covrun::{FromFiles, refuse, run};
 use covsession::{FromRead, FromWrite};
 use std::env::FillError;
 use std::io;
@@ -35,7 +35,14 @@ fn main(rt: HostRuntime) -> ExitCode {
     let mut output = FromWrite::new(io::writer(&rt));
     let mut faults = FromWrite::new(rt.stderr());
     let status = match words_of_call(&rt) {
-        Ok(words) => run(&rt, words.as_slice(), &mut input, &mut output, &mut faults),
+        Ok(words) => run(
+            &rt,
+            &FromFiles::new(&rt),
+            words.as_slice(),
+            &mut input,
+            &mut output,
+            &mut faults,
+        ),
         Err(fault) => refuse(fault, &mut output, &mut faults),
     };
     ExitCode::from(status)

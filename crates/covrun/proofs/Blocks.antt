@@ -1,8 +1,10 @@
 -- A text that is read by blocks.
-use Rattle.std.proofs.Common.{◌≡◌, ℕ, ◌+◌, ◌<◌, ◌≤◌, min, List, [], length, Option, ap, sym, ◌∙◌, subst, arith, length-append}
+use Rattle.std.proofs.Common.{◌≡◌, ℕ, suc, ◌+◌, ◌<◌, ◌≤◌, min, List, [], ◌++◌, length, Option, ap, sym, ◌∙◌, subst, arith, length-append}
 use Rattle.std.proofs.KnownBytes.{Consumes-nil, Consumes-trans}
 use Rattle.std.specs.Io.KnownBytes.{Consumes, IsAtEnd}
-use Rattle.covrun.specs.Files.{HasReadBlock}
+use Rattle.covsession.specs.declared.session.fault.SessionFault.{SessionFault}
+use Rattle.covsession.specs.declared.session.fault.SessionFault.TheVariants as faults
+use Rattle.covrun.specs.Files.{HasReadBlock, IsReadFault}
 
 -- nothing is read yet
 pub read_begun : (left : Option (List ℕ)) (text : List ℕ) → text ≡ [] → Consumes left left text
@@ -28,3 +30,12 @@ pub read_within : (now new : Option (List ℕ)) (text text_after : List ℕ) (ro
     → HasReadBlock now new text text_after part count → HasReadBlock now new text text_after room count
 read_within now new text text_after room block part count some is (bytes, took, now_is, long, few, ended) =
     (bytes, took, now_is, long, omega (arith, few, is), λ none wanted. ended none (omega (arith, some, is, wanted)))
+
+-- no block more: a read failed, or memory ran out
+pub read_failed : (old now new : Option (List ℕ)) (text : List ℕ) (failed failed_now failed_new : ℕ) (fault : SessionFault) → Consumes old now text
+    → failed_now ≡ failed → IsReadFault now new failed_now failed_new fault → IsReadFault old new failed failed_new fault
+read_failed old now new text failed failed_now failed_new faults.Read before same (bytes, took, more) =
+    (text ++ bytes, Consumes-trans old now new text bytes before took, more ∙ ap suc same)
+read_failed old now new text failed failed_now failed_new faults.Memory before same fault = tt
+read_failed old now new text failed failed_now failed_new faults.Write before same none = absurd none
+read_failed old now new text failed failed_now failed_new faults.Full before same none = absurd none

@@ -4,7 +4,7 @@ use Rattle.std.proofs.KnownBytes.{Appends-trans}
 use Rattle.std.proofs.lemmas.List.{take_more, map-append, take-append-drop, drop_more, flat_map_more}
 use Rattle.std.proofs.lemmas.List.Folds.{list_any-append}
 use Rattle.std.specs.Io.KnownBytes.{Appends}
-use Rattle.std.specs.List.{AllByRecursion, flat_map, list_any, zip}
+use Rattle.std.specs.List.{flat_map, list_any, zip}
 use Rattle.covcheck.specs.Holding.{Tells}
 use Rattle.covcheck.specs.Skipped.{IsSkippedGcov, IsSkippedRecord}
 use Rattle.covcheck.specs.declared.holding.Holding.{Holding}
@@ -13,6 +13,7 @@ use Rattle.covcommand.specs.declared.asked.TextFormat.TheVariants.{Tracefile, Gc
 use Rattle.covline.specs.Row.{SubmissionData}
 use Rattle.covread.specs.GcovOutcome as gcov
 use Rattle.covread.specs.Outcome as trace
+use Rattle.covread.specs.Outcome.{most_bytes}
 use Rattle.covread.specs.declared.fault.ReadFault.{ReadFault}
 use Rattle.covread.specs.declared.fault.ReadFault.TheVariants as reads
 use Rattle.covsession.specs.Fault.{HasBegun}
@@ -21,10 +22,12 @@ use Rattle.covsession.specs.Session.{said}
 use Rattle.covsession.specs.declared.session.fault.SessionFault.{SessionFault}
 use Rattle.covsession.specs.declared.session.fault.SessionFault.TheVariants as faults
 use Rattle.covrun.specs.Check.{OutcomeData, Unread, Refused, Held, IsOutcome, IsCheck, EndsWithin, has_item, outcome_line, outcome_complaint, check_lines, check_complaints, is_unread, is_refused, is_empty}
-use Rattle.covrun.specs.Checked.{AnswersText, Says, TellsEach, TellsOne, verdict_of, worse, worst_of}
+use Rattle.covrun.specs.Checked.{AnswersText, Says, TellsEach, TellsOne, TellsText, verdict_of, worse, worst_of}
+use Rattle.covrun.specs.Folder.{FolderData, IsTextOf}
 use Rattle.covrun.specs.Streams.{SinksData}
 use Rattle.covrun.specs.declared.verdict.Verdict.{Verdict}
 use Rattle.covrun.specs.declared.verdict.Verdict.TheVariants as verdicts
+use Rattle.covrun.proofs.Places.{pairs_front, pairs_more, zip_front, zip_next}
 
 -- ---- what a text is answered
 
@@ -53,26 +56,6 @@ gcov_answered text answer (read, inr outcome, late, tells) = inr (read, outcome,
 
 -- ---- files beside their outcomes
 
-zip_none : {K V : Type 0} (ks : List K) → zip {K = K} {X = V} ks [] ≡ []
-zip_none [] = refl
-zip_none (k ∷ ks) = refl
-
--- the next file has an outcome, and those after it have none
-zip_next : {K V : Type 0} (ks rest : List K) (vs : List V) (k : K) (v : V) → length vs ≡ length ks
-    → zip (ks ++ k ∷ rest) (vs ++ v ∷ []) ≡ zip ks vs ++ (k, v) ∷ []
-zip_next {K} {V} [] rest [] k v same = ap (λ (ps : List (K × V)). (k, v) ∷ ps) (zip_none rest)
-zip_next [] rest (w ∷ vs) k v same = absurd (omega (arith, same))
-zip_next (j ∷ ks) rest [] k v same = absurd (omega (arith, same))
-zip_next {K} {V} (j ∷ ks) rest (w ∷ vs) k v same =
-    ap (λ (ps : List (K × V)). (j, w) ∷ ps) (zip_next ks rest vs k v (omega (arith, same)))
-
--- files after those that have an outcome don't matter
-zip_front : {K V : Type 0} (ks rest : List K) (vs : List V) → length vs ≡ length ks → zip (ks ++ rest) vs ≡ zip ks vs
-zip_front [] rest [] same = zip_none rest
-zip_front [] rest (w ∷ vs) same = absurd (omega (arith, same))
-zip_front (j ∷ ks) rest [] same = refl
-zip_front {K} {V} (j ∷ ks) rest (w ∷ vs) same = ap (λ (ps : List (K × V)). (j, w) ∷ ps) (zip_front ks rest vs (omega (arith, same)))
-
 -- what is told of each file, and of the next
 each_next : (told : List ℕ → OutcomeData → List ℕ) (files rest : List (List ℕ)) (outcomes : List OutcomeData) (file : List ℕ) (outcome : OutcomeData)
     → length outcomes ≡ length files
@@ -82,10 +65,17 @@ each_next told files rest outcomes file outcome same =
     flat_map_more (λ (f : List ℕ × OutcomeData). told f.0 f.1) [] (zip files outcomes) (file, outcome)
     ∙ ap (flat_map (λ (f : List ℕ × OutcomeData). told f.0 f.1)) (sym (zip_next files rest outcomes file outcome same))
 
-all_next : (format : TextFormat) (outcomes : List OutcomeData) (outcome : OutcomeData) → AllByRecursion (IsOutcome format) outcomes
-    → IsOutcome format outcome → AllByRecursion (IsOutcome format) (outcomes ++ outcome ∷ [])
-all_next format [] outcome all fits = (fits, tt)
-all_next format (o ∷ outcomes) outcome all fits = (all.0, all_next format outcomes outcome all.1 fits)
+-- what can become of a file
+abbrev becomes : FolderData → TextFormat → List ℕ × OutcomeData → Type 0
+becomes folder format f = IsOutcome folder format f.0 f.1
+
+-- a file of this text is told of
+pub told_text : (folder : FolderData) (format : TextFormat) (file text : List ℕ) → length text ≤ suc most_bytes → IsTextOf (folder.holds file) text
+    → (answer : Result Verdict SessionFault) (b d : SinksData) → TellsText format file text answer b d → TellsOne folder format file answer b d
+told_text folder format file text short fits answer b d (inl ran_out) = inl ran_out
+told_text folder format file text short fits answer b d (inr (Unread, none, told)) = absurd none
+told_text folder format file text short fits answer b d (inr (Refused fault, is, told)) = inr (Refused fault, (text, short, fits, is), told)
+told_text folder format file text short fits answer b d (inr (Held holding, is, told)) = inr (Held holding, (text, short, fits, is), told)
 
 -- ---- the worst
 
@@ -152,13 +142,14 @@ within_next files outcomes a b d same within = record {
 
 -- ---- one file more
 
-told_next : (format : TextFormat) (files : List (List ℕ)) (file : List ℕ) (so_far verdict : Verdict) (a b d : SinksData)
-    → TellsEach format files (Ok so_far) a b → TellsOne format file (Ok verdict) b d
-    → TellsEach format (files ++ file ∷ []) (Ok (worse so_far verdict)) a d
-told_next format files file so_far verdict a b d (outcomes, all, (same, is, lines, good, says)) (outcome, fits, (is', line, good', says')) =
+told_next : (folder : FolderData) (format : TextFormat) (files : List (List ℕ)) (file : List ℕ) (so_far verdict : Verdict) (a b d : SinksData)
+    → TellsEach folder format files (Ok so_far) a b → TellsOne folder format file (Ok verdict) b d
+    → TellsEach folder format (files ++ file ∷ []) (Ok (worse so_far verdict)) a d
+told_next folder format files file so_far verdict a b d before (inl (ran_out, unchanged)) = absurd cc
+told_next folder format files file so_far verdict a b d (outcomes, all, (same, is, lines, good, says)) (inr (outcome, fits, (is', line, good', says'))) =
     let longer : length (outcomes ++ outcome ∷ []) ≡ length outcomes + 1 = length-append outcomes (outcome ∷ []) in (
       outcomes ++ outcome ∷ [],
-      all_next format outcomes outcome all fits,
+      pairs_more (becomes folder format) files [] outcomes file outcome same all fits,
       (
         longer ∙ ap (λ (n : ℕ). n + 1) same ∙ sym (length-append files (file ∷ [])),
         ap (λ (v : Verdict). worse v verdict) is ∙ ap (worse (worst_of outcomes)) is' ∙ sym (worst_next outcomes outcome),
@@ -171,14 +162,31 @@ told_next format files file so_far verdict a b d (outcomes, all, (same, is, line
       ),
     )
 
+-- memory ran out before the next file was told of
+told_without_room : (folder : FolderData) (format : TextFormat) (files rest : List (List ℕ)) (file : List ℕ) (so_far : Verdict) (a b d : SinksData)
+    → TellsEach folder format files (Ok so_far) a b → d ≡ b → TellsEach folder format (files ++ file ∷ rest) (Err faults.Memory) a d
+told_without_room folder format files rest file so_far a b d (outcomes, all, (same, is, lines, good, says)) unchanged =
+    let front : zip (files ++ file ∷ rest) outcomes ≡ zip files outcomes = zip_front files (file ∷ rest) outcomes same in
+    subst (λ (s : SinksData). TellsEach folder format (files ++ file ∷ rest) (Err faults.Memory) a s) (sym unchanged) (
+      outcomes,
+      pairs_front (becomes folder format) files (file ∷ rest) outcomes same all,
+      (
+        omega (arith, same, length-append files (file ∷ rest)),
+        subst (Appends a.output b.output) (ap (flat_map (λ (f : List ℕ × OutcomeData). outcome_line f.0 f.1)) (sym front)) lines,
+        good,
+        subst (λ (ws : List ℕ). Says (length outcomes) ws a b) (ap (flat_map (λ (f : List ℕ × OutcomeData). outcome_complaint f.0 f.1)) (sym front)) says,
+      ),
+    )
+
 -- the next file is the last that is looked at
-told_until : (format : TextFormat) (files rest : List (List ℕ)) (file : List ℕ) (so_far : Verdict) (fault : SessionFault) (a b d : SinksData)
-    → TellsEach format files (Ok so_far) a b → TellsOne format file (Err fault) b d
-    → TellsEach format (files ++ file ∷ rest) (Err fault) a d
-told_until format files rest file so_far faults.Write a b d (outcomes, all, (same, is, lines, good, says)) (outcome, fits, (begun, failed, says')) =
+told_until : (folder : FolderData) (format : TextFormat) (files rest : List (List ℕ)) (file : List ℕ) (so_far : Verdict) (fault : SessionFault) (a b d : SinksData)
+    → TellsEach folder format files (Ok so_far) a b → TellsOne folder format file (Err fault) b d
+    → TellsEach folder format (files ++ file ∷ rest) (Err fault) a d
+told_until folder format files rest file so_far faults.Write a b d before (inl (ran_out, unchanged)) = absurd cc
+told_until folder format files rest file so_far faults.Write a b d (outcomes, all, (same, is, lines, good, says)) (inr (outcome, fits, (begun, failed, says'))) =
     let longer : length (outcomes ++ outcome ∷ []) ≡ length outcomes + 1 = length-append outcomes (outcome ∷ []) in (
       outcomes ++ outcome ∷ [],
-      all_next format outcomes outcome all fits,
+      pairs_more (becomes folder format) files rest outcomes file outcome same all fits,
       (
         record {
           earlier = files;
@@ -199,49 +207,43 @@ told_until format files rest file so_far faults.Write a b d (outcomes, all, (sam
             (says_next (length outcomes) 1 _ _ a b d says says')),
       ),
     )
-told_until format files rest file so_far faults.Memory a b d (outcomes, all, (same, is, lines, good, says)) (outcome, fits, unchanged) =
-    let front : zip (files ++ file ∷ rest) outcomes ≡ zip files outcomes = zip_front files (file ∷ rest) outcomes same in
-    subst (λ (s : SinksData). TellsEach format (files ++ file ∷ rest) (Err faults.Memory) a s) (sym unchanged) (
-      outcomes,
-      all,
-      (
-        omega (arith, same, length-append files (file ∷ rest)),
-        subst (Appends a.output b.output) (ap (flat_map (λ (f : List ℕ × OutcomeData). outcome_line f.0 f.1)) (sym front)) lines,
-        good,
-        subst (λ (ws : List ℕ). Says (length outcomes) ws a b) (ap (flat_map (λ (f : List ℕ × OutcomeData). outcome_complaint f.0 f.1)) (sym front)) says,
-      ),
-    )
-told_until format files rest file so_far faults.Read a b d before (outcome, fits, none) = absurd none
-told_until format files rest file so_far faults.Full a b d before (outcome, fits, none) = absurd none
+told_until folder format files rest file so_far faults.Memory a b d before (inl (ran_out, unchanged)) =
+    told_without_room folder format files rest file so_far a b d before unchanged
+told_until folder format files rest file so_far faults.Memory a b d before (inr (outcome, fits, unchanged)) =
+    told_without_room folder format files rest file so_far a b d before unchanged
+told_until folder format files rest file so_far faults.Read a b d before (inl (ran_out, unchanged)) = absurd cc
+told_until folder format files rest file so_far faults.Read a b d before (inr (outcome, fits, none)) = absurd none
+told_until folder format files rest file so_far faults.Full a b d before (inl (ran_out, unchanged)) = absurd cc
+told_until folder format files rest file so_far faults.Full a b d before (inr (outcome, fits, none)) = absurd none
 
 -- ---- in a slice of names
 
 -- the next file is told of
-pub told_more : {X : Type 0} (name : X → List ℕ) (format : TextFormat) (files : List X) (i : ℕ) (default : X) → i < length files
+pub told_more : {X : Type 0} (folder : FolderData) (name : X → List ℕ) (format : TextFormat) (files : List X) (i : ℕ) (default : X) → i < length files
     → (file : List ℕ) → file ≡ name (get_or files i default) → (so_far verdict after : Verdict) → after ≡ worse so_far verdict → (a b d : SinksData)
-    → TellsEach format (map name (take i files)) (Ok so_far) a b → TellsOne format file (Ok verdict) b d
-    → TellsEach format (map name (take (i + 1) files)) (Ok after) a d
-told_more name format files i default within file is so_far verdict after worse_is a b d before next =
+    → TellsEach folder format (map name (take i files)) (Ok so_far) a b → TellsOne folder format file (Ok verdict) b d
+    → TellsEach folder format (map name (take (i + 1) files)) (Ok after) a d
+told_more folder name format files i default within file is so_far verdict after worse_is a b d before next =
     let more : map name (take (i + 1) files) ≡ map name (take i files) ++ file ∷ []
     = ap (map name) (take_more files i default within) ∙ map-append name (take i files) (get_or files i default ∷ [])
     ∙ ap (λ (f : List ℕ). map name (take i files) ++ f ∷ []) (sym is) in
-    subst (λ (fs : List (List ℕ)). TellsEach format fs (Ok after) a d) (sym more)
-    (subst (λ (v : Verdict). TellsEach format (map name (take i files) ++ file ∷ []) (Ok v) a d) (sym worse_is)
-    (told_next format (map name (take i files)) file so_far verdict a b d before next))
+    subst (λ (fs : List (List ℕ)). TellsEach folder format fs (Ok after) a d) (sym more)
+    (subst (λ (v : Verdict). TellsEach folder format (map name (take i files) ++ file ∷ []) (Ok v) a d) (sym worse_is)
+    (told_next folder format (map name (take i files)) file so_far verdict a b d before next))
 
 -- the next file is told of, and none after it
-pub told_last : {X : Type 0} (name : X → List ℕ) (format : TextFormat) (files : List X) (i : ℕ) (default : X) → i < length files
+pub told_last : {X : Type 0} (folder : FolderData) (name : X → List ℕ) (format : TextFormat) (files : List X) (i : ℕ) (default : X) → i < length files
     → (file : List ℕ) → file ≡ name (get_or files i default) → (so_far : Verdict) (fault : SessionFault) (a b d : SinksData)
-    → TellsEach format (map name (take i files)) (Ok so_far) a b → TellsOne format file (Err fault) b d
-    → TellsEach format (map name files) (Err fault) a d
-told_last {X} name format files i default within file is so_far fault a b d before next =
+    → TellsEach folder format (map name (take i files)) (Ok so_far) a b → TellsOne folder format file (Err fault) b d
+    → TellsEach folder format (map name files) (Err fault) a d
+told_last {X} folder name format files i default within file is so_far fault a b d before next =
     let cut : map name files ≡ map name (take i files) ++ map name (drop i files)
     = ap (map name) (sym (take-append-drop i files)) ∙ map-append name (take i files) (drop i files) in
     let rest : map name (drop i files) ≡ file ∷ map name (drop (i + 1) files)
     = ap (map name) (drop_more files i default within) ∙ ap (λ (x : List ℕ). x ∷ map name (drop (i + 1) files)) (sym is) in
-    subst (λ (fs : List (List ℕ)). TellsEach format fs (Err fault) a d)
+    subst (λ (fs : List (List ℕ)). TellsEach folder format fs (Err fault) a d)
     (sym (cut ∙ ap (λ (xs : List (List ℕ)). map name (take i files) ++ xs) rest))
-    (told_until format (map name (take i files)) (map name (drop (i + 1) files)) file so_far fault a b d before next)
+    (told_until folder format (map name (take i files)) (map name (drop (i + 1) files)) file so_far fault a b d before next)
 
 -- ---- the end
 
@@ -253,10 +255,10 @@ says_last words front spoken b d is complained grew few =
     (λ good. subst (Appends b.faults d.faults) is (complained good), grew, omega (arith, few))
 
 -- a fault ended it, and was told
-pub check_ended : (format : TextFormat) (files : List (List ℕ)) (fault : SessionFault) (status : ℕ) (a b d : SinksData)
-    → TellsEach format files (Err fault) a b → status ≡ fault_status fault → d.output ≡ b.output → d.failed_output ≡ b.failed_output
-    → Says 1 (said (words_of_fault fault)) b d → IsCheck format files status a d
-check_ended format files faults.Write status a b d (outcomes, all, (within, failed, says)) ends same unfailed told = (
+pub check_ended : (folder : FolderData) (format : TextFormat) (files : List (List ℕ)) (fault : SessionFault) (status : ℕ) (a b d : SinksData)
+    → TellsEach folder format files (Err fault) a b → status ≡ fault_status fault → d.output ≡ b.output → d.failed_output ≡ b.failed_output
+    → Says 1 (said (words_of_fault fault)) b d → IsCheck folder format files status a d
+check_ended folder format files faults.Write status a b d (outcomes, all, (within, failed, says)) ends same unfailed told = (
   outcomes,
   all,
   inr (inr (record {
@@ -266,7 +268,7 @@ check_ended format files faults.Write status a b d (outcomes, all, (within, fail
     complaints = (says_next (length outcomes) 1 _ _ a b d says told).0;
   })),
 )
-check_ended format files faults.Memory status a b d (outcomes, all, (some, lines, good, says)) ends same unfailed told = (
+check_ended folder format files faults.Memory status a b d (outcomes, all, (some, lines, good, says)) ends same unfailed told = (
   outcomes,
   all,
   inr (inl (record {
@@ -277,5 +279,5 @@ check_ended format files faults.Memory status a b d (outcomes, all, (some, lines
     complaints = (says_next (length outcomes) 1 _ _ a b d says told).0;
   })),
 )
-check_ended format files faults.Read status a b d (outcomes, all, none) ends same unfailed told = absurd none
-check_ended format files faults.Full status a b d (outcomes, all, none) ends same unfailed told = absurd none
+check_ended folder format files faults.Read status a b d (outcomes, all, none) ends same unfailed told = absurd none
+check_ended folder format files faults.Full status a b d (outcomes, all, none) ends same unfailed told = absurd none

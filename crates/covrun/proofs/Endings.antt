@@ -14,55 +14,46 @@ use Rattle.covrun.specs.WorkFault.{IsRefusal, of_work}
 use Rattle.covrun.specs.declared.work.WorkFault.{WorkFault}
 use Rattle.covrun.specs.declared.work.WorkFault.TheVariants.{Words, Memory}
 use Rattle.covcommand.specs.declared.fault.CommandFault.{CommandFault}
-use Rattle.covsession.specs.Fault.{calls}
-use Rattle.covsession.specs.Program.{TellsSession}
 use Rattle.covrun.specs.Call.{StopsEarly, AreTexts, WorkEnds, TaskTold, IsTold, of_line}
 use Rattle.covrun.specs.Check.{IsCheck}
+use Rattle.covrun.specs.Folder.{FolderData}
 use Rattle.covrun.specs.Streams.{SourceData, SinksData, sinks}
 use Rattle.covrun.specs.Ending.{EndingData, Unreadable, of_collect, of_collected}
-use Rattle.covrun.specs.Work.{WorkData, TaskData, Serves, Collects, Checks, input_of}
+use Rattle.covrun.specs.Work.{WorkData, TaskData, Collects, Checks, input_of}
 use Rattle.covcommand.specs.declared.asked.TextFormat.{TextFormat}
 
 -- its texts were collected
-pub ends_collected : (work : WorkData) (files : List (List ℕ)) → files ≡ work.files → (inputs slice : List InputData) → slice ≡ inputs → (entries : List EntryData) (logs : List LogData) (refused : List RefusedInput) (ending : EndingData)
-    → (texts : List (List ℕ)) × AreTexts files texts × (inputs ≡ map (input_of work.test) texts)
-    → IsCollected slice work.jobs work.last entries logs refused → ending ≡ of_collected files entries refused → WorkEnds work ending
-ends_collected work files named inputs slice same entries logs refused ending (texts, are, from) collected is =
+pub ends_collected : (folder : FolderData) (work : WorkData) (files : List (List ℕ)) → files ≡ work.files → (inputs slice : List InputData) → slice ≡ inputs → (entries : List EntryData) (logs : List LogData) (refused : List RefusedInput) (ending : EndingData)
+    → (texts : List (List ℕ)) × AreTexts folder files texts × (inputs ≡ map (input_of work.test) texts)
+    → IsCollected slice work.jobs work.last entries logs refused → ending ≡ of_collected files entries refused → WorkEnds folder work ending
+ends_collected folder work files named inputs slice same entries logs refused ending (texts, are, from) collected is =
     inr (inr (
       texts,
       Ok (record { entries = entries; logs = logs; refused = refused }),
-      subst (λ (fs : List (List ℕ)). AreTexts fs texts) named are,
+      subst (λ (fs : List (List ℕ)). AreTexts folder fs texts) named are,
       subst (λ (xs : List InputData). IsCollected xs work.jobs work.last entries logs refused) (same ∙ from) collected,
       is ∙ ap (λ (fs : List (List ℕ)). of_collected fs entries refused) named,
     ))
 
 -- they weren't
-pub ends_uncollected : (work : WorkData) (files : List (List ℕ)) → files ≡ work.files → (inputs : List InputData) (fault : CollectFault) (ending : EndingData)
-    → (texts : List (List ℕ)) × AreTexts files texts × (inputs ≡ map (input_of work.test) texts)
-    → (fault ≡ collects.BadJobs → AreJobs work.jobs → ⊥) → ending ≡ of_collect fault → WorkEnds work ending
-ends_uncollected work files named inputs fault ending (texts, are, from) bad is =
-    inr (inr (texts, Err fault, subst (λ (fs : List (List ℕ)). AreTexts fs texts) named are, bad, is))
+pub ends_uncollected : (folder : FolderData) (work : WorkData) (files : List (List ℕ)) → files ≡ work.files → (inputs : List InputData) (fault : CollectFault) (ending : EndingData)
+    → (texts : List (List ℕ)) × AreTexts folder files texts × (inputs ≡ map (input_of work.test) texts)
+    → (fault ≡ collects.BadJobs → AreJobs work.jobs → ⊥) → ending ≡ of_collect fault → WorkEnds folder work ending
+ends_uncollected folder work files named inputs fault ending (texts, are, from) bad is =
+    inr (inr (texts, Err fault, subst (λ (fs : List (List ℕ)). AreTexts folder fs texts) named are, bad, is))
 
 -- work that ended is told
-pub told_work : (work : WorkData) (task : TaskData) (ending : EndingData) (status : ℕ) (before after : SourceData) (old new : SinksData)
-    → after ≡ before → Collects work ≡ task → WorkEnds work ending → IsTold ending status old new → TaskTold task status before after old new
-told_work work task ending status before after old new unread is ends told =
-    subst (λ (t : TaskData). TaskTold t status before after old new) is (unread, ending, ends, told)
+pub told_work : (folder : FolderData) (work : WorkData) (task : TaskData) (ending : EndingData) (status : ℕ) (before after : SourceData) (old new : SinksData)
+    → after ≡ before → Collects work ≡ task → WorkEnds folder work ending → IsTold ending status old new → TaskTold folder task status before after old new
+told_work folder work task ending status before after old new unread is ends told =
+    subst (λ (t : TaskData). TaskTold folder t status before after old new) is (unread, ending, ends, told)
 
 -- files were checked
-pub told_check : (format : TextFormat) (files named : List (List ℕ)) (task : TaskData) (status : ℕ) (before after : SourceData) (old new : SinksData)
-    → after ≡ before → named ≡ files → Checks format files ≡ task → IsCheck format named status old new → TaskTold task status before after old new
-told_check format files named task status before after old new unread same is checked =
-    subst (λ (t : TaskData). TaskTold t status before after old new) is
-    (unread, subst (λ (fs : List (List ℕ)). IsCheck format fs status old new) same checked)
-
--- a command without a subcommand is a session
-pub told_session : (task : TaskData) (status : ℕ) (before after : SourceData) (old new : SinksData) → Serves ≡ task
-    → TellsSession status before.left after.left old.output new.output old.faults new.faults
-    (calls before.reads before.failed_reads old.failed_output) (calls after.reads after.failed_reads new.failed_output)
-    old.failed_faults new.failed_faults
-    → TaskTold task status before after old new
-told_session task status before after old new is told = subst (λ (t : TaskData). TaskTold t status before after old new) is told
+pub told_check : (folder : FolderData) (format : TextFormat) (files named : List (List ℕ)) (task : TaskData) (status : ℕ) (before after : SourceData) (old new : SinksData)
+    → after ≡ before → named ≡ files → Checks format files ≡ task → IsCheck folder format named status old new → TaskTold folder task status before after old new
+told_check folder format files named task status before after old new unread same is checked =
+    subst (λ (t : TaskData). TaskTold folder t status before after old new) is
+    (unread, subst (λ (fs : List (List ℕ)). IsCheck folder format fs status old new) same checked)
 
 -- words that give no command
 pub told_line : (fault : CommandFault) (ending : EndingData) → ending ≡ of_line fault → (status : ℕ) (old new : SinksData) → IsTold ending status old new

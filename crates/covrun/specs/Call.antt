@@ -25,16 +25,20 @@ use Rattle.covrun.specs.declared.words_fault.WordsFault.{WordsFault}
 use Rattle.covrun.specs.Ending.{EndingData, Prints, BadLine, BadWords, Unreadable, Stopped, status_of, complaint, of_collect, of_collected}
 use Rattle.covrun.specs.Work.{WorkData, TaskData, Serves, Collects, Checks, task_of, input_of, AreTaken, AreRefused}
 use Rattle.covrun.specs.Check.{IsCheck}
+use Rattle.covrun.specs.Folder.{FolderData, AreTextsOf}
 use Rattle.covrun.specs.Streams.{SourceData, SinksData, Complains, Withholds, Delivers}
 
--- there is a text for each of the files, and none has more than a byte above what a text may have. What a file holds isn't told
-abbrev pub AreTexts : List (List ℕ) → List (List ℕ) → Type 0
-AreTexts files texts = (length texts ≡ length files) × AllByRecursion (λ text. length text ≤ suc most_bytes) texts
+-- there is a text for each of the files, and none has more than a byte above what a text may have. Where the folder tells what a
+-- file holds, its text is that
+abbrev pub AreTexts : FolderData → List (List ℕ) → List (List ℕ) → Type 0
+AreTexts folder files texts =
+    (length texts ≡ length files) × AllByRecursion (λ text. length text ≤ suc most_bytes) texts × AreTextsOf folder files texts
 
--- this is one of the files; those before it have a text each
-abbrev pub IsUnreadable : List (List ℕ) → List ℕ → Type 0
-IsUnreadable files name =
-    (before : List (List ℕ)) × (after : List (List ℕ)) × (texts : List (List ℕ)) × (files ≡ before ++ name ∷ after) × AreTexts before texts
+-- this is one of the files, and it may fail to be read; those before it have a text each
+abbrev pub IsUnreadable : FolderData → List (List ℕ) → List ℕ → Type 0
+IsUnreadable folder files name =
+    (before : List (List ℕ)) × (after : List (List ℕ)) × (texts : List (List ℕ)) × (files ≡ before ++ name ∷ after)
+    × AreTexts folder before texts × folder.MayFail name
 
 -- what was collected, or why nothing was
 pub record CollectedData : Type 0 where
@@ -53,12 +57,12 @@ ending_of files (Ok c) = of_collected files c.entries c.refused
 ending_of files (Err fault) = of_collect fault
 
 -- the work ends with a file that can't be read, or as what was collected of the files says; or memory ran out
-abbrev pub WorkEnds : WorkData → EndingData → Type 0
-WorkEnds work ending =
+abbrev pub WorkEnds : FolderData → WorkData → EndingData → Type 0
+WorkEnds folder work ending =
     (ending ≡ Stopped faults.Memory)
-    ⊎ (((name : List ℕ) × (ending ≡ Unreadable name) × IsUnreadable work.files name)
+    ⊎ (((name : List ℕ) × (ending ≡ Unreadable name) × IsUnreadable folder work.files name)
     ⊎ ((texts : List (List ℕ)) × (answer : Result CollectedData CollectFault)
-    × AreTexts work.files texts × IsAnswer work texts answer × (ending ≡ ending_of work.files answer)))
+    × AreTexts folder work.files texts × IsAnswer work texts answer × (ending ≡ ending_of work.files answer)))
 
 -- before work is begun the patterns and the test's name are looked at
 abbrev pub StopsEarly : Command → EndingData → Type 0
@@ -91,27 +95,28 @@ pub record AreParsed (words : List (List ℕ)) (parsed : Result Command CommandF
 
 -- a call that collects or checks files doesn't read the input. What it collects ends and is told; what it checks is told file by
 -- file. A session is one over the input
-abbrev pub TaskTold : TaskData → (status : ℕ) → (before after : SourceData) → SinksData → SinksData → Type 0
-TaskTold Serves status before after old new =
+abbrev pub TaskTold : FolderData → TaskData → (status : ℕ) → (before after : SourceData) → SinksData → SinksData → Type 0
+TaskTold folder Serves status before after old new =
     TellsSession status before.left after.left old.output new.output old.faults new.faults
     (calls before.reads before.failed_reads old.failed_output) (calls after.reads after.failed_reads new.failed_output)
     old.failed_faults new.failed_faults
-TaskTold (Collects work) status before after old new =
-    (after ≡ before) × (ending : EndingData) × WorkEnds work ending × IsTold ending status old new
-TaskTold (Checks format files) status before after old new = (after ≡ before) × IsCheck format files status old new
+TaskTold folder (Collects work) status before after old new =
+    (after ≡ before) × (ending : EndingData) × WorkEnds folder work ending × IsTold ending status old new
+TaskTold folder (Checks format files) status before after old new = (after ≡ before) × IsCheck folder format files status old new
 
 -- a command's words are refused, and the input isn't read; or they are taken and then the command is done
-abbrev pub CommandTold : Command → (status : ℕ) → (before after : SourceData) → SinksData → SinksData → Type 0
-CommandTold command status before after old new =
+abbrev pub CommandTold : FolderData → Command → (status : ℕ) → (before after : SourceData) → SinksData → SinksData → Type 0
+CommandTold folder command status before after old new =
     ((after ≡ before) × (ending : EndingData) × StopsEarly command ending × IsTold ending status old new)
-    ⊎ (AreTaken command × TaskTold (task_of command) status before after old new)
+    ⊎ (AreTaken command × TaskTold folder (task_of command) status before after old new)
 
 -- words that give no command are told of, and the input isn't read
-abbrev pub CallTold : Result Command CommandFault → (status : ℕ) → (before after : SourceData) → SinksData → SinksData → Type 0
-CallTold (Ok command) status before after old new = CommandTold command status before after old new
-CallTold (Err fault) status before after old new = (after ≡ before) × IsTold (of_line fault) status old new
+abbrev pub CallTold : FolderData → Result Command CommandFault → (status : ℕ) → (before after : SourceData) → SinksData → SinksData → Type 0
+CallTold folder (Ok command) status before after old new = CommandTold folder command status before after old new
+CallTold folder (Err fault) status before after old new = (after ≡ before) × IsTold (of_line fault) status old new
 
--- a call of these words, by its exit status, what its input is at its beginning and its end, and what its streams took
-abbrev pub IsCall : (words : List (List ℕ)) → (status : ℕ) → (before after : SourceData) → SinksData → SinksData → Type 0
-IsCall words status before after old new =
-    (parsed : Result Command CommandFault) × AreParsed words parsed × CallTold parsed status before after old new
+-- a call of these words that reads the files of this folder, by its exit status, what its input is at its beginning and its end, and
+-- what its streams took
+abbrev pub IsCall : FolderData → (words : List (List ℕ)) → (status : ℕ) → (before after : SourceData) → SinksData → SinksData → Type 0
+IsCall folder words status before after old new =
+    (parsed : Result Command CommandFault) × AreParsed words parsed × CallTold folder parsed status before after old new

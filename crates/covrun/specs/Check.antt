@@ -16,6 +16,7 @@ use Rattle.covsession.specs.Fault.{HasBegun}
 use Rattle.covsession.specs.Program.{fault_status, words_of_fault}
 use Rattle.covsession.specs.Session.{said, refused_text}
 use Rattle.covsession.specs.declared.session.fault.SessionFault.TheVariants as faults
+use Rattle.covrun.specs.Folder.{FolderData, IsTextOf}
 use Rattle.covrun.specs.Streams.{SinksData, Complains}
 
 -- what becomes of a file: it can't be read; its text is refused; or the text is read, and holds this
@@ -32,15 +33,21 @@ IsTextOutcome Tracefile text answer =
 IsTextOutcome Gcov text answer =
     (read : Result SubmissionData ReadFault) × gcov.IsOutcome [] text read × Tells IsSkippedGcov text read answer
 
--- there is a text of at most a byte more than a text may have, and it is answered so
-abbrev pub IsAnswered : TextFormat → Result Holding ReadFault → Type 0
-IsAnswered format answer = (text : List ℕ) × (length text ≤ suc most_bytes) × IsTextOutcome format text answer
+-- there is a text of at most a byte more than a text may have, which is that of the file where the folder tells what it holds, and it
+-- is answered so
+abbrev pub IsAnswered : Option (List ℕ) → TextFormat → Result Holding ReadFault → Type 0
+IsAnswered held format answer = (text : List ℕ) × (length text ≤ suc most_bytes) × IsTextOf held text × IsTextOutcome format text answer
 
--- it can become of a file. Which text a file has, and that it can't be read, isn't told
-abbrev pub IsOutcome : TextFormat → OutcomeData → Type 0
-IsOutcome format Unread = Unit {0}
-IsOutcome format (Refused fault) = IsAnswered format (Err fault)
-IsOutcome format (Held holding) = IsAnswered format (Ok holding)
+-- it can become of this file
+abbrev pub IsOutcome : FolderData → TextFormat → (file : List ℕ) → OutcomeData → Type 0
+IsOutcome folder format file Unread = folder.MayFail file
+IsOutcome folder format file (Refused fault) = IsAnswered (folder.holds file) format (Err fault)
+IsOutcome folder format file (Held holding) = IsAnswered (folder.holds file) format (Ok holding)
+
+-- each can become of the file at its place
+abbrev pub AreOutcomes : FolderData → TextFormat → (files : List (List ℕ)) → List OutcomeData → Type 0
+AreOutcomes folder format files outcomes =
+    AllByRecursion (λ (f : List ℕ × OutcomeData). IsOutcome folder format f.0 f.1) (zip files outcomes)
 
 -- the line of a file
 abbrev pub outcome_line : List ℕ → OutcomeData → List ℕ
@@ -126,8 +133,8 @@ pub record IsCheckCutShort (files : List (List ℕ)) (outcomes : List OutcomeDat
   pub complaints : Complains (check_complaints files outcomes ++ said (words_of_fault faults.Write)) old new
 
 -- the files are looked at one after another, and this became of the first of them, or of all
-abbrev pub IsCheck : TextFormat → (files : List (List ℕ)) → (status : ℕ) → SinksData → SinksData → Type 0
-IsCheck format files status old new =
-    (outcomes : List OutcomeData) × AllByRecursion (IsOutcome format) outcomes
+abbrev pub IsCheck : FolderData → TextFormat → (files : List (List ℕ)) → (status : ℕ) → SinksData → SinksData → Type 0
+IsCheck folder format files status old new =
+    (outcomes : List OutcomeData) × AreOutcomes folder format files outcomes
     × (IsWholeCheck files outcomes status old new
     ⊎ (IsCheckWithoutRoom files outcomes status old new ⊎ IsCheckCutShort files outcomes status old new))

@@ -1,6 +1,6 @@
 -- Private steps: what looking at files one after another has told so far.
 use Rattle.std.specs.Io.KnownBytes.{Appends}
-use Rattle.std.specs.List.{AllByRecursion, list_any}
+use Rattle.std.specs.List.{list_any}
 use Rattle.std.specs.Prelude.{◌≡◌, ◌⊎◌, ◌<◌, ◌≤◌, ◌+◌, ℕ, suc, List, length, if◌then◌else◌, Result, Ok, Err}
 use Rattle.covcheck.specs.declared.holding.Holding.{Holding}
 use Rattle.covcommand.specs.declared.asked.TextFormat.{TextFormat}
@@ -9,7 +9,8 @@ use Rattle.covread.specs.declared.fault.ReadFault.TheVariants as reads
 use Rattle.covsession.specs.Fault.{HasBegun}
 use Rattle.covsession.specs.declared.session.fault.SessionFault.{SessionFault}
 use Rattle.covsession.specs.declared.session.fault.SessionFault.TheVariants as faults
-use Rattle.covrun.specs.Check.{OutcomeData, Unread, Refused, Held, IsTextOutcome, IsOutcome, EndsWithin, has_item, outcome_line, outcome_complaint, check_lines, check_complaints, is_unread, is_refused, is_empty}
+use Rattle.covrun.specs.Check.{OutcomeData, Unread, Refused, Held, IsTextOutcome, IsOutcome, AreOutcomes, EndsWithin, has_item, outcome_line, outcome_complaint, check_lines, check_complaints, is_unread, is_refused, is_empty}
+use Rattle.covrun.specs.Folder.{FolderData}
 use Rattle.covrun.specs.Streams.{SinksData, Complains}
 use Rattle.covrun.specs.declared.verdict.Verdict.{Verdict}
 use Rattle.covrun.specs.declared.verdict.Verdict.TheVariants as verdicts
@@ -69,9 +70,23 @@ TellsFile file outcome (Err faults.Memory) old new = new ≡ old
 TellsFile file outcome (Err faults.Read) old new = ⊥
 TellsFile file outcome (Err faults.Full) old new = ⊥
 
--- what became of a file was told so
-abbrev pub TellsOne : TextFormat → (file : List ℕ) → Result Verdict SessionFault → SinksData → SinksData → Type 0
-TellsOne format file answer old new = (outcome : OutcomeData) × IsOutcome format outcome × TellsFile file outcome answer old new
+-- a text is answered so, as what becomes of its file
+abbrev pub IsOutcomeOfText : TextFormat → (text : List ℕ) → OutcomeData → Type 0
+IsOutcomeOfText format text Unread = ⊥
+IsOutcomeOfText format text (Refused fault) = IsTextOutcome format text (Err fault)
+IsOutcomeOfText format text (Held holding) = IsTextOutcome format text (Ok holding)
+
+-- what became of a file of this text was told so; or memory ran out, and nothing was told
+abbrev pub TellsText : TextFormat → (file text : List ℕ) → Result Verdict SessionFault → SinksData → SinksData → Type 0
+TellsText format file text answer old new =
+    ((answer ≡ Err faults.Memory) × (new ≡ old))
+    ⊎ ((outcome : OutcomeData) × IsOutcomeOfText format text outcome × TellsFile file outcome answer old new)
+
+-- what became of a file was told so; or memory ran out, and nothing was told
+abbrev pub TellsOne : FolderData → TextFormat → (file : List ℕ) → Result Verdict SessionFault → SinksData → SinksData → Type 0
+TellsOne folder format file answer old new =
+    ((answer ≡ Err faults.Memory) × (new ≡ old))
+    ⊎ ((outcome : OutcomeData) × IsOutcome folder format file outcome × TellsFile file outcome answer old new)
 
 -- what became of files was told so. Where memory ran out the last of them weren't looked at
 abbrev pub TellsAll : TextFormat → (files : List (List ℕ)) → List OutcomeData → Result Verdict SessionFault → SinksData → SinksData → Type 0
@@ -89,6 +104,6 @@ TellsAll format files outcomes (Err faults.Read) old new = ⊥
 TellsAll format files outcomes (Err faults.Full) old new = ⊥
 
 -- there are outcomes that were told so
-abbrev pub TellsEach : TextFormat → (files : List (List ℕ)) → Result Verdict SessionFault → SinksData → SinksData → Type 0
-TellsEach format files answer old new =
-    (outcomes : List OutcomeData) × AllByRecursion (IsOutcome format) outcomes × TellsAll format files outcomes answer old new
+abbrev pub TellsEach : FolderData → TextFormat → (files : List (List ℕ)) → Result Verdict SessionFault → SinksData → SinksData → Type 0
+TellsEach folder format files answer old new =
+    (outcomes : List OutcomeData) × AreOutcomes folder format files outcomes × TellsAll format files outcomes answer old new

@@ -3,6 +3,9 @@ use Rattle.std.specs.Io.KnownBytes.{Consumes, IsAtEnd}
 use Rattle.std.specs.Prelude.{◌≡◌, ◌⊎◌, ◌<◌, ◌≤◌, ℕ, suc, List, ◌++◌, length, Option}
 use Rattle.covread.specs.Outcome.{most_bytes}
 use Rattle.covrun.specs.Call.{IsUnreadable}
+use Rattle.covrun.specs.Folder.{FolderData}
+use Rattle.covsession.specs.declared.session.fault.SessionFault.{SessionFault}
+use Rattle.covsession.specs.declared.session.fault.SessionFault.TheVariants as faults
 use Rattle.covrun.specs.declared.files.FileFault.{FileFault}
 use Rattle.covrun.specs.declared.files.FileFault.TheVariants.{Unreadable, Memory}
 
@@ -20,12 +23,19 @@ HasReadBlock left left_after text text_after room count =
     (bytes : List ℕ) × Consumes left left_after bytes × (text_after ≡ text ++ bytes) × (length bytes ≡ count) × (count ≤ room)
     × (count ≡ 0 → 0 < room → IsAtEnd left_after)
 
+-- why no text was read: a read failed after these bytes, or memory ran out
+abbrev pub IsReadFault : (left left_after : Option (List ℕ)) → (failed failed_after : ℕ) → SessionFault → Type 0
+IsReadFault left left_after failed failed_after faults.Read = (bytes : List ℕ) × Consumes left left_after bytes × (failed_after ≡ suc failed)
+IsReadFault left left_after failed failed_after faults.Memory = Unit {0}
+IsReadFault left left_after failed failed_after faults.Write = ⊥
+IsReadFault left left_after failed failed_after faults.Full = ⊥
+
 -- why the files aren't read: the first that can't be is told
-abbrev pub IsFileFault : List (List ℕ) → FileFault → Type 0
-IsFileFault files (Unreadable name) = IsUnreadable files name.now
-IsFileFault files Memory = Unit {0}
+abbrev pub IsFileFault : FolderData → List (List ℕ) → FileFault → Type 0
+IsFileFault folder files (Unreadable name) = IsUnreadable folder files name.now
+IsFileFault folder files Memory = Unit {0}
 
 -- the file of this name can't be read, or memory ran out
-abbrev pub IsUnread : List ℕ → FileFault → Type 0
-IsUnread name (Unreadable file) = file.now ≡ name
-IsUnread name Memory = Unit {0}
+abbrev pub IsUnread : FolderData → List ℕ → FileFault → Type 0
+IsUnread folder name (Unreadable file) = (file.now ≡ name) × folder.MayFail name
+IsUnread folder name Memory = Unit {0}

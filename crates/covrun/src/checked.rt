@@ -3,13 +3,14 @@
 ghost use Rattle.std.specs.Prelude.{◌≡◌, ◌<◌, ◌≤◌, ◌^◌, ◌++◌, codes, length, map, IfOk, IfErr, suc};
 ghost use Rattle.std.specs.Io.KnownBytes.{Appends};
 ghost use Rattle.std.specs.String.{string_bytes};
-ghost use Rattle.covread.specs.Outcome.{most_bytes};
 ghost use Rattle.covrun.specs.Check.{Refused, Held, outcome_complaint, IsCheck};
-ghost use Rattle.covrun.specs.Checked.{of_holding, AnswersText, TellsFile, TellsOne, TellsEach};
+ghost use Rattle.covrun.specs.Checked.{of_holding, AnswersText, TellsFile, TellsText, TellsOne, TellsEach};
+ghost use Rattle.covrun.specs.Folder.{folder_data};
 ghost use Rattle.covrun.specs.Streams.{sinks};
 ghost use Rattle.covsession.specs.declared.session.fault.SessionFault.TheVariants as session_faults;
 
 use crate::files::{FileFault, file_text};
+use crate::folder::Folder;
 use crate::told::{put_out, say};
 use crate::verdict::Verdict;
 use covcheck::{Holding, check_gcov, check_trace, holding_line};
@@ -17,12 +18,11 @@ use covcommand::TextFormat;
 use covread::ReadFault;
 use covsession::{SessionFault, Sink, line_of, refused_line, status_of};
 use std::alloc::Global;
-use std::rt::Files;
 
 /// Looks at the files one after another, tells of each, and answers the exit status. The text of a file is let go before the next
 /// one is read.
-pub(crate) fn check_files<R: Files, O: Sink, E: Sink>(
-    rt: &R,
+pub(crate) fn check_files<F: Folder, O: Sink, E: Sink>(
+    folder: &F,
     alloc: Global,
     format: TextFormat,
     files: &[String],
@@ -31,11 +31,11 @@ pub(crate) fn check_files<R: Files, O: Sink, E: Sink>(
 ) -> u8
     requires output { O.failed_writes output.old < 2 ^ 62 }
     requires faults { E.failed_writes faults.old < 2 ^ 62 }
-    ensures { IsCheck format (map string_bytes files.now) result
+    ensures { IsCheck (folder_data (F.holds folder.now) (F.may_refuse folder.now) F.File.left F.File.failed_reads) format (map string_bytes files.now) result
         (sinks (O.written output.old) (O.failed_writes output.old) (E.written faults.old) (E.failed_writes faults.old))
         (sinks (O.written output.new) (O.failed_writes output.new) (E.written faults.new) (E.failed_writes faults.new)) }
 {
-    match check_each(rt, alloc, format, files, output, faults) {
+    match check_each(folder, alloc, format, files, output, faults) {
         Ok(worst) => worst.status(),
         Err(fault) => {
             say(b"", line_of(fault), faults);
@@ -45,8 +45,8 @@ pub(crate) fn check_files<R: Files, O: Sink, E: Sink>(
 }
 
 /// Tells of each file, and answers the worst of their verdicts.
-fn check_each<R: Files, O: Sink, E: Sink>(
-    rt: &R,
+fn check_each<F: Folder, O: Sink, E: Sink>(
+    folder: &F,
     alloc: Global,
     format: TextFormat,
     files: &[String],
@@ -55,21 +55,21 @@ fn check_each<R: Files, O: Sink, E: Sink>(
 ) -> Result<Verdict, SessionFault>
     requires output { O.failed_writes output.old < 2 ^ 62 }
     requires faults { E.failed_writes faults.old < 2 ^ 62 }
-    ensures { TellsEach format (map string_bytes files.now) result
+    ensures { TellsEach (folder_data (F.holds folder.now) (F.may_refuse folder.now) F.File.left F.File.failed_reads) format (map string_bytes files.now) result
         (sinks (O.written output.old) (O.failed_writes output.old) (E.written faults.old) (E.failed_writes faults.old))
         (sinks (O.written output.new) (O.failed_writes output.new) (E.written faults.new) (E.failed_writes faults.new)) }
 {
     let mut worst = Verdict::Fine;
     for name in files {
-        let verdict = check_file(rt, alloc, format, name.as_str(), output, faults)?;
+        let verdict = check_file(folder, alloc, format, name.as_str(), output, faults)?;
         worst = worst.or(verdict);
     }
     Ok(worst)
 }
 
 /// Reads a file and tells of it.
-fn check_file<R: Files, O: Sink, E: Sink>(
-    rt: &R,
+fn check_file<F: Folder, O: Sink, E: Sink>(
+    folder: &F,
     alloc: Global,
     format: TextFormat,
     name: &str,
@@ -78,11 +78,11 @@ fn check_file<R: Files, O: Sink, E: Sink>(
 ) -> Result<Verdict, SessionFault>
     requires output { O.failed_writes output.old < 2 ^ 62 }
     requires faults { E.failed_writes faults.old < 2 ^ 63 }
-    ensures { TellsOne format name.now result
+    ensures { TellsOne (folder_data (F.holds folder.now) (F.may_refuse folder.now) F.File.left F.File.failed_reads) format name.now result
         (sinks (O.written output.old) (O.failed_writes output.old) (E.written faults.old) (E.failed_writes faults.old))
         (sinks (O.written output.new) (O.failed_writes output.new) (E.written faults.new) (E.failed_writes faults.new)) }
 {
-    match file_text(rt, alloc, name) {
+    match file_text(folder, alloc, name) {
         Ok(text) => check_text(alloc, format, name, text.get(), output, faults),
         Err(FileFault::Unreadable(_)) => {
             say(name.as_bytes(), b": can't read\n", faults);
@@ -101,10 +101,9 @@ fn check_text<O: Sink, E: Sink>(
     output: &mut O,
     faults: &mut E,
 ) -> Result<Verdict, SessionFault>
-    requires short { length text.now ≤ suc most_bytes }
     requires output { O.failed_writes output.old < 2 ^ 62 }
     requires faults { E.failed_writes faults.old < 2 ^ 63 }
-    ensures { TellsOne format name.now result
+    ensures { TellsText format name.now text.now result
         (sinks (O.written output.old) (O.failed_writes output.old) (E.written faults.old) (E.failed_writes faults.old))
         (sinks (O.written output.new) (O.failed_writes output.new) (E.written faults.new) (E.failed_writes faults.new)) }
 {

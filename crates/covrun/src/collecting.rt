@@ -9,10 +9,12 @@ ghost use Rattle.covsession.specs.Session.{clash_text};
 ghost use Rattle.covsession.specs.declared.session.fault.SessionFault.TheVariants as session_faults;
 ghost use Rattle.covrun.specs.Call.{WorkEnds};
 ghost use Rattle.covrun.specs.Ending.{of_collected, complaints, refusal_line, ran_out, last_text, name_at, text_in};
+ghost use Rattle.covrun.specs.Folder.{folder_data};
 ghost use Rattle.covrun.specs.View.{ending_data, work_data};
 
 use crate::ending::{Ending, ending_of_collect};
 use crate::files::FileFault;
+use crate::folder::Folder;
 use crate::inputs::read_files;
 use crate::work::Work;
 use covbook::{Answer, Entry, TextRef};
@@ -20,20 +22,20 @@ use covjobs::{Collected, NoGate, RefusedInput, collect};
 use covline::Bytes;
 use covsession::{SessionFault, clash_line, refused_line};
 use std::alloc::Global;
-use std::rt::Files;
 use std::sync::Wait;
 use std::thread::Threads;
 
 /// Does the work. The texts are let go when they are collected.
-pub(crate) fn ending_of<'a, R: Files + Threads + Wait + Sync>(
+pub(crate) fn ending_of<'a, R: Threads + Wait + Sync, F: Folder>(
     rt: &R,
+    folder: &F,
     alloc: Global,
     work: &'a Work,
 ) -> Ending<'a>
-    ensures { WorkEnds (work_data work.now) (ending_data result) }
+    ensures { WorkEnds (folder_data (F.holds folder.now) (F.may_refuse folder.now) F.File.left F.File.failed_reads) (work_data work.now) (ending_data result) }
 {
     let files = work.files.get();
-    let inputs = match read_files(rt, alloc, &work.test, files) {
+    let inputs = match read_files(folder, alloc, &work.test, files) {
         Ok(inputs) => inputs,
         Err(FileFault::Unreadable(name)) => return Ending::Unreadable(name),
         Err(FileFault::Memory) => return Ending::Stopped(SessionFault::Memory),

@@ -2,15 +2,14 @@
 
 ghost use Rattle.std.specs.Prelude.{◌≡◌, ◌<◌, ◌≤◌, ◌+◌, ◌^◌, [], suc, length, IfOk, IfErr};
 ghost use Rattle.covread.specs.Outcome.{most_bytes};
-ghost use Rattle.covrun.specs.Files.{HasRead, HasReadAtMost, HasReadBlock, IsUnread};
+ghost use Rattle.covrun.specs.Files.{HasRead, HasReadAtMost, HasReadBlock, IsReadFault, IsUnread};
+ghost use Rattle.covrun.specs.Folder.{IsTextOf, folder_data};
 
+use crate::folder::Folder;
 use covline::{Bytes, Memory};
 use covread::MOST_BYTES;
-use covsession::{FromRead, SessionFault, Source};
+use covsession::{SessionFault, Source};
 use std::alloc::{AllocError, Global};
-use std::fs;
-use std::fs::OpenFile;
-use std::rt::Files;
 
 /// How many bytes one read asks for.
 const BLOCK_BYTES: usize = 65_536;
@@ -38,6 +37,7 @@ pub(crate) fn read_text<S: Source>(
     requires failed_reads { S.failed_reads source.old < 2 ^ 62 }
     ensures read { IfOk result (HasRead (S.left source.old) (S.left source.new)) }
     ensures few { IfOk result (λ text. length text ≤ suc most_bytes) }
+    ensures failed { IfErr result (IsReadFault (S.left source.old) (S.left source.new) (S.failed_reads source.old) (S.failed_reads source.new)) }
 {
     let mut block = vec![in alloc; 0; BLOCK_BYTES]?;
     let empty = Bytes::with_room(alloc, awaited)?;
@@ -60,6 +60,7 @@ fn read_at_most<S: Source>(
     requires failed_reads { S.failed_reads source.old < 2 ^ 62 }
     ensures read { IfOk result (HasReadAtMost most (S.left source.old) (S.left source.new)) }
     ensures few { IfOk result (λ text. length text ≤ most) }
+    ensures failed { IfErr result (IsReadFault (S.left source.old) (S.left source.new) (S.failed_reads source.old) (S.failed_reads source.new)) }
 {
     let mut text = empty;
     let mut room = most;
@@ -86,6 +87,7 @@ fn read_some<S: Source>(
     ensures read { IfOk result (HasReadBlock (S.left source.old) (S.left source.new) text.old text.new room) }
     ensures counted { IfOk result (λ _. S.reads source.new ≡ S.reads source.old + 1) }
     ensures good { IfOk result (λ _. S.failed_reads source.new ≡ S.failed_reads source.old) }
+    ensures failed { IfErr result (IsReadFault (S.left source.old) (S.left source.new) (S.failed_reads source.old) (S.failed_reads source.new)) }
 {
     let most = room.min(block.len());
     let got = read_block(source, &mut block[..most], text)?;
@@ -103,6 +105,7 @@ fn read_block<S: Source>(
     ensures read { IfOk result (HasReadBlock (S.left source.old) (S.left source.new) text.old text.new (length block.old)) }
     ensures counted { IfOk result (λ _. S.reads source.new ≡ S.reads source.old + 1) }
     ensures good { IfOk result (λ _. S.failed_reads source.new ≡ S.failed_reads source.old) }
+    ensures failed { IfErr result (IsReadFault (S.left source.old) (S.left source.new) (S.failed_reads source.old) (S.failed_reads source.new)) }
 {
     let Ok(got) = source.read(block) else {
         return Err(SessionFault::Read);
@@ -111,28 +114,22 @@ fn read_block<S: Source>(
     Ok(got)
 }
 
-/// How many bytes the file has, as far as they are kept. A pipe doesn't tell: 0.
-fn size_of<F: OpenFile>(file: &F) -> usize {
-    match file.metadata() {
-        Ok(metadata) => metadata.len().min(MOST_KEPT as u64) as usize,
-        Err(_) => 0,
-    }
-}
-
 /// The text of the file of this name, at most a byte more than a text may have.
-pub(crate) fn file_text<'a, R: Files>(
-    rt: &R,
+pub(crate) fn file_text<'a, F: Folder>(
+    folder: &F,
     alloc: Global,
     name: &'a str,
 ) -> Result<Bytes, FileFault<'a>>
+    ensures text { IfOk result (IsTextOf (F.holds folder.now name.now)) }
     ensures few { IfOk result (λ text. length text ≤ suc most_bytes) }
-    ensures unread { IfErr result (IsUnread name.now) }
+    ensures unread { IfErr result (IsUnread (folder_data (F.holds folder.now) (F.may_refuse folder.now) F.File.left F.File.failed_reads) name.now) }
 {
-    let Ok(file) = fs::open(rt, name) else {
+    let Ok(opened) = folder.open(name) else {
         return Err(FileFault::Unreadable(name));
     };
-    let awaited = size_of(&file);
-    match read_text(alloc, awaited, &mut FromRead::new(file)) {
+    let awaited = opened.awaited.min(MOST_KEPT as u64) as usize;
+    let mut source = opened.source;
+    match read_text(alloc, awaited, &mut source) {
         Ok(text) => Ok(text),
         Err(SessionFault::Memory) => Err(FileFault::Memory),
         Err(_) => Err(FileFault::Unreadable(name)),

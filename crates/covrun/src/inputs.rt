@@ -6,12 +6,13 @@ ghost use Rattle.covjobs.specs.InputView.{input_data};
 ghost use Rattle.covrun.specs.Call.{AreTexts};
 ghost use Rattle.covrun.specs.Work.{input_of};
 ghost use Rattle.covrun.specs.Files.{IsFileFault};
+ghost use Rattle.covrun.specs.Folder.{folder_data};
 
 use crate::files::{FileFault, file_text};
+use crate::folder::Folder;
 use covjobs::Input;
 use covline::{Bytes, Memory};
 use std::alloc::Global;
-use std::rt::Files;
 
 /// What the text of a file is, where it is gcov's with the test whose counts it has.
 fn input_for(alloc: Global, test: &Option<Bytes>, text: Bytes) -> Result<Input, Memory>
@@ -27,19 +28,21 @@ fn input_for(alloc: Global, test: &Option<Bytes>, text: Bytes) -> Result<Input, 
 }
 
 /// Reads the files in their order. The first that can't be read is told.
-pub(crate) fn read_files<'a, R: Files>(
-    rt: &R,
+pub(crate) fn read_files<'a, F: Folder>(
+    folder: &F,
     alloc: Global,
     test: &Option<Bytes>,
     files: &'a [String],
 ) -> Result<Vec<Input>, FileFault<'a>>
-    ensures texts { IfOk result (λ inputs. (texts : List (List ℕ)) × AreTexts (map string_bytes files.now) texts
+    ensures texts { IfOk result (λ inputs. (texts : List (List ℕ))
+        × AreTexts (folder_data (F.holds folder.now) (F.may_refuse folder.now) F.File.left F.File.failed_reads) (map string_bytes files.now) texts
         × (map input_data inputs.items ≡ map (input_of test.now) texts)) }
-    ensures fault { IfErr result (IsFileFault (map string_bytes files.now)) }
+    ensures fault { IfErr result (IsFileFault
+        (folder_data (F.holds folder.now) (F.may_refuse folder.now) F.File.left F.File.failed_reads) (map string_bytes files.now)) }
 {
     let mut inputs = Vec::new(alloc);
     for name in files {
-        let text = match file_text(rt, alloc, name.as_str()) {
+        let text = match file_text(folder, alloc, name.as_str()) {
             Ok(text) => text,
             Err(fault) => return Err(fault),
         };

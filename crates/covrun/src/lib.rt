@@ -2,7 +2,8 @@
 //!
 //! `run` reads the command line (covcommand), and a command becomes a `Task`. Without a subcommand it is a session (covsession).
 //! Of `check` each file is read and told of by itself (`checked`). Any other subcommand is `Work`: its files are read (`files`),
-//! collected by covjobs, and the answer becomes an `Ending`, which `tell` tells by an exit status and on the two streams.
+//! collected by covjobs, and the answer becomes an `Ending`, which `tell` tells by an exit status and on the two streams. Files come
+//! from a `Folder`, as `FromFiles` makes one of std's.
 //!
 //! A sketch: the program's main function.
 //!
@@ -12,7 +13,7 @@
 //!     let mut output = FromWrite::new(io::writer(&rt));
 //!     let mut faults = FromWrite::new(rt.stderr());
 //!     ExitCode::from(match words_of_call(&rt) {
-//!         Ok(words) => run(&rt, words.as_slice(), &mut input, &mut output, &mut faults),
+//!         Ok(words) => run(&rt, &FromFiles::new(&rt), words.as_slice(), &mut input, &mut output, &mut faults),
 //!         Err(fault) => refuse(fault, &mut output, &mut faults),
 //!     })
 //! }
@@ -23,6 +24,7 @@ mod checked;
 mod collecting;
 mod ending;
 mod files;
+mod folder;
 mod inputs;
 mod program;
 mod told;
@@ -30,5 +32,6 @@ mod verdict;
 mod words_fault;
 mod work;
 
+pub use folder::{Folder, FromFiles, Opened};
 pub use program::{refuse, run};
 pub use words_fault::WordsFault;

@@ -3,17 +3,18 @@
 ghost use Rattle.std.specs.Prelude.{◌≡◌, ◌<◌, ◌^◌, map};
 ghost use Rattle.std.specs.String.{string_bytes};
 ghost use Rattle.covrun.specs.Call.{of_line, IsCall, IsTold, CommandTold};
+ghost use Rattle.covrun.specs.Folder.{folder_data};
 ghost use Rattle.covrun.specs.Streams.{sinks, source};
 
 use crate::checked::check_files;
 use crate::collecting::ending_of;
 use crate::ending::{ending_of_line, ending_of_work};
+use crate::folder::Folder;
 use crate::told::tell;
 use crate::work::{Task, task_for};
 use covcommand::{Command, CommandFault, command};
 use covsession::{Sink, Source, run_session};
 use std::alloc::{AllocGlobal, Global};
-use std::rt::Files;
 use std::sync::Wait;
 use std::thread::Threads;
 
@@ -28,10 +29,14 @@ use std::thread::Threads;
 /// can't be, or has no item, is complained of. Its status is 1 where a file can't be read, else 4 where one is refused, else 5
 /// where one has no item, else 0. A failed write of a line (1) and want of memory (3) end the call.
 ///
+/// The texts that are collected or checked are those of the folder's files, under their names in the words, where the folder tells
+/// what they hold.
+///
 /// A session alone reads the input. The output is flushed, and `faults` isn't.
 /// Without a subcommand this is a session over the input and the output. Waits for the jobs.
-pub fn run<R: Files + AllocGlobal + Threads + Wait + Sync, I: Source, O: Sink, E: Sink>(
+pub fn run<R: AllocGlobal + Threads + Wait + Sync, F: Folder, I: Source, O: Sink, E: Sink>(
     rt: &R,
+    folder: &F,
     words: &[String],
     input: &mut I,
     output: &mut O,
@@ -41,20 +46,22 @@ pub fn run<R: Files + AllocGlobal + Threads + Wait + Sync, I: Source, O: Sink, E
     requires failed_reads { I.failed_reads input.old < 2 ^ 62 }
     requires failed_writes { O.failed_writes output.old < 2 ^ 62 }
     requires failed_words { E.failed_writes faults.old < 2 ^ 62 }
-    ensures { IsCall (map string_bytes words.now) result (source (I.left input.old) (I.reads input.old) (I.failed_reads input.old)) (source (I.left input.new) (I.reads input.new) (I.failed_reads input.new))
+    ensures { IsCall (folder_data (F.holds folder.now) (F.may_refuse folder.now) F.File.left F.File.failed_reads)
+        (map string_bytes words.now) result (source (I.left input.old) (I.reads input.old) (I.failed_reads input.old)) (source (I.left input.new) (I.reads input.new) (I.failed_reads input.new))
         (sinks (O.written output.old) (O.failed_writes output.old) (E.written faults.old) (E.failed_writes faults.old))
         (sinks (O.written output.new) (O.failed_writes output.new) (E.written faults.new) (E.failed_writes faults.new)) }
 {
     let alloc = rt.alloc();
     match command(alloc, words) {
-        Ok(asked) => run_command(rt, alloc, asked, input, output, faults),
+        Ok(asked) => run_command(rt, folder, alloc, asked, input, output, faults),
         Err(fault) => tell(&ending_of_line(fault), output, faults),
     }
 }
 
 /// Does what the command asks for, and answers the exit status.
-fn run_command<R: Files + Threads + Wait + Sync, I: Source, O: Sink, E: Sink>(
+fn run_command<R: Threads + Wait + Sync, F: Folder, I: Source, O: Sink, E: Sink>(
     rt: &R,
+    folder: &F,
     alloc: Global,
     asked: Command,
     input: &mut I,
@@ -65,15 +72,16 @@ fn run_command<R: Files + Threads + Wait + Sync, I: Source, O: Sink, E: Sink>(
     requires failed_reads { I.failed_reads input.old < 2 ^ 62 }
     requires failed_writes { O.failed_writes output.old < 2 ^ 62 }
     requires failed_words { E.failed_writes faults.old < 2 ^ 62 }
-    ensures { CommandTold asked result (source (I.left input.old) (I.reads input.old) (I.failed_reads input.old)) (source (I.left input.new) (I.reads input.new) (I.failed_reads input.new))
+    ensures { CommandTold (folder_data (F.holds folder.now) (F.may_refuse folder.now) F.File.left F.File.failed_reads)
+        asked result (source (I.left input.old) (I.reads input.old) (I.failed_reads input.old)) (source (I.left input.new) (I.reads input.new) (I.failed_reads input.new))
         (sinks (O.written output.old) (O.failed_writes output.old) (E.written faults.old) (E.failed_writes faults.old))
         (sinks (O.written output.new) (O.failed_writes output.new) (E.written faults.new) (E.failed_writes faults.new)) }
 {
     match task_for(alloc, asked) {
         Ok(Task::Session) => run_session(alloc, input, output, faults),
-        Ok(Task::Collect(work)) => tell(&ending_of(rt, alloc, &work), output, faults),
+        Ok(Task::Collect(work)) => tell(&ending_of(rt, folder, alloc, &work), output, faults),
         Ok(Task::Check { format, files }) => {
-            check_files(rt, alloc, format, files.get(), output, faults)
+            check_files(folder, alloc, format, files.get(), output, faults)
         }
         Err(fault) => tell(&ending_of_work(fault), output, faults),
     }

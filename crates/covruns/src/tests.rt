@@ -5,7 +5,7 @@
 
 ghost use Rattle.std.specs.Prelude.{◌<◌, ◌^◌};
 
-use covrun::run;
+use covrun::{FromFiles, run};
 use covsession::{FromRead, FromWrite, Sink, Source};
 use std::alloc::Global;
 use std::fs;
@@ -19,6 +19,7 @@ mod checks;
 mod commands;
 mod faults;
 mod files;
+mod folders;
 mod limits;
 
 /// What a call does, without its contracts: a test looks at what it does, and its proof is quicker that way.
@@ -34,7 +35,7 @@ fn called<R: Files + AllocGlobal + Threads + Wait + Sync, I: Source, O: Sink, E:
     requires failed_writes { O.failed_writes output.old < 2 ^ 62 }
     requires failed_words { E.failed_writes faults.old < 2 ^ 62 }
 {
-    run(rt, words, input, output, faults)
+    run(rt, &FromFiles::new(rt), words, input, output, faults)
 }
 
 /// How a call ended, and what it left on its streams.

@@ -1,5 +1,6 @@
 use Rattle.std.proofs.Common.{◌≡◌, inl, length, refl, ap, ◌∙◌, arith}
-use Rattle.covrun.proofs.Blocks.{read_begun, read_on, read_long, read_ended}
+use Rattle.std.proofs.lemmas.Result.{err_from_is_err_and}
+use Rattle.covrun.proofs.Blocks.{read_begun, read_on, read_long, read_ended, read_failed}
 use Rattle.covrun.proofs.files.read_at_most.Goals as goal
 
 pub loop-room-init : goal.loop-room-init
@@ -31,3 +32,9 @@ returns-then-got-eq0-clause-read g c =
       read_on _ _ _ _ _ _ _ i.took read,
       inl (read_ended _ _ _ _ _ _ read c.if-got-eq0.true c.loop-room-test.true),
     )
+
+pub returns-in_err-got-clause-failed : goal.returns-in_err-got-clause-failed
+returns-in_err-got-clause-failed g c =
+    let i = c.loop-room.invariant in
+    let told = err_from_is_err_and c.from_residual.result c.from_residual.ensures.1 in
+    rw (told.1, told.2) (read_failed _ _ _ _ _ _ _ _ i.took i.failed c.in_err-got.ensures.failed)

@@ -1,4 +1,5 @@
 use Rattle.std.proofs.Common.{inl, inr, refl, sym, ap, ◌∙◌}
+use Rattle.covrun.specs.Folder.{folder_data}
 use Rattle.covrun.specs.View.{task_data, work_data, ending_data}
 use Rattle.covrun.proofs.Endings.{stops_early, told_check, told_work}
 use Rattle.covrun.proofs.program.run_command.Goals as goal
@@ -7,7 +8,7 @@ pub returns-in-Ok-Collect : goal.returns-in-Ok-Collect
 returns-in-Ok-Collect g c =
     inr (
       c.in-Ok-Collect.ensures.taken,
-      told_work (work_data c.in-Ok-Collect.work) _ (ending_data c.ending_of.result) _ _ _ _ _ refl
+      told_work (folder_data (g.F.Folder.holds c.args.folder.now) (g.F.Folder.may_refuse c.args.folder.now) g.F.File.Source.left g.F.File.Source.failed_reads) (work_data c.in-Ok-Collect.work) _ (ending_data c.ending_of.result) _ _ _ _ _ refl
           (ap task_data (sym c.in-Ok-Collect.field-0-is) ∙ c.in-Ok-Collect.ensures.task) c.ending_of.ensures c.tell.ensures,
     )
 
@@ -15,7 +16,7 @@ pub returns-in-Ok-Check : goal.returns-in-Ok-Check
 returns-in-Ok-Check g c =
     inr (
       c.in-Ok-Check.ensures.taken,
-      told_check _ _ _ _ _ _ _ _ _ refl c.get.ensures
+      told_check (folder_data (g.F.Folder.holds c.args.folder.now) (g.F.Folder.may_refuse c.args.folder.now) g.F.File.Source.left g.F.File.Source.failed_reads) _ _ _ _ _ _ _ _ _ refl c.get.ensures
           (ap task_data (sym c.in-Ok-Check.field-0-is) ∙ c.in-Ok-Check.ensures.task) c.check_files.ensures,
     )
 

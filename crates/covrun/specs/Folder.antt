@@ -1,0 +1,35 @@
+-- The files that a call reads, by their names.
+use Rattle.std.specs.Io.KnownBytes.{Consumes}
+use Rattle.std.specs.List.{AllByRecursion, zip}
+use Rattle.std.specs.Prelude.{◌≡◌, ◌⊎◌, ◌<◌, ℕ, suc, List, take, Option, None, Some}
+use Rattle.covread.specs.Outcome.{most_bytes}
+
+-- the folder that a call reads from: the bytes of the file of a name, where it tells them; and that this file may fail to be read
+pub record FolderData : Type 1 where
+  pub holds : List ℕ → Option (List ℕ)
+  pub MayFail : List ℕ → Type 0
+
+-- a read failed of an open file that had given a beginning of these bytes
+abbrev pub HasFailed : {File : Type 0} → (left : File → Option (List ℕ)) → (failed_reads : File → ℕ) → Option (List ℕ) → Type 0
+HasFailed {File} left failed_reads held = (file : File) × (bytes : List ℕ) × Consumes held (left file) bytes × (0 < failed_reads file)
+
+-- a file may fail to be read where the folder may refuse to open it, or where a read failed of one that had given a beginning of its bytes
+abbrev pub folder_data : {File : Type 0} → (holds : List ℕ → Option (List ℕ)) → (may_refuse : List ℕ → Type 0) → (left : File → Option (List ℕ))
+    → (failed_reads : File → ℕ) → FolderData
+folder_data holds may_refuse left failed_reads = record {
+  holds = holds;
+  MayFail = λ name. may_refuse name ⊎ HasFailed left failed_reads (holds name);
+}
+
+-- where the bytes are told, all of them, or so many from the first on
+abbrev pub IsTextAtMost : ℕ → Option (List ℕ) → List ℕ → Type 0
+IsTextAtMost most None text = Unit {0}
+IsTextAtMost most (Some bytes) text = text ≡ take most bytes
+
+-- the text that is read of a file with these bytes: all of them, or from the first on a byte more than a text may have
+abbrev pub IsTextOf : Option (List ℕ) → List ℕ → Type 0
+IsTextOf held text = IsTextAtMost (suc most_bytes) held text
+
+-- each text is that of the file at its place
+abbrev pub AreTextsOf : FolderData → (files texts : List (List ℕ)) → Type 0
+AreTextsOf folder files texts = AllByRecursion (λ (f : List ℕ × List ℕ). IsTextOf (folder.holds f.0) f.1) (zip files texts)

@@ -1,0 +1,152 @@
+//! Calls that read folders in memory: one that tells what it holds, and one whose files fail while they are read.
+
+ghost use Rattle.std.specs.Prelude.{◌≢◌, None, Some};
+
+use super::{Told, check_text, words_of};
+use covrun::{Folder, Opened, run};
+use covsession::{Failed, FromRead, FromWrite, Source};
+use std::process::Abort;
+use std::sync::Wait;
+use std::test::*;
+use std::thread::Threads;
+
+/// A call of these words over this folder.
+fn call_over<R: AllocGlobal + Threads + Wait + Sync, F: Folder>(
+    rt: &R,
+    folder: &F,
+    words: &[String],
+) -> Told {
+    let mut output: Vec<u8> = Vec::new(rt.alloc());
+    let mut faults: Vec<u8> = Vec::new(rt.alloc());
+    let status = {
+        let input: &[u8] = b"";
+        let mut source = FromRead::new(input);
+        let mut sink = FromWrite::new(&mut output);
+        let mut complaints = FromWrite::new(&mut faults);
+        run(rt, folder, words, &mut source, &mut sink, &mut complaints)
+    };
+    Told {
+        status,
+        output,
+        faults,
+    }
+}
+
+/// A call over this folder ends with status 1, and leaves this on its streams.
+fn check_over<R: AllocGlobal + Threads + Wait + Abort + Sync, F: Folder>(
+    rt: &R,
+    folder: &F,
+    asked: &str,
+    output: &str,
+    faults: &str,
+) -> Result<(), Fail> {
+    let words = words_of(rt.alloc(), asked, "")?;
+    let told = call_over(rt, folder, words.as_slice());
+    check_text(rt, asked, told.faults.as_slice(), faults)?;
+    check_text(rt, asked, told.output.as_slice(), output)?;
+    assert!(rt; told.status == 1, "{asked}: the status is {}", told.status);
+    Ok(())
+}
+
+/// A folder of one file, which tells its bytes.
+struct OneFile<'a> {
+    name: &'a str,
+    text: &'a [u8],
+}
+
+impl<'a> Folder for OneFile<'a> {
+    ghost holds = { λ s _. Some s.text.now };
+
+    ghost may_refuse = { λ s name. name ≢ s.name.now };
+
+    type File = FromRead<&'a [u8]>;
+
+    fn open(&self, name: &str) -> Result<Opened<FromRead<&'a [u8]>>, Failed> {
+        if name != self.name {
+            return Err(Failed);
+        }
+        Ok(Opened {
+            source: FromRead::new(self.text),
+            awaited: 0,
+        })
+    }
+}
+
+/// A file that is there, and one that isn't.
+#[test]
+fn a_folder_of_one_file(rt: HostRuntime) -> Result<(), Fail> {
+    let folder = OneFile {
+        name: "a.info",
+        text: b"SF:/src/a.c\nDA:1,2\nend_of_record\n",
+    };
+    check_over(
+        &rt,
+        &folder,
+        "covcollect check b.info a.info",
+        "a.info: sections 1 items 1 odd 0 skipped 0\n",
+        "b.info: can't read\n",
+    )
+}
+
+/// A file that gives one byte. Each read after it fails.
+#[derive(Drop)]
+struct Torn {
+    reads: u64,
+    failed: u64,
+}
+
+impl Source for Torn {
+    ghost left = { λ _. None };
+
+    ghost reads = { λ s. s.reads };
+
+    ghost failed_reads = { λ s. s.failed };
+
+    fn read(&mut self, buffer: &mut [u8]) -> Result<usize, Failed> {
+        self.reads += 1;
+        match buffer.first_mut() {
+            Some(first) if self.reads == 1 => {
+                *first = b'\n';
+                Ok(1)
+            }
+            _ => {
+                self.failed += 1;
+                Err(Failed)
+            }
+        }
+    }
+}
+
+/// A folder that opens a torn file under each name.
+struct TornFiles;
+
+impl Folder for TornFiles {
+    ghost holds = { λ _ _. None };
+
+    ghost may_refuse = { λ _ _. ⊥ };
+
+    type File = Torn;
+
+    fn open(&self, _name: &str) -> Result<Opened<Torn>, Failed> {
+        Ok(Opened {
+            source: Torn {
+                reads: 0,
+                failed: 0,
+            },
+            awaited: 0,
+        })
+    }
+}
+
+/// What was read of a file before a read failed is no text of it.
+#[test]
+fn a_read_fails_within_a_file(rt: HostRuntime) -> Result<(), Fail> {
+    for asked in [
+        "covcollect check torn.info",
+        "covcollect summary torn.info",
+        "covcollect merge --jobs 2 torn.info other.info",
+    ] {
+        check_over(&rt, &TornFiles, asked, "", "torn.info: can't read\n")?;
+    }
+    Ok(())
+}
