@@ -18,11 +18,11 @@ mod check;
 mod format;
 mod holding;
 pub mod laws;
+mod output;
 mod skipped_lines;
 mod start;
-mod told;
 
 pub use check::{check_gcov, check_trace};
 pub use holding::{Holding, SkippedLine};
 pub use laws::{a_beginning_is_one_word, skipped_lines_are_unique};
-pub use told::holding_line;
+pub use output::holding_line;

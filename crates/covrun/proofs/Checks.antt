@@ -13,7 +13,7 @@ use Rattle.covcommand.specs.declared.asked.TextFormat.TheVariants.{Tracefile, Gc
 use Rattle.covline.specs.Row.{SubmissionData}
 use Rattle.covread.specs.GcovOutcome as gcov
 use Rattle.covread.specs.Outcome as trace
-use Rattle.covread.specs.Outcome.{most_bytes}
+use Rattle.covread.specs.Outcome.{max_bytes}
 use Rattle.covread.specs.declared.fault.ReadFault.{ReadFault}
 use Rattle.covread.specs.declared.fault.ReadFault.TheVariants as reads
 use Rattle.covsession.specs.Fault.{HasBegun}
@@ -70,7 +70,7 @@ abbrev becomes : FolderData → TextFormat → List ℕ × OutcomeData → Type 
 becomes folder format f = IsOutcome folder format f.0 f.1
 
 -- a file of this text is told of
-pub told_text : (folder : FolderData) (format : TextFormat) (file text : List ℕ) → length text ≤ suc most_bytes → IsTextOf (folder.holds file) text
+pub told_text : (folder : FolderData) (format : TextFormat) (file text : List ℕ) → length text ≤ suc max_bytes → IsTextOf (folder.holds file) text
     → (answer : Result Verdict SessionFault) (b d : SinksData) → TellsText format file text answer b d → TellsOne folder format file answer b d
 told_text folder format file text short fits answer b d (inl ran_out) = inl ran_out
 told_text folder format file text short fits answer b d (inr (Unread, none, told)) = absurd none

@@ -2,7 +2,7 @@
 use Rattle.std.proofs.Common.{◌≡◌, ℕ, zero, suc, ◌<◌, ◌≤◌, List, [], ◌∷◌, length, get_or, take, map, Result, Err, refl, ap, sym, ◌∙◌, subst, arith}
 use Rattle.std.proofs.lemmas.List.{length-map, length-take-le}
 use Rattle.std.specs.List.{AllByRecursion}
-use Rattle.covreport.specs.Choice.{most_patterns, most_pattern_bytes}
+use Rattle.covreport.specs.Choice.{max_patterns, max_pattern_bytes}
 use Rattle.covreport.specs.declared.patterns.PatternFault.{PatternFault}
 use Rattle.covreport.specs.declared.patterns.PatternFault.TheVariants as patterns
 use Rattle.covrun.specs.Work.{ArePatterns, IsShort}
@@ -43,13 +43,13 @@ pub refused_at : {X : Type 0} (name : X → List ℕ) (words : List X) (i : ℕ)
     → (held : List (List ℕ)) → held ≡ map name (take i words) → ArePatterns held
     → (word : List ℕ) → word ≡ name (get_or words i default)
     → (fault : PatternFault) (answer : Result (Unit {0}) PatternFault) → answer ≡ Err fault
-    → (answer ≡ Err patterns.TooMany → length held ≡ most_patterns)
-    → (answer ≡ Err patterns.TooLong → (length held < most_patterns) × (most_pattern_bytes < length word))
+    → (answer ≡ Err patterns.TooMany → length held ≡ max_patterns)
+    → (answer ≡ Err patterns.TooLong → (length held < max_patterns) × (max_pattern_bytes < length word))
     → IsPatternRefusal (map name words) (of_pattern fault)
 refused_at name words i default within held are taken word is patterns.TooMany answer told many long =
-    full_at name words most_patterns i within held are (many told) taken.1
+    full_at name words max_patterns i within held are (many told) taken.1
 refused_at name words i default within held are taken word is patterns.TooLong answer told many long =
     let here = held_long name words i within held are in
-    λ all. too_long (length word) (length (name (get_or words i default))) most_pattern_bytes (ap length is)
-    (short_at name words most_patterns i default (subst (λ (n : ℕ). n < most_patterns) here (long told).0) within all) (long told).1
+    λ all. too_long (length word) (length (name (get_or words i default))) max_pattern_bytes (ap length is)
+    (short_at name words max_patterns i default (subst (λ (n : ℕ). n < max_patterns) here (long told).0) within all) (long told).1
 refused_at name words i default within held are taken word is patterns.Memory answer told many long = tt

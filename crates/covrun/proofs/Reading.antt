@@ -1,7 +1,7 @@
 -- Files that are read one after another.
 use Rattle.std.proofs.Common.{◌≡◌, ℕ, suc, ◌+◌, ◌<◌, ◌≤◌, List, [], ◌∷◌, ◌++◌, length, get_or, take, drop, map, sym, ap, ◌∙◌, length-append, subst}
 use Rattle.std.proofs.lemmas.List.{take_more, map-append, take-append-drop, drop_more}
-use Rattle.covread.specs.Outcome.{most_bytes}
+use Rattle.covread.specs.Outcome.{max_bytes}
 use Rattle.covjobs.specs.Collect.{InputData}
 use Rattle.covrun.specs.Call.{AreTexts, IsUnreadable}
 use Rattle.covrun.specs.Files.{IsFileFault, IsUnread}
@@ -13,7 +13,7 @@ use Rattle.covrun.proofs.Places.{all_more, pairs_more}
 -- one file more is read
 pub texts_more : {X Y : Type 0} (folder : FolderData) (name : X → List ℕ) (seen : Y → InputData) (input : List ℕ → InputData) (files : List X) (i : ℕ) (default : X) → i < length files
     → (file : List ℕ) → file ≡ name (get_or files i default)
-    → (inputs after : List Y) (y : Y) (text : List ℕ) → after ≡ inputs ++ y ∷ [] → length text ≤ suc most_bytes → IsTextOf (folder.holds file) text → seen y ≡ input text
+    → (inputs after : List Y) (y : Y) (text : List ℕ) → after ≡ inputs ++ y ∷ [] → length text ≤ suc max_bytes → IsTextOf (folder.holds file) text → seen y ≡ input text
     → (texts : List (List ℕ)) × AreTexts folder (map name (take i files)) texts × (map seen inputs ≡ map input texts)
     → (texts : List (List ℕ)) × AreTexts folder (map name (take (i + 1) files)) texts × (map seen after ≡ map input texts)
 texts_more {X} {Y} folder name seen input files i default within file file_is inputs after y text pushed short fits is (texts, (long, all, of), from) =
@@ -23,7 +23,7 @@ texts_more {X} {Y} folder name seen input files i default within file file_is in
       texts ++ text ∷ [],
       (
         length-append texts (text ∷ []) ∙ ap (λ (n : ℕ). n + 1) long ∙ sym (length-append (map name (take i files)) (file ∷ [])) ∙ ap (λ (xs : List (List ℕ)). length xs) (sym files_more),
-        all_more (λ (t : List ℕ). length t ≤ suc most_bytes) texts text all short,
+        all_more (λ (t : List ℕ). length t ≤ suc max_bytes) texts text all short,
         subst (λ (fs : List (List ℕ)). AreTextsOf folder fs (texts ++ text ∷ [])) (sym files_more)
             (pairs_more (λ (f : List ℕ × List ℕ). IsTextOf (folder.holds f.0) f.1) (map name (take i files)) [] texts file text long of fits),
       ),

@@ -3,7 +3,7 @@ use Rattle.std.specs.List.{AllByRecursion}
 use Rattle.std.specs.Prelude.{◌≡◌, ◌⊎◌, ◌≤◌, ℕ, suc, List, [], ◌∷◌, ◌++◌, length, map, Result, Ok, Err, IfOk, IfErr, true}
 use Rattle.std.specs.String.{string_bytes}
 use Rattle.clap.specs.Words.{subcommand_of, takes, fault_of}
-use Rattle.covread.specs.Outcome.{most_bytes}
+use Rattle.covread.specs.Outcome.{max_bytes}
 use Rattle.covbook.specs.Op.{EntryData}
 use Rattle.covbook.specs.Gather.{LogData}
 use Rattle.covjobs.specs.Collect.{IsCollected}
@@ -32,7 +32,7 @@ use Rattle.covrun.specs.Streams.{SourceData, SinksData, Complains, Withholds, De
 -- file holds, its text is that
 abbrev pub AreTexts : FolderData → List (List ℕ) → List (List ℕ) → Type 0
 AreTexts folder files texts =
-    (length texts ≡ length files) × AllByRecursion (λ text. length text ≤ suc most_bytes) texts × AreTextsOf folder files texts
+    (length texts ≡ length files) × AllByRecursion (λ text. length text ≤ suc max_bytes) texts × AreTextsOf folder files texts
 
 -- this is one of the files, and it may fail to be read; those before it have a text each
 abbrev pub IsUnreadable : FolderData → List (List ℕ) → List ℕ → Type 0

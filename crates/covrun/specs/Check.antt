@@ -10,7 +10,7 @@ use Rattle.covcommand.specs.declared.asked.TextFormat.{TextFormat}
 use Rattle.covcommand.specs.declared.asked.TextFormat.TheVariants.{Tracefile, Gcov}
 use Rattle.covline.specs.Row.{SubmissionData}
 use Rattle.covread.specs.GcovOutcome as gcov
-use Rattle.covread.specs.Outcome.{most_bytes, IsOutcome as IsTraceOutcome}
+use Rattle.covread.specs.Outcome.{max_bytes, IsOutcome as IsTraceOutcome}
 use Rattle.covread.specs.declared.fault.ReadFault.{ReadFault}
 use Rattle.covsession.specs.Fault.{HasBegun}
 use Rattle.covsession.specs.Program.{fault_status, words_of_fault}
@@ -36,7 +36,7 @@ IsTextOutcome Gcov text answer =
 -- there is a text of at most a byte more than a text may have, which is that of the file where the folder tells what it holds, and it
 -- is answered so
 abbrev pub IsAnswered : Option (List ℕ) → TextFormat → Result Holding ReadFault → Type 0
-IsAnswered held format answer = (text : List ℕ) × (length text ≤ suc most_bytes) × IsTextOf held text × IsTextOutcome format text answer
+IsAnswered held format answer = (text : List ℕ) × (length text ≤ suc max_bytes) × IsTextOf held text × IsTextOutcome format text answer
 
 -- it can become of this file
 abbrev pub IsOutcome : FolderData → TextFormat → (file : List ℕ) → OutcomeData → Type 0

@@ -1,7 +1,7 @@
 -- Private steps: how a file is read.
 use Rattle.std.specs.Io.KnownBytes.{Consumes, IsAtEnd}
 use Rattle.std.specs.Prelude.{◌≡◌, ◌⊎◌, ◌<◌, ◌≤◌, ℕ, suc, List, ◌++◌, length, Option}
-use Rattle.covread.specs.Outcome.{most_bytes}
+use Rattle.covread.specs.Outcome.{max_bytes}
 use Rattle.covrun.specs.Call.{IsUnreadable}
 use Rattle.covrun.specs.Folder.{FolderData}
 use Rattle.covsession.specs.declared.session.fault.SessionFault.{SessionFault}
@@ -15,7 +15,7 @@ HasReadAtMost most left left_after text = Consumes left left_after text × (IsAt
 
 -- all that was left, unless it is too much for a text: then a byte more than a text may have
 abbrev pub HasRead : Option (List ℕ) → Option (List ℕ) → List ℕ → Type 0
-HasRead left left_after text = HasReadAtMost (suc most_bytes) left left_after text
+HasRead left left_after text = HasReadAtMost (suc max_bytes) left left_after text
 
 -- one read of at most so many bytes: they stand at the text's end now, and none were read only at the end
 abbrev pub HasReadBlock : (left left_after : Option (List ℕ)) → (text text_after : List ℕ) → (room count : ℕ) → Type 0

@@ -2,7 +2,7 @@
 use Rattle.std.specs.Io.KnownBytes.{Consumes}
 use Rattle.std.specs.List.{AllByRecursion, zip}
 use Rattle.std.specs.Prelude.{◌≡◌, ◌⊎◌, ◌<◌, ℕ, suc, List, take, Option, None, Some}
-use Rattle.covread.specs.Outcome.{most_bytes}
+use Rattle.covread.specs.Outcome.{max_bytes}
 
 -- the folder that a call reads from: the bytes of the file of a name, where it tells them; and that this file may fail to be read
 pub record FolderData : Type 1 where
@@ -28,7 +28,7 @@ IsTextAtMost most (Some bytes) text = text ≡ take most bytes
 
 -- the text that is read of a file with these bytes: all of them, or from the first on a byte more than a text may have
 abbrev pub IsTextOf : Option (List ℕ) → List ℕ → Type 0
-IsTextOf held text = IsTextAtMost (suc most_bytes) held text
+IsTextOf held text = IsTextAtMost (suc max_bytes) held text
 
 -- each text is that of the file at its place
 abbrev pub AreTextsOf : FolderData → (files texts : List (List ℕ)) → Type 0

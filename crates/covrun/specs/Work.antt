@@ -2,7 +2,7 @@
 use Rattle.std.specs.List.{AllByRecursion}
 use Rattle.std.specs.Prelude.{◌≡◌, ◌<◌, ◌≤◌, ℕ, List, length, take, drop, Option, Some, None}
 use Rattle.covline.specs.Lawful.{IsGoodTest}
-use Rattle.covreport.specs.Choice.{most_patterns, most_pattern_bytes}
+use Rattle.covreport.specs.Choice.{max_patterns, max_pattern_bytes}
 use Rattle.covbook.specs.Op.{OpData, ReportOp, SummaryOp, ExtractOp, RemoveOp}
 use Rattle.covjobs.specs.Collect.{InputData, TraceInput, GcovInput}
 use Rattle.covcommand.specs.declared.asked.Command.{Command}
@@ -44,15 +44,15 @@ input_of None text = TraceInput text
 input_of (Some test) text = GcovInput test text
 
 abbrev pub IsShort : List ℕ → Type 0
-IsShort pattern = length pattern ≤ most_pattern_bytes
+IsShort pattern = length pattern ≤ max_pattern_bytes
 
 -- the patterns are taken one after another, and the first that isn't taken tells why
 abbrev pub ArePatterns : List (List ℕ) → Type 0
-ArePatterns patterns = (length patterns ≤ most_patterns) × AllByRecursion IsShort patterns
+ArePatterns patterns = (length patterns ≤ max_patterns) × AllByRecursion IsShort patterns
 
 abbrev pub IsPatternFault : List (List ℕ) → WordsFault → Type 0
-IsPatternFault patterns words.TooMany = (most_patterns < length patterns) × AllByRecursion IsShort (take most_patterns patterns)
-IsPatternFault patterns words.TooLong = AllByRecursion IsShort (take most_patterns patterns) → ⊥
+IsPatternFault patterns words.TooMany = (max_patterns < length patterns) × AllByRecursion IsShort (take max_patterns patterns)
+IsPatternFault patterns words.TooLong = AllByRecursion IsShort (take max_patterns patterns) → ⊥
 IsPatternFault patterns words.BadTest = ⊥
 IsPatternFault patterns words.BadJobs = ⊥
 

@@ -11,7 +11,7 @@ ghost use Rattle.covsession.specs.declared.session.fault.SessionFault.TheVariant
 
 use crate::files::{FileFault, file_text};
 use crate::folder::Folder;
-use crate::told::{put_out, say};
+use crate::output::{put_out, say};
 use crate::verdict::Verdict;
 use covcheck::{Holding, check_gcov, check_trace, holding_line};
 use covcommand::TextFormat;

@@ -1,13 +1,13 @@
 //! The files that a subcommand reads.
 
 ghost use Rattle.std.specs.Prelude.{◌≡◌, ◌<◌, ◌≤◌, ◌+◌, ◌^◌, [], suc, length, IfOk, IfErr};
-ghost use Rattle.covread.specs.Outcome.{most_bytes};
+ghost use Rattle.covread.specs.Outcome.{max_bytes};
 ghost use Rattle.covrun.specs.Files.{HasRead, HasReadAtMost, HasReadBlock, IsReadFault, IsUnread};
 ghost use Rattle.covrun.specs.Folder.{IsTextOf, folder_data};
 
 use crate::folder::Folder;
 use covline::{Bytes, Memory};
-use covread::MOST_BYTES;
+use covread::MAX_BYTES;
 use covsession::{SessionFault, Source};
 use std::alloc::{AllocError, Global};
 
@@ -15,7 +15,7 @@ use std::alloc::{AllocError, Global};
 const BLOCK_BYTES: usize = 65_536;
 
 /// How many bytes of a file are kept: one more than a text may have, which shows that it has too many.
-const MOST_KEPT: usize = MOST_BYTES + 1;
+const MAX_KEPT: usize = MAX_BYTES + 1;
 
 /// Why a file isn't read.
 #[derive(Clone, Copy)]
@@ -36,12 +36,12 @@ pub(crate) fn read_text<S: Source>(
     requires reads { S.reads source.old < 2 ^ 62 }
     requires failed_reads { S.failed_reads source.old < 2 ^ 62 }
     ensures read { IfOk result (HasRead (S.left source.old) (S.left source.new)) }
-    ensures few { IfOk result (λ text. length text ≤ suc most_bytes) }
+    ensures few { IfOk result (λ text. length text ≤ suc max_bytes) }
     ensures failed { IfErr result (IsReadFault (S.left source.old) (S.left source.new) (S.failed_reads source.old) (S.failed_reads source.new)) }
 {
     let mut block = vec![in alloc; 0; BLOCK_BYTES]?;
     let empty = Bytes::with_room(alloc, awaited)?;
-    let text = read_at_most(empty, source, block.as_mut_slice(), MOST_KEPT)?;
+    let text = read_at_most(empty, source, block.as_mut_slice(), MAX_KEPT)?;
     Ok(text)
 }
 
@@ -121,13 +121,13 @@ pub(crate) fn file_text<'a, F: Folder>(
     name: &'a str,
 ) -> Result<Bytes, FileFault<'a>>
     ensures text { IfOk result (IsTextOf (F.holds folder.now name.now)) }
-    ensures few { IfOk result (λ text. length text ≤ suc most_bytes) }
+    ensures few { IfOk result (λ text. length text ≤ suc max_bytes) }
     ensures unread { IfErr result (IsUnread (folder_data (F.holds folder.now) (F.may_refuse folder.now) F.File.left F.File.failed_reads) name.now) }
 {
     let Ok(opened) = folder.open(name) else {
         return Err(FileFault::Unreadable(name));
     };
-    let awaited = opened.awaited.min(MOST_KEPT as u64) as usize;
+    let awaited = opened.awaited.min(MAX_KEPT as u64) as usize;
     let mut source = opened.source;
     match read_text(alloc, awaited, &mut source) {
         Ok(text) => Ok(text),

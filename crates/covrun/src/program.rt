@@ -10,7 +10,7 @@ use crate::checked::check_files;
 use crate::collecting::ending_of;
 use crate::ending::{ending_of_line, ending_of_work};
 use crate::folder::Folder;
-use crate::told::tell;
+use crate::output::tell;
 use crate::work::{Task, task_for};
 use covcommand::{Command, CommandFault, command};
 use covsession::{Sink, Source, run_session};

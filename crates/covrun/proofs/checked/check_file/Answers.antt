@@ -1,5 +1,5 @@
 use Rattle.std.proofs.Common.{ℕ, suc, ◌≤◌, List, length, subst, sym}
-use Rattle.covread.specs.Outcome.{most_bytes}
+use Rattle.covread.specs.Outcome.{max_bytes}
 use Rattle.covrun.specs.Folder.{IsTextOf, folder_data}
 use Rattle.covrun.proofs.Checks.{told_text}
 use Rattle.covrun.proofs.checked.check_file.Goals as goal
@@ -8,6 +8,6 @@ pub returns-in-Ok : goal.returns-in-Ok
 returns-in-Ok g c =
     told_text (folder_data (g.F.Folder.holds c.args.folder.now) (g.F.Folder.may_refuse c.args.folder.now) g.F.File.Source.left g.F.File.Source.failed_reads)
     c.args.format c.args.name.now c.get.result.now
-    (subst (λ (t : List ℕ). length t ≤ suc most_bytes) (sym c.get.ensures) c.in-Ok.ensures.few)
+    (subst (λ (t : List ℕ). length t ≤ suc max_bytes) (sym c.get.ensures) c.in-Ok.ensures.few)
     (subst (IsTextOf (g.F.Folder.holds c.args.folder.now c.args.name.now)) (sym c.get.ensures) c.in-Ok.ensures.text)
     _ _ _ c.check_text.ensures
