@@ -1,0 +1,8 @@
+use Rattle.alloc_failure_tests.proofs.tests.shared.hands_in_anew.Given as goal
+
+-- the book that is about to be opened
+abbrev pub ghosts-hands_in-L-Ledger : goal.ghosts-hands_in-L-Ledger
+ghosts-hands_in-L-Ledger g a = record { name = a.start.name; parts = a.start.jobs }
+
+abbrev pub ghosts-hands_in-L-Name : goal.ghosts-hands_in-L-Name
+ghosts-hands_in-L-Name g a = record { book = a.start.book }

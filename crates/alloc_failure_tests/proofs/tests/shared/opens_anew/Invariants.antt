@@ -1,0 +1,8 @@
+use Rattle.alloc_failure_tests.proofs.tests.shared.opens_anew.Given as goal
+
+-- the book that is about to be opened
+abbrev pub ghosts-opens-L-Ledger : goal.ghosts-opens-L-Ledger
+ghosts-opens-L-Ledger g a = record { name = a.start.name; parts = a.start.jobs }
+
+abbrev pub ghosts-opens-L-Name : goal.ghosts-opens-L-Name
+ghosts-opens-L-Name g a = record { book = a.start.book }

@@ -1,0 +1,8 @@
+use Rattle.alloc_failure_tests.proofs.tests.shared.performs_anew.Given as goal
+
+-- the book that is about to be opened
+abbrev pub ghosts-performs-L-Ledger : goal.ghosts-performs-L-Ledger
+ghosts-performs-L-Ledger g a = record { name = a.start.name; parts = a.start.jobs }
+
+abbrev pub ghosts-performs-L-Name : goal.ghosts-performs-L-Name
+ghosts-performs-L-Name g a = record { book = a.start.book }

@@ -1,0 +1,8 @@
+use Rattle.covjobs_tests.proofs.tests.readers.places_for_readers.Given as goal
+
+-- the book that is about to be opened
+abbrev pub ghosts-all_places-L-Ledger : goal.ghosts-all_places-L-Ledger
+ghosts-all_places-L-Ledger g a = record { name = a.start.name; parts = a.start.jobs }
+
+abbrev pub ghosts-all_places-L-Name : goal.ghosts-all_places-L-Name
+ghosts-all_places-L-Name g a = record { book = a.start.book }

@@ -1,0 +1,8 @@
+use Rattle.covjobs_tests.proofs.tests.turns.six_calls.Given as goal
+
+-- the book that is about to be opened
+abbrev pub ghosts-in_turn-L-Ledger : goal.ghosts-in_turn-L-Ledger
+ghosts-in_turn-L-Ledger g a = record { name = a.start.name; parts = a.start.jobs }
+
+abbrev pub ghosts-in_turn-L-Name : goal.ghosts-in_turn-L-Name
+ghosts-in_turn-L-Name g a = record { book = a.start.book }

@@ -1,0 +1,329 @@
+//! Calls that fail: in which order things are tested, and that nothing is printed then.
+
+ghost use Rattle.std.specs.Prelude.{None};
+
+use super::{called, check_text, play, words_of};
+use covsession::{Failed, FromRead, FromWrite, Sink, Source};
+use std::process::{self, Abort};
+use std::rt::Files;
+use std::sync::Wait;
+use std::test::*;
+use std::thread::Threads;
+
+/// Words that don't fit the command line.
+#[test]
+fn words(rt: HostRuntime) -> Result<(), Fail> {
+    play(
+        &rt,
+        process::id(rt.process()),
+        "\
+! error: invalid value '65' for '--jobs <N>': 65 is not in 1..=64
+! 
+! For more information, try '--help'.
+$ 2 covcollect merge --jobs 65 ~/a.info
+! error: the following required arguments were not provided:
+!   <PATTERN>...
+! 
+! Usage: covcollect extract <TRACEFILE> <PATTERN>...
+! 
+! For more information, try '--help'.
+$ 2 covcollect extract ~/a.info
+! error: unrecognized subcommand 'bogus'
+! 
+! Usage: covcollect [COMMAND]
+! 
+! For more information, try '--help'.
+$ 2 covcollect bogus
+",
+    )
+}
+
+/// A file that isn't there, and a folder: the first is reported, before any text is looked into.
+#[test]
+fn files_that_cannot_be_read(rt: HostRuntime) -> Result<(), Fail> {
+    play(
+        &rt,
+        process::id(rt.process()),
+        "\
+DA:1,1
+@ b.info
+! ~/none.info: can't read
+$ 1 covcollect merge ~/none.info
+! ~/none.info: can't read
+$ 1 covcollect merge --jobs 3 ~/b.info ~/none.info ~/other.info
+! ~: can't read
+$ 1 covcollect summary ~ ~/none.info
+! ~/none.info: can't read
+$ 1 covcollect gcov --test t ~/none.info ~
+",
+    )
+}
+
+/// Refused texts in the order of the files, then clashes in the order of the history.
+#[test]
+fn refusals_and_clashes(rt: HostRuntime) -> Result<(), Fail> {
+    play(
+        &rt,
+        process::id(rt.process()),
+        "\
+TN:t
+SF:/a.c
+DA:1,1,abc
+end_of_record
+@ a.info
+DA:1,1
+@ b.info
+SF:/a.c
+DA:1,1
+@ c.info
+TN:u
+SF:/a.c
+DA:1,1,abd
+end_of_record
+@ d.info
+! ~/b.info: refused Outside at 1
+$ 4 covcollect merge ~/b.info
+! ~/b.info: refused Outside at 1
+! ~/c.info: refused OpenEnd
+$ 4 covcollect merge --jobs 2 ~/b.info ~/a.info ~/c.info
+! ~/b.info: refused Outside at 1
+! ~/b.info: refused Outside at 1
+$ 4 covcollect summary ~/b.info ~/b.info
+! ~/b.info: refused Outside at 1
+! ~/c.info: refused OpenEnd
+! ~/b.info: refused Outside at 1
+$ 4 covcollect merge --jobs 2 ~/b.info ~/c.info ~/b.info
+! clash /a.c 1 abc abd
+$ 4 covcollect merge ~/a.info ~/d.info
+! clash /a.c 1 abd abc
+! clash /a.c 1 abd abc
+$ 4 covcollect merge ~/d.info ~/a.info ~/a.info
+! ~/c.info: refused OpenEnd
+! clash /a.c 1 abc abd
+$ 4 covcollect merge ~/a.info ~/d.info ~/c.info
+! ~/b.info: refused Outside at 1
+$ 4 covcollect extract ~/b.info *
+",
+    )
+}
+
+/// An output that takes no byte, or takes all and can't send them on.
+#[derive(Drop)]
+struct Closed {
+    takes: bool,
+    failed: u64,
+}
+
+impl Sink for Closed {
+    ghost written = { λ s. None };
+
+    ghost held = { λ s. 0 };
+
+    ghost failed_writes = { λ s. s.failed };
+
+    fn write(&mut self, bytes: &[u8]) -> Result<usize, Failed> {
+        if self.takes || bytes.is_empty() {
+            return Ok(bytes.len());
+        }
+        self.failed += 1;
+        Err(Failed)
+    }
+
+    fn flush(&mut self) -> Result<(), Failed> {
+        self.failed += 1;
+        Err(Failed)
+    }
+}
+
+/// The exit status of a call whose output is closed so, and what it says.
+fn call_closed<R: Files + AllocGlobal + Threads + Wait + Sync>(
+    rt: &R,
+    asked: &str,
+    takes: bool,
+) -> Result<(u8, Vec<u8>), Fail> {
+    let words = words_of(rt.alloc(), asked, "")?;
+    let mut faults: Vec<u8> = Vec::new(rt.alloc());
+    let status = {
+        let input: &[u8] = b"";
+        let mut source = FromRead::new(input);
+        let mut sink = Closed { takes, failed: 0 };
+        let mut complaints = FromWrite::new(&mut faults);
+        called(
+            rt,
+            words.as_slice(),
+            &mut source,
+            &mut sink,
+            &mut complaints,
+        )
+    };
+    Ok((status, faults))
+}
+
+/// Checks that a call whose output is closed so reports that a write failed, after what it complains of.
+fn check_closed<R: Files + AllocGlobal + Threads + Wait + Abort + Sync>(
+    rt: &R,
+    asked: &str,
+    takes: bool,
+    told: &str,
+) -> Result<(), Fail> {
+    let (status, faults) = call_closed(rt, asked, takes)?;
+    check_text(rt, asked, faults.as_slice(), told)?;
+    assert!(rt; status == 1, "{asked}: the status is {status}");
+    Ok(())
+}
+
+/// An output that fails at once, and one that fails when it is to send on what it took.
+#[test]
+fn a_closed_output(rt: HostRuntime) -> Result<(), Fail> {
+    for takes in [false, true] {
+        check_closed(&rt, "covcollect summary /dev/null", takes, "write fault\n")?;
+        check_closed(&rt, "covcollect --help", takes, "write fault\n")?;
+    }
+    check_closed(
+        &rt,
+        "covcollect merge /dev/null /dev/null",
+        true,
+        "write fault\n",
+    )
+}
+
+/// A check whose line can't be written reports what it complains of up to this file, and looks at none after it.
+#[test]
+fn a_check_with_a_closed_output(rt: HostRuntime) -> Result<(), Fail> {
+    for takes in [false, true] {
+        check_closed(
+            &rt,
+            "covcollect check /tmp/covrun_tests-none /dev/null /tmp/covrun_tests-none",
+            takes,
+            "/tmp/covrun_tests-none: can't read\n/dev/null: no items\nwrite fault\n",
+        )?;
+    }
+    Ok(())
+}
+
+/// An output that takes a number of writes, each whole, and fails after them. It has the bytes that it took.
+#[derive(Drop)]
+struct Closing {
+    left: u64,
+    taken: Vec<u8>,
+    failed: u64,
+}
+
+impl Sink for Closing {
+    ghost written = { λ s. None };
+
+    ghost held = { λ s. 0 };
+
+    ghost failed_writes = { λ s. s.failed };
+
+    fn write(&mut self, bytes: &[u8]) -> Result<usize, Failed> {
+        if self.left > 0 && self.taken.extend_from_slice(bytes).is_ok() {
+            self.left -= 1;
+            return Ok(bytes.len());
+        }
+        self.failed += 1;
+        Err(Failed)
+    }
+
+    fn flush(&mut self) -> Result<(), Failed> {
+        Ok(())
+    }
+}
+
+/// An output that takes one line and then fails: a check of two files leaves the first one's line, whole, and no byte of the second's.
+#[test]
+fn a_check_whose_output_takes_one_line(rt: HostRuntime) -> Result<(), Fail> {
+    let words = words_of(
+        rt.alloc(),
+        "covcollect check /dev/null /dev/null /tmp/covrun_tests-none",
+        "",
+    )?;
+    let mut sink = Closing {
+        left: 1,
+        taken: Vec::new(rt.alloc()),
+        failed: 0,
+    };
+    let mut faults: Vec<u8> = Vec::new(rt.alloc());
+    let status = {
+        let input: &[u8] = b"";
+        let mut source = FromRead::new(input);
+        let mut complaints = FromWrite::new(&mut faults);
+        called(
+            &rt,
+            words.as_slice(),
+            &mut source,
+            &mut sink,
+            &mut complaints,
+        )
+    };
+    assert!(rt; status == 1, "the status is {status}");
+    assert!(rt; sink.failed == 1, "{} writes failed", sink.failed);
+    let line = "/dev/null: sections 0 items 0 odd 0 skipped 0\n";
+    check_text(&rt, "output", sink.taken.as_slice(), line)?;
+    let told = "/dev/null: no items\n/dev/null: no items\nwrite fault\n";
+    check_text(&rt, "faults", faults.as_slice(), told)
+}
+
+/// An input whose every read fails.
+#[derive(Drop)]
+struct Broken {
+    reads: u64,
+}
+
+impl Source for Broken {
+    ghost left = { λ s. None };
+
+    ghost reads = { λ s. s.reads };
+
+    ghost failed_reads = { λ s. s.reads };
+
+    fn read(&mut self, _buffer: &mut [u8]) -> Result<usize, Failed> {
+        self.reads += 1;
+        Err(Failed)
+    }
+}
+
+/// The exit status of a call whose input is broken, and how often it was read.
+fn call_broken<R: Files + AllocGlobal + Threads + Wait + Sync>(
+    rt: &R,
+    asked: &str,
+) -> Result<(u8, u64), Fail> {
+    let words = words_of(rt.alloc(), asked, "")?;
+    let mut source = Broken { reads: 0 };
+    let mut output: Vec<u8> = Vec::new(rt.alloc());
+    let mut faults: Vec<u8> = Vec::new(rt.alloc());
+    let status = {
+        let mut sink = FromWrite::new(&mut output);
+        let mut complaints = FromWrite::new(&mut faults);
+        called(
+            rt,
+            words.as_slice(),
+            &mut source,
+            &mut sink,
+            &mut complaints,
+        )
+    };
+    Ok((status, source.reads))
+}
+
+/// Checks how a call whose input is broken ends, and how often it has read it.
+fn check_broken<R: Files + AllocGlobal + Threads + Wait + Abort + Sync>(
+    rt: &R,
+    asked: &str,
+    status: u8,
+    reads: u64,
+) -> Result<(), Fail> {
+    let (given, times) = call_broken(rt, asked)?;
+    assert!(rt; given == status, "{asked}: the status is {given}");
+    assert!(rt; times == reads, "{asked}: the input was read {times} times");
+    Ok(())
+}
+
+/// A session alone reads the input.
+#[test]
+fn a_broken_input(rt: HostRuntime) -> Result<(), Fail> {
+    check_broken(&rt, "covcollect", 1, 1)?;
+    check_broken(&rt, "covcollect merge /dev/null", 0, 0)?;
+    check_broken(&rt, "covcollect --help", 0, 0)?;
+    check_broken(&rt, "covcollect bogus", 2, 0)
+}

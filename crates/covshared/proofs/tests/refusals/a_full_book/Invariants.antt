@@ -1,8 +1,0 @@
-use Rattle.covshared.proofs.tests.refusals.a_full_book.Given as goal
-
--- the book that is about to be opened
-abbrev pub ghosts-full-L-Ledger : goal.ghosts-full-L-Ledger
-ghosts-full-L-Ledger g a = record { name = a.start.name; parts = a.start.jobs }
-
-abbrev pub ghosts-full-L-Name : goal.ghosts-full-L-Name
-ghosts-full-L-Name g a = record { book = a.start.book }
