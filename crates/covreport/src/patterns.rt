@@ -10,7 +10,7 @@ use thiserror::Error;
 pub const MAX_PATTERNS: usize = 64;
 
 /// The most bytes in one pattern.
-pub const MOST_PATTERN_BYTES: usize = 1_024;
+pub const MAX_PATTERN_BYTES: usize = 1_024;
 
 /// Why a pattern isn't added to a list.
 #[derive(Clone, Copy, Debug, PartialEq, Eq, Error)]
@@ -91,7 +91,7 @@ impl<A: Allocator + Copy> Patterns<A> {
         if self.patterns.len() == MAX_PATTERNS {
             return Err(PatternFault::TooMany);
         }
-        if pattern.len() > MOST_PATTERN_BYTES {
+        if pattern.len() > MAX_PATTERN_BYTES {
             return Err(PatternFault::TooLong);
         }
         self.push(Bytes::of(alloc, pattern)?)?;
