@@ -20,6 +20,6 @@ mod tracefile;
 
 pub use choice::Choice;
 pub use pattern::matches;
-pub use patterns::{MAX_PATTERNS, MAX_PATTERN_BYTES, PatternFault, Patterns};
+pub use patterns::{MAX_PATTERN_BYTES, MAX_PATTERNS, PatternFault, Patterns};
 pub use summary::{summary_text, tenths};
 pub use tracefile::trace_text;
