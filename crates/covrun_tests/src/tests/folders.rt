@@ -49,6 +49,7 @@ fn check_over<R: AllocGlobal + Threads + Wait + Abort + Sync, F: Folder>(
 }
 
 /// A folder of one file, which tells its bytes.
+#[derive(Clone, Copy)]
 struct OneFile<'a> {
     name: &'a str,
     text: &'a [u8],
@@ -118,6 +119,7 @@ impl Source for Torn {
 }
 
 /// A folder that opens a torn file under each name.
+#[derive(Clone, Copy)]
 struct TornFiles;
 
 impl Folder for TornFiles {
