@@ -1,16 +1,17 @@
 -- A run of items at points of a kind: what they tell in their test is a run for the file's numbers, which count the tests then.
-use Rattle.std.proofs.Common.{◌≡◌, ◌+◌, ◌≤◌, ◌^◌, Bool, true, Option, Some, None, List, [], ◌∷◌, ◌++◌, length, refl, sym, ap, ◌∙◌, subst, arith}
+use Rattle.std.proofs.Common.{◌≡◌, ◌+◌, ◌≤◌, ◌^◌, Bool, true, false, Option, Some, None, List, [], ◌∷◌, ◌++◌, length, refl, sym, ap, ◌∙◌, subst, arith}
 use Rattle.std.specs.declared.cmp.Ordering.{Ordering}
 use Rattle.std.specs.Option.{IfSome}
 use Rattle.std.proofs.lemmas.List.{length-append}
-use Rattle.covmap.specs.Puts.{value_of}
+use Rattle.covmap.specs.Puts.{ArePairs, value_of}
 use Rattle.covmap.specs.Run.{FitRun, sum_put, summed, told_one, told_run}
 use Rattle.covstore.specs.declared.sums.Tests.{Tests}
 use Rattle.covstore.specs.declared.sums.TestsAddend.{TestsAddend}
 use Rattle.covstore.specs.Items.{HasRoomForRun, KeepsCountsOfKind}
 use Rattle.covstore.specs.KindIndex.{changed}
-use Rattle.covstore.specs.KindIndexCounts.{AreCounts, change_of, is_above_at, tests_fit, tests_with}
+use Rattle.covstore.specs.KindIndexCounts.{AreCounts, change_of, is_above_at, is_new, one_if, tests_fit, tests_with}
 use Rattle.covstore.proofs.Ascend.{IsExactOrder}
+use Rattle.covstore.proofs.Puts.{length-put}
 use Rattle.covstore.proofs.StepsCounts.{changed_is}
 use Rattle.covstore.proofs.StepsKept.{numbers_few, put_keeps}
 
@@ -25,6 +26,16 @@ module _ {K Q : Type 0} (cmp : K → K → Ordering) (named : Q → K) (query : 
       → FitRun cmp named tests_fit tests_with rest (changed cmp (named query) change counts) → FitRun cmp named tests_fit tests_with (told_one query change ++ rest) counts
   fits_told None fits left = left
   fits_told (Some more) fits left = (fits, left)
+
+-- what an item tells is of one point, so there is at most one more
+pub length_changed : {K : Type 0} {cmp : K → K → Ordering} (o : IsExactOrder cmp) (key : K) (change : Option TestsAddend) (counts : List (K × Tests)) → ArePairs cmp counts
+    → length (changed cmp key change counts) ≤ length counts + 1
+length_changed o key None counts sorted = omega arith
+length_changed {cmp = cmp} o key (Some more) counts sorted = omega (arith, length-put o key (tests_with more (value_of cmp key counts)) counts sorted, one_at_most (is_new (value_of cmp key counts)))
+  where
+    one_at_most : (is : Bool) → one_if is ≤ 1
+    one_at_most true = omega arith
+    one_at_most false = omega arith
 
 -- ---- the run
 

@@ -1,6 +1,6 @@
 //! One item more: of its test, and of what is kept of the file.
 
-ghost use Rattle.std.specs.Prelude.{◌≡◌, option_map, IfErr, IfOk, OnOk};
+ghost use Rattle.std.specs.Prelude.{◌≡◌, ◌+◌, ◌≤◌, length, option_map, IfErr, IfOk, OnOk};
 ghost use Rattle.covmap.specs.Puts.{put, value_of};
 ghost use Rattle.covline.specs.Row.{LineItem, FuncItem, BranchItem, item_data};
 ghost use Rattle.covstore.specs.FileIndexView.{index_staged, index_committed};
@@ -153,7 +153,7 @@ pub(crate) fn stage_branch<A: Allocator + Copy>(
 }
 
 /// Stages what an item adds at a point of a kind, in its test and in the file's numbers of the point. Tells the sum before.
-fn stage_at_point<
+pub(crate) fn stage_at_point<
     K: Key + Drop,
     S: PointSum,
     A: Allocator + Copy,
@@ -172,6 +172,7 @@ fn stage_at_point<
     ensures before { IfOk result (λ before. before ≡ value_of K.cmp (Q.named query) points.old.staged) }
     ensures test { OnOk result (points.new.staged ≡ put K.cmp (Q.named query) (M.sum addend (value_of K.cmp (Q.named query) points.old.staged)) points.old.staged) }
     ensures counts { OnOk result (KeepsCountsOfKind K.cmp S.above points.old.staged points.new.staged kept.old.staged kept.new.staged) }
+    ensures few { OnOk result (length kept.new.staged ≤ length kept.old.staged + 1) }
 {
     let added = points.stage_sum(alloc, query, addend, points.cursor())?;
     let change = addend.tell(&added.before, &added.after);

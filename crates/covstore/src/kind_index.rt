@@ -151,7 +151,10 @@ impl<K: Key + Drop, A: Allocator + Copy> KindIndex<K, A> {
         ensures committed { self.new.committed ≡ self.old.committed }
         ensures ok { OnOk result (self.new.staged ≡ summed K.cmp Q.named tests_with changes.now self.old.staged) }
     {
-        let mut told = Vec::new(alloc);
+        if changes.is_empty() {
+            return Ok(());
+        }
+        let mut told = Vec::with_capacity(alloc, changes.len())?;
         if let Err(refused) = self.counts.stage_run(alloc, changes, &mut told) {
             self.counts.rollback();
             self.staged_totals = self.totals;

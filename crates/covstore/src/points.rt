@@ -4,6 +4,7 @@ ghost use Rattle.std.specs.Prelude.{◌≡◌, length, OnOk};
 ghost use Rattle.covmap.specs.Run.{summed};
 ghost use Rattle.covstore.specs.Items.{HasRoomForRun, KeepsCountsOfKind};
 
+use crate::items::stage_at_point;
 use crate::kind_index::KindIndex;
 use crate::sums::{PointAddend, PointSum};
 use covmap::{Key, Query, StagedMap};
@@ -28,7 +29,39 @@ pub(crate) fn stage_at_points<
     ensures test { OnOk result (points.new.staged ≡ summed K.cmp Q.named M.sum run.now points.old.staged) }
     ensures counts { OnOk result (KeepsCountsOfKind K.cmp S.above points.old.staged points.new.staged kept.old.staged kept.new.staged) }
 {
-    let mut changes = Vec::new(alloc);
+    if run.is_empty() {
+        return Ok(());
+    }
+    let mut changes = Vec::with_capacity(alloc, run.len())?;
     points.stage_run(alloc, run, &mut changes)?;
     kept.add_run(alloc, changes.as_slice())
+}
+
+/// Stages a run of items at their points of a kind, one by one, as it pays where their points come in another order than
+/// that of the points.
+pub(crate) fn stage_one_by_one<
+    K: Key + Drop,
+    S: PointSum,
+    A: Allocator + Copy,
+    Q: Query<K, A>,
+    M: PointAddend<S>,
+>(
+    points: &mut StagedMap<K, S, A>,
+    kept: &mut KindIndex<K, A>,
+    alloc: A,
+    run: &[(Q, M)],
+) -> Result<(), AllocError>
+    requires { HasRoomForRun K.cmp S.above points.old.staged kept.old.staged (length run.now) }
+    ensures test_committed { points.new.committed ≡ points.old.committed }
+    ensures index_committed { kept.new.committed ≡ kept.old.committed }
+    ensures test { OnOk result (points.new.staged ≡ summed K.cmp Q.named M.sum run.now points.old.staged) }
+    ensures counts { OnOk result (KeepsCountsOfKind K.cmp S.above points.old.staged points.new.staged kept.old.staged kept.new.staged) }
+{
+    let mut rest = run;
+    while let Some((item, others)) = rest.split_first() {
+        let (query, addend) = *item;
+        stage_at_point(points, kept, alloc, query, addend)?;
+        rest = others;
+    }
+    Ok(())
 }

@@ -11,7 +11,7 @@ ghost use Rattle.covstore.specs.FileIndexView.{KeepsCommitted, index_staged};
 ghost use Rattle.covstore.specs.TestView.{test_staged, test_committed};
 
 use crate::index::FileIndex;
-use crate::points::stage_at_points;
+use crate::points::{stage_at_points, stage_one_by_one};
 use crate::sums::{BranchAddend, FunctionAddend, LineAddend};
 use crate::test::Test;
 use covline::{BranchPoint, Item};
@@ -110,7 +110,8 @@ pub(crate) fn stage_runs<'a, A: Allocator + Copy>(
     ensures held { OnOk result (KeepsHeld (index_staged index.old) (index_staged index.new)) }
 {
     stage_at_points(&mut test.lines, &mut index.lines, alloc, &runs.lines)?;
-    stage_at_points(
+    // Functions come by their lines, and their points are in the order of the names.
+    stage_one_by_one(
         &mut test.functions,
         &mut index.functions,
         alloc,

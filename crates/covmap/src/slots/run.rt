@@ -12,6 +12,9 @@ use crate::slots::staged::StagedColumns;
 use crate::slots::{PAGE_SLOTS, SlotIndex, Slots, push};
 use std::alloc::{AllocError, Allocator};
 
+/// A run of fewer keys than this goes to the last page, as long as that has room. A longer one gets pages of its own.
+const SHORT_RUN: usize = 32;
+
 impl SlotIndex {
     /// Another slot of its page.
     pub(crate) fn at(self, index: usize) -> SlotIndex {
@@ -96,8 +99,8 @@ pub(crate) fn make_slots<
     match slots.find(query, slots.near(query, guess)) {
         Ok(place) => Ok(place),
         Err(place) => {
-            // New pages come after full ones alone, so that short runs don't leave short pages.
-            if place.page < slots.count() || slots.has_room() {
+            // A short run fills the last page first, so that short runs don't leave short pages.
+            if place.page < slots.count() || slots.has_room() && run.len() < SHORT_RUN {
                 make_ahead(slots, staged, alloc, run, place)?;
                 return make_slot(slots, staged, alloc, query, place);
             }
@@ -106,7 +109,7 @@ pub(crate) fn make_slots<
     }
 }
 
-/// Puts in empty slots for the keys at the front of a run, as long as these go on one page that has room. A page that has
+/// Puts in empty slots for the keys at the front of a run, as long as these ascend on one page that has room. A page that has
 /// no staged values yet gets them all before it has a column, into which each would have to be put as well.
 fn make_ahead<K: Key + Drop, V: Value, A: Allocator + Copy, Q: Query<K, A>, M: Addend<V>>(
     slots: &mut Slots<K, V, A>,
@@ -127,6 +130,9 @@ fn make_ahead<K: Key + Drop, V: Value, A: Allocator + Copy, Q: Query<K, A>, M: A
         let guess = slots.near(query, place);
         let next = make_slot(slots, staged, alloc, query, guess)?;
         if next.page != first.page || slots.len_of(next.page) == PAGE_SLOTS {
+            return Ok(());
+        }
+        if count > 0 && next.index <= place.index {
             return Ok(());
         }
         place = next;

@@ -1,9 +1,11 @@
-use Rattle.std.proofs.Common.{Option, ap, ◌∙◌}
+use Rattle.std.proofs.Common.{Option, List, ◌+◌, ◌≤◌, ap, length, subst, sym, ◌∙◌}
 use Rattle.covmap.specs.Puts.{put, value_of}
 use Rattle.covstore.specs.KindIndex.{changed}
 use Rattle.covstore.specs.KindIndexCounts.{counts_with}
 use Rattle.covstore.proofs.StepsCounts.{changed_is}
 use Rattle.covstore.proofs.StepsKept.{put_keeps, room_at}
+use Rattle.covstore.proofs.StepsRun.{length_changed}
+use Rattle.covstore.specs.declared.sums.Tests.{Tests}
 use Rattle.covstore.proofs.items.stage_at_point.Goals as goal
 
 pub add-requires-clause-room : goal.add-requires-clause-room
@@ -26,3 +28,9 @@ returns-clause-counts g c =
     ∙ changed_is g.K.Key.cmp g.S.PointSum.above named counts added.before added.after
     ∙ ap (λ (own : Option g.row.S.Denot). counts_with g.K.Key.cmp g.S.PointSum.above named own added.after counts) told.before
     ∙ ap (λ (own : g.row.S.Denot). counts_with g.K.Key.cmp g.S.PointSum.above named before own counts) is)
+
+pub returns-clause-few : goal.returns-clause-few
+returns-clause-few g c =
+    let counts = c.args.kept.now.staged in
+    subst (λ (more : List (g.row.K.Denot × Tests)). length more ≤ length counts + 1) (sym c.in_ok-add.ensures.ok)
+    (length_changed (record { total = g.K.Key.total; exact = g.K.Key.exact }) (g.Q.Query.named c.args.query) c.tell-change.result counts c.requires.kept.ascending)

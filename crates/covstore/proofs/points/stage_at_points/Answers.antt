@@ -15,7 +15,7 @@ stage_run-requires g c = fit_always g.K.Key.cmp g.Q.Query.named g.M.Addend.fits 
 pub add_run-requires-clause-few : goal.add_run-requires-clause-few
 add_run-requires-clause-few g c =
     let told = told_run g.K.Key.cmp g.Q.Query.named g.M.Addend.sum g.M.Telling.told c.args.run.now c.args.points.now.staged in
-    let given : c.as_slice.result.now ≡ told = c.as_slice.ensures.value ∙ c.in_ok-stage_run.ensures.told ∙ ap (λ (items : List (g.row.Q.Denot × TestsAddend)). items ++ told) c.new-changes.ensures.items in
+    let given : c.as_slice.result.now ≡ told = c.as_slice.ensures.value ∙ c.in_ok-stage_run.ensures.told ∙ ap (λ (items : List (g.row.Q.Denot × TestsAddend)). items ++ told) c.in_ok-changes.ensures.items in
     let few = length_told g.K.Key.cmp g.Q.Query.named g.M.Addend.sum g.M.Telling.told c.args.run.now c.args.points.now.staged in
     omega (arith, c.requires.few, few, ap (λ (items : List (g.row.Q.Denot × TestsAddend)). length items) given)
 
@@ -23,7 +23,7 @@ pub add_run-requires-clause-fits : goal.add_run-requires-clause-fits
 add_run-requires-clause-fits g c =
     let counts = c.args.kept.now.staged in
     let told = told_run g.K.Key.cmp g.Q.Query.named g.M.Addend.sum g.M.Telling.told c.args.run.now c.args.points.now.staged in
-    let given : c.as_slice.result.now ≡ told = c.as_slice.ensures.value ∙ c.in_ok-stage_run.ensures.told ∙ ap (λ (items : List (g.row.Q.Denot × TestsAddend)). items ++ told) c.new-changes.ensures.items in
+    let given : c.as_slice.result.now ≡ told = c.as_slice.ensures.value ∙ c.in_ok-stage_run.ensures.told ∙ ap (λ (items : List (g.row.Q.Denot × TestsAddend)). items ++ told) c.in_ok-changes.ensures.items in
     subst (λ (items : List (g.row.Q.Denot × TestsAddend)). FitRun g.K.Key.cmp g.Q.Query.named tests_fit tests_with items counts) (sym given)
     (run_fits (record { total = g.K.Key.total; exact = g.K.Key.exact }) g.S.PointSum.above g.Q.Query.named g.M.Addend.sum g.M.Telling.told g.met.M.PointAddend.stays g.met.M.PointAddend.tells
     c.args.run.now c.args.points.now.staged counts c.requires)
@@ -33,7 +33,7 @@ returns-clause-counts g c =
     let points = c.args.points.now.staged in
     let counts = c.args.kept.now.staged in
     let told = told_run g.K.Key.cmp g.Q.Query.named g.M.Addend.sum g.M.Telling.told c.args.run.now points in
-    let given : c.as_slice.result.now ≡ told = c.as_slice.ensures.value ∙ c.in_ok-stage_run.ensures.told ∙ ap (λ (items : List (g.row.Q.Denot × TestsAddend)). items ++ told) c.new-changes.ensures.items in
+    let given : c.as_slice.result.now ≡ told = c.as_slice.ensures.value ∙ c.in_ok-stage_run.ensures.told ∙ ap (λ (items : List (g.row.Q.Denot × TestsAddend)). items ++ told) c.in_ok-changes.ensures.items in
     on_ok_more c.add_run.result
     (λ is.
     subst (λ (after : List (g.row.K.Denot × g.row.S.Denot)). KeepsCountsOfKind g.K.Key.cmp g.S.PointSum.above points after counts c.add_run.new.self.staged) (sym c.in_ok-stage_run.ensures.ok)

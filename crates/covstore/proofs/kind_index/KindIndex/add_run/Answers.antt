@@ -15,7 +15,7 @@ with_told-self-inside-requires-clause-found g c =
     let counts = c.self.inside.counts.staged in
     let run = c.args.changes.now in
     let told = told_of_counts g.K.Key.cmp named run counts in
-    let given : c.as_slice.result.now ≡ told = c.as_slice.ensures.value ∙ c.in_default.ensures.told ∙ ap (λ (items : List (g.row.Q.Denot × TestsAddend)). items ++ told) c.new-told.ensures.items in
+    let given : c.as_slice.result.now ≡ told = c.as_slice.ensures.value ∙ c.in_default.ensures.told ∙ ap (λ (items : List (g.row.Q.Denot × TestsAddend)). items ++ told) c.in_ok-told.ensures.items in
     let few = length_told g.K.Key.cmp named tests_with (λ (more : TestsAddend) before after. change_of is_hit_by_some before after) run counts in
     let own = ap (λ (points : MapData g.row.K.Denot Tests). length points.staged) c.self.view_is in
     omega (arith, c.self.invariant.1.found, own, c.requires.few, ap (λ (items : List (g.row.Q.Denot × TestsAddend)). length items) given, few)
@@ -26,7 +26,7 @@ with_told-self-inside-requires-clause-hit g c =
     let counts = c.self.inside.counts.staged in
     let run = c.args.changes.now in
     let told = told_of_counts g.K.Key.cmp named run counts in
-    let given : c.as_slice.result.now ≡ told = c.as_slice.ensures.value ∙ c.in_default.ensures.told ∙ ap (λ (items : List (g.row.Q.Denot × TestsAddend)). items ++ told) c.new-told.ensures.items in
+    let given : c.as_slice.result.now ≡ told = c.as_slice.ensures.value ∙ c.in_default.ensures.told ∙ ap (λ (items : List (g.row.Q.Denot × TestsAddend)). items ++ told) c.in_ok-told.ensures.items in
     let few = length_told g.K.Key.cmp named tests_with (λ (more : TestsAddend) before after. change_of is_hit_by_some before after) run counts in
     let own = ap (λ (points : MapData g.row.K.Denot Tests). length points.staged) c.self.view_is in
     let hit = count_by-le-length (λ (pair : g.row.K.Denot × Tests). nat_lt 0 pair.1.hit) counts in
@@ -40,7 +40,7 @@ invariant_of-self-2 g c =
     let run = c.args.changes.now in
     let told = told_of_counts g.K.Key.cmp named run counts in
     let more = c.with_told-self-inside.result in
-    let given : c.as_slice.result.now ≡ told = c.as_slice.ensures.value ∙ c.in_default.ensures.told ∙ ap (λ (items : List (g.row.Q.Denot × TestsAddend)). items ++ told) c.new-told.ensures.items in
+    let given : c.as_slice.result.now ≡ told = c.as_slice.ensures.value ∙ c.in_default.ensures.told ∙ ap (λ (items : List (g.row.Q.Denot × TestsAddend)). items ++ told) c.in_ok-told.ensures.items in
     let sorted = subst (λ (points : MapData g.row.K.Denot Tests). ArePairs g.K.Key.cmp points.staged) (sym c.self.view_is) c.requires.ascending in (
       subst (λ (points : List (g.row.K.Denot × Tests)). IsTallyOf points inside.totals) (sym c.in_default.ensures.committed) c.self.invariant.0,
       subst (λ (points : List (g.row.K.Denot × Tests)). IsTallyOf points more) (sym c.in_default.ensures.ok)
