@@ -4,7 +4,6 @@
 use std::process::Abort;
 use std::test::*;
 
-mod calls;
 mod copies;
 mod heap;
 mod lists;
@@ -18,6 +17,7 @@ mod steps;
 mod stores;
 mod texts;
 mod values;
+mod wrappers;
 
 /// Checks that the bytes are as wanted. The tests compare here, since each comparison in a test's own body is proved
 /// there.

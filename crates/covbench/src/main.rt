@@ -19,12 +19,12 @@
 
 mod alone;
 mod asked;
-mod calls;
 mod job;
 mod pace;
 mod random;
 mod round;
 mod soak;
+mod wrappers;
 
 use crate::pace::{PacePlan, started};
 use crate::soak::{SoakPlan, all_rounds};

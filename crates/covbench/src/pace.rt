@@ -2,7 +2,7 @@
 
 ghost use Rattle.std.specs.Prelude.{◌≡◌};
 
-use crate::calls::{open_book, perform, read, reader, shared};
+use crate::wrappers::{open_book, perform, read, reader, shared};
 use covbook::Op;
 use covjobs::{Live, Name, Seat, Seats, Shared, Start};
 use std::alloc::{AllocError, Global};

@@ -10,25 +10,27 @@
 //! Several jobs that share a book keep their receipts and the totals that they read, each in a `JobLog`. `gather` checks that
 //! the history is a merge of these logs and that each reading has its totals, and returns the first fault otherwise.
 //!
-//! A sketch, which no test runs, where `submission` is a `covline::Submission`:
+//! An example, proved and run in `covuses`: what a book answers to a submission of job 1, and then to a report of job 2. The
+//! first answer is `Answer::Accepted` or `Answer::Clash`, the second `Answer::Text`.
 //!
 //! ```text
-//! let mut book = Book::new(alloc);
-//! let op = Op::Submit(SubRef::of(alloc, submission)?);
-//! let first = book.step(alloc, 1, &op)?; // first.answer is Answer::Accepted, or Answer::Clash
-//! let second = book.step(alloc, 2, &Op::Report)?; // second.answer is Answer::Text, of all that is held
-//! assert_eq!(second.place, 1);
-//! assert_eq!(book.entries().len(), 2);
+//! pub fn answers(alloc: Global, submission: Submission) -> Result<(Answer, Answer), BookFault> {
+//!     let mut book = Book::new(alloc);
+//!     let submit = Op::Submit(SubRef::of(alloc, submission)?);
+//!     let first = book.step(alloc, 1, &submit)?;
+//!     let second = book.step(alloc, 2, &Op::Report)?;
+//!     Ok((first.answer, second.answer))
+//! }
 //! ```
 #![tactic(auto)]
 
 mod book;
 mod entry;
 mod gather_fault;
+mod gathering;
 mod history;
 pub mod laws;
 mod log;
-mod merge;
 mod op;
 mod places;
 mod reading;
@@ -38,8 +40,8 @@ mod shared;
 pub use book::{Book, BookFault};
 pub use entry::{Entries, Entry, MAX_ENTRIES, Receipt, Receipts};
 pub use gather_fault::GatherFault;
+pub use gathering::gather;
 pub use log::{JobLog, Logs};
-pub use merge::gather;
 pub use op::{Answer, Op};
 pub use reading::{Reading, Readings};
 pub use ready::Ready;

@@ -2,7 +2,6 @@
 
 use std::test::*;
 
-mod calls;
 mod gather;
 mod history;
 mod list;
@@ -10,6 +9,7 @@ mod orders;
 mod said;
 mod script;
 mod steps;
+mod wrappers;
 
 /// Appends a line.
 fn push_line(text: &mut Vec<u8>, line: &[u8]) -> Result<(), Fail> {

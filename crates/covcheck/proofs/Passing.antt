@@ -1,8 +1,8 @@
 -- A pass over the lines of a text: what it counted and showed so far, and the lines that are left.
 use Rattle.std.proofs.Common.{◌≡◌, ℕ, ◌+◌, inl, inr, List, [], ◌∷◌, length, Option, Some, None, refl, sym, subst, arith}
 use Rattle.std.specs.Prelude.{MatchOption, IfSome}
-use Rattle.covcheck.specs.declared.holding.SkippedLine.{SkippedLine}
-use Rattle.covcheck.specs.Holding.{IsFirstOf}
+use Rattle.covcheck.specs.declared.text_summary.SkippedLine.{SkippedLine}
+use Rattle.covcheck.specs.TextSummary.{IsFirstOf}
 use Rattle.covcheck.specs.Skipped.{AreThose, start_of}
 
 abbrev pub Line : Type 0

@@ -1,7 +1,7 @@
 -- The line that says what a text holds.
 use Rattle.std.specs.Prelude.{ℕ, ◌&&◌, nat_lt, if◌then◌else◌, List, [], ◌++◌, Option, Some, None, codes, decimal, map}
-use Rattle.covcheck.specs.declared.holding.Holding.{Holding}
-use Rattle.covcheck.specs.declared.holding.SkippedLine.{SkippedLine}
+use Rattle.covcheck.specs.declared.text_summary.TextSummary.{TextSummary}
+use Rattle.covcheck.specs.declared.text_summary.SkippedLine.{SkippedLine}
 
 -- a byte as it is shown: a question mark in place of a space, and of what isn't printable ASCII
 abbrev pub shown : ℕ → ℕ
@@ -12,7 +12,7 @@ first_text None = []
 first_text (Some first) = codes " first " ++ map shown first.start.now ++ codes " at " ++ decimal first.at
 
 -- the line, without the name of the file
-abbrev pub holding_text : Holding → List ℕ
-holding_text h =
+abbrev pub summary_text : TextSummary → List ℕ
+summary_text h =
     codes "sections " ++ decimal h.sections ++ codes " items " ++ decimal h.items ++ codes " odd " ++ decimal h.odd
     ++ codes " skipped " ++ decimal h.skipped ++ first_text h.first ++ codes "\n"

@@ -6,13 +6,13 @@ ghost use Rattle.covread.specs.declared.fault.ReadFault.{ReadFault as Fault};
 ghost use Rattle.covread.specs.declared.fault.ReadFault.TheVariants.{Memory as NoMemory};
 ghost use Rattle.covread.specs.Outcome.{Answers, GrowsLate, IsOutcome};
 ghost use Rattle.covread.specs.GcovOutcome as gcov;
-ghost use Rattle.covcheck.specs.Holding.{Holds, Tells};
+ghost use Rattle.covcheck.specs.TextSummary.{Holds, Tells};
 ghost use Rattle.covcheck.specs.Skipped.{IsSkippedGcov, IsSkippedRecord};
 ghost use Rattle.covcheck.specs.CheckSteps.{IsSkippedIn};
 
 use crate::format::Format;
-use crate::holding::Holding;
 use crate::skipped_lines::skipped_lines_in;
+use crate::text_summary::TextSummary;
 use covline::Submission;
 use covread::{ReadFault, read_gcov, read_trace};
 use std::alloc::Allocator;
@@ -22,14 +22,14 @@ use std::alloc::Allocator;
 pub fn check_trace<'a, A: Allocator + Copy>(
     alloc: A,
     text: &'a [u8],
-) -> Result<Holding<'a>, ReadFault>
+) -> Result<TextSummary<'a>, ReadFault>
     // The answer is about what the reader returns: what the text is read as, or that memory ran out after a path.
     ensures answers { (read : Result SubmissionData Fault) × Answers text.now read × GrowsLate text.now read × Tells IsSkippedRecord text.now read result }
     // It is about what the text is read as, unless memory ran out.
     ensures only { (outcome : Result SubmissionData Fault) → IsOutcome text.now outcome → (result ≡ Err NoMemory) ⊎ Tells IsSkippedRecord text.now outcome result }
 {
     let submission = read_trace(alloc, text)?;
-    Ok(holding_of(&submission, text, Format::Trace))
+    Ok(summary_of(&submission, text, Format::Trace))
 }
 
 /// Reads gcov's annotated source (gcov(1)), as counts of the test with the empty name. Returns what it holds, or the fault
@@ -37,7 +37,7 @@ pub fn check_trace<'a, A: Allocator + Copy>(
 pub fn check_gcov<'a, A: Allocator + Copy>(
     alloc: A,
     text: &'a [u8],
-) -> Result<Holding<'a>, ReadFault>
+) -> Result<TextSummary<'a>, ReadFault>
     // The answer is about what the reader returns: what the text is read as, or that memory ran out after a path or a
     // function.
     ensures answers { (read : Result SubmissionData Fault) × gcov.Answers [] text.now read × gcov.GrowsLate text.now read × Tells IsSkippedGcov text.now read result }
@@ -45,19 +45,19 @@ pub fn check_gcov<'a, A: Allocator + Copy>(
     ensures only { (outcome : Result SubmissionData Fault) → gcov.IsOutcome [] text.now outcome → (result ≡ Err NoMemory) ⊎ Tells IsSkippedGcov text.now outcome result }
 {
     let submission = read_gcov(alloc, b"", text)?;
-    Ok(holding_of(&submission, text, Format::Gcov))
+    Ok(summary_of(&submission, text, Format::Gcov))
 }
 
 /// What a text holds that was read as this submission.
-fn holding_of<'a, A: Allocator>(
+fn summary_of<'a, A: Allocator>(
     submission: &Submission<A>,
     text: &'a [u8],
     format: Format,
-) -> Holding<'a>
+) -> TextSummary<'a>
     ensures { Holds (IsSkippedIn format) text.now submission.now result }
 {
     let skipped = skipped_lines_in(text, format);
-    Holding {
+    TextSummary {
         sections: submission.sects().len() as u64,
         items: submission.items(),
         odd: submission.odd(),

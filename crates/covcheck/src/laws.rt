@@ -1,7 +1,7 @@
 //! Laws of what a check reports, as functions that do nothing: their contracts are the laws.
 
 ghost use Rattle.std.specs.Prelude.{◌≡◌, ◌≢◌, ◌<◌, ◌≤◌, ℕ, [], List, length};
-ghost use Rattle.covcheck.specs.Holding.{AreLinesThat};
+ghost use Rattle.covcheck.specs.TextSummary.{AreLinesThat};
 ghost use Rattle.covcheck.specs.Skipped.{start_of, IsSkippedGcov, IsSkippedRecord};
 ghost use Rattle.covcheck.specs.Told.{shown};
 

@@ -4,25 +4,26 @@
 //! may have records of later versions (`FNL:`), and gcov's text has `call` lines. They are counted, and the first of them
 //! is shown, because a text that has no other lines, such as a page of HTML, is read as an empty submission.
 //!
-//! A sketch: the line of a tracefile.
+//! An example, proved and run in `covuses`: the line that says what a tracefile holds.
 //!
 //! ```text
-//! match check_trace(alloc, text) {
-//!     Ok(holding) => line.extend_from_slice(holding_line(alloc, &holding)?.as_slice())?,
-//!     Err(fault) => println!(rt; "refused {fault}")?,
+//! pub fn check_line(alloc: Global, text: &[u8]) -> Result<Vec<u8>, ReadFault> {
+//!     let summary = check_trace(alloc, text)?;
+//!     let line = summary_line(alloc, &summary)?;
+//!     Ok(line)
 //! }
 //! ```
 #![tactic(auto)]
 
 mod check;
 mod format;
-mod holding;
 pub mod laws;
 mod output;
 mod skipped_lines;
 mod start;
+mod text_summary;
 
 pub use check::{check_gcov, check_trace};
-pub use holding::{Holding, SkippedLine};
 pub use laws::{a_beginning_is_one_word, skipped_lines_are_unique};
-pub use output::holding_line;
+pub use output::summary_line;
+pub use text_summary::{SkippedLine, TextSummary};

@@ -1,24 +1,24 @@
 //! The line that says what a text holds.
 
 ghost use Rattle.std.specs.Prelude.{◌≡◌, ◌++◌, IfOk, OnOk, decimal, map};
-ghost use Rattle.covcheck.specs.Told.{first_text, holding_text, shown};
+ghost use Rattle.covcheck.specs.Told.{first_text, summary_text, shown};
 
-use crate::holding::{Holding, SkippedLine};
+use crate::text_summary::{SkippedLine, TextSummary};
 use covline::Memory;
 use itoa::Buffer;
 use std::alloc::Allocator;
 
 /// The line that says what a text holds, without the name of its file and with a line feed: `sections 3 items 40 odd 6
 /// skipped 9 first FNL at 3`.
-pub fn holding_line<A: Allocator>(alloc: A, holding: &Holding<'_>) -> Result<Vec<u8, A>, Memory>
-    ensures { IfOk result (λ line. line.items ≡ holding_text holding.now) }
+pub fn summary_line<A: Allocator>(alloc: A, summary: &TextSummary<'_>) -> Result<Vec<u8, A>, Memory>
+    ensures { IfOk result (λ line. line.items ≡ summary_text summary.now) }
 {
     let mut line = Vec::new(alloc);
-    put_number(&mut line, b"sections ", holding.sections)?;
-    put_number(&mut line, b" items ", holding.items)?;
-    put_number(&mut line, b" odd ", holding.odd)?;
-    put_number(&mut line, b" skipped ", holding.skipped)?;
-    put_first(&mut line, holding.first)?;
+    put_number(&mut line, b"sections ", summary.sections)?;
+    put_number(&mut line, b" items ", summary.items)?;
+    put_number(&mut line, b" odd ", summary.odd)?;
+    put_number(&mut line, b" skipped ", summary.skipped)?;
+    put_first(&mut line, summary.first)?;
     line.push(b'\n')?;
     Ok(line)
 }

@@ -1,13 +1,13 @@
 //! The pass over the lines of a text that finds those that aren't read.
 
 ghost use Rattle.std.specs.Prelude.{◌≡◌, ℕ, List, length, None, Some, IfSome, MatchOption};
-ghost use Rattle.covcheck.specs.Holding.{AreLinesThat, IsFirstOf};
+ghost use Rattle.covcheck.specs.TextSummary.{AreLinesThat, IsFirstOf};
 ghost use Rattle.covcheck.specs.Skipped.{start_of};
 ghost use Rattle.covcheck.specs.CheckSteps.{IsSkippedIn};
 
 use crate::format::Format;
-use crate::holding::SkippedLine;
 use crate::start::start_of;
+use crate::text_summary::SkippedLine;
 use covline::lines;
 
 /// What a pass found of the lines that aren't read.

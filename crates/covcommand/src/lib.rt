@@ -21,7 +21,7 @@ mod fault;
 mod help;
 pub mod laws;
 mod names;
-mod reading;
+mod parsing;
 mod word;
 
 pub use asked::{Command, TextFormat};
@@ -29,5 +29,5 @@ pub use fault::CommandFault;
 pub use help::VERSION;
 pub use laws::{calls_are_refused, calls_are_taken, checks_by_their_words};
 pub use names::Names;
-pub use reading::command;
+pub use parsing::command;
 pub use word::word_at;

@@ -8,7 +8,7 @@ use std::alloc::Global;
 use std::process::Abort;
 use std::test::*;
 
-mod calls;
+mod command_lines;
 mod help;
 mod words;
 

@@ -4,7 +4,6 @@ use std::process::Abort;
 use std::test::*;
 
 mod books;
-mod calls;
 mod closing;
 mod collecting;
 mod gates;
@@ -15,6 +14,7 @@ mod refusals;
 mod said;
 mod threads;
 mod turns;
+mod wrappers;
 
 /// Checks that the bytes are as wanted. The tests compare here, since each comparison in a test's own body is proved
 /// there.

@@ -5,16 +5,19 @@
 //! test and a source file) has items (the counts of lines, functions and branches); sections with lawful texts make a
 //! submission.
 //!
-//! A sketch: the counted lines of a tracefile, printed again.
+//! An example, proved and run in `covuses`: the counted lines of a tracefile, printed again. `PrintFault` is the
+//! caller's own, made of a line's fault or of `Memory`.
 //!
 //! ```text
-//! let mut printed = Bytes::new(alloc);
-//! for line in lines(text) {
-//!     match read_line(line) {
-//!         Ok(record @ TraceLine::Line { .. }) => put_line(&record, &mut printed)?,
-//!         Ok(_) => {}
-//!         Err(fault) => return Err(fault.into()),
+//! pub fn counted_lines(alloc: Global, text: &[u8]) -> Result<Bytes, PrintFault> {
+//!     let mut printed = Bytes::new(alloc);
+//!     for line in lines(text) {
+//!         let record = read_line(line)?;
+//!         if let TraceLine::Line { .. } = record {
+//!             put_line(&record, &mut printed)?;
+//!         }
 //!     }
+//!     Ok(printed)
 //! }
 //! ```
 #![tactic(auto)]

@@ -13,7 +13,7 @@ use Rattle.covmap.proofs.SlotSearch.{all_after}
 
 -- ---- looking up
 
--- keys greater than what is asked for aren't found
+-- keys greater than the queried key aren't found
 none_after : {K V : Type 0} (order : K → Ordering) (slots : List (K × Option V)) → AllByRecursion (λ slot. order slot.0 ≡ Greater) slots → lookup (λ key. is_eq (order key)) (filled slots) ≡ None
 none_after order [] a = refl
 none_after order ((key, None) ∷ slots) a = none_after order slots a.1
@@ -23,7 +23,7 @@ none_of_false : (b c : Bool) → (b || c) ≡ false → (b ≡ false) × (c ≡ 
 none_of_false true c e = absurd cc
 none_of_false false c e = (refl, e)
 
--- a key with no slot isn't found
+-- a key without a slot isn't found
 pub lookup_absent : {K V : Type 0} (test : K → Bool) (slots : List (K × Option V)) → list_any test (keys_of slots) ≡ false → lookup test (filled slots) ≡ None
 lookup_absent test [] e = refl
 lookup_absent test ((key, None) ∷ slots) e = lookup_absent test slots (none_of_false (test key) (list_any test (keys_of slots)) e).1
@@ -46,13 +46,13 @@ lookup_filled_at query key (Some value) slots a true e rest = rw e refl
 lookup_filled_at query key None slots a false e rest = rest
 lookup_filled_at query key (Some value) slots a false e rest = rw e rest
 
--- the value of a key is what stands in its slot
+-- the value of a key is the one in its slot
 pub lookup_filled : {K V : Type 0} {cmp : K → K → Ordering} {order : K → Ordering} → IsQuery cmp order → (slots : List (K × Option V)) → IsAscending cmp slots
     → lookup (λ key. is_eq (order key)) (filled slots) ≡ value_in (slot_value order slots)
 lookup_filled query [] a = refl
 lookup_filled {K} {V} {cmp} {order} query (slot ∷ slots) a = lookup_filled_at query slot.0 slot.1 slots a.0 (is_eq (order slot.0)) refl (lookup_filled query slots a.1)
 
--- ---- a value put in
+-- ---- putting in a value
 
 put_first : {K V : Type 0} (cmp : K → K → Ordering) (key : K) (value : V) (slots : List (K × Option V)) → AllByRecursion (λ slot. cmp slot.0 key ≡ Greater) slots
     → put cmp key value (filled slots) ≡ (key, value) ∷ filled slots
@@ -65,7 +65,7 @@ put_here : {K V : Type 0} (cmp : K → K → Ordering) (key : K) (value : V) (he
 put_here cmp key value here None back e same a = put_first cmp key value back a ∙ ap (λ key. (key, value) ∷ filled back) (sym same)
 put_here cmp key value here (Some old) back e same a = rw e (ap (λ key. (key, value) ∷ filled back) (sym same))
 
--- a value in the slot of a key is put in among the filled slots
+-- putting a value into a key's slot puts it in among the filled slots
 pub filled_put : {K V : Type 0} (cmp : K → K → Ordering) (key : K) (value : V) (front : List (K × Option V)) (here : K) (old : Option V) (back : List (K × Option V))
     → AllByRecursion (λ slot. cmp slot.0 key ≡ Less) front → cmp here key ≡ Equal → here ≡ key → AllByRecursion (λ slot. cmp slot.0 key ≡ Greater) back
     → filled (front ++ (here, Some value) ∷ back) ≡ put cmp key value (filled (front ++ (here, old) ∷ back))

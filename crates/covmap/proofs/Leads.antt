@@ -1,4 +1,4 @@
--- How many things at the front of a list pass a test, as a binary search finds it.
+-- How many items at the front of a list pass a test, as a binary search finds it.
 use Rattle.std.proofs.Common.{◌≡◌, ℕ, zero, suc, ◌<◌, ◌≤◌, Bool, true, false, List, [], ◌∷◌, ◌++◌, length, get_or, take, refl, if◌then◌else◌, arith}
 use Rattle.std.specs.List.{AllByRecursion}
 use Rattle.covmap.specs.Slots.{lead}
@@ -28,7 +28,7 @@ all_at P (x ∷ xs) (suc i) d a l = all_at P xs i d a.1 (omega arith)
 
 -- ---- the lead
 
--- where one fails the test, so do those after it
+-- if one fails the test, so do all after it
 abbrev pub IsFalling : {X : Type 0} → (X → Bool) → List X → Type 0
 IsFalling test [] = Unit {0}
 IsFalling test (x ∷ xs) = (test x ≡ false → AllByRecursion (λ y. test y ≡ false) xs) × IsFalling test xs
@@ -45,12 +45,12 @@ lead_passes_at : {X : Type 0} (test : X → Bool) (x : X) (xs : List X) (b : Boo
 lead_passes_at test x xs true e a = (e, a)
 lead_passes_at test x xs false e a = tt
 
--- the lead passes
+-- the items of the lead pass
 pub lead_passes : {X : Type 0} (test : X → Bool) (xs : List X) → AllByRecursion (λ x. test x ≡ true) (take (lead test xs) xs)
 lead_passes test [] = tt
 lead_passes test (x ∷ xs) = lead_passes_at test x xs (test x) refl (lead_passes test xs)
 
--- what fails comes after the lead
+-- an item that fails comes after the lead
 pub lead_le_failed : {X : Type 0} (test : X → Bool) (xs : List X) (i : ℕ) (d : X) → i < length xs → test (get_or xs i d) ≡ false → lead test xs ≤ i
 lead_le_failed test [] i d l e = absurd (omega arith)
 lead_le_failed test (x ∷ xs) zero d l e = rw e (omega arith)
@@ -64,7 +64,7 @@ lead_above_at : {X : Type 0} (test : X → Bool) (xs : List X) (i : ℕ) (d : X)
 lead_above_at test xs i d true f l e h = omega arith
 lead_above_at test xs i d false f l e h = absurd (let no : test (get_or xs i d) ≡ false = all_at (λ y. test y ≡ false) xs i d (f refl) l in cc)
 
--- what passes is in the lead, where the test falls
+-- an item that passes is in the lead, if the test falls
 pub lead_above_passed : {X : Type 0} (test : X → Bool) (xs : List X) (i : ℕ) (d : X) → IsFalling test xs → i < length xs → test (get_or xs i d) ≡ true → i < lead test xs
 lead_above_passed test [] i d f l e = absurd (omega arith)
 lead_above_passed test (x ∷ xs) zero d f l e = rw e (omega arith)

@@ -1,4 +1,4 @@
--- A value, or none, written into the slot of a key: what is committed of the keys then.
+-- The committed entries after a value, or none, is written into the slot of a key.
 use Rattle.std.proofs.Common.{◌≡◌, ℕ, suc, Option, Some, None, List, [], ◌∷◌, ◌++◌, take, drop, set, refl, sym, ap, ◌∙◌, append_assoc, subst}
 use Rattle.std.specs.Cmp.{IsTotalOrder}
 use Rattle.std.specs.declared.cmp.Ordering.{Ordering}
@@ -22,7 +22,7 @@ use Rattle.covmap.proofs.SlotWrites.{slots_of_set}
 
 -- ---- among the filled slots
 
--- keys greater than the one that goes stay
+-- keys greater than the removed one stay
 stay_after : {K V : Type 0} (cmp : K → K → Ordering) (key : K) (slots : List (K × Option V)) → AllByRecursion (λ slot. cmp slot.0 key ≡ Greater) slots → without cmp key (filled slots) ≡ filled slots
 stay_after cmp key [] a = refl
 stay_after cmp key ((other, None) ∷ slots) a = stay_after cmp key slots a.1
@@ -50,7 +50,7 @@ filled_assigned cmp key (Some value) front here old back a e same b = filled_put
 
 module _ {K V : Type 0} {cmp : K → K → Ordering} (t : IsTotalOrder cmp) (exact : (x y : K) → cmp x y ≡ Equal → x ≡ y) (key : K) (pages : List (List (K × Option V))) (i j : ℕ) (slots : AreSlots cmp pages)
     (place : IsPlace (λ other. cmp other key) pages (i, j)) where
-  -- written at its place
+  -- the value is written at the key's place
   pub slot_assigned : (value : Option V) → filled (slots_of (with_slot (i, j) value pages)) ≡ assigned cmp key value (filled (slots_of pages))
   slot_assigned value =
       let order = λ (other : K). cmp other key in
@@ -73,14 +73,14 @@ module _ {K V : Type 0} {cmp : K → K → Ordering} (t : IsTotalOrder cmp) (exa
       ∙ filled_assigned cmp key value (before pages (i, j)) slot.0 slot.1 rest front same (exact slot.0 key same) back
       ∙ ap (λ slots. assigned cmp key value (filled slots)) (sym parts)
 
--- what is committed of a key stands at its place
+-- the committed value of a key is at its place
 pub committed_found : {K V : Type 0} {cmp : K → K → Ordering} (t : IsTotalOrder cmp) (key : K) (pages : List (List (K × Option V))) (i j : ℕ) → AreSlots cmp pages → IsPlace (λ other. cmp other key) pages (i, j)
     → value_at pages (i, j) ≡ value_of cmp key (filled (slots_of pages))
 committed_found {K} {V} {cmp} t key pages i j slots place =
     subst (λ (after : List (List (K × Option V))). value_at after (i, j) ≡ value_of cmp key (filled (slots_of after))) (nothing_staged 0 pages)
     (staged_found (query_by_order t key) pages [] i j slots place)
 
--- and nothing is held of one without a place
+-- and a key without a place has none
 pub committed_absent : {K V : Type 0} (cmp : K → K → Ordering) (key : K) (pages : List (List (K × Option V))) (i j : ℕ) → IsGap (λ other. cmp other key) pages (i, j) → value_of cmp key (filled (slots_of pages)) ≡ None
 committed_absent {K} {V} cmp key pages i j gap =
     subst (λ (after : List (List (K × Option V))). value_of cmp key (filled (slots_of after)) ≡ None) (nothing_staged 0 pages)

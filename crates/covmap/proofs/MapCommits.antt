@@ -1,4 +1,4 @@
--- What is staged, taken in column by column from the last.
+-- Committing what is staged, column by column, starting with the last.
 use Rattle.std.proofs.Common.{◌≡◌, ℕ, zero, suc, ◌+◌, ◌<◌, Option, List, [], ◌∷◌, ◌++◌, length, get_or, map, take, set, refl, sym, ap, ◌∙◌, subst, arith}
 use Rattle.std.specs.Prelude.{None}
 use Rattle.std.specs.List.{AllByRecursion}
@@ -25,7 +25,7 @@ pub ascending_front : {V : Type 0} (front back : List (ℕ × List (Option V))) 
 ascending_front [] back a = tt
 ascending_front {V} (first ∷ front) back a = (all_front (λ (other : ℕ × List (Option V)). first.0 < other.0) front back a.0, ascending_front front back a.1)
 
--- a page for which nothing is staged, exchanged
+-- a page on which nothing is staged is replaced
 staged_set : {K V : Type 0} (n i k : ℕ) (pages : List (List (K × Option V))) (columns : List (ℕ × List (Option V))) (page : List (K × Option V)) → n + i ≡ k → column_at k columns ≡ None
     → staged_from n (set pages i page) columns ≡ set (staged_from n pages columns) i page
 staged_set n i k [] columns page e none = refl
@@ -34,7 +34,7 @@ staged_set n zero k (first ∷ pages) columns page e none =
     ap (λ column. page_staged page column ∷ staged_from (suc n) pages columns) (ap (λ m. column_at m columns) same ∙ none)
 staged_set n (suc i) k (first ∷ pages) columns page e none = ap (λ rest. page_staged first (column_at n columns) ∷ rest) (staged_set (suc n) i k pages columns page (omega arith) none)
 
--- the last column taken in: what is staged stays
+-- the last column is committed: the staged entries stay
 pub taken_last : {K V : Type 0} (pages : List (List (K × Option V))) (front : List (ℕ × List (Option V))) (column : ℕ × List (Option V)) → AreAscending (front ++ column ∷ [])
     → staged_of (with_page column.0 column.1 pages) front ≡ staged_of pages (front ++ column ∷ [])
 taken_last pages front column a =
@@ -60,9 +60,9 @@ columns_left pages front column a =
     (λ other fit. (omega (arith, fit.0, length-set pages column.0 page), fit.1 ∙ sym (long_as_before pages column.0 other.0 page (length_given (page_at pages column.0) column.1))))
     (all_front (IsColumnOf pages) front (column ∷ []) a)
 
--- ---- a page with values written into it
+-- ---- a page with new values
 
--- it is what would come by its column alone
+-- the page is as the column alone would make it
 page_taken : {K V : Type 0} (pages : List (List (K × Option V))) (number : ℕ) (column : List (Option V)) → staged_of pages ((number, column) ∷ []) ≡ with_page number column pages
 page_taken {K} {V} pages number column =
     let one : ℕ × List (Option V) = (number, column) in
@@ -76,7 +76,7 @@ pub none_given : {K V : Type 0} (page : List (K × Option V)) → with_column pa
 none_given [] = refl
 none_given (slot ∷ page) = refl
 
--- a page that is written back whole
+-- a page that is written back as a whole
 pub written_back : {X : Type 0} (page rest : List X) (n : ℕ) → n ≡ length page → take n (page ++ rest) ≡ page
 written_back [] rest zero e = refl
 written_back [] rest (suc n) e = absurd (omega arith)
@@ -89,6 +89,6 @@ map_append : {P X : Type 0} (f : P → X) (ps qs : List P) → map f (ps ++ qs) 
 map_append f [] qs = refl
 map_append f (p ∷ ps) qs = ap (λ rest. f p ∷ rest) (map_append f ps qs)
 
--- the columns that stay where the last one is taken out
+-- the columns that stay when the last one is removed
 pub seen_front : {V P : Type 0} (seen : P → ℕ × List (Option V)) (ps qs rest : List P) → ps ≡ qs ++ rest → AreAscending (map seen ps) → AreAscending (map seen qs)
 seen_front seen ps qs rest e a = ascending_front (map seen qs) (map seen rest) (subst AreAscending (ap (map seen) e ∙ map_append seen qs rest) a)

@@ -1,4 +1,4 @@
--- What is staged at the place of a key, and after a value is put in there.
+-- What is staged at the place of a key, before and after a value is put in there.
 use Rattle.std.proofs.Common.{◌≡◌, ℕ, zero, suc, ◌<◌, false, Option, List, [], ◌∷◌, ◌++◌, length, drop, refl, sym, ap, ◌∙◌, subst, arith}
 use Rattle.std.specs.Cmp.{IsTotalOrder}
 use Rattle.std.specs.declared.cmp.Ordering.{Ordering}
@@ -34,7 +34,7 @@ order_staged order n i j [] columns = refl
 order_staged order n zero j (page ∷ pages) columns = key_order order (page_staged page (column_at n columns)) page j (keys_page page (column_at n columns))
 order_staged order n (suc i) j (page ∷ pages) columns = order_staged order (suc n) i j pages columns
 
--- ---- a key with no slot
+-- ---- a key without a slot
 
 keys_passed : {K V : Type 0} (order : K → Ordering) (o : Ordering) (slots : List (K × Option V)) → is_eq o ≡ false → AllByRecursion (λ slot. order slot.0 ≡ o) slots
     → (rest : List (K × Option V)) → has_slot order (keys_of rest) ≡ false → has_slot order (keys_of (slots ++ rest)) ≡ false
@@ -45,7 +45,7 @@ append_nil : {X : Type 0} (xs : List X) → xs ++ [] ≡ xs
 append_nil [] = refl
 append_nil (x ∷ xs) = ap (λ rest. x ∷ rest) (append_nil xs)
 
--- what would go into a gap has no slot
+-- a key with a gap has no slot
 pub gap_absent : {K V : Type 0} (order : K → Ordering) (pages : List (List (K × Option V))) (i j : ℕ) → IsGap order pages (i, j) → has_slot order (keys_of (slots_of pages)) ≡ false
 gap_absent order pages i j gap =
     ap (λ slots. has_slot order (keys_of slots)) (whole pages i j)
@@ -60,7 +60,7 @@ staged_absent order pages columns i j gap =
 
 -- ---- a key with a slot
 
--- what is staged for it stands at its place
+-- its staged value is at its place
 pub staged_found : {K V : Type 0} {cmp : K → K → Ordering} {order : K → Ordering} → IsQuery cmp order → (pages : List (List (K × Option V))) (columns : List (ℕ × List (Option V))) (i j : ℕ)
     → AreSlots cmp pages → IsPlace order pages (i, j) → value_at (staged_of pages columns) (i, j) ≡ lookup (λ key. is_eq (order key)) (filled (slots_of (staged_of pages columns)))
 staged_found {K} {V} {cmp} {order} query pages columns i j slots place =
@@ -72,7 +72,7 @@ staged_found {K} {V} {cmp} {order} query pages columns i j slots place =
     ∙ ap value_in (sym (value_there query after i j ascending found.0 found.1 (sym found.2 ∙ here)))
     ∙ sym (lookup_filled query (slots_of after) ascending)
 
--- a value written at its place is put in
+-- writing a value at its place puts it in
 pub staged_put : {K V : Type 0} {cmp : K → K → Ordering} → IsTotalOrder cmp → ((x y : K) → cmp x y ≡ Equal → x ≡ y) → (key : K) (value : V) (pages : List (List (K × Option V))) (columns : List (ℕ × List (Option V)))
     (i j : ℕ) → AreSlots cmp pages → IsPlace (λ other. cmp other key) pages (i, j)
     → filled (slots_of (with_value_at (i, j) value (staged_of pages columns))) ≡ put cmp key value (filled (slots_of (staged_of pages columns)))

@@ -1,4 +1,4 @@
--- A page as contracts see it, by its keys and the values beside the first of them.
+-- A page as contracts see it, from its keys and the values of the first of them.
 use Rattle.std.proofs.Common.{subst, ◌≡◌, ◌++◌, ℕ, zero, suc, ◌+◌, ◌-◌, ◌<◌, ◌≤◌, true, Option, List, [], ◌∷◌, length, map, get_or, take, drop, set, refl, sym, ap, ◌∙◌, append_assoc, arith}
 use Rattle.std.specs.Prelude.{None, Some, Result, Ok, Err, OnErr, OnOk, option_map, slice_get}
 use Rattle.std.proofs.lemmas.List.{length-append}
@@ -21,7 +21,7 @@ beside_keys [] values = refl
 beside_keys (key ∷ keys) [] = ap (λ rest. key ∷ rest) (beside_keys keys [])
 beside_keys (key ∷ keys) (value ∷ values) = ap (λ rest. key ∷ rest) (beside_keys keys values)
 
--- the key in a slot, and the value
+-- the key in a slot; and below, the value
 pub beside_key : {K V : Type 0} (keys : List K) (values : List (Option V)) (i : ℕ) → option_map (λ slot. slot.0) (slice_get (beside keys values) i) ≡ slice_get keys i
 beside_key [] values i = refl
 beside_key (key ∷ keys) [] zero = refl
@@ -50,7 +50,7 @@ beside_read (key ∷ keys) [] (suc i) slot l = beside_read keys [] i slot (omega
 beside_read (key ∷ keys) (value ∷ values) zero slot l = refl
 beside_read (key ∷ keys) (value ∷ values) (suc i) slot l = beside_read keys values i slot (omega arith)
 
--- the last key tells where a page ends
+-- the last key decides where a page ends
 ends : {K V : Type 0} (order : K → Ordering) (first next : K) (keys : List K) (value : Option V) (values : List (Option V)) → ends_before order ((first, value) ∷ beside (next ∷ keys) values) ≡ ends_before order (beside (next ∷ keys) values)
 ends order first next keys value [] = refl
 ends order first next keys value (second ∷ values) = refl
@@ -65,7 +65,7 @@ beside_last order (first ∷ next ∷ keys) values zero key l s = absurd (omega 
 beside_last order (first ∷ next ∷ keys) [] (suc last) key l s = beside_last order (next ∷ keys) [] last key (omega arith) s
 beside_last order (first ∷ next ∷ keys) (value ∷ values) (suc last) key l s = beside_last order (next ∷ keys) values last key (omega arith) s ∙ sym (ends order first next keys value values)
 
--- the values, filled up, are a page's column
+-- the values, filled up with empty ones, are the page's column
 nothing_beside : {K V : Type 0} (keys : List K) → empty (length keys) ≡ column_of {K = K} {V = V} (beside keys [])
 nothing_beside [] = refl
 nothing_beside (key ∷ keys) = ap (λ rest. None ∷ rest) (nothing_beside keys)
@@ -87,7 +87,7 @@ own_column : {K V : Type 0} (slots : List (K × Option V)) → slots ≡ with_co
 own_column [] = refl
 own_column (slot ∷ slots) = ap (λ rest. slot ∷ rest) (own_column slots)
 
--- a value is written into a slot that has one
+-- writing a value into a slot that has one
 pub beside_set : {K V : Type 0} (keys : List K) (values : List (Option V)) (i : ℕ) (value : Option V) → i < length values → length values ≤ length keys
     → beside keys (set values i value) ≡ with_column (beside keys values) (set (column_of (beside keys values)) i value)
 beside_set keys [] i value l e = absurd (omega arith)
@@ -95,7 +95,7 @@ beside_set [] (old ∷ values) i value l e = absurd (omega arith)
 beside_set (key ∷ keys) (old ∷ values) zero value l e = ap (λ rest. (key, value) ∷ rest) (own_column (beside keys values))
 beside_set (key ∷ keys) (old ∷ values) (suc i) value l e = ap (λ rest. (key, old) ∷ rest) (beside_set keys values i value (omega arith) (omega arith))
 
--- a key is put in among those with values, and after them
+-- inserting a key among those with values; and below, after them
 pub beside_insert : {K V : Type 0} (keys : List K) (values : List (Option V)) (i : ℕ) (key : K) → i < length values → length values ≤ length keys → beside (insert keys i key) (insert values i None) ≡ insert (beside keys values) i (key, None)
 beside_insert keys [] i key l e = absurd (omega arith)
 beside_insert [] (value ∷ values) i key l e = absurd (omega arith)
@@ -111,7 +111,7 @@ beside_after (first ∷ keys) [] (suc i) key l e = ap (λ rest. (first, None) �
 beside_after (first ∷ keys) (value ∷ values) zero key l e = absurd (omega arith)
 beside_after (first ∷ keys) (value ∷ values) (suc i) key l e = ap (λ rest. (first, value) ∷ rest) (beside_after keys values i key (omega arith) (omega arith))
 
--- what is put in after all others is appended
+-- inserting after all others is appending
 pub insert_last : {X : Type 0} (xs : List X) (i : ℕ) (x : X) → i ≡ length xs → xs ++ x ∷ [] ≡ insert xs i x
 insert_last [] zero x e = refl
 insert_last [] (suc i) x e = absurd (omega arith)
@@ -146,7 +146,7 @@ beside_drop_all keys (value ∷ values) zero l = absurd (omega arith)
 beside_drop_all [] (value ∷ values) (suc n) l = refl
 beside_drop_all (key ∷ keys) (value ∷ values) (suc n) l = beside_drop_all keys values n (omega arith)
 
--- an empty value more
+-- one more empty value
 pub empty_more : {V : Type 0} (n : ℕ) → empty {V = V} n ++ None ∷ [] ≡ empty (suc n)
 empty_more zero = refl
 empty_more (suc n) = ap (λ rest. None ∷ rest) (empty_more n)
@@ -166,13 +166,13 @@ drop_length zero xs = omega arith
 drop_length (suc n) [] = omega arith
 drop_length (suc n) (x ∷ xs) = let rest = drop_length n xs in omega (arith, rest)
 
--- the page of a number, of one that is read
+-- the page of a number, for a page that was read
 pub page_here : {X : Type 0} (pages : List (List X)) (i : ℕ) (page : List X) → i < length pages → page ≡ get_or pages i page → get_or pages i [] ≡ page
 page_here [] i page l e = absurd (omega arith)
 page_here (first ∷ pages) zero page l e = sym e
 page_here (first ∷ pages) (suc i) page l e = page_here pages i page (omega arith) e
 
--- slots stay slots where a page has a key more, or stays as it is
+-- slots stay valid if a page gets one more key, or stays as it is
 pub insert_whole : {K V E : Type 0} {cmp : K → K → Ordering} → IsTotalOrder cmp → (pages : List (List (K × Option V))) (i j : ℕ) (key : K) (page : List (K × Option V)) (r : Result (Unit {0}) E) → AreSlots cmp pages
     → IsGap (λ other. cmp other key) pages (i, j) → i < length pages → length (page_at pages i) < 256 → OnOk r (page ≡ insert (page_at pages i) j (key, None)) → OnErr r (page ≡ page_at pages i) → AreSlots cmp (set pages i page)
 insert_whole {K} {V} {E} {cmp} t pages i j key page (Ok u) slots gap there room ok err = subst (λ page. AreSlots cmp (set pages i page)) (sym ok) (put_whole t pages i j key slots gap there room)

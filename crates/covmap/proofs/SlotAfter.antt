@@ -1,4 +1,4 @@
--- The place after a slot: where the slot comes before what is asked for and the next one doesn't, it is a cut.
+-- The place after a slot: if the slot comes before the queried key, and the next one doesn't, it is a cut.
 use Rattle.std.proofs.Common.{◌≡◌, ℕ, zero, suc, ◌<◌, ◌≤◌, Bool, true, false, if◌then◌else◌, Option, List, [], ◌∷◌, ◌++◌, length, get_or, take, drop, refl, sym, ap, ◌∙◌, append_assoc, subst, arith}
 use Rattle.std.specs.declared.cmp.Ordering.{Ordering}
 use Rattle.std.specs.declared.cmp.Ordering.TheVariants.{Less, Equal, Greater}
@@ -46,7 +46,7 @@ first_of_page [] (suc i) a = refl
 first_of_page (page ∷ pages) zero a = first_there page 0 (slots_of pages) a.0.0
 first_of_page (page ∷ pages) (suc i) a = first_of_page pages i a.1
 
--- a place of a key before or at the one that is asked for has a slot
+-- a place whose key isn't greater than the queried one has a slot
 pub place_slot : {K V : Type 0} (order : K → Ordering) (found : Option (K × Option V)) → is_gt (order_at order found) ≡ false → (slot : K × Option V) × (found ≡ Some slot) × (order_at order found ≡ order slot.0)
 place_slot order None e = absurd cc
 place_slot order (Some slot) e = (slot, refl, refl)
@@ -101,7 +101,7 @@ module _ {K V : Type 0} {cmp : K → K → Ordering} {order : K → Ordering} (q
     cut_after : order slot.0 ≡ Less → (order_at order (slot_at pages (following pages (i, j))) ≡ Less → ⊥) → IsCut order pages (following pages (i, j))
     cut_after less none = cut_after_at (nat_lt (suc j) (length (page_at pages i))) refl less none
 
-  -- where a slot comes before what is asked for, and the next one after that, the place between is the gap
+  -- if a slot comes before the queried key, and the next one after it, the place between is the gap
   pub gap_after_slot : (pages : List (List (K × Option V))) (i j : ℕ) (at : ℕ × ℕ) → AreSlots cmp pages → order_at order (slot_at pages (i, j)) ≡ Less → at ≡ following pages (i, j)
       → order_at order (slot_at pages at) ≡ Greater → IsGap order pages at
   gap_after_slot pages i j at slots less next greater = rw next (
@@ -113,20 +113,20 @@ module _ {K V : Type 0} {cmp : K → K → Ordering} {order : K → Ordering} (q
       apart : {o : Ordering} (p : Ordering) → o ≡ Greater → o ≡ p → (Greater ≡ p → ⊥) → ⊥
       apart p e f none = none (sym e ∙ f)
 
--- the place after one that isn't the last of its page, and after one that is
+-- the place after a slot that isn't the last of its page; and below, after one that is
 pub after_within : {K V : Type 0} (pages : List (List (K × Option V))) (i j next : ℕ) → next ≡ suc j → suc j < length (page_at pages i) → (i, next) ≡ following pages (i, j)
 after_within pages i j next e l = ap (λ at. (i, at)) e ∙ sym (cond-true (nat_lt (suc j) (length (page_at pages i))) (i, suc j) (suc i, 0) (lt-ltb (suc j) (length (page_at pages i)) l))
 
 pub after_past : {K V : Type 0} (pages : List (List (K × Option V))) (i j next : ℕ) → next ≡ suc i → length (page_at pages i) ≤ suc j → (next, 0) ≡ following pages (i, j)
 after_past pages i j next e l = ap (λ page. (page, 0)) e ∙ sym (cond-false (nat_lt (suc j) (length (page_at pages i))) (i, suc j) (suc i, 0) (le-ltb (suc j) (length (page_at pages i)) l))
 
--- where a page has a slot it is there
+-- if a page has a slot, it exists
 pub number_within : {X : Type 0} (pages : List (List X)) (i : ℕ) → 0 < length (get_or pages i []) → i < length pages
 number_within [] i l = absurd (omega arith)
 number_within (page ∷ pages) zero l = omega arith
 number_within (page ∷ pages) (suc i) l = omega (arith, number_within pages i l)
 
--- an answer that isn't Equal
+-- a result that isn't Equal
 pub not_equal : (o : Ordering) → is_eq o ≡ false → o ≡ Equal → ⊥
 not_equal Less e f = absurd cc
 not_equal Equal e f = absurd cc

@@ -1,4 +1,4 @@
--- What the slots are before a place and from it on, and after a write to a page.
+-- The slots before a place and from it on, also after a write to a page.
 use Rattle.std.proofs.Common.{◌≡◌, ℕ, zero, suc, Option, List, [], ◌∷◌, ◌++◌, length, take, drop, refl, sym, ap, ◌∙◌, append_assoc, arith}
 use Rattle.std.specs.Prelude.{flat_map, None, Some}
 use Rattle.covmap.specs.Slots.{slots_of, page_at, before, from, filled}
@@ -22,13 +22,13 @@ whole (first ∷ pages) (suc page) index =
     ∙ sym (append_assoc first (before pages (page, index)) (from pages (page, index)))
     ∙ ap (λ front. front ++ from pages (page, index)) (sym (append_assoc first (slots_of (take page pages)) (take index (page_at pages page))))
 
--- the filled slots of two lists in turn
+-- the filled slots of two joined lists
 pub filled_append : {K V : Type 0} (front back : List (K × Option V)) → filled (front ++ back) ≡ filled front ++ filled back
 filled_append [] back = refl
 filled_append ((key, None) ∷ front) back = filled_append front back
 filled_append ((key, Some value) ∷ front) back = ap (λ rest. (key, value) ∷ rest) (filled_append front back)
 
--- where a page is done, the next one is taken up
+-- after a page is finished, the next one begins
 pub next_page : {K V P : Type 0} (items : P → List (K × Option V)) (page text : List (K × Option V)) (p : P) (ps pages : List P) → length page ≡ 0 → pages ≡ p ∷ ps → text ≡ items p
     → filled text ++ filled (flat_map items ps) ≡ filled page ++ filled (flat_map items pages)
 next_page items [] text p ps pages z e t =

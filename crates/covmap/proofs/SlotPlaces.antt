@@ -1,4 +1,4 @@
--- What stands at the place of a key, by the list of all slots.
+-- What is at the place of a key, in the list of all slots.
 use Rattle.std.proofs.Common.{◌≡◌, ℕ, zero, suc, ◌<◌, false, Option, List, [], ◌∷◌, ◌++◌, length, get_or, take, drop, set, refl, sym, ap, ◌∙◌, append_assoc, subst, arith}
 use Rattle.std.specs.declared.cmp.Ordering.{Ordering}
 use Rattle.std.specs.declared.cmp.Ordering.TheVariants.{Less, Equal}
@@ -14,13 +14,13 @@ use Rattle.covmap.proofs.SlotWrites.{slots_of_set}
 
 -- ---- in one list
 
--- a key that is there is found
+-- a key with a slot is found
 found_there : {K V : Type 0} (order : K → Ordering) (front : List (K × Option V)) (slot : K × Option V) (back : List (K × Option V)) → AllByRecursion (λ slot. order slot.0 ≡ Less) front
     → order slot.0 ≡ Equal → slot_value order (front ++ slot ∷ back) ≡ Some slot.1
 found_there order [] slot back a e = rw e refl
 found_there order (first ∷ front) slot back a e = rw a.0 (found_there order front slot back a.1 e)
 
--- the slots before one that isn't greater than what is asked for come before that
+-- the slots before one that isn't greater than the queried key come before that key
 pub before_there : {K V : Type 0} {cmp : K → K → Ordering} {order : K → Ordering} → IsQuery cmp order → (front : List (K × Option V)) (slot : K × Option V) (back : List (K × Option V))
     → IsAscending cmp (front ++ slot ∷ back) → is_gt (order slot.0) ≡ false → AllByRecursion (λ slot. order slot.0 ≡ Less) front
 before_there query [] slot back a e = tt
@@ -54,7 +54,7 @@ module _ {K V : Type 0} {cmp : K → K → Ordering} {order : K → Ordering} (q
   pub around : (slot : K × Option V) → slot_at pages (i, j) ≡ Some slot → slots_of pages ≡ before pages (i, j) ++ slot ∷ (drop (suc j) (page_at pages i) ++ slots_of (drop (suc i) pages))
   around slot e = whole pages i j ∙ ap (λ rest. before pages (i, j) ++ (rest ++ slots_of (drop (suc i) pages))) (page_here (page_at pages i) j slot e)
 
-  -- what is asked for has the value that stands at its place
+  -- the queried key has the value at its place
   pub value_there : (slot : K × Option V) → slot_at pages (i, j) ≡ Some slot → order slot.0 ≡ Equal → slot_value order (slots_of pages) ≡ Some slot.1
   value_there slot e same =
       let parts = around slot e in
@@ -62,7 +62,7 @@ module _ {K V : Type 0} {cmp : K → K → Ordering} {order : K → Ordering} (q
       let front = before_there query (before pages (i, j)) slot back (subst (IsAscending cmp) parts ascending) (ap is_gt same) in
       ap (slot_value order) parts ∙ found_there order (before pages (i, j)) slot back front same
 
-  -- a value written at its place is written into its slot
+  -- writing a value at a place writes it into the slot there
   pub written_there : (slot : K × Option V) (value : V) → slot_at pages (i, j) ≡ Some slot
       → slots_of (with_value_at (i, j) value pages) ≡ before pages (i, j) ++ (slot.0, Some value) ∷ (drop (suc j) (page_at pages i) ++ slots_of (drop (suc i) pages))
   written_there slot value e =

@@ -1,4 +1,4 @@
--- Where a key stands among ascending slots, or would go.
+-- Where a key is among ascending slots, or would be inserted.
 use Rattle.std.proofs.Common.{◌≡◌, ℕ, zero, suc, ◌<◌, Bool, true, false, Option, List, [], ◌∷◌, ◌++◌, length, take, drop, map, refl, sym, ap, ◌∙◌, if◌then◌else◌, append_assoc, arith}
 use Rattle.std.specs.declared.cmp.Ordering.{Ordering}
 use Rattle.std.specs.declared.cmp.Ordering.TheVariants.{Less, Equal, Greater}
@@ -41,14 +41,14 @@ lead_below_one : (b : Bool) → b ≡ false → (if b then 1 else 0) < 1
 lead_below_one true e = absurd cc
 lead_below_one false e = omega arith
 
--- a slot on the page is the first from it on
+-- a slot on the page is the first one from it on
 pub first_there : {V : Type 0} (page : List V) (index : ℕ) (rest : List V) → index < length page → slice_get page index ≡ slice_get (drop index page ++ rest) 0
 first_there [] index rest l = absurd (omega arith)
 first_there (x ∷ xs) zero rest l = refl
 first_there (x ∷ xs) (suc index) rest l = first_there xs index rest (omega arith)
 
 module _ {K V : Type 0} {cmp : K → K → Ordering} {order : K → Ordering} (query : IsQuery cmp order) where
-  -- after a slot that doesn't come before what is asked for, all slots are greater than that
+  -- after a slot that doesn't come before the queried key, all slots are greater
   pub all_after : (slot : K × Option V) (slots : List (K × Option V)) → is_lt (order slot.0) ≡ false → AllByRecursion (λ next. cmp slot.0 next.0 ≡ Less) slots
       → AllByRecursion (λ next. order next.0 ≡ Greater) slots
   all_after slot slots e a = all_weaker (λ next. cmp slot.0 next.0 ≡ Less) (λ next. order next.0 ≡ Greater) slots (λ next l. query.following slot.0 next.0 l e) a
@@ -64,7 +64,7 @@ module _ {K V : Type 0} {cmp : K → K → Ordering} {order : K → Ordering} (q
   after_lead_at slot slots a false e rest =
       (e, all_weaker (λ next. order next.0 ≡ Greater) (λ next. is_lt (order next.0) ≡ false) slots (λ next g. not_lt (order next.0) g) (all_after slot slots e a.0))
 
-  -- a page that doesn't end before what is asked for has a slot after the lead
+  -- a page that doesn't end before the queried key has a slot after the lead
   lead_below_at : (slot : K × Option V) (slots : List (K × Option V)) (b : Bool) → lead (is_before order) slots < length slots → (if b then suc (lead (is_before order) slots) else 0) < suc (length slots)
   lead_below_at slot slots true l = omega arith
   lead_below_at slot slots false l = omega arith
@@ -74,14 +74,14 @@ module _ {K V : Type 0} {cmp : K → K → Ordering} {order : K → Ordering} (q
   lead_below (slot ∷ []) e = lead_below_one (is_before order slot) e
   lead_below (slot ∷ next ∷ slots) e = lead_below_at slot (next ∷ slots) (is_before order slot) (lead_below (next ∷ slots) e)
 
-  -- the slots from the lead on don't come before
+  -- the slots from the lead on don't come before the queried key
   pub after_lead : (slots : List (K × Option V)) → IsAscending cmp slots → AllByRecursion (λ slot. is_lt (order slot.0) ≡ false) (drop (lead (is_before order) slots) slots)
   after_lead [] a = tt
   after_lead (slot ∷ slots) a = after_lead_at slot slots a (is_lt (order slot.0)) refl (after_lead slots a.1)
 
   -- ---- a page, and those after it
 
-  -- where its last key comes before what is asked for, all do
+  -- if the last key of a page comes before the queried key, all its keys do
   pub page_before : (page : List (K × Option V)) → IsAscending cmp page → ends_before order page ≡ true → AllByRecursion (λ slot. order slot.0 ≡ Less) page
   page_before [] a e = tt
   page_before (slot ∷ []) a e = (is_Less (order slot.0) e, tt)
@@ -89,13 +89,13 @@ module _ {K V : Type 0} {cmp : K → K → Ordering} {order : K → Ordering} (q
       let rest = page_before (next ∷ slots) a.1 e in
       (query.before slot.0 next.0 a.0.0 (not_gt (order next.0) rest.0), rest)
 
-  -- where its last key doesn't, all slots after it are greater than what is asked for
+  -- if it doesn't, all slots after the page are greater than the queried key
   pub after_page : (page slots : List (K × Option V)) → IsAscending cmp (page ++ slots) → ends_before order page ≡ false → AllByRecursion (λ slot. order slot.0 ≡ Greater) slots
   after_page [] slots a e = absurd cc
   after_page (slot ∷ []) slots a e = all_after slot slots e a.0
   after_page (slot ∷ next ∷ rest) slots a e = after_page (next ∷ rest) slots a.1 e
 
-  -- a page whose slots are greater than what is asked for doesn't end before it
+  -- a page whose slots are greater than the queried key doesn't end before it
   page_after : (page : List (K × Option V)) → 0 < length page → AllByRecursion (λ slot. order slot.0 ≡ Greater) page → ends_before order page ≡ false
   page_after [] l a = absurd (omega arith)
   page_after (slot ∷ []) l a = not_lt (order slot.0) a.0
@@ -142,7 +142,7 @@ module _ {K V : Type 0} {cmp : K → K → Ordering} {order : K → Ordering} (q
   is_cut_at page pages a true e rest = cut_next page pages (lead (ends_before order) pages, lead (is_before order) (page_at pages (lead (ends_before order) pages))) (ascending_front cmp page (slots_of pages) a) e rest
   is_cut_at page pages a false e rest = cut_here page pages a e
 
-  -- the first page that doesn't end before what is asked for, and the first slot on it that doesn't come before: a cut
+  -- the first page that doesn't end before the queried key, and its first slot that doesn't come before it: this is a cut
   pub is_cut : (pages : List (List (K × Option V))) → IsAscending cmp (slots_of pages)
       → IsCut order pages (lead (ends_before order) pages, lead (is_before order) (page_at pages (lead (ends_before order) pages)))
   is_cut [] a = record { front = tt; back = tt; here = refl; page_there = omega arith; on_page = omega arith }
@@ -159,7 +159,7 @@ module _ {K V : Type 0} {cmp : K → K → Ordering} {order : K → Ordering} (q
   gap_after [] a b none = tt
   gap_after (slot ∷ slots) a b none = gap_after_at slot slots (order slot.0) refl b.0 none (all_after slot slots b.0 a.0)
 
-  -- where the key that is asked for doesn't stand at the cut, the cut is its gap
+  -- if the queried key isn't at the cut, the cut is its gap
   pub gap_at_cut : (pages : List (List (K × Option V))) (at : At) → IsAscending cmp (slots_of pages) → slots_of pages ≡ before pages at ++ from pages at
       → IsCut order pages at → (IsPlace order pages at → ⊥) → IsGap order pages at
   gap_at_cut pages at a whole cut none = record {
@@ -179,7 +179,7 @@ page_ascending cmp [] i a = tt
 page_ascending cmp (page ∷ pages) zero a = ascending_front cmp page (slots_of pages) a
 page_ascending cmp (page ∷ pages) (suc i) a = page_ascending cmp pages i (ascending_back cmp page (slots_of pages) a)
 
--- what `get` gives is the thing at that place
+-- what `get` returns is the item at that index
 pub item_at : {X : Type 0} (xs : List X) (i : ℕ) (r : Option (Bor X)) → IsItemAt xs i r → option_map (λ item. item.now) r ≡ slice_get xs i
 item_at xs i None h = sym (slice_get_past xs i h.3)
 item_at xs i (Some item) h = sym (slice_get-get_or xs i item.now h.3.0 ∙ ap Some (sym h.1))

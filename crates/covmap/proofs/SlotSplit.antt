@@ -1,11 +1,11 @@
--- A page cut in two: the slots stay, and so does what is before a place and from it on.
+-- A page split in two: the slots stay, and so do those before a place and from it on.
 use Rattle.std.proofs.Common.{◌≡◌, ℕ, zero, suc, ◌+◌, ◌<◌, ◌≤◌, Option, List, [], ◌∷◌, ◌++◌, length, take, drop, set, refl, sym, ap, ◌∙◌, append_assoc, subst, arith, length-take, length-drop}
 use Rattle.std.specs.declared.cmp.Ordering.{Ordering}
 use Rattle.std.specs.declared.cmp.Ordering.TheVariants.{Less, Greater}
 use Rattle.std.specs.List.{AllByRecursion, insert}
 use Rattle.covmap.specs.Slots.{IsAscending, IsPage, AreSlots, slots_of, page_at, before, from, IsGap, with_page_split}
 
--- ---- a list cut in two
+-- ---- a list split in two
 
 take_take : {X : Type 0} (xs : List X) (n j : ℕ) → j ≤ n → take j (take n xs) ≡ take j xs
 take_take xs n zero l = refl
@@ -59,7 +59,7 @@ pub split_whole : {K V : Type 0} (cmp : K → K → Ordering) (pages : List (Lis
     → AreSlots cmp (with_page_split i pages)
 split_whole cmp pages i l e slots = record { pages_fit = split_fit pages i e slots.pages_fit; ascending = subst (IsAscending cmp) (sym (split_slots pages i l)) slots.ascending }
 
--- the pages after the cut
+-- the pages after the split
 list_split : {P : Type 0} (ps : List P) (i : ℕ) (p q : P) → i < length ps → insert (set ps i p) (suc i) q ≡ take i ps ++ p ∷ q ∷ drop (suc i) ps
 list_split [] i p q l = absurd (omega arith)
 list_split (r ∷ ps) zero p q l = refl
@@ -139,7 +139,7 @@ gap_high {K} {V} order pages i k j l full e gap = record {
   on_page = rw (page_high pages i l) (omega (arith, length-drop 128 (page_at pages i), gap.on_page));
 }
 
--- ---- the same, at a number that is one more
+-- ---- the same for the next number
 
 pub length_high : {K V : Type 0} (pages : List (List (K × Option V))) (i n : ℕ) → i < length pages → n ≡ suc i → length (page_at pages i) ≤ 256 → length (page_at (with_page_split i pages) n) < 256
 length_high pages i n l e m = rw (e, page_high pages i l) (omega (arith, length-drop 128 (page_at pages i)))

@@ -1,4 +1,4 @@
--- What the slots are after a write: the key that is put in at its gap, and still ascending.
+-- The slots after a write: a key inserted at its gap, and the order stays.
 use Rattle.std.proofs.Common.{◌≡◌, ℕ, zero, suc, ◌+◌, ◌<◌, ◌≤◌, Bool, true, false, Option, List, [], ◌∷◌, ◌++◌, length, get_or, take, drop, set, map, refl, sym, ap, ◌∙◌, append_assoc, subst, arith}
 use Rattle.std.specs.Cmp.{IsTotalOrder}
 use Rattle.std.specs.declared.cmp.Ordering.{Ordering}
@@ -26,7 +26,7 @@ append_nil (x ∷ xs) = ap (λ rest. x ∷ rest) (append_nil xs)
 
 -- ---- in one list
 
--- a key at its gap keeps the order
+-- inserting a key at its gap keeps the order
 pub ascending_with : {K V : Type 0} {cmp : K → K → Ordering} → IsTotalOrder cmp → (key : K) (value : Option V) (front back : List (K × Option V))
     → AllByRecursion (λ slot. cmp slot.0 key ≡ Less) front → AllByRecursion (λ slot. cmp slot.0 key ≡ Greater) back → IsAscending cmp (front ++ back) → IsAscending cmp (front ++ (key, value) ∷ back)
 ascending_with {K} {V} {cmp} t key value [] back a b asc =
@@ -43,7 +43,7 @@ slots_of_set [] i page l = absurd (omega arith)
 slots_of_set (first ∷ pages) zero page l = refl
 slots_of_set (first ∷ pages) (suc i) page l = ap (λ rest. first ++ rest) (slots_of_set pages i page (omega arith)) ∙ sym (append_assoc first (slots_of (take i pages)) (page ++ slots_of (drop (suc i) pages)))
 
--- a slot put on a page stands between what was before its place and what was from there on
+-- a slot inserted on a page is between what was before its place and what was from there on
 pub slots_put : {K V : Type 0} (pages : List (List (K × Option V))) (i j : ℕ) (slot : K × Option V) → i < length pages
     → slots_of (set pages i (insert (page_at pages i) j slot)) ≡ before pages (i, j) ++ slot ∷ from pages (i, j)
 slots_put pages i j slot l =
@@ -59,7 +59,7 @@ pages_fit_set [] i page a p = tt
 pages_fit_set (first ∷ pages) zero page a p = (p, a.1)
 pages_fit_set (first ∷ pages) (suc i) page a p = (a.0, pages_fit_set pages i page a.1 p)
 
--- the pages as contracts see them, after a write to one
+-- the pages as contracts see them, after a write to one of them
 pub map_set : {P X : Type 0} (f : P → X) (ps : List P) (i : ℕ) (p : P) → map f (set ps i p) ≡ set (map f ps) i (f p)
 map_set f [] i p = refl
 map_set f (q ∷ ps) zero p = refl
@@ -70,7 +70,7 @@ set_same [] i = refl
 set_same (page ∷ pages) zero = refl
 set_same (page ∷ pages) (suc i) = ap (λ rest. page ∷ rest) (set_same pages i)
 
--- slots stay slots where a key is put at its gap on a page with room
+-- slots stay valid if a key is inserted at its gap on a page with room
 pub put_whole : {K V : Type 0} {cmp : K → K → Ordering} → IsTotalOrder cmp → (pages : List (List (K × Option V))) (i j : ℕ) (key : K) → AreSlots cmp pages
     → IsGap (λ other. cmp other key) pages (i, j) → i < length pages → length (page_at pages i) < 256 → AreSlots cmp (set pages i (insert (page_at pages i) j (key, None)))
 put_whole {K} {V} {cmp} t pages i j key slots gap there room =
@@ -124,7 +124,7 @@ last_from (page ∷ []) zero e = ap (λ rest. rest ++ []) (drop_all page)
 last_from (page ∷ next ∷ pages) zero e = absurd (omega arith)
 last_from (page ∷ pages) (suc i) e = last_from pages i (omega arith)
 
--- the end of the last page is the gap of a key greater than all
+-- the end of the last page is the gap of a key greater than all others
 pub last_gap : {K V : Type 0} (order : K → Ordering) (pages : List (List (K × Option V))) (i j : ℕ) → i + 1 ≡ length pages → j ≡ length (page_at pages i)
     → AllByRecursion (λ slot. order slot.0 ≡ Less) (slots_of pages) → IsGap order pages (i, j)
 last_gap {K} {V} order pages i j e same a = rw same (record {

@@ -1,4 +1,4 @@
--- A slot more, and a page cut in two: both do to what is staged what they do to the slots.
+-- Inserting a slot, and splitting a page: both change the staged entries as they change the slots.
 use Rattle.std.proofs.Common.{◌≡◌, ℕ, zero, suc, ◌+◌, ◌<◌, ◌≤◌, Bool, true, false, eqb, if◌then◌else◌, Option, List, [], ◌∷◌, ◌++◌, length, get_or, take, drop, set, map, refl, sym, ap, ◌∙◌, subst, arith, length-append, length-take, length-drop}
 use Rattle.std.specs.Cmp.{IsTotalOrder}
 use Rattle.std.specs.declared.cmp.Ordering.{Ordering}
@@ -36,7 +36,7 @@ pub all_stay : {X : Type 0} (P Q R : X → Type 0) (xs : List X) → ((x : X) �
 all_stay P Q R [] f a b = tt
 all_stay P Q R (x ∷ xs) f a b = (f x a.0 b.0, all_stay P Q R xs f a.1 b.1)
 
--- ---- an empty slot more
+-- ---- one more empty slot
 
 wider : {K V : Type 0} (page : List (K × Option V)) (column : List (Option V)) (j : ℕ) (key : K) → length column ≡ length page
     → with_column (insert page j (key, None)) (insert column j None) ≡ insert (with_column page column) j (key, None)
@@ -46,7 +46,7 @@ wider [] (value ∷ column) (suc j) key e = absurd (omega arith)
 wider (slot ∷ page) [] (suc j) key e = absurd (omega arith)
 wider (slot ∷ page) (value ∷ column) (suc j) key e = ap (λ rest. (slot.0, value) ∷ rest) (wider page column j key (omega arith))
 
--- where one page changes, with its column, what is staged changes there alone
+-- if one page changes, together with its column, only that page changes in what is staged
 both_changed : {K V : Type 0} (n i k : ℕ) (pages : List (List (K × Option V))) (old new : List (ℕ × List (Option V))) (page : List (K × Option V)) → n + i ≡ k
     → ((m : ℕ) → (m ≡ k → ⊥) → column_at m new ≡ column_at m old) → staged_from n (set pages i page) new ≡ set (staged_from n pages old) i (page_staged page (column_at k new))
 both_changed n i k [] old new page e others = refl
@@ -77,7 +77,7 @@ wider_staged : {K V : Type 0} (page : List (K × Option V)) (here : Option (List
 wider_staged page None j key f = refl
 wider_staged page (Some column) j key f = wider page column j key (f column refl)
 
--- what is staged has the empty slot at the same place
+-- in what is staged, the empty slot is at the same place
 pub staged_widened : {K V : Type 0} (pages : List (List (K × Option V))) (old new : List (ℕ × List (Option V))) (i j : ℕ) (key : K) → i < length pages → AreColumnsOf pages old → IsWidened i j old new
     → staged_of (with_empty (i, j) key pages) new ≡ with_empty (i, j) key (staged_of pages old)
 staged_widened {K} {V} pages old new i j key there fit w =
@@ -100,7 +100,7 @@ filled_empty {K} {V} pages i j key there =
     ∙ sym (filled_append (before pages (i, j)) (from pages (i, j)))
     ∙ ap filled (sym (whole pages i j))
 
--- ---- the columns stay those of the pages
+-- ---- the columns still fit the pages
 
 page_same : {X : Type 0} (pages : List (List X)) (i m : ℕ) (page : List X) → (m ≡ i → ⊥) → get_or (set pages i page) m [] ≡ get_or pages m []
 page_same [] i m page f = refl
@@ -139,7 +139,7 @@ columns_widened {K} {V} pages old new i j key there on_page fit w =
     (own_fits pages i j key w.here there on_page (all_front (IsColumnOf pages) (own_of i w.here) w.back rest))
     (all_stay (λ other. i < other.0) (IsColumnOf pages) (IsColumnOf after) w.back (λ column l. stays column (λ e. omega arith)) w.was.above (all_back (IsColumnOf pages) (own_of i w.here) w.back rest))))
 
--- ---- a page after all others
+-- ---- a page appended
 
 pub staged_pushed : {K V : Type 0} (n : ℕ) (pages : List (List (K × Option V))) (columns : List (ℕ × List (Option V))) (page : List (K × Option V)) → AllByRecursion (λ column. column.0 < n + length pages) columns
     → staged_from n (pages ++ page ∷ []) columns ≡ staged_from n pages columns ++ page ∷ []
@@ -172,7 +172,7 @@ columns_pushed {K} {V} pages columns page a =
     all_weaker (IsColumnOf pages) (IsColumnOf (pages ++ page ∷ [])) columns
     (λ column fit. (omega (arith, length-append pages (page ∷ []), fit.0), fit.1 ∙ ap length (sym (page_there pages column.0 page fit.0)))) a
 
--- ---- a page cut in two
+-- ---- a page split in two
 
 moved_after_at : {V : Type 0} (page n : ℕ) (column : ℕ × List (Option V)) (b : Bool) → nat_lt page column.0 ≡ b → n < column.0 → n < (if b then suc column.0 else column.0)
 moved_after_at page n column true e l = omega arith
@@ -195,7 +195,7 @@ moved_ascending {V} page (column ∷ columns) a = (first (nat_lt page column.0) 
     first true e = let above : page < column.0 = grind (arith, nat_tests) in moved_more page column.0 columns (omega arith) a.0
     first false e = moved_after page column.0 columns a.0
 
--- no column has the number after the page then
+-- then no column has the number after the page's
 moved_apart : {V : Type 0} (page : ℕ) (columns : List (ℕ × List (Option V))) → AllByRecursion (λ column. column.0 ≡ suc page → ⊥) (map (moved page) columns)
 moved_apart page [] = tt
 moved_apart {V} page (column ∷ columns) = (first (nat_lt page column.0) refl, moved_apart page columns)
@@ -214,7 +214,7 @@ equal_tests a b = at_test (eqb a b) refl
     at_test true e = let same : a ≡ b = grind (arith, nat_tests) in let addend : eqb (suc a) (suc b) ≡ true = grind (arith, nat_tests, same) in addend ∙ sym e
     at_test false e = let other : a ≡ b → ⊥ = grind (arith, nat_tests) in apart (suc a) (suc b) (λ f. other (omega (arith, f))) ∙ sym e
 
--- what is found among the columns that moved
+-- what is found among the moved columns
 at_low : {V : Type 0} (page m : ℕ) (columns : List (ℕ × List (Option V))) → m ≤ page → column_at m (map (moved page) columns) ≡ column_at m columns
 at_low page m [] l = refl
 at_low {V} page m (column ∷ columns) l = first (nat_lt page column.0) refl ∙ ap (λ rest. if eqb column.0 m then Some column.1 else rest) (at_low page m columns l)
@@ -237,7 +237,7 @@ at_high {V} page m (column ∷ columns) l = first (nat_lt page column.0) refl �
         let above : column.0 ≤ page = grind (arith, nat_tests) in
         rw (apart column.0 (suc m) (λ f. omega (arith, above, f, l)), apart column.0 m (λ f. omega (arith, above, f, l))) refl
 
--- ---- what comes on the halves
+-- ---- what the halves get
 
 take_given : {K V : Type 0} (page : List (K × Option V)) (column : List (Option V)) (n : ℕ) → take n (with_column page column) ≡ with_column (take n page) (take n column)
 take_given page column zero = refl
@@ -259,7 +259,7 @@ drop_staged : {K V : Type 0} (page : List (K × Option V)) (here : Option (List 
 drop_staged page None = refl
 drop_staged page (Some column) = sym (drop_given page column 128)
 
--- pages that have moved by one
+-- pages that moved by one
 next_staged : {K V : Type 0} (n : ℕ) (pages : List (List (K × Option V))) (old new : List (ℕ × List (Option V))) → ((m : ℕ) → n ≤ m → column_at (suc m) new ≡ column_at m old)
     → staged_from (suc n) pages new ≡ staged_from n pages old
 next_staged n [] old new f = refl
@@ -285,7 +285,7 @@ split_staged n (suc i) k (page ∷ pages) old new e l low first second high =
     ap (λ column. page_staged page column ∷ staged_from (suc n) (with_page_split i pages) new) (low n (omega arith))
     ∙ ap (λ rest. page_staged page (column_at n old) ∷ rest) (split_staged (suc n) i k pages old new (omega arith) (omega arith) low first second high)
 
--- ---- what is found after the cut
+-- ---- what is found after the split
 
 second_half : {V : Type 0} (page : ℕ) (front : List (ℕ × List (Option V))) (here : Option (List (Option V))) (back : List (ℕ × List (Option V)))
     → AllByRecursion (λ other. other.0 < page) front → AllByRecursion (λ other. suc page < other.0) back
@@ -322,14 +322,14 @@ all_away {V} page back a b = all_stay (λ (other : ℕ × List (Option V)). page
     away : (other : ℕ × List (Option V)) → page < other.0 → (other.0 ≡ suc page → ⊥) → suc page < other.0
     away other l f = grind (arith, f, l)
 
--- those after the page come after its second half
+-- the columns after the page come after its second half
 pub after_halves : {V : Type 0} (page : ℕ) (old front : List (ℕ × List (Option V))) (here : Option (List (Option V))) (back : List (ℕ × List (Option V))) → IsAmong page (map (moved page) old) front here back
     → AllByRecursion (λ other. suc page < other.0) back
 after_halves {V} page old front here back w =
     let apart = λ (other : ℕ × List (Option V)). other.0 ≡ suc page → ⊥ in
     all_away page back w.above (all_back apart (own_of page here) back (all_back apart front (own_of page here ++ back) (subst (AllByRecursion apart) w.is (moved_apart page old))))
 
--- what is staged is cut as the pages are
+-- what is staged is split as the pages are
 pub staged_split : {K V : Type 0} (pages : List (List (K × Option V))) (old new : List (ℕ × List (Option V))) (i : ℕ) → i < length pages → IsSplit i old new
     → staged_of (with_page_split i pages) new ≡ with_page_split i (staged_of pages old)
 staged_split pages old new i there s =
@@ -356,7 +356,7 @@ page_after (page ∷ pages) zero (suc m) t l = refl
 page_after (page ∷ pages) (suc i) (suc m) t l = page_after pages i m (omega arith) (omega arith)
 
 module _ {K V : Type 0} (pages : List (List (K × Option V))) (i : ℕ) (there : i < length pages) where
-  -- a column that moved is of its page, where that isn't the one that is cut
+  -- a moved column belongs to its page, unless that is the one that is split
   abbrev MovesTo : ℕ × List (Option V) → Type 0
   MovesTo column = ((column.0 ≡ i → ⊥) → IsColumnOf (with_page_split i pages) column) × (column.0 ≡ i → length column.1 ≡ length (page_at pages i))
 
@@ -408,7 +408,7 @@ ascending_back : {V : Type 0} (front back : List (ℕ × List (Option V))) → A
 ascending_back [] back a = a
 ascending_back (first ∷ front) back a = ascending_back front back a.1
 
--- a column in the place of another, and after it one of the next number
+-- a column is replaced by two, the second with the next number
 pub halves_ascending : {V : Type 0} (page : ℕ) (column : List (Option V)) (front back : List (ℕ × List (Option V))) (first second : List (Option V)) → AllByRecursion (λ other. other.0 < page) front
     → AllByRecursion (λ other. suc page < other.0) back → AreAscending (front ++ (page, column) ∷ back) → AreAscending (front ++ (page, first) ∷ (suc page, second) ∷ back)
 halves_ascending {V} page column front back first second below above a =
@@ -419,7 +419,7 @@ halves_ascending {V} page column front back first second below above a =
     ascending_both page front (one ∷ two ∷ back) below (omega arith, (omega arith, weak)) (ascending_front front ((page, column) ∷ back) a)
     ((omega arith, after), (above, (ascending_back front ((page, column) ∷ back) a).1))
 
--- ---- the numbers written one by one
+-- ---- the numbers, written one by one
 
 abbrev pub changed_front : {X : Type 0} → (X → X) → ℕ → List X → List X
 changed_front f zero xs = xs
@@ -443,7 +443,7 @@ get_within [] i d e l = absurd (omega arith)
 get_within (x ∷ xs) zero d e l = refl
 get_within (x ∷ xs) (suc i) d e l = get_within xs i d e (omega arith)
 
--- one number more is written
+-- one more number is written
 pub number_more : {P : Type 0} (page i : ℕ) (old columns : List (ℕ × P)) (column other : ℕ × P) (n : ℕ) → columns ≡ changed_front (λ column. (number_after page column.0, column.1)) i old → i < length old
     → column ≡ get_or columns i column → n ≡ number_after page (get_or columns i column).0
     → set columns i (n, (get_or columns i other).1) ≡ changed_front (λ column. (number_after page column.0, column.1)) (i + 1) old
@@ -491,7 +491,7 @@ module _ {V : Type 0} (columns : List (ℕ × List (Option V))) (page index : �
         },
       )
 
--- what all columns are, the one among them is
+-- what is true of all columns is true of the page's
 pub here_is : {V : Type 0} (P : ℕ × List (Option V) → Type 0) (page : ℕ) (columns front : List (ℕ × List (Option V))) (column : List (Option V)) (back : List (ℕ × List (Option V)))
     → IsAmong page columns front (Some column) back → AllByRecursion P columns → P (page, column)
 here_is P page columns front column back w a = (all_back P front ((page, column) ∷ back) (subst (AllByRecursion P) w.is a)).0
@@ -506,7 +506,7 @@ pub moved_seen : {V P : Type 0} (seen : P → ℕ × List (Option V)) (f : P →
     → new ≡ map f ps → map seen new ≡ map (moved page) columns
 moved_seen seen f page ps new columns e view is = ap (map seen) is ∙ seen_moved seen f page e ps ∙ ap (map (moved page)) view
 
--- what is so of all that contracts see is so of all that is there
+-- what is true of everything that contracts see is true of everything that is there
 pub all_seen : {P X : Type 0} (Q : X → Type 0) (seen : P → X) (ps : List P) → AllByRecursion Q (map seen ps) → AllByRecursion (λ p. Q (seen p)) ps
 all_seen Q seen [] a = tt
 all_seen Q seen (p ∷ ps) a = (a.0, all_seen Q seen ps a.1)
@@ -515,7 +515,7 @@ insert_after : {X : Type 0} (front : List X) (y z : X) (back : List X) → inser
 insert_after [] y z back = refl
 insert_after (x ∷ front) y z back = ap (λ rest. x ∷ rest) (insert_after front y z back)
 
--- a column cut in two
+-- a column split in two
 pub seen_halves : {V P : Type 0} (seen : P → ℕ × List (Option V)) (ps : List P) (columns front : List (ℕ × List (Option V))) (x : ℕ × List (Option V)) (back : List (ℕ × List (Option V))) (index : ℕ)
     → map seen ps ≡ columns → columns ≡ front ++ x ∷ back → index ≡ length front → (q r : P) (y z : ℕ × List (Option V)) → seen q ≡ y → seen r ≡ z
     → map seen (insert (set ps index q) (index + 1) r) ≡ front ++ y ∷ z ∷ back
@@ -527,7 +527,7 @@ seen_halves seen ps columns front x back index view is at q r y z e f =
     ∙ ap (λ n. insert (front ++ y ∷ back) n z) next
     ∙ insert_after front y z back
 
--- the page's column is still as long, where the others have moved
+-- the page's column keeps its length while the others move
 pub moved_full : {V : Type 0} (page n : ℕ) (columns : List (ℕ × List (Option V))) → AllByRecursion (λ column. column.0 ≡ page → length column.1 ≡ n) columns
     → AllByRecursion (λ column. column.0 ≡ page → length column.1 ≡ n) (map (moved page) columns)
 moved_full page n [] a = tt
@@ -537,7 +537,7 @@ moved_full {V} page n (column ∷ columns) a = (first (nat_lt page column.0) ref
     first true e f = let above : page < column.0 = grind (arith, nat_tests) in absurd (omega (arith, above, f))
     first false e f = a.0 f
 
--- ---- what the steps ask
+-- ---- what the steps require
 
 pub length_staged : {K V : Type 0} (n : ℕ) (pages : List (List (K × Option V))) (columns : List (ℕ × List (Option V))) → length (staged_from n pages columns) ≡ length pages
 length_staged n [] columns = refl
@@ -564,7 +564,7 @@ get_inserted xs zero x l = refl
 get_inserted [] (suc j) x l = absurd (omega arith)
 get_inserted (y ∷ xs) (suc j) x l = get_inserted xs j x (omega arith)
 
--- the key stands where it was put in
+-- the key is where it was inserted
 pub place_made : {K V : Type 0} {cmp : K → K → Ordering} → IsTotalOrder cmp → (pages : List (List (K × Option V))) (i j : ℕ) (key : K) → i < length pages → j ≤ length (page_at pages i)
     → IsPlace (λ other. cmp other key) (with_empty (i, j) key pages) (i, j)
 place_made {K} {V} {cmp} t pages i j key there on_page =

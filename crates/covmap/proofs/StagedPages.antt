@@ -1,4 +1,4 @@
--- What comes after a column is put in or exchanged.
+-- What is staged after a column is inserted or replaced.
 use Rattle.std.proofs.Common.{◌≡◌, ℕ, zero, suc, ◌+◌, ◌<◌, ◌≤◌, true, false, eqb, if◌then◌else◌, Option, List, [], ◌∷◌, ◌++◌, length, get_or, set, refl, sym, ap, ◌∙◌, arith}
 use Rattle.std.specs.Prelude.{Some, None}
 use Rattle.std.specs.List.{AllByRecursion}
@@ -9,19 +9,19 @@ use Rattle.covmap.specs.Staged.{column_of, with_column, column_at, page_staged, 
 
 -- ---- one page
 
--- its own values change nothing
+-- a page's own values change nothing
 pub own_column : {K V : Type 0} (page : List (K × Option V)) → with_column page (column_of page) ≡ page
 own_column [] = refl
 own_column (slot ∷ page) = ap (λ rest. slot ∷ rest) (own_column page)
 
--- the values of a page are those that it was given
+-- a page has the values that it was given
 pub column_given : {K V : Type 0} (page : List (K × Option V)) (column : List (Option V)) → length column ≡ length page → column_of (with_column page column) ≡ column
 column_given [] [] e = refl
 column_given [] (value ∷ column) e = absurd (omega arith)
 column_given (slot ∷ page) [] e = absurd (omega arith)
 column_given (slot ∷ page) (value ∷ column) e = ap (λ rest. value ∷ rest) (column_given page column (omega arith))
 
--- what is given last counts
+-- of two columns given to a page, the last one counts
 pub column_again : {K V : Type 0} (page : List (K × Option V)) (first column : List (Option V)) → length first ≡ length page → length column ≡ length page
     → with_column (with_column page first) column ≡ with_column page column
 column_again [] first column e f = refl
@@ -31,7 +31,7 @@ column_again (slot ∷ page) (value ∷ first) (other ∷ column) e f = ap (λ r
 
 -- ---- all pages
 
--- pages on which the same comes are the same
+-- pages that get the same columns are the same
 pub same_staged : {K V : Type 0} (n : ℕ) (pages : List (List (K × Option V))) (old new : List (ℕ × List (Option V))) → ((m : ℕ) → n ≤ m → column_at m new ≡ column_at m old)
     → staged_from n pages new ≡ staged_from n pages old
 same_staged n [] old new f = refl
@@ -39,7 +39,7 @@ same_staged n (page ∷ pages) old new f =
     ap (λ column. page_staged page column ∷ staged_from (suc n) pages new) (f n (omega arith))
     ∙ ap (λ rest. page_staged page (column_at n old) ∷ rest) (same_staged (suc n) pages old new (λ m l. f m (omega arith)))
 
--- where another column comes on one page, that page changes alone
+-- if only one page gets another column, only that page changes
 pub changed : {K V : Type 0} (n i k : ℕ) (pages : List (List (K × Option V))) (old new : List (ℕ × List (Option V))) (column : List (Option V)) → n + i ≡ k → column_at k new ≡ Some column
     → ((m : ℕ) → (m ≡ k → ⊥) → column_at m new ≡ column_at m old) → staged_from n pages new ≡ set (staged_from n pages old) i (with_column (get_or pages i []) column)
 changed n i k [] old new column e here others = refl
@@ -51,7 +51,7 @@ changed n (suc i) k (page ∷ pages) old new column e here others =
     ap (λ column. page_staged page column ∷ staged_from (suc n) pages new) (others n (λ same. omega arith))
     ∙ ap (λ rest. page_staged page (column_at n old) ∷ rest) (changed (suc n) i k pages old new column (omega arith) here others)
 
--- the page of a number, with what comes on it
+-- the page of a number, with what is staged on it
 pub page_of_staged : {K V : Type 0} (n i k : ℕ) (pages : List (List (K × Option V))) (columns : List (ℕ × List (Option V))) → n + i ≡ k → i < length pages
     → get_or (staged_from n pages columns) i [] ≡ page_staged (get_or pages i []) (column_at k columns)
 page_of_staged n i k [] columns e l = absurd (omega arith)
@@ -66,7 +66,7 @@ apart a b f = grind (arith, nat_tests)
 alike : (a : ℕ) → eqb a a ≡ true
 alike a = grind (arith, nat_tests)
 
--- others don't see it
+-- other pages don't see it
 pub column_passed : {V : Type 0} (m : ℕ) (front : List (ℕ × List (Option V))) (column : ℕ × List (Option V)) (back : List (ℕ × List (Option V))) → (m ≡ column.0 → ⊥)
     → column_at m (front ++ column ∷ back) ≡ column_at m (front ++ back)
 column_passed m [] column back f = rw (apart column.0 m f) refl
@@ -78,7 +78,7 @@ pub column_found : {V : Type 0} (front : List (ℕ × List (Option V))) (column 
 column_found [] column back a = rw (alike column.0) refl
 column_found (first ∷ front) column back a = rw (apart first.0 column.0 (λ e. omega (arith, a.0))) (column_found front column back a.1)
 
--- no column of a number between those before it and those after it
+-- between smaller and greater numbers there is no column of this number
 pub column_missing : {V : Type 0} (m : ℕ) (front back : List (ℕ × List (Option V))) → AllByRecursion (λ other. other.0 < m) front → AllByRecursion (λ other. m < other.0) back
     → column_at m (front ++ back) ≡ None
 column_missing m [] [] a b = refl
@@ -100,7 +100,7 @@ own_staged {K} {V} pages front back i a b l =
     set_own (x ∷ xs) zero = refl
     set_own (x ∷ xs) (suc i) = ap (λ rest. x ∷ rest) (set_own xs i)
 
--- a value written into a staged column is written into what comes
+-- writing a value into a staged column writes it into what is staged
 pub value_staged : {K V : Type 0} (pages : List (List (K × Option V))) (front back : List (ℕ × List (Option V))) (i j : ℕ) (column : List (Option V)) (value : V)
     → AllByRecursion (λ other. other.0 < i) front → i < length pages → length column ≡ length (page_at pages i)
     → staged_of pages (front ++ (i, set column j (Some value)) ∷ back) ≡ with_value_at (i, j) value (staged_of pages (front ++ (i, column) ∷ back))
@@ -115,9 +115,9 @@ value_staged {K} {V} pages front back i j column value a l e =
     ∙ ap (λ values. set (staged_of pages (front ++ old ∷ back)) i (with_column (with_column page column) (set values j (Some value)))) (sym (column_given page column e))
     ∙ ap (λ page. set (staged_of pages (front ++ old ∷ back)) i (with_column page (set (column_of page) j (Some value)))) (sym there)
 
--- ---- taking it in
+-- ---- committing
 
--- one more column taken in, after those of smaller numbers
+-- one more column is committed, after those with smaller numbers
 pub taken_more : {K V : Type 0} (pages : List (List (K × Option V))) (done : List (ℕ × List (Option V))) (column : ℕ × List (Option V)) → AllByRecursion (λ other. other.0 < column.0) done
     → staged_of pages (done ++ column ∷ []) ≡ set (staged_of pages done) column.0 (with_column (page_at pages column.0) column.1)
 taken_more pages done column a =
@@ -127,7 +127,7 @@ taken_more pages done column a =
     nil [] = refl
     nil (x ∷ xs) = ap (λ rest. x ∷ rest) (nil xs)
 
--- where nothing is staged, the slots stay
+-- if nothing is staged, the slots stay
 pub nothing_staged : {K V : Type 0} (n : ℕ) (pages : List (List (K × Option V))) → staged_from n pages [] ≡ pages
 nothing_staged n [] = refl
 nothing_staged n (page ∷ pages) = ap (λ rest. page ∷ rest) (nothing_staged (suc n) pages)

@@ -16,7 +16,7 @@ set_after : {X : Type 0} (front : List X) (x y : X) (back : List X) → set (fro
 set_after [] x y back = refl
 set_after (z ∷ front) x y back = ap (λ rest. z ∷ rest) (set_after front x y back)
 
--- a column of the store, and what stands there after a write
+-- a column in the code, and the columns after a write to it
 module _ {V P : Type 0} (seen : P → ℕ × List (Option V)) (ps : List P) (columns front : List (ℕ × List (Option V))) (x : ℕ × List (Option V)) (back : List (ℕ × List (Option V))) (index : ℕ)
     (view : map seen ps ≡ columns) (is : columns ≡ front ++ x ∷ back) (at : index ≡ length front) where
   pub index_within : index < length ps
@@ -31,7 +31,7 @@ module _ {V P : Type 0} (seen : P → ℕ × List (Option V)) (ps : List P) (col
       map_set seen ps index q ∙ ap (λ columns. set columns index (seen q)) (view ∙ is) ∙ ap (λ i. set (front ++ x ∷ back) i (seen q)) at ∙ set_after front x (seen q) back
       ∙ ap (λ y. front ++ y ∷ back) e
 
--- the columns stay those of the pages
+-- the columns still fit the pages
 pub columns_written : {K V : Type 0} (pages : List (List (K × Option V))) (page : ℕ) (front back : List (ℕ × List (Option V))) (old new : List (Option V)) → length new ≡ length old
     → AreColumnsOf pages (front ++ (page, old) ∷ back) → AreColumnsOf pages (front ++ (page, new) ∷ back)
 columns_written pages page front back old new e fit =

@@ -1,4 +1,4 @@
--- Where the column of a page stands among ascending columns, or would go.
+-- Where the column of a page is among ascending columns, or would be inserted.
 use Rattle.std.proofs.Common.{◌≡◌, ℕ, zero, suc, ◌<◌, ◌≤◌, Bool, true, false, if◌then◌else◌, Option, List, [], ◌∷◌, ◌++◌, length, get_or, take, drop, map, refl, sym, ap, ◌∙◌, arith}
 use Rattle.std.specs.Prelude.{Some, option_map, slice_get, nat_lt}
 use Rattle.std.specs.List.{AllByRecursion}
@@ -20,7 +20,7 @@ true_below a b e = grind (arith, nat_tests)
 false_above : (a b : ℕ) → nat_lt a b ≡ false → b ≤ a
 false_above a b e = grind (arith, nat_tests)
 
--- the thing at a place, after a map
+-- the item at an index, after a map
 pub map_read : {P X : Type 0} (f : P → X) (ps : List P) (i : ℕ) (p : P) (d : X) → i < length ps → p ≡ get_or ps i p → get_or (map f ps) i d ≡ f p
 map_read f [] i p d l e = absurd (omega arith)
 map_read f (q ∷ ps) zero p d l e = ap f (sym e)
@@ -35,7 +35,7 @@ module _ {V : Type 0} (page : ℕ) where
     columns_fall columns a.1,
   )
 
-  -- those in front have smaller numbers
+  -- the columns in front have smaller numbers
   pub columns_front : (columns : List (ℕ × List (Option V))) → AllByRecursion (λ other. other.0 < page) (take (lead (λ column. nat_lt column.0 page) columns) columns)
   columns_front columns =
       all_weaker (λ other. nat_lt other.0 page ≡ true) (λ other. other.0 < page) (take (lead (λ column. nat_lt column.0 page) columns) columns) (λ other e. true_below other.0 page e)
@@ -52,21 +52,21 @@ module _ {V : Type 0} (page : ℕ) where
       let following : page < column.0 = grind (arith, other, above) in
       (following, all_weaker (λ other. column.0 < other.0) (λ other. page < other.0) columns (λ other l. omega (arith, following, l)) a)
 
-  -- where the page has no column, those after it have greater numbers
+  -- if the page has no column, the columns after it have greater numbers
   pub columns_missing : (columns : List (ℕ × List (Option V))) → AreAscending columns
       → (option_map (λ column. column.0) (slice_get columns (lead (λ column. nat_lt column.0 page) columns)) ≡ Some page → ⊥)
       → AllByRecursion (λ other. page < other.0) (drop (lead (λ column. nat_lt column.0 page) columns) columns)
   columns_missing [] a none = tt
   columns_missing (column ∷ columns) a none = missing_at column columns a.0 (nat_lt column.0 page) refl (columns_missing columns a.1) none
 
-  -- where it has one, it stands there
+  -- if it has one, it is there
   pub columns_there : (columns : List (ℕ × List (Option V))) (i : ℕ) → option_map (λ column. column.0) (slice_get columns i) ≡ Some page
       → (column : List (Option V)) × (columns ≡ take i columns ++ (page, column) ∷ drop (suc i) columns)
   columns_there [] i e = absurd cc
   columns_there (column ∷ columns) zero e = (column.1, let same : column.0 ≡ page = cc in ap (λ page. (page, column.1) ∷ columns) same)
   columns_there (column ∷ columns) (suc i) e = let rest = columns_there columns i e in (rest.0, ap (λ columns. column ∷ columns) rest.1)
 
-  -- a column put in keeps the order
+  -- inserting a column keeps the order
   pub columns_put : (columns : List (Option V)) (front back : List (ℕ × List (Option V))) → AllByRecursion (λ other. other.0 < page) front → AllByRecursion (λ other. page < other.0) back
       → AreAscending (front ++ back) → AreAscending (front ++ (page, columns) ∷ back)
   columns_put columns [] back a b asc = (b, asc)
@@ -74,7 +74,7 @@ module _ {V : Type 0} (page : ℕ) where
       let next = λ (other : ℕ × List (Option V)). first.0 < other.0 in
       (all_append next front ((page, columns) ∷ back) (all_front next front back asc.0) (a.0, all_back next front back asc.0), columns_put columns front back a.1 b asc.1)
 
-  -- and so does one that takes another's place
+  -- and so does replacing one
   pub columns_changed : (old new : List (Option V)) (front back : List (ℕ × List (Option V))) → AreAscending (front ++ (page, old) ∷ back) → AreAscending (front ++ (page, new) ∷ back)
   columns_changed old new [] back asc = asc
   columns_changed old new (first ∷ front) back asc =

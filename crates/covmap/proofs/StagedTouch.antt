@@ -1,4 +1,4 @@
--- A page that gets a column: where it stands, and that nothing else is staged by that.
+-- A page gets a column: where the column is, and that nothing else is staged by this.
 use Rattle.std.proofs.Common.{◌≡◌, ℕ, Bool, zero, suc, ◌<◌, true, false, Option, List, [], ◌∷◌, ◌++◌, length, take, drop, map, refl, sym, ap, ◌∙◌, subst, arith, length-take}
 use mathlib.Core.Bool.{false≢true}
 use Rattle.std.specs.Prelude.{Some, None, IsTrue, if◌then◌else◌, option_map, slice_get, nat_lt, nat_eq}
@@ -34,7 +34,7 @@ tells_number a page number e = (λ t. e ∙ ap Some (same_number a page t), λ h
 pub tells_none : (page : ℕ) (number : Option ℕ) → number ≡ None → (IsTrue false → number ≡ Some page) × (number ≡ Some page → IsTrue false)
 tells_none page number e = (λ t. absurd (false≢true t), λ h. absurd cc)
 
--- a column of this number stands after all of smaller ones
+-- a column of this number comes after all columns with smaller numbers
 number_leads_at : {V : Type 0} (column : ℕ × List (Option V)) (columns : List (ℕ × List (Option V))) (page i : ℕ) (less : Bool) → nat_lt column.0 page ≡ less → column.0 < page → i ≡ lead (λ other. nat_lt other.0 page) columns
     → suc i ≡ (if less then suc (lead (λ other. nat_lt other.0 page) columns) else 0)
 number_leads_at column columns page i true e l same = ap suc same
@@ -54,7 +54,7 @@ number_leads (column ∷ columns) page zero ascending e =
 number_leads (column ∷ columns) page (suc i) ascending e =
     number_leads_at column columns page i (nat_lt column.0 page) refl (after_this column.0 columns page i ascending.0 e) (number_leads columns page i ascending.1 e)
 
--- ---- a column put in
+-- ---- a column is inserted
 
 take_drop : {X : Type 0} (xs : List X) (n : ℕ) → take n xs ++ drop n xs ≡ xs
 take_drop xs zero = refl

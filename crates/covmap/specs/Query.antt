@@ -1,4 +1,4 @@
--- What keys are looked up by: how each key stands to it, along the order of the keys.
+-- Queries for keys: how each key compares with the queried one, along the order of the keys.
 use Rattle.std.specs.Prelude.{◌≡◌, false, refl}
 use Rattle.std.proofs.Common.{sym, ap, ◌∙◌}
 use Rattle.std.specs.Cmp.{IsTotalOrder}
@@ -7,7 +7,7 @@ use Rattle.std.specs.declared.cmp.Ordering.TheVariants.{Less, Equal, Greater}
 use Rattle.std.specs.Ordering.{is_lt, is_gt, ordering_reverse}
 use Rattle.std.proofs.lemmas.Cmp.{alike_right}
 
--- order tells of each key how it stands to what is asked for, and goes with the order of the keys
+-- `order` compares each key with the queried one, and agrees with the order of the keys
 pub record IsQuery {K : Type 0} (cmp : K → K → Ordering) (order : K → Ordering) : Type 0 where
   pub before : (x y : K) → cmp x y ≡ Less → is_gt (order y) ≡ false → order x ≡ Less
   pub following : (x y : K) → cmp x y ≡ Less → is_lt (order x) ≡ false → order y ≡ Greater
@@ -24,7 +24,7 @@ after_at t x y z Less e l g = absurd cc
 after_at t x y z Equal e l g = t.antisymm y z ∙ ap ordering_reverse (sym (t.congr x z y e) ∙ l)
 after_at t x y z Greater e l g = t.antisymm y z ∙ ap ordering_reverse (t.trans z x y (t.antisymm z x ∙ ap ordering_reverse e) l)
 
--- a key asks for itself
+-- a key as a query for itself
 pub query_by_order : {K : Type 0} {cmp : K → K → Ordering} → IsTotalOrder cmp → (z : K) → IsQuery cmp (λ key. cmp key z)
 query_by_order {K} {cmp} t z = record {
   before = λ x y l g. before_at t x y z (cmp y z) refl l g;

@@ -1,4 +1,4 @@
--- A run of keys, each with what is added to its value, along the slots of one page.
+-- A run of keys, each with an addend, along the slots of one page.
 use Rattle.std.specs.Prelude.{◌≡◌, ℕ, ◌<◌, ◌≤◌, Option, Some, List, [], ◌∷◌, ◌++◌, length, map, take, slice_get, slice_set}
 use Rattle.std.specs.declared.cmp.Ordering.{Ordering}
 use Rattle.std.specs.declared.cmp.Ordering.TheVariants.{Less, Equal}
@@ -13,20 +13,20 @@ pub record Placed (Q M : Type 0) : Type 0 where
   pub slot : ℕ
   pub item : Q × M
 
--- the key of an item is that of the slot of this number
+-- the slot of this number has the item's key
 abbrev pub IsHere : {K V Q M : Type 0} → (K → K → Ordering) → (Q → K) → List (K × Option V) → ℕ → Q × M → Type 0
 IsHere cmp named page slot item = order_at (λ key. cmp key (named item.0)) (slice_get page slot) ≡ Equal
 
--- the first key of a run is that of the slot of this number
+-- the slot of this number has the first key of the run
 abbrev pub FirstHere : {K V Q M : Type 0} → (K → K → Ordering) → (Q → K) → List (K × Option V) → ℕ → List (Q × M) → Type 0
 FirstHere cmp named page slot [] = Unit {0}
 FirstHere cmp named page slot (item ∷ run) = IsHere cmp named page slot item
 
--- the column with an addend more in a slot
+-- the column after an addend is added in a slot
 abbrev pub value_summed : {V Q M : Type 0} → (M → Option V → V) → ℕ → Q × M → List (Option V) → List (Option V)
 value_summed sum slot item column = slice_set column slot (Some (sum item.1 (value_in (slice_get column slot))))
 
--- the column with the addends of items, each in its slot
+-- the column after the addends of items are added, each in its slot
 abbrev pub column_summed : {V Q M : Type 0} → (M → Option V → V) → List (Placed Q M) → List (Option V) → List (Option V)
 column_summed sum [] column = column
 column_summed sum (here ∷ placed) column = column_summed sum placed (value_summed sum here.slot here.item column)
@@ -39,14 +39,15 @@ FitHere cmp named fits sum page (item ∷ run) column =
 
 -- ---- along a page
 
--- what items tell, each in its slot of a column, in order
+-- what items report, each in its slot of a column, in order
 abbrev pub told_here : {V Q M N : Type 0} → (M → Option V → V) → (M → Option V → V → Option N) → List (Placed Q M) → List (Option V) → List (Q × N)
 told_here sum told [] column = []
 told_here sum told (here ∷ placed) column =
     told_one here.item.0 (told here.item.1 (value_in (slice_get column here.slot)) (sum here.item.1 (value_in (slice_get column here.slot))))
     ++ told_here sum told placed (value_summed sum here.slot here.item column)
 
--- this number of items at the front of a run have slots on a page: their addends are in a column of it, and what they tell is appended
+-- this number of items at the front of a run have slots on a page. Their addends are added to a column of the page, and their
+-- reports are appended
 pub record IsAlong {K V Q M N : Type 0} (cmp : K → K → Ordering) (named : Q → K) (sum : M → Option V → V) (told : M → Option V → V → Option N) (page : List (K × Option V)) (run : List (Q × M)) (count : ℕ)
     (old new : List (Option V)) (before after : List (Q × N)) : Type 0 where
   pub placed : List (Placed Q M)
@@ -57,12 +58,12 @@ pub record IsAlong {K V Q M N : Type 0} (cmp : K → K → Ordering) (named : Q 
 
 -- ---- a page of new slots
 
--- the slots come before the first key of a run
+-- the keys of the slots come before the first key of a run
 abbrev pub AreBefore : {K V Q M : Type 0} → (K → K → Ordering) → (Q → K) → List (K × Option V) → List (Q × M) → Type 0
 AreBefore cmp named slots [] = Unit {0}
 AreBefore cmp named slots (item ∷ run) = AllByRecursion (λ slot. cmp slot.0 (named item.0) ≡ Less) slots
 
--- a page of empty slots, whose first key is that of a run
+-- a page of empty slots, which begins with the first key of a run
 pub record IsNewPage {K V Q M : Type 0} (cmp : K → K → Ordering) (named : Q → K) (run : List (Q × M)) (page : List (K × Option V)) : Type 0 where
   pub ascending : IsAscending cmp page
   pub some : 0 < length page
@@ -70,7 +71,7 @@ pub record IsNewPage {K V Q M : Type 0} (cmp : K → K → Ordering) (named : Q 
   pub none : filled page ≡ []
   pub first : FirstHere cmp named page 0 run
 
--- such a page after all others
+-- the pages with such a page appended
 pub record IsGrown {K V Q M : Type 0} (cmp : K → K → Ordering) (named : Q → K) (run : List (Q × M)) (old new : List (List (K × Option V))) : Type 0 where
   pub page : List (K × Option V)
   pub is_new : IsNewPage cmp named run page

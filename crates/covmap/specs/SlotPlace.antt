@@ -1,4 +1,4 @@
--- A place of the store, as contracts see it.
+-- A place among the slots, as contracts see it.
 use Rattle.covmap.specs.declared.slots.SlotIndex.{SlotIndex}
 use Rattle.covmap.specs.Slots.{At}
 

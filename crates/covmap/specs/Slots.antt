@@ -1,4 +1,4 @@
--- Keys with values, ascending: what stands in the slots, and what a place among their pages is.
+-- Slots of keys with values, ascending and split into pages, and places among them.
 use Rattle.std.specs.Prelude.{◌≡◌, ℕ, zero, suc, ◌≤◌, ◌<◌, nat_lt, Bool, true, false, if◌then◌else◌, Option, Some, None, option_map, List, [], ◌∷◌, ◌++◌, length, take, drop, flat_map, slice_get, slice_index_or, slice_set}
 use Rattle.std.specs.declared.cmp.Ordering.{Ordering}
 use Rattle.std.specs.declared.cmp.Ordering.TheVariants.{Less, Equal, Greater}
@@ -8,21 +8,21 @@ use Rattle.std.specs.Map.{lookup}
 
 -- ---- slots in one list: each key with its value, or with none
 
--- what stands in the slot of the key that is asked for, and nothing where it has no slot
+-- what is in the slot of the queried key; none if it has no slot
 abbrev pub slot_value : {K V : Type 0} → (K → Ordering) → List (K × Option V) → Option (Option V)
 slot_value order slots = lookup (λ key. is_eq (order key)) slots
 
--- the key that is asked for has a slot
+-- the queried key has a slot
 abbrev pub has_slot : {K : Type 0} → (K → Ordering) → List K → Bool
 has_slot order keys = list_any (λ key. is_eq (order key)) keys
 
--- the slots of keys, with values beside the first of them; the others are empty
+-- the slots of keys, with values for the first of them; the others are empty
 abbrev pub beside : {K V : Type 0} → List K → List (Option V) → List (K × Option V)
 beside [] values = []
 beside (key ∷ keys) [] = (key, None) ∷ beside keys []
 beside (key ∷ keys) (value ∷ values) = (key, value) ∷ beside keys values
 
--- a number of empty values
+-- this number of empty values
 abbrev pub empty : {V : Type 0} → ℕ → List (Option V)
 empty zero = []
 empty (suc n) = None ∷ empty n
@@ -38,7 +38,7 @@ filled [] = []
 filled ((key, None) ∷ slots) = filled slots
 filled ((key, Some value) ∷ slots) = (key, value) ∷ filled slots
 
--- ---- slots cut into pages
+-- ---- slots split into pages
 
 -- all slots, in order
 abbrev pub slots_of : {K V : Type 0} → List (List (K × Option V)) → List (K × Option V)
@@ -53,7 +53,7 @@ pub record AreSlots {K V : Type 0} (cmp : K → K → Ordering) (pages : List (L
   pub pages_fit : AllByRecursion IsPage pages
   pub ascending : IsAscending cmp (slots_of pages)
 
--- the page of this number, and an empty one where there is none
+-- the page of this number; an empty one if there is none
 abbrev pub page_at : {K V : Type 0} → List (List (K × Option V)) → ℕ → List (K × Option V)
 page_at pages page = slice_index_or pages page []
 
@@ -65,7 +65,7 @@ At = ℕ × ℕ
 abbrev pub slot_at : {K V : Type 0} → List (List (K × Option V)) → At → Option (K × Option V)
 slot_at pages at = slice_get (page_at pages at.0) at.1
 
--- a value that may be missing in what may be missing
+-- the value, if there is a slot and it has one
 abbrev pub value_in : {V : Type 0} → Option (Option V) → Option V
 value_in None = None
 value_in (Some value) = value
@@ -74,7 +74,7 @@ value_in (Some value) = value
 abbrev pub value_at : {K V : Type 0} → List (List (K × Option V)) → At → Option V
 value_at pages at = value_in (option_map (λ slot. slot.1) (slot_at pages at))
 
--- the place right after that of a slot: the next one of its page, or where the page ends the first of the next page
+-- the place right after that of a slot: the next slot of its page, or the first slot of the next page
 abbrev pub following : {K V : Type 0} → List (List (K × Option V)) → At → At
 following pages at = if nat_lt (suc at.1) (length (page_at pages at.0)) then (at.0, suc at.1) else (suc at.0, 0)
 
@@ -85,24 +85,24 @@ before pages at = slots_of (take at.0 pages) ++ take at.1 (page_at pages at.0)
 abbrev pub from : {K V : Type 0} → List (List (K × Option V)) → At → List (K × Option V)
 from pages at = drop at.1 (page_at pages at.0) ++ slots_of (drop (suc at.0) pages)
 
--- the page of this number cut in two
+-- the pages after the page of this number is split in two
 abbrev pub with_page_split : {K V : Type 0} → ℕ → List (List (K × Option V)) → List (List (K × Option V))
 with_page_split page pages = take page pages ++ take 128 (page_at pages page) ∷ drop 128 (page_at pages page) ∷ drop (suc page) pages
 
--- an empty slot put in at a place
+-- the pages after an empty slot is inserted at a place
 abbrev pub with_empty : {K V : Type 0} → At → K → List (List (K × Option V)) → List (List (K × Option V))
 with_empty at key pages = slice_set pages at.0 (insert (page_at pages at.0) at.1 (key, None))
 
--- how the key of a slot stands to the one that is asked for. Where there is no slot, as a greater key
+-- how the key of a slot compares with the queried key. A missing slot counts as one with a greater key
 abbrev pub order_at : {K V : Type 0} → (K → Ordering) → Option (K × Option V) → Ordering
 order_at order None = Greater
 order_at order (Some slot) = order slot.0
 
--- the place of the key that is asked for
+-- the place of the queried key
 abbrev pub IsPlace : {K V : Type 0} → (K → Ordering) → List (List (K × Option V)) → At → Type 0
 IsPlace order pages at = order_at order (slot_at pages at) ≡ Equal
 
--- the slots before a place come before the key that is asked for, and those from it on don't
+-- the keys before a place come before the queried key, and those from it on don't
 pub record IsCut {K V : Type 0} (order : K → Ordering) (pages : List (List (K × Option V))) (at : At) : Type 0 where
   pub front : AllByRecursion (λ slot. order slot.0 ≡ Less) (before pages at)
   pub back : AllByRecursion (λ slot. is_lt (order slot.0) ≡ false) (from pages at)
@@ -110,7 +110,7 @@ pub record IsCut {K V : Type 0} (order : K → Ordering) (pages : List (List (K 
   pub page_there : at.0 ≤ length pages
   pub on_page : at.1 ≤ length (page_at pages at.0)
 
--- where the key that is asked for would go: the slots before the place are less than it, the others greater
+-- where the queried key would be inserted: the keys before the place are less, the others greater
 pub record IsGap {K V : Type 0} (order : K → Ordering) (pages : List (List (K × Option V))) (at : At) : Type 0 where
   pub front : AllByRecursion (λ slot. order slot.0 ≡ Less) (before pages at)
   pub back : AllByRecursion (λ slot. order slot.0 ≡ Greater) (from pages at)
@@ -119,16 +119,16 @@ pub record IsGap {K V : Type 0} (order : K → Ordering) (pages : List (List (K 
 
 -- ---- searching
 
--- how many things at the front of a list pass a test
+-- how many items at the front of a list pass a test
 abbrev pub lead : {X : Type 0} → (X → Bool) → List X → ℕ
 lead test [] = 0
 lead test (x ∷ xs) = if test x then suc (lead test xs) else 0
 
--- the slot's key comes before what is asked for
+-- the slot's key comes before the queried key
 abbrev pub is_before : {K V : Type 0} → (K → Ordering) → K × Option V → Bool
 is_before order slot = is_lt (order slot.0)
 
--- the last key of the page comes before what is asked for
+-- the last key of the page comes before the queried key
 abbrev pub ends_before : {K V : Type 0} → (K → Ordering) → List (K × Option V) → Bool
 ends_before order [] = true
 ends_before order (slot ∷ []) = is_before order slot

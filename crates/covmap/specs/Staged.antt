@@ -1,4 +1,4 @@
--- What is staged into the slots: the columns of values of some pages, which stand beside the slots.
+-- What is staged in the slots: columns of values for some pages, kept beside the slots.
 use Rattle.std.specs.Prelude.{◌≡◌, ℕ, suc, ◌<◌, eqb, nat_lt, if◌then◌else◌, Option, Some, None, option_map, List, [], ◌∷◌, ◌++◌, length, take, drop, slice_set, map}
 use Rattle.std.specs.List.{AllByRecursion, insert}
 use Rattle.covmap.specs.Slots.{page_at, At}
@@ -32,15 +32,15 @@ abbrev pub staged_from : {K V : Type 0} → ℕ → List (List (K × Option V)) 
 staged_from number [] columns = []
 staged_from number (page ∷ pages) columns = page_staged page (column_at number columns) ∷ staged_from (suc number) pages columns
 
--- the pages with what is staged: what the slots are once it is taken in
+-- the pages with what is staged: what the slots are after a commit
 abbrev pub staged_of : {K V : Type 0} → List (List (K × Option V)) → List (ℕ × List (Option V)) → List (List (K × Option V))
 staged_of pages columns = staged_from 0 pages columns
 
--- this value in the slot at a place
+-- the pages after the slot at a place gets this value
 abbrev pub with_value_at : {K V : Type 0} → At → V → List (List (K × Option V)) → List (List (K × Option V))
 with_value_at at value pages = slice_set pages at.0 (with_column (page_at pages at.0) (slice_set (column_of (page_at pages at.0)) at.1 (Some value)))
 
--- columns with ascending numbers, each of a page that is there and as long as it
+-- columns with ascending page numbers; and below, each of an existing page, with a value for each of its slots
 abbrev pub AreAfter : {V : Type 0} → ℕ → List (ℕ × List (Option V)) → Type 0
 AreAfter number columns = AllByRecursion (λ column. number < column.0) columns
 
@@ -55,7 +55,7 @@ IsColumnOf pages column = (column.0 < length pages) × (length column.1 ≡ leng
 abbrev pub AreColumnsOf : {K V : Type 0} → List (List (K × Option V)) → List (ℕ × List (Option V)) → Type 0
 AreColumnsOf pages columns = AllByRecursion (IsColumnOf pages) columns
 
--- a page has a column at this place among the columns; what is staged is as before
+-- a page has a column at this index, and what is staged is as before
 pub record IsTouched {K V : Type 0} (pages : List (List (K × Option V))) (old new : List (ℕ × List (Option V))) (page index : ℕ) : Type 0 where
   pub front : List (ℕ × List (Option V))
   pub column : List (Option V)
@@ -67,7 +67,7 @@ pub record IsTouched {K V : Type 0} (pages : List (List (K × Option V))) (old n
   pub columns : AreColumnsOf pages new
   pub staged : staged_of pages new ≡ staged_of pages old
 
--- ---- a slot more
+-- ---- one more slot
 
 -- the column that a page has, if any
 abbrev pub own_of : {V : Type 0} → ℕ → Option (List (Option V)) → List (ℕ × List (Option V))
@@ -80,7 +80,7 @@ pub record IsAmong {V : Type 0} (page : ℕ) (columns front : List (ℕ × List 
   pub below : AllByRecursion (λ other. other.0 < page) front
   pub above : AllByRecursion (λ other. page < other.0) back
 
--- the page's column, if any, has an empty value more
+-- the page's column, if any, after an empty value is inserted
 pub record IsWidened {V : Type 0} (page index : ℕ) (old new : List (ℕ × List (Option V))) : Type 0 where
   pub front : List (ℕ × List (Option V))
   pub here : Option (List (Option V))
@@ -88,9 +88,9 @@ pub record IsWidened {V : Type 0} (page index : ℕ) (old new : List (ℕ × Lis
   pub was : IsAmong page old front here back
   pub is : new ≡ front ++ (own_of page (option_map (λ column. insert column index None) here) ++ back)
 
--- ---- a page cut in two
+-- ---- a page split in two
 
--- the number of a page once the page of this number is cut
+-- the number of a page after the page of this number is split
 abbrev pub number_after : ℕ → ℕ → ℕ
 number_after page number = if nat_lt page number then suc number else number
 
@@ -102,7 +102,7 @@ abbrev pub halves_of : {V : Type 0} → ℕ → Option (List (Option V)) → Lis
 halves_of page None = []
 halves_of page (Some column) = (page, take 128 column) ∷ (suc page, drop 128 column) ∷ []
 
--- the columns after the page have the next number, and its own, if any, is cut in two
+-- the columns of later pages have the next number, and the page's own column, if any, is split in two
 pub record IsSplit {V : Type 0} (page : ℕ) (old new : List (ℕ × List (Option V))) : Type 0 where
   pub front : List (ℕ × List (Option V))
   pub here : Option (List (Option V))

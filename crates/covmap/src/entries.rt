@@ -1,10 +1,10 @@
-//! The filled slots in order. The walk takes no memory.
+//! An iterator over the filled slots, in order.
 
 use crate::slots::page::{Page, Rest};
 use std::alloc::Allocator;
 use std::marker::Model;
 
-/// Goes over the filled slots of pages. Contracts see the keys that are left, each with its value.
+/// An iterator over the filled slots of pages. Contracts see the keys that are left, each with its value.
 #[derive(Drop)]
 pub struct Entries<'a, K, V, A: Allocator> {
     pages: &'a [Page<K, V, A>],

@@ -10,7 +10,7 @@ use crate::slots::{SlotIndex, Slots};
 use std::alloc::{AllocError, Allocator};
 use std::marker::Model;
 
-/// A finite map with committed and staged values. Where nothing is staged for a key, its staged value is the committed one.
+/// A finite map with committed and staged values. If nothing is staged for a key, its staged value is the committed one.
 ///
 /// Contracts see two lists of entries, ascending by their keys: the committed ones, and the staged ones, which are what a
 /// commit leaves.
@@ -37,11 +37,11 @@ impl<K: Key, V, A: Allocator> Model for StagedMap<K, V, A> {
 /// What an addend did to the value of a key.
 #[derive(Drop)]
 pub struct Sum<V> {
-    /// The staged value before, none where the key had none.
+    /// The staged value before; none if the key had none.
     pub before: Option<V>,
     /// The staged value with the addend.
     pub after: V,
-    /// Where the key stands.
+    /// The place of the key.
     pub place: SlotIndex,
 }
 
@@ -72,7 +72,7 @@ impl<K: Key, V, A: Allocator> StagedMap<K, V, A> {
         self.slots.entries()
     }
 
-    /// Tells, for a proof alone, that the keys of the committed entries ascend.
+    /// States, for proofs only, that the keys of the committed entries ascend.
     pub fn ascends(&self)
         ensures { ArePairs K.cmp self.now.committed }
     {
@@ -87,7 +87,7 @@ impl<K: Key, V, A: Allocator> StagedMap<K, V, A> {
         entries.next().is_none()
     }
 
-    /// Where the key stands that was looked up last.
+    /// The place of the key that was looked up last.
     pub fn cursor(&self) -> SlotIndex {
         self.cursor
     }
@@ -151,7 +151,7 @@ impl<K: Key, V: Value, A: Allocator> StagedMap<K, V, A> {
         value
     }
 
-    /// Replaces the committed value of a key that has one, or removes it. Rolls back what is staged. Takes no memory.
+    /// Replaces or removes the committed value of a key that has one. Rolls back what is staged. Takes no memory.
     pub fn replace<Q: Query<K, A>>(&mut self, query: Q, value: Option<V>)
         requires { is_some (value_of K.cmp (Q.named query) self.old.committed) ≡ true }
         ensures committed { self.new.committed ≡ assigned K.cmp (Q.named query) value self.old.committed }
@@ -183,7 +183,7 @@ impl<K: Key + Drop, V: Value, A: Allocator + Copy> StagedMap<K, V, A> {
     ///
     /// # Errors
     ///
-    /// `AllocError` where memory was refused. Anything may be staged then, and is best rolled back.
+    /// `AllocError` if memory was refused. Anything may be staged then, so roll it back.
     pub fn stage<Q: Query<K, A>>(&mut self, alloc: A, query: Q, value: V) -> Result<(), AllocError>
         ensures committed { self.new.committed ≡ self.old.committed }
         ensures ok { OnOk result (self.new.staged ≡ put K.cmp (Q.named query) value self.old.staged) }
@@ -194,12 +194,12 @@ impl<K: Key + Drop, V: Value, A: Allocator + Copy> StagedMap<K, V, A> {
         self.staged.put(alloc, &self.slots, place, value)
     }
 
-    /// Stages the sum of a key's staged value and an addend, in one look-up. The look-up costs no search where the guess is
-    /// the place of the key, or the one just before it.
+    /// Stages the sum of a key's staged value and an addend, in one look-up. This costs no search if the guess is the place of
+    /// the key, or the place just before it.
     ///
     /// # Errors
     ///
-    /// `AllocError` where memory was refused. Anything may be staged then, and is best rolled back.
+    /// `AllocError` if memory was refused. Anything may be staged then, so roll it back.
     pub fn stage_sum<Q: Query<K, A>, M: Addend<V>>(
         &mut self,
         alloc: A,

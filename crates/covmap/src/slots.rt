@@ -1,8 +1,8 @@
 //! Slots in the order of their keys, each with a committed value or empty.
 //!
-//! The slots are cut into pages of at most 256, so that a key that is put in moves few others. A page is found by its
-//! last key, and a slot on it, by a binary search; a walk in order costs no search, where each place is the guess for
-//! the next one. What stands above knows the list of all slots and what a place is, and not how the pages are cut.
+//! The slots are split into pages of at most 256, so inserting a key moves only few others. A binary search finds a page by its
+//! last key, and then a slot on it. A walk in order costs no search, if each place is the guess for the next one. Callers know
+//! the list of all slots, and what a place is, but not how the pages are split.
 
 ghost use Rattle.std.specs.Prelude.{◌≡◌, ◌+◌, ◌^◌, ◌<◌, None, [], ◌∷◌, ◌++◌, IfErr, IfNone, IfOk, IfSome, OnErr, OnOk, true, is_some, length, option_map};
 ghost use Rattle.std.specs.declared.cmp.Ordering.TheVariants.{Less};
@@ -27,10 +27,10 @@ use std::marker::Model;
 /// How many slots fit on a page.
 const PAGE_SLOTS: usize = 256;
 
-/// How many slots a full page keeps where it is split.
+/// How many slots a full page keeps when it is split.
 const HALF: usize = 128;
 
-/// Where a key stands: the number of a page, and of a slot on it.
+/// The place of a key: the number of its page, and of its slot there.
 #[derive(Clone, Copy)]
 pub struct SlotIndex {
     page: usize,
@@ -72,7 +72,7 @@ impl<K: Key, V, A: Allocator> Slots<K, V, A> {
         }
     }
 
-    /// The first page that doesn't end before what is asked for.
+    /// The number of the first page whose last key doesn't come before the queried key.
     fn page_of<Q: Query<K, A>>(&self, query: Q) -> usize
         ensures { result ≡ lead (ends_before (λ key. K.cmp key (Q.named query))) self.now }
     {
@@ -91,7 +91,7 @@ impl<K: Key, V, A: Allocator> Slots<K, V, A> {
 }
 
 impl<K: Key, V, A: Allocator> Slots<K, V, A> {
-    /// Where what is asked for would stand: what is before the place comes before it, and nothing from the place on.
+    /// The place where the queried key would be: the keys before the place come before it, and those from the place on don't.
     fn cut<Q: Query<K, A>>(&self, query: Q) -> SlotIndex
         ensures cut { IsCut (λ key. K.cmp key (Q.named query)) self.now (at result) }
         ensures whole { AreSlots K.cmp self.now }
@@ -104,8 +104,8 @@ impl<K: Key, V, A: Allocator> Slots<K, V, A> {
         SlotIndex { page, index }
     }
 
-    /// Where what is asked for stands, or would go. Costs no search where that is the guess or the slot after it, or where it
-    /// would go to the guess.
+    /// The place of the queried key; as an error, the place where it would be inserted. Costs no search if the key is at the
+    /// guess or right after it, or would be inserted there.
     pub(crate) fn find<Q: Query<K, A>>(
         &self,
         query: Q,
@@ -122,7 +122,7 @@ impl<K: Key, V, A: Allocator> Slots<K, V, A> {
         }
     }
 
-    /// The same as `find`. Costs no search where it would go right after the slot before the guess.
+    /// The same as `find`. Costs no search if the key is, or would be inserted, right after the slot before the guess.
     fn find_before<Q: Query<K, A>>(
         &self,
         query: Q,
@@ -143,7 +143,7 @@ impl<K: Key, V, A: Allocator> Slots<K, V, A> {
         self.search(query)
     }
 
-    /// The same as `find`, where the slot at a place comes before what is asked for.
+    /// The same as `find`, if the key at a place comes before the queried key.
     fn find_after<Q: Query<K, A>>(&self, query: Q, place: SlotIndex) -> Result<SlotIndex, SlotIndex>
         requires { order_at (λ key. K.cmp key (Q.named query)) (slot_at self.now (at place)) ≡ Less }
         ensures found { IfOk result (λ place. IsPlace (λ key. K.cmp key (Q.named query)) self.now (at place)) }
@@ -169,7 +169,7 @@ impl<K: Key, V, A: Allocator> Slots<K, V, A> {
         Err(place)
     }
 
-    /// How the key of the slot at a place stands to what is asked for. Where there is no slot, all keys come before it.
+    /// Compares the key at a place with the queried key. If there is no slot, the result is `Greater`.
     fn compare_at<Q: Query<K, A>>(&self, place: SlotIndex, query: Q) -> Ordering
         ensures order { result ≡ order_at (λ key. K.cmp key (Q.named query)) (slot_at self.now (at place)) }
         ensures whole { AreSlots K.cmp self.now }
@@ -180,7 +180,7 @@ impl<K: Key, V, A: Allocator> Slots<K, V, A> {
         }
     }
 
-    /// The place right after that of a slot: the next one of its page, or the first one of the next page.
+    /// The place right after that of a slot: the next slot of its page, or the first slot of the next page.
     fn following(&self, place: SlotIndex) -> SlotIndex
         requires { place.index < length (page_at self.now place.page) }
         ensures next { at result ≡ following self.now (at place) }
@@ -211,7 +211,7 @@ impl<K: Key, V, A: Allocator> Slots<K, V, A> {
         }
     }
 
-    /// Tells, for a proof alone, that the slots are whole: no page is empty, and all keys ascend.
+    /// States, for proofs only, that no page is empty, and that all keys ascend.
     pub(crate) fn are_whole(&self)
         ensures { AreSlots K.cmp self.now }
     {
@@ -225,7 +225,7 @@ impl<K: Key, V, A: Allocator> Slots<K, V, A> {
         self.pages.len()
     }
 
-    /// How many slots the page of this number has: none where there is no such page.
+    /// How many slots the page of this number has: 0 if there is no such page.
     pub(crate) fn len_of(&self, number: usize) -> usize
         ensures long { result ≡ length (page_at self.now number) }
         ensures whole { AreSlots K.cmp self.now }
@@ -237,7 +237,7 @@ impl<K: Key, V, A: Allocator> Slots<K, V, A> {
         }
     }
 
-    /// The page of this number, where there is one.
+    /// The page of this number, if there is one.
     fn page(&self, number: usize) -> Option<&Page<K, V, A>>
         ensures some { IfSome result (λ page. page_at self.now number ≡ page.now) }
         ensures none { IfNone result (page_at self.now number ≡ []) }
@@ -279,7 +279,7 @@ impl<K: Key, V: Value, A: Allocator> Slots<K, V, A> {
         }
     }
 
-    /// Takes these values in place of those of a page.
+    /// Replaces the values of a page by these.
     pub(crate) fn fill(&mut self, number: usize, column: Vec<Option<V>, A>)
         requires there { number < length self.old }
         requires fits { length column.items ≡ length (page_at self.old number) }
@@ -288,7 +288,7 @@ impl<K: Key, V: Value, A: Allocator> Slots<K, V, A> {
         self.pages[number].fill(column);
     }
 
-    /// Writes a value, or none, into the slot at a place, which has one.
+    /// Replaces the value in the slot at a place, which has one, by this value or by none.
     pub(crate) fn write(&mut self, place: SlotIndex, value: Option<V>)
         requires page { place.page < length self.old }
         requires slot { is_some (value_at self.old (at place)) ≡ true }
@@ -299,7 +299,7 @@ impl<K: Key, V: Value, A: Allocator> Slots<K, V, A> {
 }
 
 impl<K: Key + Drop, V: Value, A: Allocator + Copy> Slots<K, V, A> {
-    /// Puts an empty slot on a page that has room for it.
+    /// Inserts an empty slot on a page that has room for it.
     fn insert(&mut self, place: SlotIndex, key: K) -> Result<(), AllocError>
         requires there { place.page < length self.old }
         requires room { length (page_at self.old place.page) < 256 }
@@ -336,7 +336,7 @@ impl<K: Key + Drop, V: Value, A: Allocator + Copy> Slots<K, V, A> {
     }
 }
 
-/// Appends an item. The first one reserves room for itself alone, as most lists of pages have one.
+/// Appends an item. The first item reserves room for itself only, since most lists of pages have one item.
 fn push<T: Drop, A: Allocator>(list: &mut Vec<T, A>, item: T) -> Result<(), AllocError>
     ensures ok { OnOk result (list.new.items ≡ list.old.items ++ item ∷ []) }
     ensures err { OnErr result (list.new.items ≡ list.old.items) }

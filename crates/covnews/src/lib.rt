@@ -37,7 +37,7 @@
 #![tactic(auto)]
 
 mod fault;
-mod history;
+mod ghost_history;
 pub mod laws;
 mod live;
 mod name;

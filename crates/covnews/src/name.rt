@@ -1,6 +1,6 @@
 //! How a shared book is named, and what its noted history begins with.
 
-use crate::history::{Legality, Length, SeenHistory};
+use crate::ghost_history::{Legality, Length, SeenHistory};
 use crate::noted::NotedEntry;
 use logbook::{Seen, Start, Word};
 use std::marker::{Brand, Model};

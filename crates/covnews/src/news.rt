@@ -1,6 +1,6 @@
 //! News of a noted history.
 
-use crate::history::{Append, Length, NoGain, SeenHistory};
+use crate::ghost_history::{Append, Length, NoGain, SeenHistory};
 use crate::name::Name;
 use crate::noted::NotedEntry;
 use crate::snapshot::Snapshot;

@@ -1,7 +1,7 @@
 //! The publisher of a history.
 
 use crate::fault::ReaderFault;
-use crate::history::Length;
+use crate::ghost_history::Length;
 use crate::live::Live;
 use crate::name::{HistorySeed, Name};
 use crate::news::News;

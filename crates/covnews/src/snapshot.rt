@@ -2,7 +2,7 @@
 ghost use Rattle.std.specs.Prelude.{◌≡◌};
 ghost use Rattle.covnews.specs.Snapshot.{Describes};
 
-use crate::history::SeenHistory;
+use crate::ghost_history::SeenHistory;
 use crate::name::Name;
 use covstore::Totals;
 use crossbeam_utils::rule::{Outcome, Protocol};

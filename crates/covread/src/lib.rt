@@ -4,12 +4,15 @@
 //! manual's chapter on gcov). It is read forward once. Items are copied out of it, so the text can be freed once it is
 //! read.
 //!
-//! A sketch: how many items a tracefile has, and why another isn't read.
+//! An example, proved and run in `covuses`: a text of either format. gcov's text is read as a tracefile without items.
 //!
 //! ```text
-//! match read_trace(alloc, text) {
-//!     Ok(submission) => println!(rt; "{} items, {} odd lines", submission.items(), submission.odd())?,
-//!     Err(fault) => println!(rt; "refused: {fault}")?,
+//! pub fn read_either(alloc: Global, test: &[u8], text: &[u8]) -> Result<Submission, ReadFault> {
+//!     let submission = read_trace(alloc, text)?;
+//!     if submission.items() > 0 {
+//!         return Ok(submission);
+//!     }
+//!     read_gcov(alloc, test, text)
 //! }
 //! ```
 #![tactic(auto)]

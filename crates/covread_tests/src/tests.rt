@@ -5,11 +5,11 @@ use std::process::Abort;
 use std::test::*;
 
 mod annotated;
-mod calls;
 mod checks;
 mod hostile;
 mod limits;
 mod records;
+mod wrappers;
 
 /// Checks that the bytes are as wanted. The tests compare here, since each comparison in a test's own body is proved
 /// there.

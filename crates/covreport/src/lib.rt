@@ -1,13 +1,16 @@
 //! Prints what a store holds: the merged tracefile (geninfo(1), FILES), of all files or of those that patterns choose
 //! (lcov(1), `--extract` and `--remove`), and the summary of totals (lcov(1), `--summary`).
 //!
-//! A sketch of its use, where `store` is a `covstore::Store` with the allocator `alloc`:
+//! An example, proved and run in `covuses`: the merged tracefile of the files that match a pattern, and the summary of all files.
 //!
 //! ```text
-//! let mut patterns = Patterns::new(alloc);
-//! patterns.add(alloc, b"/src/*.c")?;
-//! let tracefile = trace_text(alloc, &store, &Choice::Extract(patterns))?;
-//! let summary = summary_text(alloc, &store.totals())?;
+//! pub fn reports(alloc: Global, store: &Store, pattern: &[u8]) -> Result<(Bytes, Bytes), PatternFault> {
+//!     let mut patterns = Patterns::new(alloc);
+//!     patterns.add(alloc, pattern)?;
+//!     let tracefile = trace_text(alloc, store, &Choice::Extract(patterns))?;
+//!     let summary = summary_text(alloc, &store.totals())?;
+//!     Ok((tracefile, summary))
+//! }
 //! ```
 #![tactic(auto)]
 

@@ -1,13 +1,13 @@
--- Files that are looked at one after another: what was told of the first of them, and of one more.
+-- Files that are checked one after another: what was reported for the first ones, and for one more.
 use Rattle.std.proofs.Common.{◌≡◌, inl, inr, ℕ, suc, ◌+◌, ◌<◌, ◌≤◌, Bool, true, false, ◌||◌, if◌then◌else◌, List, [], ◌∷◌, ◌++◌, length, get_or, take, drop, map, Option, Result, Ok, Err, refl, sym, ap, ◌∙◌, subst, arith, length-append}
 use Rattle.std.proofs.KnownBytes.{Appends-trans}
 use Rattle.std.proofs.lemmas.List.{take_more, map-append, take-append-drop, drop_more, flat_map_more}
 use Rattle.std.proofs.lemmas.List.Folds.{list_any-append}
 use Rattle.std.specs.Io.KnownBytes.{Appends}
 use Rattle.std.specs.List.{flat_map, list_any, zip}
-use Rattle.covcheck.specs.Holding.{Tells}
+use Rattle.covcheck.specs.TextSummary.{Tells}
 use Rattle.covcheck.specs.Skipped.{IsSkippedGcov, IsSkippedRecord}
-use Rattle.covcheck.specs.declared.holding.Holding.{Holding}
+use Rattle.covcheck.specs.declared.text_summary.TextSummary.{TextSummary}
 use Rattle.covcommand.specs.declared.asked.TextFormat.{TextFormat}
 use Rattle.covcommand.specs.declared.asked.TextFormat.TheVariants.{Tracefile, Gcov}
 use Rattle.covline.specs.Row.{SubmissionData}
@@ -29,34 +29,34 @@ use Rattle.covrun.specs.declared.verdict.Verdict.{Verdict}
 use Rattle.covrun.specs.declared.verdict.Verdict.TheVariants as verdicts
 use Rattle.covrun.proofs.Places.{pairs_front, pairs_more, zip_front, zip_next}
 
--- ---- what a text is answered
+-- ---- the result of checking a text
 
 abbrev fault_of : Result SubmissionData ReadFault → ReadFault
 fault_of (Ok submission) = reads.Memory
 fault_of (Err fault) = fault
 
--- where memory ran out for the reader, it is told so
-memory_told : (is_skipped : List ℕ → Type 0) (text : List ℕ) (read : Result SubmissionData ReadFault) (answer : Result Holding ReadFault)
+-- if memory ran out for the reader, the result says so
+memory_told : (is_skipped : List ℕ → Type 0) (text : List ℕ) (read : Result SubmissionData ReadFault) (answer : Result TextSummary ReadFault)
     → read ≡ Err reads.Memory → Tells is_skipped text read answer → answer ≡ Err reads.Memory
 memory_told is_skipped text (Ok submission) answer is tells = absurd cc
-memory_told is_skipped text (Err fault) (Ok holding) is tells = absurd tells
+memory_told is_skipped text (Err fault) (Ok summary) is tells = absurd tells
 memory_told is_skipped text (Err fault) (Err told) is tells = ap Err (tells ∙ ap fault_of is)
 
-pub trace_answered : (text : List ℕ) (answer : Result Holding ReadFault)
+pub trace_answered : (text : List ℕ) (answer : Result TextSummary ReadFault)
     → (read : Result SubmissionData ReadFault) × trace.Answers text read × trace.GrowsLate text read × Tells IsSkippedRecord text read answer
     → AnswersText Tracefile text answer
 trace_answered text answer (read, inl (short, is), late, tells) = inl (memory_told IsSkippedRecord text read answer is tells)
 trace_answered text answer (read, inr outcome, late, tells) = inr (read, outcome, tells)
 
-pub gcov_answered : (text : List ℕ) (answer : Result Holding ReadFault)
+pub gcov_answered : (text : List ℕ) (answer : Result TextSummary ReadFault)
     → (read : Result SubmissionData ReadFault) × gcov.Answers [] text read × gcov.GrowsLate text read × Tells IsSkippedGcov text read answer
     → AnswersText Gcov text answer
 gcov_answered text answer (read, inl (short, good, is), late, tells) = inl (memory_told IsSkippedGcov text read answer is tells)
 gcov_answered text answer (read, inr outcome, late, tells) = inr (read, outcome, tells)
 
--- ---- files beside their outcomes
+-- ---- files and their outcomes
 
--- what is told of each file, and of the next
+-- what is reported for each file, and for the next one
 each_next : (told : List ℕ → OutcomeData → List ℕ) (files rest : List (List ℕ)) (outcomes : List OutcomeData) (file : List ℕ) (outcome : OutcomeData)
     → length outcomes ≡ length files
     → flat_map (λ (f : List ℕ × OutcomeData). told f.0 f.1) (zip files outcomes) ++ told file outcome
@@ -65,21 +65,21 @@ each_next told files rest outcomes file outcome same =
     flat_map_more (λ (f : List ℕ × OutcomeData). told f.0 f.1) [] (zip files outcomes) (file, outcome)
     ∙ ap (flat_map (λ (f : List ℕ × OutcomeData). told f.0 f.1)) (sym (zip_next files rest outcomes file outcome same))
 
--- what can become of a file
+-- the outcome is possible for the file
 abbrev becomes : FolderData → TextFormat → List ℕ × OutcomeData → Type 0
 becomes folder format f = IsOutcome folder format f.0 f.1
 
--- a file of this text is told of
+-- a file with this text is reported
 pub told_text : (folder : FolderData) (format : TextFormat) (file text : List ℕ) → length text ≤ suc max_bytes → IsTextOf (folder.holds file) text
     → (answer : Result Verdict SessionFault) (b d : SinksData) → TellsText format file text answer b d → TellsOne folder format file answer b d
 told_text folder format file text short fits answer b d (inl ran_out) = inl ran_out
 told_text folder format file text short fits answer b d (inr (Unread, none, told)) = absurd none
 told_text folder format file text short fits answer b d (inr (Refused fault, is, told)) = inr (Refused fault, (text, short, fits, is), told)
-told_text folder format file text short fits answer b d (inr (Held holding, is, told)) = inr (Held holding, (text, short, fits, is), told)
+told_text folder format file text short fits answer b d (inr (Held summary, is, told)) = inr (Held summary, (text, short, fits, is), told)
 
--- ---- the worst
+-- ---- the worst verdict
 
--- which verdict it is, by what became of some file
+-- the verdict, by whether some file is unread, refused or empty
 abbrev worst : (unread refused empty : Bool) → Verdict
 worst unread refused empty =
     if unread then verdicts.Unreadable else if refused then verdicts.Refused else if empty then verdicts.Empty else verdicts.Fine
@@ -98,7 +98,7 @@ worst_held false false false false = refl
 worst_with : (u r e : Bool) (outcome : OutcomeData)
     → worst (u || (is_unread outcome || false)) (r || (is_refused outcome || false)) (e || (is_empty outcome || false))
     ≡ worse (worst u r e) (verdict_of outcome)
-worst_with u r e (Held holding) = worst_held u r e (has_item holding)
+worst_with u r e (Held summary) = worst_held u r e (has_item summary)
 worst_with true r e Unread = refl
 worst_with false true e Unread = refl
 worst_with false false true Unread = refl
@@ -124,7 +124,7 @@ says_next n m words more a b d (complained, grew, few) (complained', grew', few'
   omega (arith, few, few'),
 )
 
--- where the output is the same, a file's line ends within it as it did
+-- if the output is the same, it ends within the same line
 within_next : (files : List (List ℕ)) (outcomes : List OutcomeData) (a b d : SinksData) → d.output ≡ b.output → EndsWithin files outcomes a b → EndsWithin files outcomes a d
 within_next files outcomes a b d same within = record {
   earlier = within.earlier;
@@ -140,7 +140,7 @@ within_next files outcomes a b d same within = record {
   part = subst (λ (o : Option (List ℕ)). HasBegun within.between o (outcome_line within.file within.last)) (sym same) within.part;
 }
 
--- ---- one file more
+-- ---- one more file
 
 told_next : (folder : FolderData) (format : TextFormat) (files : List (List ℕ)) (file : List ℕ) (so_far verdict : Verdict) (a b d : SinksData)
     → TellsEach folder format files (Ok so_far) a b → TellsOne folder format file (Ok verdict) b d
@@ -162,7 +162,7 @@ told_next folder format files file so_far verdict a b d (outcomes, all, (same, i
       ),
     )
 
--- memory ran out before the next file was told of
+-- memory ran out before the next file was reported
 told_without_room : (folder : FolderData) (format : TextFormat) (files rest : List (List ℕ)) (file : List ℕ) (so_far : Verdict) (a b d : SinksData)
     → TellsEach folder format files (Ok so_far) a b → d ≡ b → TellsEach folder format (files ++ file ∷ rest) (Err faults.Memory) a d
 told_without_room folder format files rest file so_far a b d (outcomes, all, (same, is, lines, good, says)) unchanged =
@@ -178,7 +178,7 @@ told_without_room folder format files rest file so_far a b d (outcomes, all, (sa
       ),
     )
 
--- the next file is the last that is looked at
+-- the next file is the last that is checked
 told_until : (folder : FolderData) (format : TextFormat) (files rest : List (List ℕ)) (file : List ℕ) (so_far : Verdict) (fault : SessionFault) (a b d : SinksData)
     → TellsEach folder format files (Ok so_far) a b → TellsOne folder format file (Err fault) b d
     → TellsEach folder format (files ++ file ∷ rest) (Err fault) a d
@@ -218,7 +218,7 @@ told_until folder format files rest file so_far faults.Full a b d before (inr (o
 
 -- ---- in a slice of names
 
--- the next file is told of
+-- the next file is reported
 pub told_more : {X : Type 0} (folder : FolderData) (name : X → List ℕ) (format : TextFormat) (files : List X) (i : ℕ) (default : X) → i < length files
     → (file : List ℕ) → file ≡ name (get_or files i default) → (so_far verdict after : Verdict) → after ≡ worse so_far verdict → (a b d : SinksData)
     → TellsEach folder format (map name (take i files)) (Ok so_far) a b → TellsOne folder format file (Ok verdict) b d
@@ -231,7 +231,7 @@ told_more folder name format files i default within file is so_far verdict after
     (subst (λ (v : Verdict). TellsEach folder format (map name (take i files) ++ file ∷ []) (Ok v) a d) (sym worse_is)
     (told_next folder format (map name (take i files)) file so_far verdict a b d before next))
 
--- the next file is told of, and none after it
+-- the next file is reported, and no later one
 pub told_last : {X : Type 0} (folder : FolderData) (name : X → List ℕ) (format : TextFormat) (files : List X) (i : ℕ) (default : X) → i < length files
     → (file : List ℕ) → file ≡ name (get_or files i default) → (so_far : Verdict) (fault : SessionFault) (a b d : SinksData)
     → TellsEach folder format (map name (take i files)) (Ok so_far) a b → TellsOne folder format file (Err fault) b d
@@ -247,14 +247,14 @@ told_last {X} folder name format files i default within file is so_far fault a b
 
 -- ---- the end
 
--- the last words
+-- the last words to the stream for faults
 pub says_last : (words front spoken : List ℕ) (b d : SinksData) → front ++ spoken ≡ words
     → (d.failed_faults ≡ b.failed_faults → Appends b.faults d.faults (front ++ spoken)) → b.failed_faults ≤ d.failed_faults
     → d.failed_faults ≤ suc b.failed_faults → Says 1 words b d
 says_last words front spoken b d is complained grew few =
     (λ good. subst (Appends b.faults d.faults) is (complained good), grew, omega (arith, few))
 
--- a fault ended it, and was told
+-- a fault ended the check, and was reported
 pub check_ended : (folder : FolderData) (format : TextFormat) (files : List (List ℕ)) (fault : SessionFault) (status : ℕ) (a b d : SinksData)
     → TellsEach folder format files (Err fault) a b → status ≡ fault_status fault → d.output ≡ b.output → d.failed_output ≡ b.failed_output
     → Says 1 (said (words_of_fault fault)) b d → IsCheck folder format files status a d

@@ -1,4 +1,4 @@
--- How a call with work ends, from what its steps answer.
+-- How a call that collects files ends, from the results of its steps.
 use Rattle.std.proofs.Common.{◌≡◌, inl, inr, ℕ, List, ◌++◌, Option, Ok, Err, map, codes, refl, sym, subst, ap, ◌∙◌}
 use Rattle.std.specs.Io.KnownBytes.{Appends}
 use Rattle.covsession.specs.Session.{said}
@@ -22,7 +22,7 @@ use Rattle.covrun.specs.Ending.{EndingData, Unreadable, of_collect, of_collected
 use Rattle.covrun.specs.Work.{WorkData, TaskData, Collects, Checks, input_of}
 use Rattle.covcommand.specs.declared.asked.TextFormat.{TextFormat}
 
--- its texts were collected
+-- the texts were collected
 pub ends_collected : (folder : FolderData) (work : WorkData) (files : List (List ℕ)) → files ≡ work.files → (inputs slice : List InputData) → slice ≡ inputs → (entries : List EntryData) (logs : List LogData) (refused : List RefusedInput) (ending : EndingData)
     → (texts : List (List ℕ)) × AreTexts folder files texts × (inputs ≡ map (input_of work.test) texts)
     → IsCollected slice work.jobs work.last entries logs refused → ending ≡ of_collected files entries refused → WorkEnds folder work ending
@@ -35,14 +35,14 @@ ends_collected folder work files named inputs slice same entries logs refused en
       is ∙ ap (λ (fs : List (List ℕ)). of_collected fs entries refused) named,
     ))
 
--- they weren't
+-- the texts weren't collected
 pub ends_uncollected : (folder : FolderData) (work : WorkData) (files : List (List ℕ)) → files ≡ work.files → (inputs : List InputData) (fault : CollectFault) (ending : EndingData)
     → (texts : List (List ℕ)) × AreTexts folder files texts × (inputs ≡ map (input_of work.test) texts)
     → (fault ≡ collects.BadJobs → AreJobs work.jobs → ⊥) → ending ≡ of_collect fault → WorkEnds folder work ending
 ends_uncollected folder work files named inputs fault ending (texts, are, from) bad is =
     inr (inr (texts, Err fault, subst (λ (fs : List (List ℕ)). AreTexts folder fs texts) named are, bad, is))
 
--- work that ended is told
+-- the ending of the work is reported
 pub told_work : (folder : FolderData) (work : WorkData) (task : TaskData) (ending : EndingData) (status : ℕ) (before after : SourceData) (old new : SinksData)
     → after ≡ before → Collects work ≡ task → WorkEnds folder work ending → IsTold ending status old new → TaskTold folder task status before after old new
 told_work folder work task ending status before after old new unread is ends told =
@@ -55,17 +55,17 @@ told_check folder format files named task status before after old new unread sam
     subst (λ (t : TaskData). TaskTold folder t status before after old new) is
     (unread, subst (λ (fs : List (List ℕ)). IsCheck folder format fs status old new) same checked)
 
--- words that give no command
+-- the words form no command
 pub told_line : (fault : CommandFault) (ending : EndingData) → ending ≡ of_line fault → (status : ℕ) (old new : SinksData) → IsTold ending status old new
     → IsTold (of_line fault) status old new
 told_line fault ending is status old new told = subst (λ (e : EndingData). IsTold e status old new) is told
 
--- work that isn't begun
+-- the work doesn't begin
 pub stops_early : (command : Command) (fault : WorkFault) (ending : EndingData) → ending ≡ of_work fault → IsRefusal command fault → StopsEarly command ending
 stops_early command (Words fault) ending is refused = inr (fault, is, refused)
 stops_early command Memory ending is refused = inl is
 
--- a file that can't be read
+-- a file can't be read
 pub told_unreadable : (asked : EndingData) (name : List ℕ) → asked ≡ Unreadable name → (status : ℕ) → status ≡ 1
     → (output : Option (List ℕ)) (failed_output : ℕ) (before after : Option (List ℕ)) (fails fails_after : ℕ) (words : List ℕ)
     → words ≡ name ++ said (codes ": can't read") → (fails_after ≡ fails → Appends before after words)

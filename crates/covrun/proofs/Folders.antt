@@ -6,7 +6,7 @@ use Rattle.std.specs.Io.KnownBytes.{Keeps}
 use Rattle.covrun.specs.Files.{HasReadAtMost}
 use Rattle.covrun.specs.Folder.{IsTextAtMost}
 
--- what was read of an open file is the text of what the folder holds
+-- what was read of an open file is the text of the bytes that the folder holds
 pub text_at_most : (most : ℕ) (held left left_after : Option (List ℕ)) (text : List ℕ) → Keeps held left → HasReadAtMost most left left_after text
     → length text ≤ most → IsTextAtMost most held text
 text_at_most most None left left_after text same read few = tt

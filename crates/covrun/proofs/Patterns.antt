@@ -1,4 +1,4 @@
--- Which words a list of patterns doesn't take.
+-- Which words a list of patterns refuses.
 use Rattle.std.proofs.Common.{◌≡◌, ℕ, zero, suc, ◌<◌, ◌≤◌, List, [], ◌∷◌, length, get_or, take, map, Result, Err, refl, ap, sym, ◌∙◌, subst, arith}
 use Rattle.std.proofs.lemmas.List.{length-map, length-take-le}
 use Rattle.std.specs.List.{AllByRecursion}
@@ -14,7 +14,7 @@ map_take f zero (x ∷ xs) = refl
 map_take f (suc i) [] = refl
 map_take {X} {Y} f (suc i) (x ∷ xs) = ap (λ (ys : List Y). f x ∷ ys) (map_take f i xs)
 
--- where the first so many are short, each of them is
+-- if the first `most` words are short, each of them is
 short_at : {X : Type 0} (name : X → List ℕ) (words : List X) (most i : ℕ) (default : X) → i < most → i < length words
     → AllByRecursion IsShort (take most (map name words)) → IsShort (name (get_or words i default))
 short_at name [] most i default few within all = absurd (omega (arith, within))

@@ -1,4 +1,4 @@
--- Two lists beside each other, by their places.
+-- Two lists side by side, by index.
 use Rattle.std.proofs.Common.{◌≡◌, List, [], ◌∷◌, ◌++◌, length, refl, sym, ap, subst, arith}
 use Rattle.std.specs.List.{AllByRecursion, zip}
 
@@ -6,7 +6,7 @@ zip_none : {K V : Type 0} (ks : List K) → zip {K = K} {X = V} ks [] ≡ []
 zip_none [] = refl
 zip_none (k ∷ ks) = refl
 
--- the next one has one beside it, and those after it have none
+-- one more pair: the next key and a value, while later keys have none
 pub zip_next : {K V : Type 0} (ks rest : List K) (vs : List V) (k : K) (v : V) → length vs ≡ length ks
     → zip (ks ++ k ∷ rest) (vs ++ v ∷ []) ≡ zip ks vs ++ (k, v) ∷ []
 zip_next {K} {V} [] rest [] k v same = ap (λ (ps : List (K × V)). (k, v) ∷ ps) (zip_none rest)
@@ -15,7 +15,7 @@ zip_next (j ∷ ks) rest [] k v same = absurd (omega (arith, same))
 zip_next {K} {V} (j ∷ ks) rest (w ∷ vs) k v same =
     ap (λ (ps : List (K × V)). (j, w) ∷ ps) (zip_next ks rest vs k v (omega (arith, same)))
 
--- those that have none beside them don't matter
+-- keys without a value don't matter
 pub zip_front : {K V : Type 0} (ks rest : List K) (vs : List V) → length vs ≡ length ks → zip (ks ++ rest) vs ≡ zip ks vs
 zip_front [] rest [] same = zip_none rest
 zip_front [] rest (w ∷ vs) same = absurd (omega (arith, same))
@@ -32,7 +32,7 @@ pub pairs_more : {K V : Type 0} (P : K × V → Type 0) (ks rest : List K) (vs :
     → AllByRecursion P (zip ks vs) → P (k, v) → AllByRecursion P (zip (ks ++ k ∷ rest) (vs ++ v ∷ []))
 pairs_more P ks rest vs k v same all fits = subst (AllByRecursion P) (sym (zip_next ks rest vs k v same)) (all_more P (zip ks vs) (k, v) all fits)
 
--- as many pairs, before others
+-- the same pairs, although more keys follow
 pub pairs_front : {K V : Type 0} (P : K × V → Type 0) (ks rest : List K) (vs : List V) → length vs ≡ length ks
     → AllByRecursion P (zip ks vs) → AllByRecursion P (zip (ks ++ rest) vs)
 pairs_front P ks rest vs same all = subst (AllByRecursion P) (sym (zip_front ks rest vs same)) all

@@ -10,7 +10,7 @@ use Rattle.covrun.specs.declared.files.FileFault.{FileFault}
 use Rattle.covrun.specs.declared.files.FileFault.TheVariants.{Unreadable, Memory}
 use Rattle.covrun.proofs.Places.{all_more, pairs_more}
 
--- one file more is read
+-- one more file is read
 pub texts_more : {X Y : Type 0} (folder : FolderData) (name : X → List ℕ) (seen : Y → InputData) (input : List ℕ → InputData) (files : List X) (i : ℕ) (default : X) → i < length files
     → (file : List ℕ) → file ≡ name (get_or files i default)
     → (inputs after : List Y) (y : Y) (text : List ℕ) → after ≡ inputs ++ y ∷ [] → length text ≤ suc max_bytes → IsTextOf (folder.holds file) text → seen y ≡ input text
@@ -42,7 +42,7 @@ unreadable_at {X} {Y} folder name seen input files i default within inputs found
     = ap (map name) (drop_more files i default within) ∙ ap (λ (x : List ℕ). x ∷ map name (drop (i + 1) files)) (sym is) in
     (map name (take i files), map name (drop (i + 1) files), texts, cut ∙ ap (λ (xs : List (List ℕ)). map name (take i files) ++ xs) rest, are, fails)
 
--- it is told
+-- the file's fault is that of the files
 pub fault_at : (folder : FolderData) (files : List (List ℕ)) (name : List ℕ) (fault : FileFault) → IsUnread folder name fault
     → (folder.MayFail name → IsUnreadable folder files name) → IsFileFault folder files fault
 fault_at folder files name (Unreadable found) (is, fails) unreadable = subst (λ (n : List ℕ). IsUnreadable folder files n) (sym is) (unreadable fails)

@@ -1,4 +1,4 @@
--- What a call of the program does: in which order its tests stand, and what it leaves on its streams.
+-- What one call of the program does: the order in which it looks for faults, and what it writes to its streams.
 use Rattle.std.specs.List.{AllByRecursion}
 use Rattle.std.specs.Prelude.{◌≡◌, ◌⊎◌, ◌≤◌, ℕ, suc, List, [], ◌∷◌, ◌++◌, length, map, Result, Ok, Err, IfOk, IfErr, true}
 use Rattle.std.specs.String.{string_bytes}
@@ -28,35 +28,36 @@ use Rattle.covrun.specs.Check.{IsCheck}
 use Rattle.covrun.specs.Folder.{FolderData, AreTextsOf}
 use Rattle.covrun.specs.Streams.{SourceData, SinksData, Complains, Withholds, Delivers}
 
--- there is a text for each of the files, and none has more than a byte above what a text may have. Where the folder tells what a
--- file holds, its text is that
+-- there is one text for each file. A text has at most one byte more than the limit. If the folder knows a file's bytes, its text
+-- is those bytes, up to that length
 abbrev pub AreTexts : FolderData → List (List ℕ) → List (List ℕ) → Type 0
 AreTexts folder files texts =
     (length texts ≡ length files) × AllByRecursion (λ text. length text ≤ suc max_bytes) texts × AreTextsOf folder files texts
 
--- this is one of the files, and it may fail to be read; those before it have a text each
+-- this file may fail to be read, and each file before it has a text
 abbrev pub IsUnreadable : FolderData → List (List ℕ) → List ℕ → Type 0
 IsUnreadable folder files name =
     (before : List (List ℕ)) × (after : List (List ℕ)) × (texts : List (List ℕ)) × (files ≡ before ++ name ∷ after)
     × AreTexts folder before texts × folder.MayFail name
 
--- what was collected, or why nothing was
+-- what was collected: the entries, the jobs' logs and the refused inputs
 pub record CollectedData : Type 0 where
   pub entries : List EntryData
   pub logs : List LogData
   pub refused : List RefusedInput
 
--- collecting the texts is answered so; there are too few or too many jobs only where there are
+-- the result of collecting the texts. `BadJobs` is returned only if the number of jobs is out of range
 abbrev pub IsAnswer : WorkData → List (List ℕ) → Result CollectedData CollectFault → Type 0
 IsAnswer work texts (Ok c) = IsCollected (map (input_of work.test) texts) work.jobs work.last c.entries c.logs c.refused
 IsAnswer work texts (Err fault) = fault ≡ collects.BadJobs → AreJobs work.jobs → ⊥
 
--- the ending that belongs to an answer
+-- the ending of a call whose collecting had this result
 abbrev pub ending_of : List (List ℕ) → Result CollectedData CollectFault → EndingData
 ending_of files (Ok c) = of_collected files c.entries c.refused
 ending_of files (Err fault) = of_collect fault
 
--- the work ends with a file that can't be read, or as what was collected of the files says; or memory ran out
+-- how a call ends that collects files: memory ran out; or a file can't be read; or all files were read, and the ending is that of
+-- collecting their texts
 abbrev pub WorkEnds : FolderData → WorkData → EndingData → Type 0
 WorkEnds folder work ending =
     (ending ≡ Stopped faults.Memory)
@@ -64,20 +65,20 @@ WorkEnds folder work ending =
     ⊎ ((texts : List (List ℕ)) × (answer : Result CollectedData CollectFault)
     × AreTexts folder work.files texts × IsAnswer work texts answer × (ending ≡ ending_of work.files answer)))
 
--- before work is begun the patterns and the test's name are looked at
+-- how a call ends before its work begins: memory ran out, or a pattern or the test's name is refused
 abbrev pub StopsEarly : Command → EndingData → Type 0
 StopsEarly command ending =
     (ending ≡ Stopped faults.Memory) ⊎ ((fault : WordsFault) × (ending ≡ BadWords fault) × AreRefused command fault)
 
--- how a call ends whose words give no command
+-- how a call ends if its words form no command
 abbrev pub of_line : CommandFault → EndingData
 of_line (line.Help text) = Prints (string_bytes text)
 of_line (line.Version text) = Prints (string_bytes text)
 of_line (line.Line text) = BadLine (string_bytes text)
 of_line line.Memory = Stopped faults.Memory
 
--- a text is delivered, or a write of it failed behind a beginning of it, and that is told; any other ending is told by its status
--- and its words
+-- how an ending is reported. A text is written to the output; if a write of it failed, the output has a beginning of it, and the
+-- failure is reported. For any other ending nothing goes to the output, and the ending's status and words are reported
 abbrev pub IsTold : EndingData → (status : ℕ) → SinksData → SinksData → Type 0
 IsTold (Prints text) status old new =
     ((status ≡ status_of (Prints text)) × Delivers text old new)
@@ -85,7 +86,7 @@ IsTold (Prints text) status old new =
     × Complains (said (words_of_fault faults.Write)) old new)
 IsTold ending status old new = (status ≡ status_of ending) × Withholds old new × Complains (complaint ending) old new
 
--- the words give this command, or this fault in its place, as covcommand says
+-- what covcommand makes of the words: this command, or this fault
 pub record AreParsed (words : List (List ℕ)) (parsed : Result Command CommandFault) : Type 0 where
   pub asks : IfOk parsed (AsksFor (subcommand_of covcollect words))
   pub bounds : IfOk parsed IsInBounds
@@ -93,8 +94,8 @@ pub record AreParsed (words : List (List ℕ)) (parsed : Result Command CommandF
   pub taken : takes covcollect words ≡ true → IfErr parsed (λ fault. fault ≡ line.Memory)
   pub told : IfErr parsed (IsToldOf (fault_of covcollect words))
 
--- a call that collects or checks files doesn't read the input. What it collects ends and is told; what it checks is told file by
--- file. A session is one over the input
+-- what a call does for its task. A session reads the input; the other tasks don't. Collecting files has an ending, which is
+-- reported. Checking files reports each file
 abbrev pub TaskTold : FolderData → TaskData → (status : ℕ) → (before after : SourceData) → SinksData → SinksData → Type 0
 TaskTold folder Serves status before after old new =
     TellsSession status before.left after.left old.output new.output old.faults new.faults
@@ -104,19 +105,19 @@ TaskTold folder (Collects work) status before after old new =
     (after ≡ before) × (ending : EndingData) × WorkEnds folder work ending × IsTold ending status old new
 TaskTold folder (Checks format files) status before after old new = (after ≡ before) × IsCheck folder format files status old new
 
--- a command's words are refused, and the input isn't read; or they are taken and then the command is done
+-- a command ends early, and the input isn't read; or its words are accepted, and its task is done
 abbrev pub CommandTold : FolderData → Command → (status : ℕ) → (before after : SourceData) → SinksData → SinksData → Type 0
 CommandTold folder command status before after old new =
     ((after ≡ before) × (ending : EndingData) × StopsEarly command ending × IsTold ending status old new)
     ⊎ (AreTaken command × TaskTold folder (task_of command) status before after old new)
 
--- words that give no command are told of, and the input isn't read
+-- the command is done. If the words form none, the fault is reported, and the input isn't read
 abbrev pub CallTold : FolderData → Result Command CommandFault → (status : ℕ) → (before after : SourceData) → SinksData → SinksData → Type 0
 CallTold folder (Ok command) status before after old new = CommandTold folder command status before after old new
 CallTold folder (Err fault) status before after old new = (after ≡ before) × IsTold (of_line fault) status old new
 
--- a call of these words that reads the files of this folder, by its exit status, what its input is at its beginning and its end, and
--- what its streams took
+-- one call of the program: the folder whose files it reads, its words, its exit status, its input before and after, and its two
+-- output streams before and after
 abbrev pub IsCall : FolderData → (words : List (List ℕ)) → (status : ℕ) → (before after : SourceData) → SinksData → SinksData → Type 0
 IsCall folder words status before after old new =
     (parsed : Result Command CommandFault) × AreParsed words parsed × CallTold folder parsed status before after old new

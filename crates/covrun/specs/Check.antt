@@ -1,11 +1,11 @@
--- What a check of files tells: a line for each of them, what is complained of, and a status.
+-- What a check of files reports: a line for each file that can be read, complaints, and an exit status.
 use Rattle.std.specs.Io.KnownBytes.{Appends}
 use Rattle.std.specs.List.{AllByRecursion, flat_map, list_any, zip}
 use Rattle.std.specs.Prelude.{◌≡◌, ◌⊎◌, ◌<◌, ◌≤◌, ℕ, suc, List, [], ◌∷◌, ◌++◌, length, Option, Bool, true, false, if◌then◌else◌, nat_lt, Result, Ok, Err, codes}
-use Rattle.covcheck.specs.Holding.{Tells}
+use Rattle.covcheck.specs.TextSummary.{Tells}
 use Rattle.covcheck.specs.Skipped.{IsSkippedGcov, IsSkippedRecord}
-use Rattle.covcheck.specs.Told.{holding_text}
-use Rattle.covcheck.specs.declared.holding.Holding.{Holding}
+use Rattle.covcheck.specs.Told.{summary_text}
+use Rattle.covcheck.specs.declared.text_summary.TextSummary.{TextSummary}
 use Rattle.covcommand.specs.declared.asked.TextFormat.{TextFormat}
 use Rattle.covcommand.specs.declared.asked.TextFormat.TheVariants.{Tracefile, Gcov}
 use Rattle.covline.specs.Row.{SubmissionData}
@@ -19,53 +19,53 @@ use Rattle.covsession.specs.declared.session.fault.SessionFault.TheVariants as f
 use Rattle.covrun.specs.Folder.{FolderData, IsTextOf}
 use Rattle.covrun.specs.Streams.{SinksData, Complains}
 
--- what becomes of a file: it can't be read; its text is refused; or the text is read, and holds this
+-- the outcome for a file: it can't be read; or its text is refused; or its text is read, and holds this
 pub data OutcomeData : Type 0 where
   Unread : OutcomeData
   Refused : (fault : ReadFault) → OutcomeData
-  Held : (holding : Holding) → OutcomeData
+  Held : (summary : TextSummary) → OutcomeData
 
--- what the text is answered, read as a tracefile, or as gcov's text for the test with the empty name: what it holds that it is
--- read as, or its first fault
-abbrev pub IsTextOutcome : TextFormat → List ℕ → Result Holding ReadFault → Type 0
+-- the result of checking a text, as a tracefile or as gcov's text for the test with the empty name: what the text holds in that
+-- format, or its first fault
+abbrev pub IsTextOutcome : TextFormat → List ℕ → Result TextSummary ReadFault → Type 0
 IsTextOutcome Tracefile text answer =
     (read : Result SubmissionData ReadFault) × IsTraceOutcome text read × Tells IsSkippedRecord text read answer
 IsTextOutcome Gcov text answer =
     (read : Result SubmissionData ReadFault) × gcov.IsOutcome [] text read × Tells IsSkippedGcov text read answer
 
--- there is a text of at most a byte more than a text may have, which is that of the file where the folder tells what it holds, and it
--- is answered so
-abbrev pub IsAnswered : Option (List ℕ) → TextFormat → Result Holding ReadFault → Type 0
+-- this is the result of checking a text with at most one byte more than the limit. If the folder knows the file's bytes (`held`),
+-- the text is those bytes, up to that length
+abbrev pub IsAnswered : Option (List ℕ) → TextFormat → Result TextSummary ReadFault → Type 0
 IsAnswered held format answer = (text : List ℕ) × (length text ≤ suc max_bytes) × IsTextOf held text × IsTextOutcome format text answer
 
--- it can become of this file
+-- the outcome is possible for this file
 abbrev pub IsOutcome : FolderData → TextFormat → (file : List ℕ) → OutcomeData → Type 0
 IsOutcome folder format file Unread = folder.MayFail file
 IsOutcome folder format file (Refused fault) = IsAnswered (folder.holds file) format (Err fault)
-IsOutcome folder format file (Held holding) = IsAnswered (folder.holds file) format (Ok holding)
+IsOutcome folder format file (Held summary) = IsAnswered (folder.holds file) format (Ok summary)
 
--- each can become of the file at its place
+-- each outcome is possible for the file at the same index
 abbrev pub AreOutcomes : FolderData → TextFormat → (files : List (List ℕ)) → List OutcomeData → Type 0
 AreOutcomes folder format files outcomes =
     AllByRecursion (λ (f : List ℕ × OutcomeData). IsOutcome folder format f.0 f.1) (zip files outcomes)
 
--- the line of a file
+-- the line that reports a file: none if it can't be read
 abbrev pub outcome_line : List ℕ → OutcomeData → List ℕ
 outcome_line file Unread = []
 outcome_line file (Refused fault) = file ++ codes ": " ++ refused_text fault
-outcome_line file (Held holding) = file ++ codes ": " ++ holding_text holding
+outcome_line file (Held summary) = file ++ codes ": " ++ summary_text summary
 
--- the text gives an item
-abbrev pub has_item : Holding → Bool
-has_item holding = nat_lt 0 holding.items
+-- the text has at least one item
+abbrev pub has_item : TextSummary → Bool
+has_item summary = nat_lt 0 summary.items
 
--- what is complained of a file
+-- the complaint about a file: it can't be read, or it has no items
 abbrev pub outcome_complaint : List ℕ → OutcomeData → List ℕ
 outcome_complaint file Unread = file ++ said (codes ": can't read")
 outcome_complaint file (Refused fault) = []
-outcome_complaint file (Held holding) = if has_item holding then [] else file ++ said (codes ": no items")
+outcome_complaint file (Held summary) = if has_item summary then [] else file ++ said (codes ": no items")
 
--- the files' lines, and what is complained of them, in the files' order
+-- the lines of all files, in the files' order; and below, the complaints about them
 abbrev pub check_lines : List (List ℕ) → List OutcomeData → List ℕ
 check_lines files outcomes = flat_map (λ (f : List ℕ × OutcomeData). outcome_line f.0 f.1) (zip files outcomes)
 
@@ -75,26 +75,27 @@ check_complaints files outcomes = flat_map (λ (f : List ℕ × OutcomeData). ou
 abbrev pub is_unread : OutcomeData → Bool
 is_unread Unread = true
 is_unread (Refused fault) = false
-is_unread (Held holding) = false
+is_unread (Held summary) = false
 
 abbrev pub is_refused : OutcomeData → Bool
 is_refused Unread = false
 is_refused (Refused fault) = true
-is_refused (Held holding) = false
+is_refused (Held summary) = false
 
 abbrev pub is_empty : OutcomeData → Bool
 is_empty Unread = false
 is_empty (Refused fault) = false
-is_empty (Held holding) = if has_item holding then false else true
+is_empty (Held summary) = if has_item summary then false else true
 
--- 1 where a file can't be read; else 4 where one is refused; else 5 where one has no item
+-- 1 if a file can't be read; else 4 if a text is refused; else 5 if a text has no item; else 0
 abbrev pub check_status : List OutcomeData → ℕ
 check_status outcomes =
     if list_any is_unread outcomes then 1
     else if list_any is_refused outcomes then 4
     else if list_any is_empty outcomes then 5 else 0
 
--- each file was looked at: the output has their lines, the stream for faults what is complained of, and the status says the worst
+-- all files were checked: the output has their lines, the stream for faults has the complaints, and the status is that of the
+-- worst outcome
 pub record IsWholeCheck (files : List (List ℕ)) (outcomes : List OutcomeData) (status : ℕ) (old new : SinksData) : Type 0 where
   pub all : length outcomes ≡ length files
   pub ends : status ≡ check_status outcomes
@@ -102,7 +103,7 @@ pub record IsWholeCheck (files : List (List ℕ)) (outcomes : List OutcomeData) 
   pub written : new.failed_output ≡ old.failed_output
   pub complaints : Complains (check_complaints files outcomes) old new
 
--- memory ran out before the others were looked at, which is told last
+-- memory ran out before all files were checked, and this is reported last
 pub record IsCheckWithoutRoom (files : List (List ℕ)) (outcomes : List OutcomeData) (status : ℕ) (old new : SinksData) : Type 0 where
   pub some : length outcomes < length files
   pub ends : status ≡ fault_status faults.Memory
@@ -110,8 +111,8 @@ pub record IsCheckWithoutRoom (files : List (List ℕ)) (outcomes : List Outcome
   pub written : new.failed_output ≡ old.failed_output
   pub complaints : Complains (check_complaints files outcomes ++ said (words_of_fault faults.Memory)) old new
 
--- the output ends within the line of the last file that was looked at: it has the whole lines of the files before, and a beginning
--- of that one
+-- the output ends within the line of the last checked file: it has the whole lines of the files before it, and a beginning of its
+-- line
 pub record EndsWithin (files : List (List ℕ)) (outcomes : List OutcomeData) (old new : SinksData) : Type 0 where
   pub earlier : List (List ℕ)
   pub file : List ℕ
@@ -125,14 +126,14 @@ pub record EndsWithin (files : List (List ℕ)) (outcomes : List OutcomeData) (o
   pub whole : Appends old.output between (check_lines earlier before)
   pub part : HasBegun between new.output (outcome_line file last)
 
--- a write of a file's line failed, and no file after it was looked at; this is told last
+-- a write of a file's line failed. No later file was checked, and the failure is reported last
 pub record IsCheckCutShort (files : List (List ℕ)) (outcomes : List OutcomeData) (status : ℕ) (old new : SinksData) : Type 0 where
   pub lines : EndsWithin files outcomes old new
   pub ends : status ≡ fault_status faults.Write
   pub failed : new.failed_output ≡ suc old.failed_output
   pub complaints : Complains (check_complaints files outcomes ++ said (words_of_fault faults.Write)) old new
 
--- the files are looked at one after another, and this became of the first of them, or of all
+-- files are checked one after another: all of them, or the first ones until memory ran out or a write failed
 abbrev pub IsCheck : FolderData → TextFormat → (files : List (List ℕ)) → (status : ℕ) → SinksData → SinksData → Type 0
 IsCheck folder format files status old new =
     (outcomes : List OutcomeData) × AreOutcomes folder format files outcomes

@@ -1,8 +1,8 @@
--- Private steps: what looking at files one after another has told so far.
+-- Private steps: what a check of files has reported so far.
 use Rattle.std.specs.Io.KnownBytes.{Appends}
 use Rattle.std.specs.List.{list_any}
 use Rattle.std.specs.Prelude.{◌≡◌, ◌⊎◌, ◌<◌, ◌≤◌, ◌+◌, ℕ, suc, List, length, if◌then◌else◌, Result, Ok, Err}
-use Rattle.covcheck.specs.declared.holding.Holding.{Holding}
+use Rattle.covcheck.specs.declared.text_summary.TextSummary.{TextSummary}
 use Rattle.covcommand.specs.declared.asked.TextFormat.{TextFormat}
 use Rattle.covread.specs.declared.fault.ReadFault.{ReadFault}
 use Rattle.covread.specs.declared.fault.ReadFault.TheVariants as reads
@@ -15,19 +15,19 @@ use Rattle.covrun.specs.Streams.{SinksData, Complains}
 use Rattle.covrun.specs.declared.verdict.Verdict.{Verdict}
 use Rattle.covrun.specs.declared.verdict.Verdict.TheVariants as verdicts
 
--- a text is answered so, or memory ran out
-abbrev pub AnswersText : TextFormat → List ℕ → Result Holding ReadFault → Type 0
+-- a text is checked with this result, or memory ran out
+abbrev pub AnswersText : TextFormat → List ℕ → Result TextSummary ReadFault → Type 0
 AnswersText format text answer = (answer ≡ Err reads.Memory) ⊎ IsTextOutcome format text answer
 
-abbrev pub of_holding : Holding → Verdict
-of_holding holding = if has_item holding then verdicts.Fine else verdicts.Empty
+abbrev pub verdict_of_summary : TextSummary → Verdict
+verdict_of_summary summary = if has_item summary then verdicts.Fine else verdicts.Empty
 
 abbrev pub verdict_of : OutcomeData → Verdict
 verdict_of Unread = verdicts.Unreadable
 verdict_of (Refused fault) = verdicts.Refused
-verdict_of (Held holding) = of_holding holding
+verdict_of (Held summary) = verdict_of_summary summary
 
--- the worst that became of a file
+-- the verdict on the worst outcome
 abbrev pub worst_of : List OutcomeData → Verdict
 worst_of outcomes =
     if list_any is_unread outcomes then verdicts.Unreadable
@@ -40,7 +40,7 @@ verdict_status verdicts.Unreadable = 1
 verdict_status verdicts.Refused = 4
 verdict_status verdicts.Empty = 5
 
--- of two verdicts the one that decides the status
+-- the one of two verdicts that decides the exit status
 abbrev pub worse : Verdict → Verdict → Verdict
 worse verdicts.Unreadable other = verdicts.Unreadable
 worse verdicts.Refused verdicts.Unreadable = verdicts.Unreadable
@@ -53,12 +53,12 @@ worse verdicts.Empty verdicts.Empty = verdicts.Empty
 worse verdicts.Empty verdicts.Fine = verdicts.Empty
 worse verdicts.Fine other = other
 
--- these words went to the stream for faults, of whose writes at most so many failed
+-- these words went to the stream for faults, unless a write failed. At most this number of writes failed
 abbrev pub Says : (most : ℕ) → List ℕ → SinksData → SinksData → Type 0
 Says most words old new =
     Complains words old new × (old.failed_faults ≤ new.failed_faults) × (new.failed_faults ≤ old.failed_faults + most)
 
--- how it was told what became of a file. Where memory ran out nothing was told
+-- how a file's outcome is reported. If memory ran out, nothing was written
 abbrev pub TellsFile : (file : List ℕ) → OutcomeData → Result Verdict SessionFault → SinksData → SinksData → Type 0
 TellsFile file outcome (Ok verdict) old new =
     (verdict ≡ verdict_of outcome) × Appends old.output new.output (outcome_line file outcome)
@@ -70,25 +70,25 @@ TellsFile file outcome (Err faults.Memory) old new = new ≡ old
 TellsFile file outcome (Err faults.Read) old new = ⊥
 TellsFile file outcome (Err faults.Full) old new = ⊥
 
--- a text is answered so, as what becomes of its file
+-- the outcome of a file that has this text
 abbrev pub IsOutcomeOfText : TextFormat → (text : List ℕ) → OutcomeData → Type 0
 IsOutcomeOfText format text Unread = ⊥
 IsOutcomeOfText format text (Refused fault) = IsTextOutcome format text (Err fault)
-IsOutcomeOfText format text (Held holding) = IsTextOutcome format text (Ok holding)
+IsOutcomeOfText format text (Held summary) = IsTextOutcome format text (Ok summary)
 
--- what became of a file of this text was told so; or memory ran out, and nothing was told
+-- how a file with this text is reported. If memory ran out, nothing was written
 abbrev pub TellsText : TextFormat → (file text : List ℕ) → Result Verdict SessionFault → SinksData → SinksData → Type 0
 TellsText format file text answer old new =
     ((answer ≡ Err faults.Memory) × (new ≡ old))
     ⊎ ((outcome : OutcomeData) × IsOutcomeOfText format text outcome × TellsFile file outcome answer old new)
 
--- what became of a file was told so; or memory ran out, and nothing was told
+-- how one file is reported. If memory ran out, nothing was written
 abbrev pub TellsOne : FolderData → TextFormat → (file : List ℕ) → Result Verdict SessionFault → SinksData → SinksData → Type 0
 TellsOne folder format file answer old new =
     ((answer ≡ Err faults.Memory) × (new ≡ old))
     ⊎ ((outcome : OutcomeData) × IsOutcome folder format file outcome × TellsFile file outcome answer old new)
 
--- what became of files was told so. Where memory ran out the last of them weren't looked at
+-- how files with these outcomes are reported. If memory ran out, the last files weren't checked and have no outcome
 abbrev pub TellsAll : TextFormat → (files : List (List ℕ)) → List OutcomeData → Result Verdict SessionFault → SinksData → SinksData → Type 0
 TellsAll format files outcomes (Ok verdict) old new =
     (length outcomes ≡ length files) × (verdict ≡ worst_of outcomes)
@@ -103,7 +103,7 @@ TellsAll format files outcomes (Err faults.Memory) old new =
 TellsAll format files outcomes (Err faults.Read) old new = ⊥
 TellsAll format files outcomes (Err faults.Full) old new = ⊥
 
--- there are outcomes that were told so
+-- how files are reported, with some outcomes that are possible for them
 abbrev pub TellsEach : FolderData → TextFormat → (files : List (List ℕ)) → Result Verdict SessionFault → SinksData → SinksData → Type 0
 TellsEach folder format files answer old new =
     (outcomes : List OutcomeData) × AreOutcomes folder format files outcomes × TellsAll format files outcomes answer old new

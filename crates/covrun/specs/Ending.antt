@@ -1,4 +1,4 @@
--- How the call of a subcommand ends: what decides its exit status and what it writes.
+-- How a call with a subcommand ends: this decides its exit status and what it writes.
 use Rattle.std.specs.List.{flat_map}
 use Rattle.std.specs.Prelude.{ℕ, ◌-◌, length, List, [], ◌∷◌, ◌++◌, Bool, true, false, if◌then◌else◌, Option, Some, None, codes, slice_get}
 use Rattle.covread.specs.Fault.{is_memory}
@@ -13,9 +13,9 @@ use Rattle.covsession.specs.declared.session.fault.SessionFault.TheVariants as f
 use Rattle.covrun.specs.declared.words_fault.WordsFault.{WordsFault}
 use Rattle.covrun.specs.declared.words_fault.WordsFault.TheVariants as words
 
--- it prints a text: that of the last entry, or help; it tells that the words don't fit the command line, or why a pattern or a
--- test's name is refused; that a file can't be read; that a stream failed or there was no room; that what was collected isn't
--- what the jobs were told; or the lines of what was refused and what clashed
+-- how a call ends. `Prints`: a text, of the last entry or of help. `BadLine`: the words don't fit the command line. `BadWords`: a
+-- pattern or a test's name is refused. `Unreadable`: this file can't be read. `Stopped`: a stream failed, or there was no room.
+-- `Ungathered`: the history isn't that of the jobs' logs. `Refuses`: the lines of refused texts and of clashes
 pub data EndingData : Type 0 where
   Prints : (text : List ℕ) → EndingData
   BadLine : (text : List ℕ) → EndingData
@@ -40,7 +40,7 @@ words_fault_name words.TooLong = codes "TooLong"
 words_fault_name words.BadTest = codes "BadTest"
 words_fault_name words.BadJobs = codes "BadJobs"
 
--- what is said on the stream for faults
+-- what is written to the stream for faults
 abbrev pub complaint : EndingData → List ℕ
 complaint (Prints text) = []
 complaint (BadLine text) = text
@@ -50,7 +50,7 @@ complaint (Stopped fault) = said (words_of_fault fault)
 complaint Ungathered = said (codes "gather")
 complaint (Refuses lines) = lines
 
--- a fault of collecting
+-- the ending for a fault of collecting
 abbrev pub of_collect : CollectFault → EndingData
 of_collect collects.BadJobs = BadWords words.BadJobs
 of_collect collects.Full = Stopped faults.Full
@@ -58,21 +58,21 @@ of_collect collects.Memory = Stopped faults.Memory
 of_collect (collects.Gather fault) = Ungathered
 of_collect collects.NotLast = Ungathered
 
--- memory ran out for one of the refused inputs
+-- an input was refused because memory ran out
 abbrev pub ran_out : List RefusedInput → Bool
 ran_out [] = false
 ran_out (r ∷ refused) = if is_memory r.fault then true else ran_out refused
 
--- the name of the file at a place
+-- the name of the file with an index
 abbrev pub name_at : Option (List ℕ) → List ℕ
 name_at (Some name) = name
 name_at None = []
 
--- the line of a refused input, with its file in front
+-- the line of a refused input: its file's name, and why it is refused
 abbrev pub refusal_line : List (List ℕ) → RefusedInput → List ℕ
 refusal_line files r = name_at (slice_get files r.index) ++ codes ": " ++ refused_text r.fault
 
--- first what was refused, in the files' order, then what clashed, in the history's
+-- first the refused inputs, in the files' order; then the clashes, in the history's order
 abbrev pub complaints : List (List ℕ) → List RefusedInput → List EntryData → List ℕ
 complaints files refused entries = flat_map (refusal_line files) refused ++ flat_map (λ (e : EntryData). clash_text e.answer) entries
 
@@ -84,7 +84,7 @@ text_in (RenamedAnswer sections) = []
 text_in NoSuchTestAnswer = []
 text_in (TextAnswer text) = text
 
--- the text of the last entry
+-- the text that an entry answers, if it is one; and below, that of the last entry
 abbrev pub text_at : Option EntryData → List ℕ
 text_at (Some e) = text_in e.answer
 text_at None = []
@@ -92,12 +92,12 @@ text_at None = []
 abbrev pub last_text : List EntryData → List ℕ
 last_text entries = text_at (slice_get entries (length entries - 1))
 
--- a text is printed where there is nothing to complain of
+-- the text is printed if there are no complaints
 abbrev pub unless_any : (lines : List ℕ) → (text : List ℕ) → EndingData
 unless_any [] text = Prints text
 unless_any (b ∷ bs) text = Refuses (b ∷ bs)
 
--- how a call ends that collected this from its files: want of memory alone is told where an input was refused for it
+-- how a call ends after collecting its files. If an input was refused because memory ran out, only that is reported
 abbrev pub of_collected : List (List ℕ) → List EntryData → List RefusedInput → EndingData
 of_collected files entries refused =
     if ran_out refused then Stopped faults.Memory else unless_any (complaints files refused entries) (last_text entries)

@@ -9,15 +9,15 @@ use Rattle.covsession.specs.declared.session.fault.SessionFault.TheVariants as f
 use Rattle.covrun.specs.declared.files.FileFault.{FileFault}
 use Rattle.covrun.specs.declared.files.FileFault.TheVariants.{Unreadable, Memory}
 
--- the bytes were read: all that was left, or as many as are wanted at the most
+-- all bytes that were left were read, or exactly `most` bytes
 abbrev pub HasReadAtMost : ℕ → Option (List ℕ) → Option (List ℕ) → List ℕ → Type 0
 HasReadAtMost most left left_after text = Consumes left left_after text × (IsAtEnd left_after ⊎ (length text ≡ most))
 
--- all that was left, unless it is too much for a text: then a byte more than a text may have
+-- all bytes that were left were read; if they are more than a text may have, one byte more than that limit
 abbrev pub HasRead : Option (List ℕ) → Option (List ℕ) → List ℕ → Type 0
 HasRead left left_after text = HasReadAtMost (suc max_bytes) left left_after text
 
--- one read of at most so many bytes: they stand at the text's end now, and none were read only at the end
+-- one read of at most `room` bytes, which are appended to the text. A read of no bytes is at the end, unless `room` is 0
 abbrev pub HasReadBlock : (left left_after : Option (List ℕ)) → (text text_after : List ℕ) → (room count : ℕ) → Type 0
 HasReadBlock left left_after text text_after room count =
     (bytes : List ℕ) × Consumes left left_after bytes × (text_after ≡ text ++ bytes) × (length bytes ≡ count) × (count ≤ room)
@@ -30,7 +30,7 @@ IsReadFault left left_after failed failed_after faults.Memory = Unit {0}
 IsReadFault left left_after failed failed_after faults.Write = ⊥
 IsReadFault left left_after failed failed_after faults.Full = ⊥
 
--- why the files aren't read: the first that can't be is told
+-- why the files aren't read: the first file that can't be read, or memory ran out
 abbrev pub IsFileFault : FolderData → List (List ℕ) → FileFault → Type 0
 IsFileFault folder files (Unreadable name) = IsUnreadable folder files name.now
 IsFileFault folder files Memory = Unit {0}

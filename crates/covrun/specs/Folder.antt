@@ -4,16 +4,18 @@ use Rattle.std.specs.List.{AllByRecursion, zip}
 use Rattle.std.specs.Prelude.{◌≡◌, ◌⊎◌, ◌<◌, ℕ, suc, List, take, Option, None, Some}
 use Rattle.covread.specs.Outcome.{max_bytes}
 
--- the folder that a call reads from: the bytes of the file of a name, where it tells them; and that this file may fail to be read
+-- the folder that a call reads files from. `holds`: the bytes of the file with this name, if the folder knows them. `MayFail`:
+-- this file may fail to be read
 pub record FolderData : Type 1 where
   pub holds : List ℕ → Option (List ℕ)
   pub MayFail : List ℕ → Type 0
 
--- a read failed of an open file that had given a beginning of these bytes
+-- a read of an open file failed after it had given a beginning of these bytes
 abbrev pub HasFailed : {File : Type 0} → (left : File → Option (List ℕ)) → (failed_reads : File → ℕ) → Option (List ℕ) → Type 0
 HasFailed {File} left failed_reads held = (file : File) × (bytes : List ℕ) × Consumes held (left file) bytes × (0 < failed_reads file)
 
--- a file may fail to be read where the folder may refuse to open it, or where a read failed of one that had given a beginning of its bytes
+-- a file may fail to be read if the folder may refuse to open it, or if a read of it failed after it had given a beginning of its
+-- bytes
 abbrev pub folder_data : {File : Type 0} → (holds : List ℕ → Option (List ℕ)) → (may_refuse : List ℕ → Type 0) → (left : File → Option (List ℕ))
     → (failed_reads : File → ℕ) → FolderData
 folder_data holds may_refuse left failed_reads = record {
@@ -21,15 +23,15 @@ folder_data holds may_refuse left failed_reads = record {
   MayFail = λ name. may_refuse name ⊎ HasFailed left failed_reads (holds name);
 }
 
--- where the bytes are told, all of them, or so many from the first on
+-- if the bytes are known, the text is all of them, or the first `most` of them
 abbrev pub IsTextAtMost : ℕ → Option (List ℕ) → List ℕ → Type 0
 IsTextAtMost most None text = Unit {0}
 IsTextAtMost most (Some bytes) text = text ≡ take most bytes
 
--- the text that is read of a file with these bytes: all of them, or from the first on a byte more than a text may have
+-- the text that is read of a file with these bytes: all of them, up to one byte more than a text may have
 abbrev pub IsTextOf : Option (List ℕ) → List ℕ → Type 0
 IsTextOf held text = IsTextAtMost (suc max_bytes) held text
 
--- each text is that of the file at its place
+-- each text is that of the file at the same index
 abbrev pub AreTextsOf : FolderData → (files texts : List (List ℕ)) → Type 0
 AreTextsOf folder files texts = AllByRecursion (λ (f : List ℕ × List ℕ). IsTextOf (folder.holds f.0) f.1) (zip files texts)

@@ -1,8 +1,8 @@
--- The streams that a call reads and writes, and what it leaves there.
+-- The streams that a call reads and writes, before and after it.
 use Rattle.std.specs.Io.KnownBytes.{Appends}
 use Rattle.std.specs.Prelude.{◌≡◌, ℕ, List, Option}
 
--- the stream that a call reads: what it has left, where it tells that, how often it was read, and how often in vain
+-- the stream that a call reads: the bytes it has left, if these are known; how often it was read; and how many reads failed
 pub record SourceData : Type 0 where
   pub left : Option (List ℕ)
   pub reads : ℕ
@@ -11,7 +11,7 @@ pub record SourceData : Type 0 where
 abbrev pub source : Option (List ℕ) → (reads failed_reads : ℕ) → SourceData
 source left reads failed_reads = record { left = left; reads = reads; failed_reads = failed_reads }
 
--- the two streams that a call writes to: what each has taken, where it tells that, and how many of its writes failed
+-- the two streams that a call writes to: the bytes each has taken, if these are known, and how many writes to it failed
 pub record SinksData : Type 0 where
   pub output : Option (List ℕ)
   pub failed_output : ℕ
@@ -26,7 +26,7 @@ sinks output failed_output faults failed_faults = record {
   failed_faults = failed_faults;
 }
 
--- these words went to the stream for faults, unless a write there failed: of that nobody is left to tell
+-- these words went to the stream for faults, unless a write to it failed: there is nowhere left to report that
 abbrev pub Complains : List ℕ → SinksData → SinksData → Type 0
 Complains words old new = new.failed_faults ≡ old.failed_faults → Appends old.faults new.faults words
 
@@ -34,7 +34,7 @@ Complains words old new = new.failed_faults ≡ old.failed_faults → Appends ol
 abbrev pub Withholds : SinksData → SinksData → Type 0
 Withholds old new = (new.output ≡ old.output) × (new.failed_output ≡ old.failed_output)
 
--- all of the text went to the output, and nothing else anywhere
+-- the whole text went to the output, and nothing to the stream for faults
 abbrev pub Delivers : List ℕ → SinksData → SinksData → Type 0
 Delivers text old new =
     Appends old.output new.output text × (new.failed_output ≡ old.failed_output)

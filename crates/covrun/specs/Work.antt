@@ -11,7 +11,7 @@ use Rattle.covcommand.specs.declared.asked.TextFormat.{TextFormat}
 use Rattle.covrun.specs.declared.words_fault.WordsFault.{WordsFault}
 use Rattle.covrun.specs.declared.words_fault.WordsFault.TheVariants as words
 
--- the files to read, the test whose counts they have where they are gcov's, by how many jobs, and what is asked at the end
+-- the files to read; if they are gcov's, the test that their counts are of; the number of jobs; and what is asked after the files
 pub record WorkData : Type 0 where
   pub files : List (List ℕ)
   pub test : Option (List ℕ)
@@ -22,13 +22,13 @@ pub record WorkData : Type 0 where
 abbrev pub filtering : (List (List ℕ) → OpData) → List (List ℕ) → WorkData
 filtering op names = record { files = take 1 names; test = None; jobs = 1; last = op (drop 1 names) }
 
--- what a call has to do: a session; to collect files and answer what is asked at the end; or to look at files one by one
+-- what a call has to do: a session; or to collect files and answer what is asked after them; or to check files one by one
 pub data TaskData : Type 0 where
   Serves : TaskData
   Collects : (work : WorkData) → TaskData
   Checks : (format : TextFormat) → (files : List (List ℕ)) → TaskData
 
--- what each subcommand has to do; without one there is a session
+-- what each subcommand has to do; a call without a subcommand is a session
 abbrev pub task_of : Command → TaskData
 task_of Session = Serves
 task_of (Merge jobs names) = Collects (record { files = names; test = None; jobs = jobs; last = ReportOp })
@@ -38,7 +38,7 @@ task_of (Remove names) = Collects (filtering RemoveOp names)
 task_of (Gcov test names) = Collects (record { files = names; test = Some test; jobs = 1; last = ReportOp })
 task_of (Check format names) = Checks format names
 
--- the text of a file, as what is collected
+-- a file's text as an input of collecting: a tracefile, or gcov's text of this test
 abbrev pub input_of : Option (List ℕ) → List ℕ → InputData
 input_of None text = TraceInput text
 input_of (Some test) text = GcovInput test text
@@ -46,7 +46,7 @@ input_of (Some test) text = GcovInput test text
 abbrev pub IsShort : List ℕ → Type 0
 IsShort pattern = length pattern ≤ max_pattern_bytes
 
--- the patterns are taken one after another, and the first that isn't taken tells why
+-- the patterns are accepted: neither too many, nor one of them too long
 abbrev pub ArePatterns : List (List ℕ) → Type 0
 ArePatterns patterns = (length patterns ≤ max_patterns) × AllByRecursion IsShort patterns
 
@@ -59,7 +59,7 @@ IsPatternFault patterns words.BadJobs = ⊥
 abbrev pub IsTestFault : List ℕ → WordsFault → Type 0
 IsTestFault test fault = (fault ≡ words.BadTest) × (IsGoodTest test → ⊥)
 
--- the patterns and the test's name are good
+-- the patterns and the test's name are accepted
 abbrev pub AreTaken : Command → Type 0
 AreTaken Session = Unit {0}
 AreTaken (Merge jobs names) = Unit {0}
@@ -69,7 +69,7 @@ AreTaken (Remove names) = ArePatterns (drop 1 names)
 AreTaken (Gcov test names) = IsGoodTest test
 AreTaken (Check format names) = Unit {0}
 
--- they aren't, for this reason
+-- a pattern or the test's name is refused for this reason
 abbrev pub AreRefused : Command → WordsFault → Type 0
 AreRefused Session fault = ⊥
 AreRefused (Merge jobs names) fault = ⊥

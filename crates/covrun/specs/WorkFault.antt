@@ -1,4 +1,4 @@
--- Private steps: why a subcommand's work isn't begun.
+-- Private steps: why a subcommand's work doesn't begin.
 use Rattle.std.specs.Prelude.{ℕ, List}
 use Rattle.covcommand.specs.declared.asked.Command.{Command}
 use Rattle.covreport.specs.declared.patterns.PatternFault.{PatternFault}
@@ -27,7 +27,7 @@ abbrev pub IsTestRefusal : List ℕ → WorkFault → Type 0
 IsTestRefusal test (Words fault) = IsTestFault test fault
 IsTestRefusal test Memory = Unit {0}
 
--- the ending that it is
+-- the ending for this fault
 abbrev pub of_work : WorkFault → EndingData
 of_work (Words fault) = BadWords fault
 of_work Memory = Stopped faults.Memory

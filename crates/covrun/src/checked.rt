@@ -1,10 +1,10 @@
-//! A check of files: each is read and looked at by itself, and a line tells what it holds.
+//! A check of files: each file is read and checked by itself, and a line reports what it holds.
 
 ghost use Rattle.std.specs.Prelude.{◌≡◌, ◌<◌, ◌≤◌, ◌^◌, ◌++◌, codes, length, map, IfOk, IfErr, suc};
 ghost use Rattle.std.specs.Io.KnownBytes.{Appends};
 ghost use Rattle.std.specs.String.{string_bytes};
 ghost use Rattle.covrun.specs.Check.{Refused, Held, outcome_complaint, IsCheck};
-ghost use Rattle.covrun.specs.Checked.{of_holding, AnswersText, TellsFile, TellsText, TellsOne, TellsEach};
+ghost use Rattle.covrun.specs.Checked.{verdict_of_summary, AnswersText, TellsFile, TellsText, TellsOne, TellsEach};
 ghost use Rattle.covrun.specs.Folder.{folder_data};
 ghost use Rattle.covrun.specs.Streams.{sinks};
 ghost use Rattle.covsession.specs.declared.session.fault.SessionFault.TheVariants as session_faults;
@@ -13,14 +13,14 @@ use crate::files::{FileFault, file_text};
 use crate::folder::Folder;
 use crate::output::{put_out, say};
 use crate::verdict::Verdict;
-use covcheck::{Holding, check_gcov, check_trace, holding_line};
+use covcheck::{TextSummary, check_gcov, check_trace, summary_line};
 use covcommand::TextFormat;
 use covread::ReadFault;
 use covsession::{SessionFault, Sink, line_of, refused_line, status_of};
 use std::alloc::Global;
 
-/// Looks at the files one after another, tells of each, and answers the exit status. The text of a file is let go before the next
-/// one is read.
+/// Checks the files one after another, reports each, and returns the exit status. The text of a file is freed before the next one
+/// is read.
 pub(crate) fn check_files<F: Folder, O: Sink, E: Sink>(
     folder: &F,
     alloc: Global,
@@ -44,7 +44,7 @@ pub(crate) fn check_files<F: Folder, O: Sink, E: Sink>(
     }
 }
 
-/// Tells of each file, and answers the worst of their verdicts.
+/// Checks and reports each file, and returns the worst verdict.
 fn check_each<F: Folder, O: Sink, E: Sink>(
     folder: &F,
     alloc: Global,
@@ -67,7 +67,7 @@ fn check_each<F: Folder, O: Sink, E: Sink>(
     Ok(worst)
 }
 
-/// Reads a file and tells of it.
+/// Reads a file, and reports what it holds.
 fn check_file<F: Folder, O: Sink, E: Sink>(
     folder: &F,
     alloc: Global,
@@ -92,7 +92,7 @@ fn check_file<F: Folder, O: Sink, E: Sink>(
     }
 }
 
-/// Tells of a file that has this text.
+/// Reports a file that has this text.
 fn check_text<O: Sink, E: Sink>(
     alloc: Global,
     format: TextFormat,
@@ -108,14 +108,14 @@ fn check_text<O: Sink, E: Sink>(
         (sinks (O.written output.new) (O.failed_writes output.new) (E.written faults.new) (E.failed_writes faults.new)) }
 {
     match answer(alloc, format, text) {
-        Ok(holding) => tell_holding(alloc, name, &holding, output, faults),
+        Ok(summary) => report_text_summary(alloc, name, &summary, output, faults),
         Err(ReadFault::Memory) => Err(SessionFault::Memory),
         Err(fault) => tell_refusal(alloc, name, fault, output, faults),
     }
 }
 
-/// What the text holds, read in this format, or why it is refused.
-fn answer(alloc: Global, format: TextFormat, text: &[u8]) -> Result<Holding<'_>, ReadFault>
+/// What the text holds in this format, or why it is refused.
+fn answer(alloc: Global, format: TextFormat, text: &[u8]) -> Result<TextSummary<'_>, ReadFault>
     ensures { AnswersText format text.now result }
 {
     match format {
@@ -124,44 +124,44 @@ fn answer(alloc: Global, format: TextFormat, text: &[u8]) -> Result<Holding<'_>,
     }
 }
 
-/// Tells what a file holds, and complains where it has no item.
-fn tell_holding<O: Sink, E: Sink>(
+/// Reports what a file holds, and complains if it has no item.
+fn report_text_summary<O: Sink, E: Sink>(
     alloc: Global,
     name: &str,
-    holding: &Holding<'_>,
+    summary: &TextSummary<'_>,
     output: &mut O,
     faults: &mut E,
 ) -> Result<Verdict, SessionFault>
     requires output { O.failed_writes output.old < 2 ^ 62 }
     requires faults { E.failed_writes faults.old < 2 ^ 63 }
-    ensures { TellsFile name.now (Held holding.now) result
+    ensures { TellsFile name.now (Held summary.now) result
         (sinks (O.written output.old) (O.failed_writes output.old) (E.written faults.old) (E.failed_writes faults.old))
         (sinks (O.written output.new) (O.failed_writes output.new) (E.written faults.new) (E.failed_writes faults.new)) }
 {
-    let told = holding_line(alloc, holding)?;
+    let told = summary_line(alloc, summary)?;
     let line = line_of_file(alloc, name, told.as_slice())?;
-    let verdict = judge(name, holding, faults);
+    let verdict = judge(name, summary, faults);
     put_out(line.as_slice(), output)?;
     Ok(verdict)
 }
 
-/// The verdict on a file that holds this. It is complained of where it has no item.
-fn judge<E: Sink>(name: &str, holding: &Holding<'_>, faults: &mut E) -> Verdict
+/// The verdict on a file that holds this. Complains if it has no item.
+fn judge<E: Sink>(name: &str, summary: &TextSummary<'_>, faults: &mut E) -> Verdict
     requires { E.failed_writes faults.old < 2 ^ 63 }
-    ensures verdict { result ≡ of_holding holding.now }
+    ensures verdict { result ≡ verdict_of_summary summary.now }
     ensures said { E.failed_writes faults.new ≡ E.failed_writes faults.old
-        → Appends (E.written faults.old) (E.written faults.new) (outcome_complaint name.now (Held holding.now)) }
+        → Appends (E.written faults.old) (E.written faults.new) (outcome_complaint name.now (Held summary.now)) }
     ensures grows { E.failed_writes faults.old ≤ E.failed_writes faults.new }
     ensures few { E.failed_writes faults.new ≤ suc (E.failed_writes faults.old) }
 {
-    if holding.has_item() {
+    if summary.has_item() {
         return Verdict::Fine;
     }
     say(name.as_bytes(), b": no items\n", faults);
     Verdict::Empty
 }
 
-/// Tells why a file is refused.
+/// Reports why a file is refused.
 fn tell_refusal<O: Sink, E: Sink>(
     alloc: Global,
     name: &str,
@@ -181,7 +181,7 @@ fn tell_refusal<O: Sink, E: Sink>(
     Ok(Verdict::Refused)
 }
 
-/// A line with the name of its file in front.
+/// A line that begins with the name of its file.
 fn line_of_file(alloc: Global, name: &str, told: &[u8]) -> Result<Vec<u8>, SessionFault>
     ensures line { IfOk result (λ line. line.items ≡ name.now ++ codes ": " ++ told.now) }
     ensures fault { IfErr result (λ fault. fault ≡ session_faults.Memory) }

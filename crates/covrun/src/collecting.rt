@@ -1,4 +1,4 @@
-//! A subcommand's work: its files are read, collected, and what was collected is looked at.
+//! A subcommand's work: reads its files, collects them, and decides how the call ends.
 
 ghost use Rattle.std.specs.Prelude.{◌≡◌, ◌++◌, ◌≤◌, List, Option, length, map, slice_get, IfOk, OnOk, IfErr};
 ghost use Rattle.std.specs.List.{flat_map};
@@ -25,7 +25,7 @@ use std::alloc::Global;
 use std::sync::Wait;
 use std::thread::Threads;
 
-/// Does the work. The texts are let go when they are collected.
+/// Does the work, and returns the call's ending. The texts are freed once they are collected.
 pub(crate) fn ending_of<'a, R: Threads + Wait + Sync, F: Folder>(
     rt: &R,
     folder: &F,
@@ -49,7 +49,7 @@ pub(crate) fn ending_of<'a, R: Threads + Wait + Sync, F: Folder>(
     }
 }
 
-/// What was collected, as the call's ending.
+/// The call's ending for what was collected.
 fn ending_of_collected<'a>(
     alloc: Global,
     files: &[String],
@@ -72,7 +72,7 @@ fn ending_of_collected<'a>(
     Ok(Ending::Refused(lines))
 }
 
-/// Whether memory ran out for one of the refused inputs.
+/// Whether an input was refused because memory ran out.
 fn has_run_out(refused: &[RefusedInput]) -> bool
     ensures { result ≡ ran_out refused.now }
 {
@@ -84,7 +84,7 @@ fn has_run_out(refused: &[RefusedInput]) -> bool
     false
 }
 
-/// Appends the line of each refused input, with its file in front.
+/// Appends the line of each refused input, with its file's name in front.
 fn add_refusals(
     alloc: Global,
     files: &[String],
@@ -100,7 +100,7 @@ fn add_refusals(
     Ok(())
 }
 
-/// The name of the file at a place.
+/// The name of the file with this index.
 fn file_name(files: &[String], index: usize) -> &[u8]
     ensures { result.now ≡ name_at (slice_get (map string_bytes files.now) index) }
 {
@@ -138,7 +138,7 @@ fn add_clashes(alloc: Global, entries: &[Entry], lines: &mut Vec<u8>) -> Result<
     Ok(())
 }
 
-/// Appends the line of an answer where it is a clash.
+/// Appends the line of a clash; nothing for any other answer.
 fn add_clash(alloc: Global, answer: &Answer, lines: &mut Vec<u8>) -> Result<(), SessionFault>
     ensures added { OnOk result (lines.new.items ≡ lines.old.items ++ clash_text (answer_data answer.now)) }
     ensures fault { IfErr result (λ fault. fault ≡ session_faults.Memory) }
@@ -159,7 +159,7 @@ fn text_at_end(alloc: Global, entries: &[Entry]) -> Result<TextRef, SessionFault
     }
 }
 
-/// The text of an answer; none where it isn't one.
+/// The text of an answer; an empty one if the answer has no text.
 fn text_of_answer(alloc: Global, answer: &Answer) -> Result<TextRef, SessionFault>
     ensures text { IfOk result (λ text. text ≡ text_in (answer_data answer.now)) }
     ensures fault { IfErr result (λ fault. fault ≡ session_faults.Memory) }

@@ -1,4 +1,4 @@
-//! How a call of a subcommand ends.
+//! How a call with a subcommand ends.
 
 ghost use Rattle.std.specs.Prelude.{◌≡◌};
 ghost use Rattle.covrun.specs.Call.{of_line};
@@ -13,7 +13,7 @@ use covcommand::CommandFault;
 use covjobs::CollectFault;
 use covsession::SessionFault;
 
-/// How a call of a subcommand ends: what decides its exit status and what it writes.
+/// How a call with a subcommand ends: this decides its exit status and what it writes.
 #[derive(Drop)]
 pub(crate) enum Ending<'a> {
     /// The text of the last entry is printed.
@@ -28,13 +28,13 @@ pub(crate) enum Ending<'a> {
     Unreadable(&'a str),
     /// A stream failed, or there was no room.
     Stopped(SessionFault),
-    /// What was collected isn't what the jobs were told.
+    /// The history isn't that of the jobs' logs.
     Ungathered,
-    /// Texts were refused or clashed: these are the lines that tell it.
+    /// Texts were refused, or clashed: these lines report it.
     Refused(Vec<u8>),
 }
 
-/// The ending of a call whose words give no command.
+/// The ending of a call whose words form no command.
 pub(crate) fn ending_of_line<'a>(fault: CommandFault) -> Ending<'a>
     ensures { ending_data result ≡ of_line fault }
 {
@@ -57,7 +57,7 @@ pub(crate) fn ending_of_collect<'a>(fault: CollectFault) -> Ending<'a>
     }
 }
 
-/// The ending of a call whose work isn't begun.
+/// The ending of a call whose work doesn't begin.
 pub(crate) fn ending_of_work<'a>(fault: WorkFault) -> Ending<'a>
     ensures { ending_data result ≡ of_work fault }
 {

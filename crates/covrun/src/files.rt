@@ -14,7 +14,7 @@ use std::alloc::{AllocError, Global};
 /// How many bytes one read asks for.
 const BLOCK_BYTES: usize = 65_536;
 
-/// How many bytes of a file are kept: one more than a text may have, which shows that it has too many.
+/// How many bytes of a file are kept: one more than a text may have. That byte shows that the file is too long.
 const MAX_KEPT: usize = MAX_BYTES + 1;
 
 /// Why a file isn't read.
@@ -26,8 +26,8 @@ pub(crate) enum FileFault<'a> {
     Memory,
 }
 
-/// What the source still has, at most a byte more than a text may have. The text grows once where no more bytes come than are
-/// awaited. Faults: `Read` where a read failed, and `Memory`.
+/// The bytes that are left in the source, at most one more than a text may have. The text grows once if no more than `awaited`
+/// bytes come. Faults: `Read` if a read failed, and `Memory`.
 pub(crate) fn read_text<S: Source>(
     alloc: Global,
     awaited: usize,
@@ -45,8 +45,8 @@ pub(crate) fn read_text<S: Source>(
     Ok(text)
 }
 
-/// What the source still has, at most so many bytes, read by way of the block into the empty text. The limit is a parameter,
-/// since no proof should count up to the one that a text has.
+/// The bytes that are left in the source, at most this number, read through the block into the empty text. The limit is a
+/// parameter, so that no proof counts up to the limit of a text.
 fn read_at_most<S: Source>(
     empty: Bytes,
     source: &mut S,
@@ -74,7 +74,7 @@ fn read_at_most<S: Source>(
     Ok(text)
 }
 
-/// Reads once by way of the block, at most so many bytes.
+/// Reads once through the block, at most this number of bytes.
 fn read_some<S: Source>(
     source: &mut S,
     block: &mut [u8],
@@ -94,7 +94,7 @@ fn read_some<S: Source>(
     Ok(got)
 }
 
-/// Reads once into the block, appends what was read to the text, and answers how many bytes that are.
+/// Reads once into the block, appends the bytes to the text, and returns their number.
 fn read_block<S: Source>(
     source: &mut S,
     block: &mut [u8],
@@ -114,7 +114,7 @@ fn read_block<S: Source>(
     Ok(got)
 }
 
-/// The text of the file of this name, at most a byte more than a text may have.
+/// The text of the file with this name, at most one byte more than a text may have.
 pub(crate) fn file_text<'a, F: Folder>(
     folder: &F,
     alloc: Global,

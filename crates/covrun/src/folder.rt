@@ -1,4 +1,4 @@
-//! Where the files of a subcommand are read from.
+//! Where a subcommand's files are read from.
 
 ghost use Rattle.std.specs.Prelude.{◌≡◌, ℕ, List, Option, None, IfOk, IfErr};
 ghost use Rattle.std.specs.Io.KnownBytes.{Keeps};
@@ -13,25 +13,26 @@ use std::rt::Files;
 pub struct Opened<S> {
     /// Gives the file's bytes.
     pub source: S,
-    /// How many bytes the file says that it has. It is a guess: room is made for as many, and more or fewer may come.
+    /// How many bytes the file claims to have. It is a guess: room is reserved for that many, but more or fewer may come.
     pub awaited: u64,
 }
 
 /// Opens files by their names.
 ///
-/// What it tells of a file is one answer for as long as it is borrowed. So a folder whose files may change, between two opens or while
-/// they are read, tells nothing of them. A read of an open file may fail: the file's source counts it, and its bytes stay.
+/// While a folder is borrowed, `holds` gives one answer for a file. So a folder whose files may change, between two opens or
+/// during a read, must give none for them. If a read of an open file fails, the file's source counts it, and the bytes that are
+/// left stay.
 pub trait Folder {
-    // The bytes of the file of a name, where the folder tells them.
+    // The bytes of the file with this name, if the folder knows them.
     ghost holds: { Self → List ℕ → Option (List ℕ) };
 
-    // Whether the file of a name may fail to be opened.
+    // Whether opening the file with this name may fail.
     ghost may_refuse: { Self → List ℕ → Type 0 };
 
     /// The bytes of an open file.
     type File: Source + Drop;
 
-    /// Opens the file of this name. Its bytes come from the first one on.
+    /// Opens the file with this name, at its first byte.
     fn open(&self, name: &str) -> Result<Opened<Self::File>, Failed>
         ensures bytes { IfOk result (λ opened. Keeps (holds self.now name.now) (Self.File.left opened.source)) }
         ensures calls { IfOk result (λ opened. Self.File.reads opened.source ≡ 0) }
@@ -41,16 +42,16 @@ pub trait Folder {
 
 /// The files of std as a folder.
 ///
-/// std's `Files` says of no file what it holds, and another program may change one at any time. So this folder tells nothing of its
-/// files, as a `FromRead` tells nothing of a reader whose bytes std doesn't know. That it opens the file that stands under the name,
-/// and that std reads what stands there, is assumed.
+/// std's `Files` doesn't specify what a file holds, and another program may change it at any time. So `holds` gives no bytes for
+/// any file, just as a `FromRead` gives none for a reader whose bytes std doesn't specify. That std opens the file with this
+/// name, and reads that file's bytes, is assumed.
 #[derive(Clone, Copy)]
 pub struct FromFiles<'a, R> {
     files: &'a R,
 }
 
 impl<'a, R: Files> FromFiles<'a, R> {
-    /// The files of this runtime.
+    /// The files of this runtime, as a folder.
     pub fn new(files: &'a R) -> FromFiles<'a, R> {
         FromFiles { files }
     }
@@ -75,7 +76,7 @@ impl<'a, R: Files> Folder for FromFiles<'a, R> {
     }
 }
 
-/// How many bytes the file has. A pipe doesn't tell: 0.
+/// The file's length in bytes; 0 if the file can't say, such as a pipe.
 fn size_of<F: OpenFile>(file: &F) -> u64 {
     match file.metadata() {
         Ok(metadata) => metadata.len(),

@@ -14,7 +14,7 @@ use covjobs::Input;
 use covline::{Bytes, Memory};
 use std::alloc::Global;
 
-/// What the text of a file is, where it is gcov's with the test whose counts it has.
+/// A file's text as an input: gcov's text of the test if there is one, else a tracefile.
 fn input_for(alloc: Global, test: &Option<Bytes>, text: Bytes) -> Result<Input, Memory>
     ensures { IfOk result (λ input. input_data input ≡ input_of test.now text) }
 {
@@ -27,7 +27,7 @@ fn input_for(alloc: Global, test: &Option<Bytes>, text: Bytes) -> Result<Input, 
     }
 }
 
-/// Reads the files in their order. The first that can't be read is told.
+/// Reads the files in their order. Stops at the first that can't be read, and returns its name.
 pub(crate) fn read_files<'a, F: Folder>(
     folder: &F,
     alloc: Global,

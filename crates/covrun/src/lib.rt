@@ -1,9 +1,9 @@
 //! The program as a function: its words, files and streams in, its exit status out.
 //!
-//! `run` reads the command line (covcommand), and a command becomes a `Task`. Without a subcommand it is a session (covsession).
-//! Of `check` each file is read and told of by itself (`checked`). Any other subcommand is `Work`: its files are read (`files`),
-//! collected by covjobs, and the answer becomes an `Ending`, which `tell` tells by an exit status and on the two streams. Files come
-//! from a `Folder`, as `FromFiles` makes one of std's.
+//! `run` parses the command line (covcommand), and a command becomes a `Task`. Without a subcommand, it is a session
+//! (covsession). For `check`, each file is read and reported by itself (`checked`). Any other subcommand is `Work`: its files are
+//! read (`files`) and collected by covjobs, and the result becomes an `Ending`, which `tell` reports by an exit status and on the
+//! two streams. Files come from a `Folder`; `FromFiles` makes one of std's.
 //!
 //! A sketch: the program's main function.
 //!

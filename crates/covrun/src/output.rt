@@ -1,4 +1,4 @@
-//! Telling how a call ended: its text or its complaint goes to a stream, and the exit status is answered.
+//! How a call's ending is reported: its text or its complaint goes to a stream, and the exit status is returned.
 
 ghost use Rattle.std.specs.Prelude.{◌≡◌, ◌<◌, ◌≤◌, ◌^◌, ◌++◌, IfErr, OnOk, OnErr, suc};
 ghost use Rattle.std.specs.Io.KnownBytes.{Appends};
@@ -12,7 +12,7 @@ ghost use Rattle.covsession.specs.declared.session.fault.SessionFault.TheVariant
 use crate::ending::Ending;
 use covsession::{SessionFault, Sink, line_of, put_bytes, status_of};
 
-/// Tells the ending, and answers its exit status.
+/// Reports the ending, and returns its exit status.
 pub(crate) fn tell<O: Sink, E: Sink>(ending: &Ending<'_>, output: &mut O, faults: &mut E) -> u8
     requires output { O.failed_writes output.old < 2 ^ 62 }
     requires faults { E.failed_writes faults.old < 2 ^ 62 }
@@ -32,7 +32,7 @@ pub(crate) fn tell<O: Sink, E: Sink>(ending: &Ending<'_>, output: &mut O, faults
     }
 }
 
-/// Prints a text, or tells that a write of it failed.
+/// Prints a text, or reports that a write of it failed. Returns the exit status.
 fn print<O: Sink, E: Sink>(text: &[u8], output: &mut O, faults: &mut E) -> u8
     requires output { O.failed_writes output.old < 2 ^ 62 }
     requires faults { E.failed_writes faults.old < 2 ^ 62 }
@@ -46,7 +46,7 @@ fn print<O: Sink, E: Sink>(text: &[u8], output: &mut O, faults: &mut E) -> u8
     }
 }
 
-/// Writes all of a text, and has the sink send it on.
+/// Writes the whole text, and flushes the output.
 pub(crate) fn put_out<O: Sink>(text: &[u8], output: &mut O) -> Result<(), SessionFault>
     requires { O.failed_writes output.old < 2 ^ 62 }
     ensures written { OnOk result (Appends (O.written output.old) (O.written output.new) text.now) }
@@ -62,7 +62,7 @@ pub(crate) fn put_out<O: Sink>(text: &[u8], output: &mut O) -> Result<(), Sessio
     }
 }
 
-/// Says these words in two parts on the stream for faults, and answers the exit status.
+/// Writes these words, in two parts, to the stream for faults, and returns the exit status.
 fn complain<E: Sink>(front: &[u8], words: &[u8], status: u8, faults: &mut E) -> u8
     requires { E.failed_writes faults.old < 2 ^ 62 }
     ensures status { result ≡ status }
@@ -73,7 +73,7 @@ fn complain<E: Sink>(front: &[u8], words: &[u8], status: u8, faults: &mut E) -> 
     status
 }
 
-/// Says these words in two parts on the stream for faults. Nobody is left to tell where that write fails.
+/// Writes these words, in two parts, to the stream for faults. If that fails, there is nowhere left to report it.
 pub(crate) fn say<E: Sink>(front: &[u8], words: &[u8], faults: &mut E)
     requires { E.failed_writes faults.old < 2 ^ 63 }
     ensures said { E.failed_writes faults.new ≡ E.failed_writes faults.old

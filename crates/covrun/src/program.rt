@@ -18,22 +18,22 @@ use std::alloc::{AllocGlobal, Global};
 use std::sync::Wait;
 use std::thread::Threads;
 
-/// Does what the program does, and answers its exit status. The first of the words is the program's name.
+/// Runs the program, and returns its exit status. The first of the words is the program's name.
 ///
-/// The tests of a call that collects files stand in this order: the command line (2); the patterns, or the test's name of `gcov` (2); the files, of which the
-/// first that can't be read is told (1); a fault of collecting (3); want of memory for one of the texts (3); texts that are
-/// refused, and clashes (4); the output (1). `out of memory` (3) may be told at any moment. Nothing but the text of a call that
-/// succeeds, or help, goes to the output, and a beginning of that text where a write fails.
+/// A call that collects files looks for faults in this order, given here with their exit statuses: the command line (2); the
+/// patterns, or the test's name of `gcov` (2); the first file that can't be read (1); a fault of collecting (3); a text for which
+/// memory ran out (3); refused texts and clashes (4); a failed write to the output (1). `out of memory` (3) may end the call at
+/// any point. Only help, the version, or the text of a call that succeeds goes to the output; if a write fails, a
+/// beginning of that text does.
 ///
-/// A call that checks files looks at one after another: a line goes to the output for each that can be read, and a file that
-/// can't be, or has no item, is complained of. Its status is 1 where a file can't be read, else 4 where one is refused, else 5
-/// where one has no item, else 0. A failed write of a line (1) and want of memory (3) end the call.
+/// A call that checks files checks one after another. It writes a line to the output for each file that can be read, and
+/// complains about a file that can't be read or has no item. Its status is 1 if a file can't be read, else 4 if one is refused,
+/// else 5 if one has no item, else 0. The call ends early if a write of a line fails (1), or if memory runs out (3).
 ///
-/// The texts that are collected or checked are those of the folder's files, under their names in the words, where the folder tells
-/// what they hold.
+/// If the folder knows what its files hold, the texts that are collected or checked are those of the files named in the words.
 ///
-/// A session alone reads the input. The output is flushed, and `faults` isn't.
-/// Without a subcommand this is a session over the input and the output. Waits for the jobs.
+/// Only a session reads the input. The output is flushed; `faults` isn't. Without a subcommand, the call is a session over the
+/// input and the output. Waits for the jobs.
 pub fn run<R: AllocGlobal + Threads + Wait + Sync, F: Folder, I: Source, O: Sink, E: Sink>(
     rt: &R,
     folder: &F,
@@ -58,7 +58,7 @@ pub fn run<R: AllocGlobal + Threads + Wait + Sync, F: Folder, I: Source, O: Sink
     }
 }
 
-/// Does what the command asks for, and answers the exit status.
+/// Does what the command asks for, and returns the exit status.
 fn run_command<R: Threads + Wait + Sync, F: Folder, I: Source, O: Sink, E: Sink>(
     rt: &R,
     folder: &F,
@@ -87,7 +87,7 @@ fn run_command<R: Threads + Wait + Sync, F: Folder, I: Source, O: Sink, E: Sink>
     }
 }
 
-/// Tells why the words of a call aren't known, and answers the exit status, as `run` does where they give no command.
+/// Reports why the call's words can't be read, and returns the exit status, as `run` does for words that form no command.
 pub fn refuse<O: Sink, E: Sink>(fault: CommandFault, output: &mut O, faults: &mut E) -> u8
     requires failed_writes { O.failed_writes output.old < 2 ^ 62 }
     requires failed_words { E.failed_writes faults.old < 2 ^ 62 }

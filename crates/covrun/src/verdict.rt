@@ -1,6 +1,6 @@
-//! What became of a file that is checked, as far as the exit status depends on it.
+//! The verdict on a checked file, which decides the exit status.
 
-/// What became of a file that is checked, as far as the exit status depends on it.
+/// The verdict on a checked file, which decides the exit status.
 #[derive(Clone, Copy)]
 pub(crate) enum Verdict {
     /// It is read, and has an item.
@@ -17,7 +17,7 @@ impl Verdict {
     ghost use Rattle.std.specs.Prelude.{◌≡◌};
     ghost use Rattle.covrun.specs.Checked.{verdict_status, worse};
 
-    /// Of two verdicts the one that decides the exit status.
+    /// The one of two verdicts that decides the exit status.
     pub(crate) fn or(self, other: Verdict) -> Verdict
         ensures { result ≡ worse self other }
     {
@@ -29,7 +29,7 @@ impl Verdict {
         }
     }
 
-    /// The exit status.
+    /// The exit status for this verdict.
     pub(crate) fn status(self) -> u8
         ensures { result ≡ verdict_status self }
     {

@@ -1,9 +1,9 @@
-//! Why a subcommand is refused whose words fit the command line.
+//! Why a subcommand is refused although its words fit the command line.
 
 use covreport::PatternFault;
 use thiserror::Error;
 
-/// Why a subcommand is refused whose words fit the command line.
+/// Why a subcommand is refused although its words fit the command line.
 #[derive(Clone, Copy, Debug, PartialEq, Eq, Error)]
 pub enum WordsFault {
     /// There are more than 64 patterns.
@@ -15,7 +15,7 @@ pub enum WordsFault {
     /// A tracefile can't hold the test's name.
     #[error("BadTest")]
     BadTest,
-    /// There are no jobs, or more than 64. The command line lets none of these through.
+    /// There are no jobs, or more than 64. The command line admits no such number.
     #[error("BadJobs")]
     BadJobs,
 }
@@ -25,7 +25,7 @@ impl WordsFault {
     ghost use Rattle.covsession.specs.Session.{said};
     ghost use Rattle.covrun.specs.Ending.{words_fault_name};
 
-    /// The line that tells it.
+    /// The line that reports it.
     pub(crate) fn line(self) -> &'static [u8]
         ensures { result.now ≡ said (words_fault_name self) }
     {

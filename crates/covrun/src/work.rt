@@ -7,8 +7,8 @@ use covline::{Bytes, Memory, good_test};
 use covreport::{PatternFault, Patterns};
 use std::alloc::{AllocError, Global};
 
-/// What a subcommand has to do: the files to read, the test whose counts they have where they are gcov's, by how many jobs,
-/// and what is asked at the end.
+/// What a subcommand has to do: the files to read; if they are gcov's, the test that their counts are of; the number of jobs; and
+/// what is asked after the files.
 #[derive(Drop)]
 pub(crate) struct Work {
     pub(crate) files: Names,
@@ -22,9 +22,9 @@ pub(crate) struct Work {
 pub(crate) enum Task {
     /// A session over the input and the output.
     Session,
-    /// To collect files, and answer what is asked at the end.
+    /// Collects files, and answers what is asked after them.
     Collect(Work),
-    /// To look at files one by one.
+    /// Checks files one by one.
     Check {
         /// How the files are read.
         format: TextFormat,
@@ -33,12 +33,12 @@ pub(crate) enum Task {
     },
 }
 
-/// Why a subcommand's work isn't begun.
+/// Why a subcommand's work doesn't begin.
 #[derive(Clone, Copy)]
 pub(crate) enum WorkFault {
     /// Its words are refused.
     Words(WordsFault),
-    /// A growth was refused.
+    /// Memory was refused.
     Memory,
 }
 
@@ -88,7 +88,7 @@ ghost use Rattle.covrun.specs.Work.{task_of, filtering, ArePatterns, AreTaken};
 ghost use Rattle.covrun.specs.WorkFault.{IsRefusal, IsPatternRefusal, IsTestRefusal};
 ghost use Rattle.covrun.specs.declared.work.WorkFault.TheVariants as faults;
 
-/// What the command has to do, once its patterns and its test's name are tested.
+/// What the command has to do, after its patterns and its test's name are checked.
 pub(crate) fn task_for(alloc: Global, command: Command) -> Result<Task, WorkFault>
     ensures task { IfOk result (λ task. task_data task ≡ task_of command) }
     ensures taken { IfOk result (λ _. AreTaken command) }
@@ -129,7 +129,7 @@ fn over(files: Names, test: Option<Bytes>, jobs: u32, last: Op) -> Work
     }
 }
 
-/// Tests the name of a test.
+/// Checks the name of a test.
 fn test_name(test: &Bytes) -> Result<(), WorkFault>
     ensures good { IfOk result (λ _. IsGoodTest test.now) }
     ensures bad { IfErr result (IsTestRefusal test.now) }
@@ -141,7 +141,7 @@ fn test_name(test: &Bytes) -> Result<(), WorkFault>
     }
 }
 
-/// The first name, which is a file's, and the others as patterns.
+/// The first name, which is a file's, and the other names as patterns.
 fn split(alloc: Global, names: &Names) -> Result<(Names, Patterns), WorkFault>
     ensures file { IfOk result (λ r. r.0 ≡ take 1 names.now) }
     ensures patterns { IfOk result (λ r. r.1 ≡ drop 1 names.now) }
@@ -157,7 +157,7 @@ fn split(alloc: Global, names: &Names) -> Result<(Names, Patterns), WorkFault>
     Ok((files, patterns))
 }
 
-/// The list of these patterns: the first that it doesn't take tells why.
+/// The list of these patterns, or why the first bad one is refused.
 fn patterns_of(alloc: Global, words: &[String]) -> Result<Patterns, WorkFault>
     ensures patterns { IfOk result (λ patterns. patterns ≡ map string_bytes words.now) }
     ensures taken { IfOk result (λ _. ArePatterns (map string_bytes words.now)) }

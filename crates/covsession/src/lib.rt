@@ -4,12 +4,19 @@
 //! with its exit status and the words of its fault, and `laws` says what holds of every session. Other programs take from
 //! here what they say as a session does: the lines of a refused text and of a clash, and a fault's line and exit status.
 //!
-//! A sketch: a session over a slice and a vector.
+//! An example, proved and run in `covuses`: what a session answers to commands. `Kept` is the caller's [`Sink`], which keeps
+//! what it takes.
 //!
 //! ```text
-//! let mut source = FromRead::new(b"trace\nSF:/src/a.c\nDA:1,2\nend_of_record\n.\nsummary\n".as_slice());
-//! let mut sink = FromWrite::new(&mut answers);
-//! session(alloc, &mut source, &mut sink)?;
+//! pub fn answers_to(alloc: Global, commands: &[u8]) -> Result<Vec<u8>, SessionFault> {
+//!     let mut source = FromRead::new(commands);
+//!     let mut sink = Kept {
+//!         text: Vec::new(alloc),
+//!         failed: 0,
+//!     };
+//!     session(alloc, &mut source, &mut sink)?;
+//!     Ok(sink.text)
+//! }
 //! ```
 #![tactic(auto)]
 

@@ -1,4 +1,4 @@
--- What is kept for a file has no more points than there are rows: each is the point of some row, and stands once.
+-- The index of a file has no more points than there are rows: each is the point of some row, and is there once.
 use Rattle.std.proofs.Common.{◌≡◌, ℕ, ◌≤◌, Bool, Option, Some, List, [], ◌∷◌, length, filter, map, refl, sym, ap, ◌∙◌, subst, inl, inr, ⊎_elim, arith}
 use Rattle.std.specs.Cmp.{IsTotalOrder}
 use Rattle.std.specs.Cmp.Lexicographic.{slice_cmp}
@@ -11,7 +11,7 @@ use Rattle.std.proofs.lemmas.List.{length-map}
 use Rattle.covline.specs.Row.{ItemData, Row}
 use Rattle.covstore.specs.declared.sums.Tests.{Tests}
 use Rattle.covstore.specs.Ascending.{ascending}
-use Rattle.covstore.specs.KindIndexCounts.{AreCounts}
+use Rattle.covstore.specs.PointIndexCounts.{AreCounts}
 use Rattle.covmap.specs.Puts.{value_of}
 use Rattle.covstore.specs.State.{FileData, IsStateOf, IsConsistentFile, points_in, tests_in}
 use Rattle.covstore.specs.Sums.{TestData, sum_at, test_of}
@@ -29,7 +29,7 @@ use Rattle.covstore.proofs.Axis.{each_kind, of_all, order_of}
 
 -- ---- ascending lists, one within the other
 
--- a member behind the first isn't the first
+-- a member after the first isn't the first
 not_first : {X : Type 0} {cmp : X → X → Ordering} → IsTotalOrder cmp → (y z : X) (ys : List X) → cmp y z ≡ Less → In z (y ∷ ys) → In z ys
 not_first {X} {cmp} t y z ys less (inl same) = absurd (not_itself t y (subst (λ (w : X). cmp y w ≡ Less) (sym same) less))
 not_first t y z ys less (inr i) = i
@@ -56,7 +56,7 @@ length-within {X} {cmp} t (x ∷ xs) (y ∷ ys) sorted ordered within =
 
 -- ---- the points of one kind
 
--- numbers kept for points that are all among others are no more than these
+-- if all points with numbers are among other points, they are no more than these
 kept_within : {K V : Type 0} {cmp : K → K → Ordering} (o : IsExactOrder cmp) {is_above : V → Bool} (tests : List (List (K × V))) (counts : List (K × Tests)) → AreCounts cmp is_above tests counts → (all : List K)
     → ((key : K) → In key (flat_map points_of tests) → In key all) → length counts ≤ length all
 kept_within {K} {V} {cmp} o tests counts are all within =
@@ -84,7 +84,7 @@ module _ (rows : List Row) (files : List (List ℕ × FileData)) (state : IsStat
             ∙ ap (λ (kept : Option FileData). points_in kept pair.0.0) (sym there) ∙ state.points key,
       )
 
-  -- an item of a key is that of a row
+  -- an item of a key is the item of a row
   row_of : {K : Type 0} (point : ItemData → List K) (key : Key) (k : K) → In k (flat_map point (items_at key rows)) → In k (flat_map (λ row. point row.item) rows)
   row_of {K} point key k i =
       let item = In-unflat point (items_at key rows) k i in
@@ -107,7 +107,7 @@ module _ (rows : List Row) (files : List (List ℕ × FileData)) (state : IsStat
 
 -- ---- all kinds
 
--- what items add up to has points of which the items speak
+-- the points of what items add up to are points of the items
 spoken : (kind : Kind) (items : List ItemData) (key : KeyOf kind) → In key (points_of (at kind (test_of items))) → In key (flat_map (point_of kind) items)
 spoken kind items = of_all (λ kind (pairs : PointsOf kind). (key : KeyOf kind) → In key (points_of pairs) → In key (flat_map (point_of kind) items)) sums own kind
   where

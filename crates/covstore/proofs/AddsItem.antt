@@ -1,4 +1,4 @@
--- What items do where their test and the index of its file stand.
+-- What items do to their test and to the index of its file.
 use Rattle.std.proofs.Common.{◌≡◌, ℕ, Some, None, List, [], ◌∷◌, ◌++◌, sym, ap, ◌∙◌, subst, inl, inr, ⊎_elim}
 use Rattle.std.specs.Prelude.{Contains}
 use Rattle.std.specs.Cmp.Lexicographic.{slice_cmp}
@@ -29,16 +29,13 @@ own_text file (LineItem line count None) index c own i = absurd i
 own_text file (FuncItem name line count) index c own i = absurd i
 own_text file (BranchItem line block branch taken) index c own i = absurd i
 
-module _ (items : List ItemData) (test test_after : TestData) (index index_after : FileIndexData) (more : test_after ≡ with_items items test) (counts : KeepsCounts test test_after index index_after)
-    (own : (item : ItemData) → In item items → IsTextOf item index_after) (texts : KeepsTextsOf index index_after) (rows : List Row) (files : List (List ℕ × FileData)) (file name : List ℕ)
-    (tests : List (List ℕ × TestData)) (is : IsIn rows files file name tests test index) where
+-- each checksum of the file is the text of its line, where those of the items are
+module _ (items : List ItemData) (test : TestData) (index index_after : FileIndexData) (own : (item : ItemData) → In item items → IsTextOf item index_after) (texts : KeepsTextsOf index index_after)
+    (rows : List Row) (files : List (List ℕ × FileData)) (file name : List ℕ) (tests : List (List ℕ × TestData)) (is : IsIn rows files file name tests test index) where
   abbrev its_rows : List Row
   its_rows = rows_of_sect (section_of_items file name items)
 
-  abbrev file_after : FileData
-  file_after = file_with (put (slice_cmp nat_cmp) name test_after tests) index_after
-
-  texts_after : (c : Checksum) → Contains (checksums_in (rows ++ its_rows)) c → c.file ≡ file → value_of nat_cmp c.line index_after.texts ≡ Some c.checksum
+  pub texts_after : (c : Checksum) → Contains (checksums_in (rows ++ its_rows)) c → c.file ≡ file → value_of nat_cmp c.line index_after.texts ≡ Some c.checksum
   texts_after c i same =
       ⊎_elim {C = value_of nat_cmp c.line index_after.texts ≡ Some c.checksum}
       (λ (before : In c (checksums_in rows)). texts.texts_stay c.line (checksum_held is c before (sym same)) ∙ text_kept is c before (sym same))
@@ -49,16 +46,26 @@ module _ (items : List ItemData) (test test_after : TestData) (index index_after
       (In-parts (checksums_in rows) (checksums_in its_rows) c
       (subst (In c) (flat_map-append checksum_of_row rows its_rows) (In-from (checksums_in (rows ++ its_rows)) c i)))
 
-  state_after : IsStateOf (rows ++ its_rows) (put (slice_cmp nat_cmp) file file_after files)
+module _ (items : List ItemData) (test test_after : TestData) (index index_after : FileIndexData) (more : test_after ≡ with_items items test) (counts : KeepsCounts test test_after index index_after)
+    (own : (item : ItemData) → In item items → IsTextOf item index_after) (texts : KeepsTextsOf index index_after) (rows : List Row) (files : List (List ℕ × FileData)) (file name : List ℕ)
+    (tests : List (List ℕ × TestData)) (is : IsIn rows files file name tests test index) where
+  abbrev rows_after : List Row
+  rows_after = rows ++ rows_of_sect (section_of_items file name items)
+
+  abbrev file_after : FileData
+  file_after = file_with (put (slice_cmp nat_cmp) name test_after tests) index_after
+
+  state_after : IsStateOf rows_after (put (slice_cmp nat_cmp) file file_after files)
   state_after =
       rows_more file name rows items files (file_with tests index) file_after test is.state is.its_file is.its_test
-      (ap (λ (t : TestData). put (slice_cmp nat_cmp) name t tests) more) (whole_after is test_after index_after counts) texts_after
+      (ap (λ (t : TestData). put (slice_cmp nat_cmp) name t tests) more) (whole_after is test_after index_after counts)
+      (texts_after items test index index_after own texts rows files file name tests is)
 
-  items_add_at : (first_clash (checksums_in rows) (checksums_in its_rows) ≡ None)
-      × IsIn (rows ++ its_rows) (put (slice_cmp nat_cmp) file file_after files) file name (put (slice_cmp nat_cmp) name test_after tests) test_after index_after
+  items_add_at : (first_clash (checksums_in rows) (checksums_in (rows_of_sect (section_of_items file name items))) ≡ None)
+      × IsIn rows_after (put (slice_cmp nat_cmp) file file_after files) file name (put (slice_cmp nat_cmp) name test_after tests) test_after index_after
   items_add_at =
-      let agree = state_agrees (rows ++ its_rows) (put (slice_cmp nat_cmp) file file_after files) state_after in (
-        agree_none (checksums_in rows) (checksums_in its_rows) is.agree (subst Agree (flat_map-append checksum_of_row rows its_rows) agree),
+      let agree = state_agrees rows_after (put (slice_cmp nat_cmp) file file_after files) state_after in (
+        agree_none (checksums_in rows) (checksums_in (rows_of_sect (section_of_items file name items))) is.agree (subst Agree (flat_map-append checksum_of_row rows (rows_of_sect (section_of_items file name items))) agree),
         record {
           state = state_after;
           agree = agree;
@@ -67,7 +74,7 @@ module _ (items : List ItemData) (test test_after : TestData) (index index_after
         },
       )
 
--- where the numbers of the file count the test with the items, and the texts have their checksums, the items are added
+-- if the index counts the test with the items, and the texts have their checksums, the items are added
 pub items_add : (items : List ItemData) (test test_after : TestData) (index index_after : FileIndexData) → test_after ≡ with_items items test → KeepsCounts test test_after index index_after
     → ((item : ItemData) → In item items → IsTextOf item index_after) → KeepsTextsOf index index_after → Adds items test index test_after index_after
 items_add items test test_after index index_after more counts own texts rows files file name tests is =

@@ -1,5 +1,4 @@
--- Keys with values, ascending: the place of a key that is there, and a value that is put in again. And first clashes of lists
--- one after the other.
+-- Keys with values, ascending: the place of a key, and a value that replaces another. And first clashes of joined lists.
 use Rattle.std.proofs.Common.{◌≡◌, cond, Option, Some, None, List, [], ◌∷◌, ◌++◌, length, refl, sym, ap, ◌∙◌, append_assoc, arith}
 use Rattle.std.specs.declared.cmp.Ordering.{Ordering}
 use Rattle.std.specs.declared.cmp.Ordering.TheVariants.{Less, Equal, Greater}
@@ -9,14 +8,14 @@ use Rattle.std.proofs.lemmas.Cmp.{tied_itself}
 use Rattle.std.proofs.lemmas.List.{append-nil}
 use Rattle.std.proofs.lemmas.Option.{none-some, same_Some}
 use Rattle.covstore.specs.Clash.{Checksum, ClashData, clash_with, differs, first_clash, or_later}
-use Rattle.covstore.specs.KindIndexCounts.{is_new, one_if}
+use Rattle.covstore.specs.PointIndexCounts.{is_new, one_if}
 use Rattle.covmap.specs.Puts.{ArePairs, put, value_of}
 use Rattle.covstore.proofs.Ascend.{IsExactOrder, All-weaker, flips}
 use Rattle.covstore.proofs.Puts.{length-put, same_pair, value_of_before}
 
 -- ---- the place of a key
 
--- the key stands between a front and a back, with its value, and with any other value that is put in
+-- the key is between a front and a back, with its value, and with any other value that replaces it
 pub record IsPlaceOf {K V : Type 0} (key : K) (value : V) (pairs : List (K × V)) (pairs_with : V → List (K × V)) : Type 0 where
   pub front : List (K × V)
   pub back : List (K × V)
@@ -47,7 +46,7 @@ module _ {K V : Type 0} {cmp : K → K → Ordering} (o : IsExactOrder cmp) wher
   place_of key value [] sorted h = absurd (none-some value h)
   place_of key value (pair ∷ pairs) sorted h = place_at key value pair pairs (cmp pair.0 key) refl sorted.0 (place_of key value pairs sorted.1) h
 
-  -- the value that is there changes nothing
+  -- putting the value that is there changes nothing
   pub put_there : (key : K) (value : V) (pairs : List (K × V)) → ArePairs cmp pairs → value_of cmp key pairs ≡ Some value → put cmp key value pairs ≡ pairs
   put_there key value pairs sorted h = let is = place_of key value pairs sorted h in is.after value ∙ sym is.place
 
@@ -56,7 +55,7 @@ module _ {K V : Type 0} {cmp : K → K → Ordering} (o : IsExactOrder cmp) wher
       let none : one_if (is_new (value_of cmp key pairs)) ≡ 0 = ap (λ (committed : Option V). one_if (is_new committed)) h in
       omega (arith, length-put o key other pairs sorted, none)
 
-  -- ---- a value put in after another one of the same key
+  -- ---- a value put in after another one for the same key
 
   put_first : (key : K) (value other : V) (pairs : List (K × V)) → put cmp key other ((key, value) ∷ pairs) ≡ (key, other) ∷ pairs
   put_first key value other pairs =
@@ -75,13 +74,13 @@ module _ {K V : Type 0} {cmp : K → K → Ordering} (o : IsExactOrder cmp) wher
   put_twice key value other [] = put_first key value other []
   put_twice key value other (pair ∷ pairs) = put_twice_at key value other pair pairs (cmp pair.0 key) refl (put_twice key value other pairs)
 
--- ---- the first clash of lists one after the other
+-- ---- the first clash of joined lists
 
 joined_at : (x : Checksum) (found : Option Checksum) (front whole back : Option ClashData) → (front ≡ None → whole ≡ back) → or_later x found front ≡ None → or_later x found whole ≡ back
 joined_at x (Some other) front whole back rest none = absurd (none-some (clash_with x other) (sym none))
 joined_at x None front whole back rest none = rest none
 
--- where the first list doesn't clash, it counts as held
+-- if the first list doesn't clash, it counts as held
 pub clash_after : (committed xs ys : List Checksum) → first_clash committed xs ≡ None → first_clash committed (xs ++ ys) ≡ first_clash (committed ++ xs) ys
 clash_after committed [] ys none = ap (λ (all : List Checksum). first_clash all ys) (sym (append-nil committed))
 clash_after committed (x ∷ xs) ys none =
@@ -93,7 +92,7 @@ front_at : (x : Checksum) (found : Option Checksum) (front whole : Option ClashD
 front_at x (Some other) front whole clash rest h = h
 front_at x None front whole clash rest h = rest h
 
--- and where it clashes, that is the clash of both
+-- if it clashes, that is the clash of both
 pub clash_before : (committed xs ys : List Checksum) (clash : ClashData) → first_clash committed xs ≡ Some clash → first_clash committed (xs ++ ys) ≡ Some clash
 clash_before committed [] ys clash h = absurd (none-some clash h)
 clash_before committed (x ∷ xs) ys clash h =

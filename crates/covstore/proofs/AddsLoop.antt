@@ -1,4 +1,4 @@
--- Items that are taken one after the other: those so far, and those that are left.
+-- Items that are staged one after another: those so far, and those that are left.
 use Rattle.std.proofs.Common.{◌≡◌, ℕ, ◌+◌, ◌<◌, List, [], ◌∷◌, ◌++◌, get_or, length, take, drop, map, refl, sym, ap, ◌∙◌}
 use Rattle.std.proofs.lemmas.List.{drop_more, map-append, map_more, take-append-drop}
 use Rattle.covline.specs.Row.{ItemData}
@@ -16,7 +16,7 @@ use Rattle.covstore.proofs.AddsMore.{adds_more, adds_none, clash_front, clash_la
 use Rattle.covstore.proofs.AddsRoom.{has_room, room_later, room_of_some}
 use Rattle.covstore.proofs.StepsMore.{held_both}
 
--- these items are taken, and there is room for those that are left
+-- these items are staged, and there is room for those that are left
 pub record HasTaken {A : Type 0} (taken left : List ItemData) (test : Test A) (index : FileIndex A) (test_now : Test A) (index_now : FileIndex A) : Type 0 where
   pub adds : Adds taken (test_staged test) (index_staged index) (test_staged test_now) (index_staged index_now)
   pub room : HasRoomFor left (test_staged test_now) (index_staged index_now)
@@ -63,7 +63,7 @@ module _ {A : Type 0} (taken : List ItemData) (item : ItemData) (left : List Ite
       clash_later taken (item ∷ left) (test_staged test) (test_staged test_now) (index_staged index) (index_staged index_now) line committed given so_far.adds
       (clash_front (item ∷ []) left (test_staged test_now) (index_staged index_now) line committed given (item_clashes item (test_staged test_now) (index_staged index_now) line committed given clash))
 
--- ---- by places in a list
+-- ---- by index in a list
 
 module _ {D E : Type 0} (f : D → E) (items : List D) (i : ℕ) (d : D) (within : i < length items) (is : d ≡ get_or items i d) where
   pub left_at : map f (drop i items) ≡ f d ∷ map f (drop (i + 1) items)

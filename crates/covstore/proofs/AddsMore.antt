@@ -1,4 +1,4 @@
--- Items one after the other: what they do together, and when they clash.
+-- Items one after another: what they do together, and when they clash.
 use Rattle.std.proofs.Common.{◌≡◌, ℕ, Bool, true, false, ◌&&◌, ◌==◌, not, Some, None, List, [], ◌∷◌, ◌++◌, refl, sym, ap, ◌∙◌, subst, append_assoc}
 use Rattle.std.specs.Prelude.{Contains}
 use Rattle.std.specs.Cmp.Lexicographic.{slice_cmp}
@@ -24,7 +24,7 @@ use Rattle.covstore.proofs.Orders.{names_order}
 
 -- ---- no items
 
--- what stands still stands where the rows, the files and the tests are told in another way
+-- rows, files and tests in a state can be replaced by equal ones
 moved : (rows others : List Row) (files list : List (List ℕ × FileData)) (file name : List ℕ) (tests : List (List ℕ × TestData)) (test : TestData) (index : FileIndexData) → rows ≡ others → files ≡ list
     → IsIn rows files file name tests test index → IsIn others list file name tests test index
 moved rows others files list file name tests test index same_rows same_files is =
@@ -38,7 +38,7 @@ adds_none test index rows files file name tests is =
     moved rows (rows ++ []) files (put (slice_cmp nat_cmp) file (file_with tests index) files) file name tests test index (sym (append-nil rows)) (sym same_files) is in
     (refl, subst (λ (list : List (List ℕ × TestData)). IsIn (rows ++ []) (put (slice_cmp nat_cmp) file (file_with list index) files) file name list test index) (sym same_tests) there)
 
--- ---- items and then others
+-- ---- items, and then others
 
 row_with : List ℕ → List ℕ → ItemData → Row
 row_with file name item = record { test = name; file = file; item = item }
@@ -48,12 +48,12 @@ rows_joined : (file name : List ℕ) (xs ys : List ItemData)
 unfolding row_with
 rows_joined file name xs ys = map-append (λ (item : ItemData). row_with file name item) xs ys
 
-checksums_joined : (file name : List ℕ) (xs ys : List ItemData)
+pub checksums_joined : (file name : List ℕ) (xs ys : List ItemData)
     → checksums_in (rows_of_sect (section_of_items file name (xs ++ ys))) ≡ checksums_in (rows_of_sect (section_of_items file name xs)) ++ checksums_in (rows_of_sect (section_of_items file name ys))
 checksums_joined file name xs ys =
     ap checksums_in (rows_joined file name xs ys) ∙ flat_map-append checksum_of_row (rows_of_sect (section_of_items file name xs)) (rows_of_sect (section_of_items file name ys))
 
--- items behind others that don't clash are given to the rows with these
+-- after items that don't clash, the others clash as with rows that have these items
 clash_joined : (rows : List Row) (file name : List ℕ) (xs ys : List ItemData) → clash_of rows (rows_of_sect (section_of_items file name xs)) ≡ None
     → clash_of rows (rows_of_sect (section_of_items file name (xs ++ ys))) ≡ clash_of (rows ++ rows_of_sect (section_of_items file name xs)) (rows_of_sect (section_of_items file name ys))
 clash_joined rows file name xs ys none =
@@ -84,14 +84,14 @@ adds_more xs ys a b c m n o first second rows files file name tests is =
 
 -- ---- clashes
 
--- the items behind clash where the ones before don't
+-- the later items clash, and the earlier ones don't
 pub clash_later : (xs ys : List ItemData) (a b : TestData) (m n : FileIndexData) (line : ℕ) (committed given : List ℕ) → Adds xs a m b n → ClashesAt ys b n line committed given → ClashesAt (xs ++ ys) a m line committed given
 clash_later xs ys a b m n line committed given first later rows files file name tests is =
     let one = first rows files file name tests is in
     clash_joined rows file name xs ys one.0
     ∙ later (rows ++ rows_of_sect (section_of_items file name xs)) (files_with file name tests b n files) file name (put (slice_cmp nat_cmp) name b tests) one.1
 
--- a clash of the ones before is that of all
+-- a clash of the earlier items is the clash of all
 pub clash_front : (xs ys : List ItemData) (a : TestData) (m : FileIndexData) (line : ℕ) (committed given : List ℕ) → ClashesAt xs a m line committed given → ClashesAt (xs ++ ys) a m line committed given
 clash_front xs ys a m line committed given front rows files file name tests is =
     ap (first_clash (checksums_in rows)) (checksums_joined file name xs ys)
@@ -107,7 +107,7 @@ all_hold true false z first second other = second
 all_hold false y z first second other = first
 
 -- two different checksums of one line
-two_checksums : (file : List ℕ) (line : ℕ) (given committed : List ℕ) → (committed ≡ given → ⊥) → differs (record { file = file; line = line; checksum = given }) (record { file = file; line = line; checksum = committed }) ≡ true
+pub two_checksums : (file : List ℕ) (line : ℕ) (given committed : List ℕ) → (committed ≡ given → ⊥) → differs (record { file = file; line = line; checksum = given }) (record { file = file; line = line; checksum = committed }) ≡ true
 two_checksums file line given committed other =
     all_hold (bytes_eq file file) (line == line) (bytes_eq given committed) ((bytes_eq-Decides file file).1 refl) (eq-eqb line line refl) (λ same. other (sym ((bytes_eq-Decides given committed).0 same)))
 

@@ -14,7 +14,7 @@ use Rattle.covstore.specs.declared.test.Test.{Test}
 use Rattle.covstore.specs.FileIndex.{FileIndexData}
 use Rattle.covstore.specs.FileIndexView.{KeepsCommitted, index_committed}
 use Rattle.covstore.specs.FileSection.{AddsItems, ClashesIn, HasRoomIn, KeepsIn}
-use Rattle.covstore.specs.KindIndexCounts.{is_new, one_if}
+use Rattle.covstore.specs.PointIndexCounts.{is_new, one_if}
 use Rattle.covmap.specs.Puts.{put, value_of}
 use Rattle.covstore.specs.Section.{Adds, Clashes, HasRoomFor}
 use Rattle.covstore.specs.State.{file_with}
@@ -73,7 +73,7 @@ module _ {A : Type 0} (test : List ℕ) (pairs : List (Vec ℕ A × Test A)) (ne
     seen_new f =
         ap (seen names_order file_name f) inserted ∙ seen_insert names_order file_name f key w pairs ∙ ap (λ (t : List ℕ). put (slice_cmp nat_cmp) t (f w) (seen names_order file_name f pairs)) named
 
-    -- nothing is committed of it
+    -- the new test has nothing committed
     pub keeps_new : (before index : FileIndex A) → KeepsCommitted before index → test_committed w ≡ test_of []
         → KeepsIn (file_with (seen names_order file_name test_committed pairs) (index_committed before)) (file_with (seen names_order file_name test_committed after) (index_committed index))
     keeps_new before index keeps none =
@@ -87,7 +87,7 @@ module _ {A : Type 0} (test : List ℕ) (pairs : List (Vec ℕ A × Test A)) (ne
           index = keeps;
         }))
 
--- ---- the test isn't put in
+-- ---- the test isn't inserted
 
 pub keeps_index : {A : Type 0} (pairs after : List (Vec ℕ A × Test A)) → after ≡ pairs → (before index : FileIndex A) → KeepsCommitted before index
     → KeepsIn (file_with (seen names_order file_name test_committed pairs) (index_committed before)) (file_with (seen names_order file_name test_committed after) (index_committed index))

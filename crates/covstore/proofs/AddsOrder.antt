@@ -1,4 +1,4 @@
--- Items that are taken by their spots, in any order: they do what they do as they stand.
+-- Items that are staged by their spots, in any order: the result is that of the section's order.
 use Rattle.std.proofs.Common.{◌≡◌, ℕ, ◌+◌, ◌<◌, ◌≤◌, ◌^◌, Option, Some, None, List, [], ◌∷◌, ◌++◌, get_or, length, map, take, sym, ap, ◌∙◌, subst, inl, inr, refl}
 use Rattle.std.specs.List.{sum_by}
 use Rattle.std.specs.Option.{option_to_list}
@@ -99,7 +99,7 @@ module _ {D : Type 0} (items : List D) (spots : List Spot) (are : AreSpotsOf ite
       length-flat_map (at_spot items) spots ∙ sum_by-IsPermutation (λ (spot : Spot). length (at_spot items spot)) are.others spots are.permuted
       ∙ sym (length-flat_map (at_spot items) are.others) ∙ ap length are.all
 
--- a spot more, of the item that comes next
+-- one more spot, of the next item
 pub spot_more : {D : Type 0} (items : List D) (spots : List Spot) (spot : Spot) (item : D) → spot.index < length items → item ≡ get_or items spot.index item → picked items spots ≡ take spot.index items
     → picked items (spots ++ spot ∷ []) ≡ take (spot.index + 1) items
 unfolding at_spot
@@ -117,7 +117,7 @@ item_got {X} xs i item h = slice_get-get_or xs i item.now h.3.0 ∙ ap (λ (x : 
 pub none_got : {X : Type 0} (xs : List X) (i : ℕ) → IsItemAt xs i None → slice_get xs i ≡ None
 none_got xs i h = slice_get_past xs i h.3
 
--- ---- what is taken at a spot
+-- ---- the item at a spot
 
 module _ {D : Type 0} (items : List D) (spots : List Spot) (k : ℕ) (spot : Spot) (within : k < length spots) where
   at_taken : (here : Option D) → slice_get items (get_or spots k spot).index ≡ here → picked items (take (k + 1) spots) ≡ picked items (take k spots) ++ option_to_list here
@@ -128,7 +128,7 @@ module _ {D : Type 0} (items : List D) (spots : List Spot) (k : ℕ) (spot : Spo
       ∙ ap (λ (xs : List D). picked items (take k spots) ++ xs) (append-nil (at_spot items (get_or spots k spot)))
       ∙ ap (λ (o : Option D). picked items (take k spots) ++ option_to_list o) found
 
-  -- the runs with the item at a spot more, and the same where there is none
+  -- the runs with one more item, at a spot; and the same if there is no item
   pub run_at_spot : (f : D → ItemData) (item : D) → slice_get items (get_or spots k spot).index ≡ Some item → (runs more : Each RunOf) → runs ≡ runs_of (map f (picked items (take k spots)))
       → more ≡ runs_with (f item) runs → more ≡ runs_of (map f (picked items (take (k + 1) spots)))
   run_at_spot f item found runs more so_far with_it =
@@ -141,7 +141,7 @@ module _ {D : Type 0} (items : List D) (spots : List Spot) (k : ℕ) (spot : Spo
   none_at_spot f found runs so_far =
       so_far ∙ ap (λ (some : List D). runs_of (map f some)) (sym (at_taken None found ∙ append-nil (picked items (take k spots))))
 
--- ---- what spots say
+-- ---- the items at spots
 
 -- the items at spots
 abbrev pub said_at : {D : Type 0} → (D → ItemData) → List D → List Spot → List ItemData
@@ -157,7 +157,7 @@ got_there {D} items i item (Some got) found (inr none) = absurd none
 got_there {D} items i item (Some got) found (inl same) =
     subst (λ (d : D). In d items) same (In-from items got (i, slice_get_within items i got found, get_or_from_slice_get items i got got found))
 
--- where none of the items has a checksum, none at a spot has one
+-- if none of the items has a checksum, no item at a spot has one
 pub spots_plain : {D : Type 0} (f : D → ItemData) (items : List D) (spots : List Spot) → All (λ (item : D). HasNoChecksum (f item)) items → (item : ItemData) → In item (said_at f items spots) → HasNoChecksum item
 unfolding at_spot
 spots_plain f items spots plain =

@@ -1,5 +1,5 @@
--- What stands where a test and the index of its file stand: the file is whole, its tests are what their items add up to, and
--- each checksum of the file is held, with its text.
+-- What is known of a test and the index of its file, in a state: the file is consistent, its tests are what their items add up
+-- to, and each checksum of the file is held, with its text.
 use Rattle.std.proofs.Common.{◌≡◌, ℕ, Bool, true, false, ◌&&◌, not, eqb, if◌then◌else◌, nat_lt, Option, Some, None, List, [], ◌∷◌, ◌++◌, length, filter, map, refl, sym, ap, ◌∙◌, subst, inl}
 use Rattle.std.specs.Prelude.{Contains}
 use Rattle.std.specs.Cmp.Lexicographic.{slice_cmp}
@@ -16,7 +16,7 @@ use Rattle.covline.specs.Row.{ItemData, LineItem, FuncItem, BranchItem, Row}
 use Rattle.covstore.specs.declared.sums.LineSum.{LineSum}
 use Rattle.covstore.specs.Section.{IsIn}
 use Rattle.covstore.specs.Clash.{Agree, Checksum, checksum_of_row, checksums_in}
-use Rattle.covstore.specs.KindIndexCounts.{is_above_at}
+use Rattle.covstore.specs.PointIndexCounts.{is_above_at}
 use Rattle.covstore.specs.FileIndex.{FileIndexData}
 use Rattle.covmap.specs.Puts.{put, value_of}
 use Rattle.covstore.specs.State.{FileData, IsIndexOf, IsStateOf, IsConsistentFile, file_with, has_checksum, holders_at, holding, points_in, tests_in, text_in}
@@ -44,7 +44,7 @@ no_difference true true false same = absurd (false≢true (same refl refl))
 no_difference true false z same = refl
 no_difference false y z same = refl
 
--- each has the one text of its line
+-- each checksum is the one text of its line
 pub agree_by_text : (text : List ℕ → ℕ → Option (List ℕ)) (committed : List Checksum) → ((c : Checksum) → Contains committed c → text c.file c.line ≡ Some c.checksum) → Agree committed
 agree_by_text text committed own a b i j =
     no_difference (bytes_eq a.file b.file) (eqb a.line b.line) (bytes_eq a.checksum b.checksum)
@@ -57,7 +57,7 @@ agree_by_text text committed own a b i j =
 pub state_agrees : (rows : List Row) (files : List (List ℕ × FileData)) → IsStateOf rows files → Agree (checksums_in rows)
 state_agrees rows files state = agree_by_text (λ file line. text_in (value_of (slice_cmp nat_cmp) file files) line) (checksums_in rows) (λ c i. state.texts c i)
 
--- ---- a checksum that is said
+-- ---- a checksum that an item gives
 
 pub spoken : (items : List ItemData) (line : ℕ) (said : List ℕ) → In said (flat_map (checksum_said line) items) → In line (line_points items)
 spoken items line said i =
@@ -78,7 +78,7 @@ some_first : {X : Type 0} (xs : List X) (x : X) → In x xs → is_some (first_o
 some_first [] x i = absurd i
 some_first (y ∷ ys) x i = refl
 
--- a line of which an item says a checksum has a sum with one
+-- a line to which an item gives a checksum has a sum with a checksum
 abbrev pub HasSum : TestData → ℕ → Type 0
 HasSum test line = (sum : LineSum) × (value_of nat_cmp line test.lines ≡ Some sum) × (sum.has_checksum ≡ true)
 
@@ -111,13 +111,13 @@ holder_of line tests e =
     let found = in_from_any holds tests (sym (any_counted holds tests) ∙ sym (some_if (nat_lt 0 (holding line tests)) (holding line tests)) ∙ e) in
     (found.0, found.1, above_sum (value_of nat_cmp line found.0.lines) found.2)
 
--- ---- where a test stands
+-- ---- the test in the state
 
 module _ {rows : List Row} {files : List (List ℕ × FileData)} {file name : List ℕ} {tests : List (List ℕ × TestData)} {test : TestData} {index : FileIndexData} (is : IsIn rows files file name tests test index) where
   pub its_whole : IsConsistentFile (file_with tests index)
   its_whole = All-in (λ (pair : List ℕ × FileData). IsConsistentFile pair.1) files (file, file_with tests index) is.state.whole (pair_in names_order file (file_with tests index) files is.its_file)
 
-  -- each of its tests is what the items of that test add up to
+  -- each test of the file is what its items add up to
   pub test_at : (other : List ℕ) (found : TestData) → value_of (slice_cmp nat_cmp) other tests ≡ Some found → found ≡ test_of (items_at (record { file = file; test = other }) rows)
   test_at other found e =
       sym (points_there (file_with tests index) other found e) ∙ ap (λ (kept : Option FileData). points_in kept other) (sym is.its_file) ∙ is.state.points (record { file = file; test = other })
@@ -174,7 +174,7 @@ module _ {rows : List Row} {files : List (List ℕ × FileData)} {file name : Li
       ap is_some (its_whole.kept.holders line)
       ∙ held_of line (tests_in (file_with tests index)) found (In-map (λ (pair : List ℕ × TestData). pair.1) tests (other, found) (pair_in names_order other found tests e)) own
 
-  -- and some test holds one of its line
+  -- and some test holds a checksum of that line
   pub checksum_held : (c : Checksum) → In c (checksums_in rows) → file ≡ c.file → is_some (value_of nat_cmp c.line index.holders) ≡ true
   checksum_held c i same =
       let row = In-unflat checksum_of_row rows c i in
@@ -191,7 +191,7 @@ module _ {rows : List Row} {files : List (List ℕ × FileData)} {file name : Li
       let own : value_of nat_cmp line index.texts ≡ Some said = text_kept (checksum_with file line said) there refl in
       subst (λ (t : List ℕ). In (checksum_with file line t) (checksums_in rows)) (same_Some said text (sym own ∙ kept)) there
 
-  -- the other way: the text of a line of which a test holds a checksum is one of the rows'
+  -- conversely, the text of a line with a held checksum is a checksum of the rows
   pub held_text : (line : ℕ) (text : List ℕ) → is_some (value_of nat_cmp line index.holders) ≡ true → value_of nat_cmp line index.texts ≡ Some text
       → In (record { file = file; line = line; checksum = text }) (checksums_in rows)
   unfolding checksum_with

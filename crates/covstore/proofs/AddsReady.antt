@@ -1,4 +1,5 @@
--- The items of a section in files that were made ready for them: what is committed stays, and what is staged is more.
+-- The items of a section in files that were prepared for them: the committed files stay, and the items are added to the staged
+-- ones.
 use Rattle.std.proofs.Common.{◌≡◌, ℕ, Bool, true, Some, List, [], ◌∷◌, length, refl, sym, ap, ◌∙◌, subst, arith}
 use Rattle.std.specs.Cmp.Lexicographic.{slice_cmp}
 use Rattle.std.specs.Ordering.{nat_cmp}
@@ -44,7 +45,7 @@ no_items (x ∷ xs) b is empty = let none : length (x ∷ xs) ≡ 0 = eqb-true (
 pub nothing_added : (file test : List ℕ) (items : List ItemData) (store : StoreData) → items ≡ [] → AddsRows (rows_of_items file test items) store store
 nothing_added file test items store none = subst (λ (all : List ItemData). AddsRows (rows_of_items file test all) store store) (sym none) (no_rows_added store)
 
--- ---- the files were made ready, and the file is one of them
+-- ---- the files were prepared, and the file is one of them
 
 module _ (name test : List ℕ) (items : List ItemData) (files ready : List (List ℕ × FileData)) (keeps : KeepsState files ready) (room : HasRoomAmong (rows_of_items name test items) files)
     (file : FileData) (there : value_of (slice_cmp nat_cmp) name ready ≡ Some file) where

@@ -1,4 +1,4 @@
--- Where there is room for items, there is room for the first, and for the others afterwards.
+-- If there is room for items, there is room for the first ones, and then for the others.
 use Rattle.std.proofs.Common.{List, ◌++◌, arith}
 use Rattle.std.specs.Cmp.Lexicographic.{slice_cmp}
 use Rattle.std.specs.Ordering.{nat_cmp}
@@ -26,7 +26,7 @@ has_room items test index room =
       few = λ kind. omega (arith, kept kind, room.few);
     }
 
--- of some items and others there is room for the some, and for the others afterwards
+-- if there is room for two lists of items, there is room for the first, and then for the second
 module _ (some items : List ItemData) (test : TestData) (index : FileIndexData) (room : HasRoomFor (some ++ items) test index) where
   pub room_of_some : HasRoomFor some test index
   room_of_some = record {

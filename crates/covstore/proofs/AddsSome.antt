@@ -7,7 +7,7 @@ use Rattle.std.proofs.lemmas.List.{length-append, length-map, nil_from_length}
 use Rattle.std.proofs.lemmas.List.Concat.{flat_map-append}
 use Rattle.covline.specs.Row.{ItemData, Row, SectData, rows_of_sect}
 
--- a section has a row where the test whether its items are none was false
+-- a section has a row if its list of items isn't empty
 pub some_rows : {X : Type 0} (f : X → ItemData) (items : List X) (sect : SectData) (none : Bool) → map f items ≡ sect.items → none ≡ (length items == 0) → none ≡ false → rows_of_sect sect ≢ []
 some_rows f [] sect none is empty some rows = both_ways none some empty
 some_rows f (x ∷ xs) sect none is empty some rows =
@@ -15,7 +15,7 @@ some_rows f (x ∷ xs) sect none is empty some rows =
     let no_items = length-map sect.items row_of in
     omega (arith, no_items, ap length rows, ap length is)
 
--- one section with a row is enough, whatever stands before and after it
+-- one section with a row is enough, whatever is before and after it
 pub some_of_them : (before : List SectData) (sect : SectData) (after : List SectData) → rows_of_sect sect ≢ [] → flat_map rows_of_sect (before ++ sect ∷ after) ≢ []
 some_of_them before sect after some none =
     let front = flat_map rows_of_sect before in

@@ -1,4 +1,4 @@
--- Rows that come into a store one section after the other.
+-- Rows that are staged in a store, one section after another.
 use Rattle.std.proofs.Common.{◌≡◌, None, List, [], ◌∷◌, ◌++◌, refl, sym, ap, ◌∙◌, subst, append_assoc, arith}
 use Rattle.std.specs.List.{flat_map}
 use Rattle.std.proofs.lemmas.List.{append-nil, length-append}
@@ -9,7 +9,7 @@ use Rattle.covstore.specs.Store.{AddsRows, ClashesWith, HasRoomForRows, SameComm
 use Rattle.covstore.specs.State.{IsStateOf}
 use Rattle.covstore.proofs.AddsLists.{clash_before, clash_after}
 
--- ---- rows and then others
+-- ---- rows, and then others
 
 pub clash_of_more : (rows xs ys : List Row) → clash_of rows xs ≡ None → clash_of rows (xs ++ ys) ≡ clash_of (rows ++ xs) ys
 clash_of_more rows xs ys none =
@@ -39,7 +39,7 @@ rows_added_more xs ys before now later first second = record {
   totals = λ same. second.totals (first.totals same);
 }
 
--- the first clash of the rows behind others that clash with nothing is that of all
+-- after rows that clash with nothing, the first clash of the others is the clash of all
 pub clashes_later : (xs ys zs : List Row) (before now : StoreData) (refusal : RefuseData) → AddsRows xs before now → ClashesWith ys now refusal → ClashesWith (xs ++ (ys ++ zs)) before refusal
 clashes_later xs ys zs before now MemoryRefuse first later = tt
 clashes_later xs ys zs before now (ClashRefuse clash) first later = λ rows state agree.
@@ -84,7 +84,7 @@ room_then xs ys before now room added =
 
 -- ---- the sections of a submission
 
--- these sections are taken, and there is room for those that are left
+-- these sections are staged, and there is room for those that are left
 pub record HasTakenSects (taken left : List SectData) (before now : StoreData) : Type 0 where
   pub committed : SameCommitted before now
   pub adds : AddsRows (flat_map rows_of_sect taken) before now

@@ -1,4 +1,4 @@
--- The items of a section in the store's map of files: their file is found and written, or made and put in.
+-- The items of a section in the store's map of files: their file is found and replaced, or made and inserted.
 use Rattle.std.proofs.Common.{◌≡◌, ℕ, Some, None, List, Vec, option_map, refl, sym, ap, ◌∙◌, subst}
 use Rattle.std.specs.Prelude.{Result, Ok, Err, IfOk, OnOk}
 use Rattle.std.specs.BTreeMap.{insert_entry, is_at}
@@ -62,7 +62,7 @@ module _ {A : Type 0} (name test : List ℕ) (items : List ItemData) (pairs : Li
   -- ---- the file is new
 
   module _ (none : lookup (is_at (λ (other : Vec ℕ A). slice_cmp nat_cmp name other.items)) pairs ≡ None) where
-    -- the files with one without tests
+    -- the files with a file without tests
     abbrev ready : (File A → FileData) → List (List ℕ × FileData)
     ready f = put (slice_cmp nat_cmp) name no_file (seen names_order file_name f pairs)
 

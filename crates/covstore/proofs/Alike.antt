@@ -1,5 +1,5 @@
--- Lists that are alike: their members are the same, and so are the sums over them. A list and the same in another order are,
--- and so are what is picked of them, made of them and said by them.
+-- Lists that are alike: they have the same members, and the same sums over them. A list and its permutation are alike, and so is
+-- what is picked from them, mapped from them or collected from their members.
 use Rattle.std.proofs.Common.{◌≡◌, ℕ, ◌+◌, ◌<◌, ◌≤◌, Bool, true, false, cond, min, Some, List, [], ◌∷◌, map, filter, refl, sym, ap, ◌∙◌, subst, inl, inr, ⊎_elim, arith}
 use Rattle.std.specs.List.{flat_map, sum_by, fold}
 use Rattle.std.specs.List.Sorted.{IsPermutation}
@@ -25,7 +25,7 @@ alike_permuted xs ys permuted = record {
   sums = λ f. sym (sum_by-IsPermutation f xs ys permuted);
 }
 
--- ---- what is made of alike lists
+-- ---- what is made from alike lists
 
 pub sum_by-map : {X Y : Type 0} (f : Y → ℕ) (g : X → Y) (xs : List X) → sum_by f (map g xs) ≡ sum_by (λ x. f (g x)) xs
 sum_by-map f g [] = refl
@@ -77,7 +77,7 @@ alike_picked {X} p xs ys alike = record {
 
 -- ---- what alike lists give
 
--- where all members are one, the first is the same
+-- if all members are equal, the first is the same
 pub first_alike : {X : Type 0} (xs ys : List X) → AreAlike xs ys → ((x y : X) → In x xs → In y xs → x ≡ y) → first_of xs ≡ first_of ys
 first_alike [] [] alike one = refl
 first_alike [] (y ∷ ys) alike one = absurd (alike.back y (inl refl))

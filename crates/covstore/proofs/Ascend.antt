@@ -1,4 +1,4 @@
--- An ascending list: each place is right, it has the members and no others, and there is one such list.
+-- An ascending list: each member is at its place, it has these members and no others, and there is only one such list.
 use Rattle.std.proofs.Common.{◌≡◌, ◌+◌, ◌≤◌, List, [], ◌∷◌, length, refl, sym, ap, ◌∙◌, subst, inl, inr, arith}
 use Rattle.std.specs.Prelude.{◌⊎◌}
 use Rattle.std.specs.Cmp.{IsTotalOrder}
@@ -12,7 +12,7 @@ use Rattle.std.proofs.lemmas.Map.Lookups.{CmpEqualImpliesEq}
 use Rattle.covstore.specs.Ascending.{placed, ascending, IsAscendingOf}
 use Rattle.covstore.proofs.Members.{In, In-from, Contains-from, All-in}
 
--- an order that tells all things apart
+-- a total order in which only equal things compare as equal
 pub record IsExactOrder {X : Type 0} (cmp : X → X → Ordering) : Type 0 where
   pub total : IsTotalOrder cmp
   pub exact : CmpEqualImpliesEq cmp
@@ -95,7 +95,7 @@ ascending_is {X} {cmp} o xs = record {
   members = λ x. (λ h. Contains-from xs x (In-ascending o.exact x xs (In-from (ascending cmp xs) x h)), λ h. Contains-from (ascending cmp xs) x (In-to_ascending o.exact x xs (In-from xs x h)));
 }
 
--- ---- there is one such list
+-- ---- there is only one such list
 
 pub not_itself : {X : Type 0} {cmp : X → X → Ordering} → IsTotalOrder cmp → (x : X) → cmp x x ≡ Less → ⊥
 not_itself {X} {cmp} t x e = let i = tied_itself t x in cc

@@ -1,20 +1,20 @@
--- Along the axis of kinds: what holds of each kind, where the things of one kind are others.
+-- Statements for each kind of points, and what stays when one kind changes.
 use Rattle.std.proofs.Common.{◌≡◌, List, ◌∷◌, ◌++◌, length, map, sym, ap, subst, arith, ℕ}
 use Rattle.std.proofs.lemmas.List.{length-map, map-append}
 use Rattle.covstore.specs.FileIndex.{FileIndexData, counts_totals}
 use Rattle.covstore.specs.Items.{HasRoom, HasRoomOfKind, KeepsCountsOfKind}
-use Rattle.covstore.specs.KindIndexCounts.{AreCounts}
+use Rattle.covstore.specs.PointIndexCounts.{AreCounts}
 use Rattle.covstore.specs.Kinds.{Branch, CountsOf, Each, Function, Kind, Line, PointsOf, above_of, at, cmp_of, of_each, with_at}
 use Rattle.covstore.specs.State.{FileData, IsIndexOf, found_at, hit_at, totals_in}
 use Rattle.covstore.specs.Sums.{TestData}
-use Rattle.covstore.specs.declared.kind_index.KindTotals.{KindTotals}
-use Rattle.covstore.specs.KindIndex.{IsTallyOf}
-use Rattle.covstore.specs.KindIndexDrops.{totals_by}
+use Rattle.covstore.specs.declared.point_index.KindTotals.{KindTotals}
+use Rattle.covstore.specs.PointIndex.{IsTallyOf}
+use Rattle.covstore.specs.PointIndexDrops.{totals_by}
 use Rattle.covstore.proofs.Ascend.{IsExactOrder}
 use Rattle.covstore.proofs.Orders.{branches_order, lines_order, names_order}
 use Rattle.std.specs.List.{sum_by}
 
--- ---- what goes by cases: all else is said of a kind
+-- ---- by cases: everything else is said of any kind
 
 pub each_kind : (P : Kind → Type 0) → P Line → P Function → P Branch → (kind : Kind) → P kind
 each_kind P line function branch Line = line
@@ -63,7 +63,7 @@ room_in own test index room = record {
   few = room.few own;
 }
 
--- counts that are kept where the points of one kind change are kept of all kinds
+-- if the counts are kept while the points of one kind change, they are kept for all kinds
 pub keeps_added : (own : Kind) (after : PointsOf own) (more : CountsOf own) (test : TestData) (index : FileIndexData) → KeepsCountsOfKind (cmp_of own) (above_of own) (at own test) after (at own index.counts) more
     → (front back : List TestData) → IsIndexOf (front ++ test ∷ back) index → (kind : Kind)
     → AreCounts (cmp_of kind) (above_of kind) (map (at kind) (front ++ with_at own after test ∷ back)) (at kind (with_at own more index.counts))

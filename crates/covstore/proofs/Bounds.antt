@@ -1,4 +1,4 @@
--- How many items there are, and sums that stop at the largest number of 128 bits.
+-- The number of items, and sums that stop at the largest number of 128 bits.
 use Rattle.std.proofs.Common.{◌≡◌, ℕ, ◌+◌, nat_lt, List, [], ◌∷◌, length, zero, suc, refl, sym, ◌∙◌, arith}
 use Rattle.std.specs.List.{flat_map}
 use Rattle.std.proofs.lemmas.Bool.{lt-ltb}
@@ -17,11 +17,11 @@ length-rows_of_sects (s ∷ sects) =
 
 -- ---- sums that stop
 
--- a sum that stopped and one number more is as if it hadn't
+-- adding to a sum that stopped gives the same as stopping at the end
 pub bounded_sum : (n more : ℕ) → bounded (n + more) ≡ bounded (bounded n + more)
 bounded_sum n more = omega arith
 
--- and it is above 0 where the sum is
+-- and it is above 0 if the sum is
 pub bounded_above : (n : ℕ) → nat_lt 0 (bounded n) ≡ nat_lt 0 n
 bounded_above zero = refl
 bounded_above (suc n) = lt-ltb 0 (bounded (suc n)) (omega arith) ∙ sym (lt-ltb 0 (suc n) (omega arith))

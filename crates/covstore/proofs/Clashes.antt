@@ -1,4 +1,4 @@
--- Clashes: checksums that differ, the first clash that is told, and tables whose checksums agree.
+-- Clashes: checksums that differ, the first clash, and tables whose checksums agree.
 use Rattle.std.proofs.Common.{◌≡◌, ℕ, Bool, true, false, ◌&&◌, not, eqb, List, [], ◌∷◌, ◌++◌, refl, sym, ap, ◌∙◌, subst, inl, inr, ⊎_elim, append_assoc}
 use Rattle.std.specs.Prelude.{Option, Some, None, Contains}
 use Rattle.std.specs.Str.{bytes_eq}
@@ -48,7 +48,7 @@ find_none : {X : Type 0} (p : X → Bool) (xs : List X) → ((x : X) → In x xs
 find_none p [] all = refl
 find_none p (y ∷ ys) all = cond-false (p y) (Some y) (find p ys) (all y (inl refl)) ∙ find_none p ys (λ x i. all x (inr i))
 
--- no checksum is held from which this one differs: then they agree with it too
+-- no held checksum differs from this one, so they agree with it too
 agree_more : (held : List Checksum) (x : Checksum) → Agree held → find (differs x) held ≡ None → Agree (held ++ x ∷ [])
 agree_more held x agree none a b i j =
     let own : (c : Checksum) → Contains held c → differs x c ≡ false = λ c k. not_found (differs x) held c none (In-from held c k) in
@@ -96,7 +96,7 @@ first_told held [] clash agree e = absurd (none-some clash e)
 first_told held (x ∷ xs) clash agree e =
     told_at held x xs clash (find (differs x) held) refl agree (λ more rest. first_told (held ++ x ∷ []) xs clash more rest) e
 
--- ---- what is the first clash is told
+-- ---- a reported clash is the first
 
 two_true : (x y z : Bool) → (x && y && z) ≡ true → (x ≡ true) × (y ≡ true)
 two_true true true z e = (refl, refl)
@@ -109,7 +109,7 @@ last_true true true false first second e = absurd (false≢true (sym e))
 last_true true false z first second e = absurd (false≢true second)
 last_true false y z first second e = absurd (false≢true first)
 
--- two that agree, and from which one differs, are of one line
+-- if one checksum differs from two that agree, these are equal
 same_checksum : (given a b : Checksum) → differs given a ≡ true → differs given b ≡ true → differs a b ≡ false → a.checksum ≡ b.checksum
 same_checksum given a b to_a to_b agree =
     let at_a = two_true (bytes_eq given.file a.file) (eqb given.line a.line) (not (bytes_eq given.checksum a.checksum)) to_a in

@@ -1,4 +1,4 @@
--- The checksums of rows that agree are told by the rows' content.
+-- The checksums of rows that agree are decided by the rows' content.
 use Rattle.std.proofs.Common.{◌≡◌, ℕ, Bool, true, false, ◌&&◌, eqb, Option, Some, None, List, [], ◌∷◌, ◌++◌, filter, refl, sym, ap, ◌∙◌, subst, inl, inr, ⊎_elim}
 use Rattle.std.specs.Prelude.{Contains}
 use Rattle.std.specs.List.{flat_map}
@@ -15,12 +15,12 @@ use Rattle.covstore.proofs.ContentsLists.{In-flat, In-unflat, In-filter, In-unfi
 use Rattle.covstore.proofs.ContentsSections.{own_key, lines_same}
 use Rattle.covstore.proofs.Members.{In, In-from, Contains-from, In-map, In-unmap, In-joined, In-parts}
 
--- ---- the checksums of rows, and what the items of a file and a test say of a line
+-- ---- the checksums of rows, and what the items of a file and a test give as the checksums of a line
 
 checksum_with : List ℕ → ℕ → List ℕ → Checksum
 checksum_with file line checksum = record { file = file; line = line; checksum = checksum }
 
--- what an item says of a line is the checksum of that line
+-- a checksum that an item gives for a line is a checksum of that line
 said_of_line : (file : List ℕ) (line : ℕ) (said : List ℕ) (item : ItemData) → In said (checksum_said line item) → In (checksum_with file line said) (checksum_of file item)
 unfolding checksum_with
 said_of_line file line said (LineItem at count (Some checksum)) i =
@@ -36,7 +36,7 @@ said_of_line file line said (LineItem at count None) i = absurd i
 said_of_line file line said (FuncItem name start count) i = absurd i
 said_of_line file line said (BranchItem at block branch taken) i = absurd i
 
--- and the other way
+-- and conversely
 pub line_of_said : (file : List ℕ) (c : Checksum) (item : ItemData) → In c (checksum_of file item) → (file ≡ c.file) × In c.checksum (checksum_said c.line item)
 line_of_said file c (LineItem at count (Some checksum)) (inl is) = (
   ap (λ (d : Checksum). d.file) is,
@@ -50,7 +50,7 @@ line_of_said file c (BranchItem at block branch taken) i = absurd i
 said_at : Key → ℕ → List Row → List (List ℕ)
 said_at key line rows = flat_map (checksum_said line) (items_at key rows)
 
--- what is said of a line in a file and a test is among the checksums
+-- a checksum given for a line in a file and a test is among the checksums
 said_among : (rows : List Row) (key : Key) (line : ℕ) (said : List ℕ) → In said (said_at key line rows) → In (checksum_with key.file line said) (checksums_in rows)
 unfolding said_at
 said_among rows key line said i =
@@ -66,7 +66,7 @@ pub own_row : (row : Row) → has_key (key_of_row row) row ≡ true
 own_row row =
     ap (λ (b : Bool). b && bytes_eq row.test row.test) ((bytes_eq-Decides row.file row.file).1 refl) ∙ (bytes_eq-Decides row.test row.test).1 refl
 
--- each checksum is said of its line in a file and a test
+-- each checksum is given for its line in some file and test
 among_said : (rows : List Row) (c : Checksum) → In c (checksums_in rows) → (key : Key) × (key.file ≡ c.file) × In c.checksum (said_at key c.line rows)
 unfolding said_at
 among_said rows c i =
@@ -86,7 +86,7 @@ first_in : {X : Type 0} (xs : List X) (x : X) → first_of xs ≡ Some x → In 
 first_in [] x e = absurd (none-some x e)
 first_in (y ∷ ys) x e = inl (same_Some y x e)
 
--- what the items of a file and a test give as the checksum of a line is among the checksums
+-- the checksum of a line that items of a file and a test give is among the checksums
 pub line_checksum_held : (rows : List Row) (key : Key) (line : ℕ) (said : List ℕ) → line_checksum line (items_at key rows) ≡ Some said
     → In (record { file = key.file; line = line; checksum = said }) (checksums_in rows)
 unfolding checksum_with said_at
@@ -97,7 +97,7 @@ unfolding checksum_with
 one_checksum file line a b e =
     (bytes_eq-Decides a b).0 (last_true (bytes_eq file file) (eqb line line) (bytes_eq a b) ((bytes_eq-Decides file file).1 refl) (eq-eqb line line refl) e)
 
--- what the items of a file and a test say of a line is one checksum, where checksums agree
+-- if checksums agree, the items of a file and a test give one checksum for a line
 pub one_said : (rows : List Row) → Agree (checksums_in rows) → (key : Key) (line : ℕ) (a b : List ℕ) → In a (flat_map (checksum_said line) (items_at key rows))
     → In b (flat_map (checksum_said line) (items_at key rows)) → a ≡ b
 unfolding checksum_with said_at
@@ -122,7 +122,7 @@ checksums_there rows others agree same c i =
     one_checksum c.file c.line first.0 c.checksum (agree (checksum_with c.file c.line first.0) c (Contains-from (checksums_in rows) (checksum_with c.file c.line first.0) committed) (Contains-from (checksums_in rows) c i)) in
     subst (λ (d : Checksum). In d (checksums_in others)) (ap (λ (file : List ℕ). checksum_with file c.line first.0) said.1 ∙ ap (checksum_with c.file c.line) is) there
 
--- ---- a clash is told by the members of what is committed
+-- ---- a clash is decided by the members of the held checksums
 
 module _ (held others : List Checksum) (there : (c : Checksum) → In c held → In c others) (back : (c : Checksum) → In c others → In c held) where
   agree_there : (more : List Checksum) → Agree (held ++ more) → Agree (others ++ more)

@@ -1,4 +1,5 @@
--- Points in ascending order, each with a value: where two lists of items give the same, they still do with the same items added.
+-- Points in ascending order, each with a value: if two lists of items give the same, they still do after the same items are
+-- added.
 use Rattle.std.proofs.Common.{◌≡◌, List, [], ◌∷◌, ◌++◌, map, refl, sym, ap, ◌∙◌, subst, inl, inr, ⊎_elim}
 use Rattle.std.specs.declared.cmp.Ordering.{Ordering}
 use Rattle.covstore.specs.Ascending.{ascending}
@@ -6,8 +7,8 @@ use Rattle.covstore.proofs.Ascend.{IsExactOrder, In-ascending, In-to_ascending, 
 use Rattle.covstore.proofs.ContentsLists.{In-or_not}
 use Rattle.covstore.proofs.Members.{In, In-from, Contains-from, In-joined, In-parts}
 
--- points that items speak of, and the value that items have for each: none but that of no items for a point of which they
--- don't speak; and with more items a value that only what it was before and the further items decide
+-- the points of items, and the value that the items give to each. A point that isn't the items' has the value that no items give.
+-- When items are added, the new value is decided by the old value and the added items
 pub record IsKind {I P V : Type 0} (cmp : P → P → Ordering) (points : List I → List P) (value : List I → P → V) (point_of : V → P) : Type 0 where
   pub order : IsExactOrder cmp
   pub joins : (xs ys : List I) → points (xs ++ ys) ≡ points xs ++ points ys
@@ -15,7 +16,7 @@ pub record IsKind {I P V : Type 0} (cmp : P → P → Ordering) (points : List I
   pub absent : (xs : List I) (p : P) → (In p (points xs) → ⊥) → value xs p ≡ value [] p
   pub extends : (xs ys zs : List I) (p : P) → value xs p ≡ value ys p → (In p (points xs) → In p (points ys)) → (In p (points ys) → In p (points xs)) → value (xs ++ zs) p ≡ value (ys ++ zs) p
 
--- lists of the same members are one ascending list
+-- lists with the same members have one ascending list
 pub same_ascending : {X : Type 0} (cmp : X → X → Ordering) → IsExactOrder cmp → (xs ys : List X) → ((x : X) → In x xs → In x ys) → ((x : X) → In x ys → In x xs) → ascending cmp xs ≡ ascending cmp ys
 same_ascending cmp order xs ys there back =
     let left = ascending_is order xs in
@@ -30,7 +31,7 @@ pub map_same : {P V : Type 0} (f g : P → V) (ps : List P) → ((p : P) → f p
 map_same f g [] same = refl
 map_same {P} {V} f g (p ∷ ps) same = let here : f p ≡ g p = same p in let others : map f ps ≡ map g ps = map_same f g ps same in cc
 
--- what a map gives tells what it gives at each member
+-- if two maps give the same list, they give the same at each member
 same_at : {P V : Type 0} (f g : P → V) (ps : List P) (p : P) → map f ps ≡ map g ps → In p ps → f p ≡ g p
 same_at f g [] p e i = absurd i
 same_at {P} {V} f g (q ∷ ps) p e (inl is) = let here : f q ≡ g q = cc in ap f (sym is) ∙ here ∙ ap g is
@@ -54,7 +55,7 @@ module _ {I P V : Type 0} (cmp : P → P → Ordering) (points : List I → List
   point_back : (p : P) → In p (points ys) → In p (points xs)
   point_back p i = In-ascending kind.order.exact p (points xs) (subst (In p) (sym same_points) (In-to_ascending kind.order.exact p (points ys) i))
 
-  -- the values of all points are the same, also of those of which the items don't speak
+  -- the values of all points are the same, even of those that aren't the items'
   pub same_values : (p : P) → value xs p ≡ value ys p
   same_values p =
       ⊎_elim

@@ -1,4 +1,4 @@
--- Lines, functions and branches with their values are kinds: each value is decided by what it was before and by the further items.
+-- Lines, functions and branches with their values are such kinds: a new value is decided by the old one and the added items.
 use Rattle.std.proofs.Common.{◌≡◌, ℕ, ◌+◌, Bool, true, false, ◌&&◌, eqb, min, Option, Some, None, unwrap_or, List, [], ◌∷◌, ◌++◌, refl, sym, ap, ◌∙◌, subst, inl, inr, ⊎_elim, arith}
 use Rattle.std.specs.Cmp.Lexicographic.{slice_cmp}
 use Rattle.std.specs.List.{flat_map, sum_by, fold}
@@ -19,7 +19,7 @@ use Rattle.covstore.proofs.ContentsLists.{In-flat, In-unflat, In-or_not}
 use Rattle.covstore.proofs.Members.{In, In-joined}
 use Rattle.covstore.proofs.Orders.{lines_order, names_order, branches_order}
 
--- ---- items that don't speak of a point say nothing of it
+-- ---- items that don't have a point contribute nothing to it
 
 pub nothing_said : {P X : Type 0} (point : ItemData → List P) (said : ItemData → List X) (p : P) → ((item : ItemData) → (In p (point item) → ⊥) → said item ≡ [])
     → (items : List ItemData) → (In p (flat_map point items) → ⊥) → flat_map said items ≡ []
@@ -76,7 +76,7 @@ checksum_unsaid line (BranchItem at block branch taken) none = refl
 pub same_line : (line : ℕ) (xs ys : List ItemData) → line_value line xs ≡ line_value line ys → line_checksum line xs ≡ line_checksum line ys → line_at xs line ≡ line_at ys line
 same_line line xs ys count checksum = λ i. record { line = line; count = count i; checksum = checksum i }
 
--- a bounded sum with more added is decided by the bounded sum before
+-- adding to a bounded sum depends only on the bounded sum
 pub bounded_more : (a b n : ℕ) → bounded a ≡ bounded b → bounded (a + n) ≡ bounded (b + n)
 bounded_more a b n e = omega (arith, e)
 
@@ -149,7 +149,7 @@ least_more (x ∷ xs) (y ∷ ys) zs e =
     ap (λ (n : ℕ). Some n)
     (fold-append min x xs zs ∙ ap (λ (n : ℕ). fold min n zs) (same_Some (fold min x xs) (fold min y ys) e) ∙ sym (fold-append min y ys zs))
 
--- 0 is a start line too: which of the two it is, the names tell
+-- 0 is a start line too, so the names decide whether there is one
 same_least : (name : List ℕ) (xs ys : List ItemData) → function_start name xs ≡ function_start name ys → (In name (func_points xs) → In name (func_points ys)) → (In name (func_points ys) → In name (func_points xs))
     → least (flat_map (start_said name) xs) ≡ least (flat_map (start_said name) ys)
 same_least name xs ys e there back =

@@ -26,7 +26,7 @@ both true true e = (refl, refl)
 both true false e = absurd (false≢true e)
 both false y e = absurd (false≢true e)
 
--- the row has this key, where the test says so
+-- the row has this key if the test says so
 pub own_key : (key : Key) (row : Row) → has_key key row ≡ true → key_of_row row ≡ key
 own_key key row e =
     let same = both (bytes_eq row.file key.file) (bytes_eq row.test key.test) e in
@@ -65,11 +65,11 @@ sections_kind = record {
       ∙ sym (ap (section_with key) (items_at-append key ys zs));
 }
 
--- two lists of rows with one content have one section for each key, also for a key that they don't have
+-- lists of rows with the same content have the same section for each key, even for a key that they don't have
 pub sections_same : (rows others : List Row) → content_of rows ≡ content_of others → (key : Key) → section_of rows key ≡ section_of others key
 sections_same rows others e key = same_values key_cmp (map key_of_row) section_of (λ (s : SectionData). s.key) sections_kind rows others e key
 
--- and one value for each line
+-- and the same value for each line
 pub lines_same : (rows others : List Row) → content_of rows ≡ content_of others → (key : Key) (line : ℕ) → line_at (items_at key rows) line ≡ line_at (items_at key others) line
 lines_same rows others e key line =
     same_values nat_cmp line_points line_at (λ (v : LineValueData). v.line) lines_kind (items_at key rows) (items_at key others)

@@ -1,4 +1,4 @@
--- The values of a test, one after the other, as items more of another test of its file.
+-- The values of a test, added one after another as items of another test of its file.
 use Rattle.std.proofs.Common.{◌≡◌, ℕ, Bool, true, false, List, [], ◌∷◌, ◌++◌, map, refl, sym, ap, ◌∙◌, append_assoc, subst, arith}
 use Rattle.std.specs.Cmp.Lexicographic.{slice_cmp}
 use Rattle.std.specs.Option.{is_some}
@@ -10,7 +10,7 @@ use Rattle.covstore.specs.declared.index.FileIndex.{FileIndex}
 use Rattle.covstore.specs.declared.sums.LineSum.{LineSum}
 use Rattle.covstore.specs.declared.test.Test.{Test}
 use Rattle.covstore.specs.Section.{Adds, HasRoomFor, files_with, section_of_items}
-use Rattle.covstore.specs.KindIndexCounts.{is_above_at}
+use Rattle.covstore.specs.PointIndexCounts.{is_above_at}
 use Rattle.covstore.specs.FileIndex.{FileIndexData}
 use Rattle.covstore.specs.FileIndexView.{KeepsCommitted, index_staged}
 use Rattle.covmap.specs.Puts.{ArePairs, put, value_of}
@@ -26,7 +26,7 @@ use Rattle.covstore.proofs.Assigned.{any_key}
 use Rattle.covstore.proofs.Orders.{lines_order, names_order}
 use Rattle.covstore.proofs.Puts.{value_of_before, value_of_first, value_of_later}
 
--- ---- room for items and then others
+-- ---- room for items, and then for others
 
 pub room_front : (xs ys : List ItemData) (test : TestData) (index : FileIndexData) → HasRoomFor (xs ++ ys) test index → HasRoomFor xs test index
 room_front xs ys test index room = record {
@@ -57,7 +57,7 @@ room_back xs ys test test_after index index_after room adds =
 
 -- ---- a walk over values
 
--- the values before those that are left are taken
+-- the values before those that are left are staged
 pub record IsCopying {A D : Type 0} (f : D → ItemData) (all left : List D) (test : Test A) (index : FileIndex A) (test_now : Test A) (index_now : FileIndex A) : Type 0 where
   pub taken : List D
   pub parts : all ≡ taken ++ left
@@ -98,12 +98,12 @@ module _ {A D : Type 0} (f : D → ItemData) (all : List D) (test : Test A) (ind
 
 -- ---- the lines
 
--- texts of lines of which a checksum is held are those of before
+-- the texts of lines with a held checksum are those of before
 text_same : (texts others : List (ℕ × List ℕ)) (line : ℕ) (flag : Bool) → (flag ≡ true → value_of nat_cmp line others ≡ value_of nat_cmp line texts) → text_at others line flag ≡ text_at texts line flag
 text_same texts others line true same = same refl
 text_same texts others line false same = refl
 
--- the lines that are left ascend, and those among them with a checksum hold it
+-- the lines that are left ascend, and those with a checksum hold it
 pub record IsCopyingLines {A : Type 0} (all left : List (ℕ × LineSum)) (test : Test A) (index : FileIndex A) (test_now : Test A) (index_now : FileIndex A) : Type 0 where
   pub copying : IsCopying (line_item (index_staged index).texts) all left test index test_now index_now
   pub sorted : ArePairs nat_cmp left

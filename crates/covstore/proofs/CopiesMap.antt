@@ -1,4 +1,4 @@
--- The entries of a map while the value of one name is lifted out, and after another one was put back in its place.
+-- The entries of a map while the value of one name is taken out, and after another value is put in its place.
 use Rattle.std.proofs.Common.{◌≡◌, ◌≢◌, ℕ, Some, None, List, sym, ap, ◌∙◌}
 use Rattle.std.specs.BTreeMap.{is_at}
 use Rattle.std.specs.Cmp.Lexicographic.{slice_cmp}
@@ -25,7 +25,7 @@ module _ {K V : Type 0} (name : K → List ℕ) (f : V → TestData) (new : List
   place_there none =
       no_test name f new mid (f empty) none (ap (value_of (slice_cmp nat_cmp) new) seen_lifted ∙ value_of-put names_order new (f empty) (seen names_order name f pairs))
 
-  -- another name has what it had
+  -- another name keeps its value
   module _ (old : List ℕ) (apart : old ≢ new) where
     other_stays : value_of (slice_cmp nat_cmp) old (seen names_order name f mid) ≡ value_of (slice_cmp nat_cmp) old (seen names_order name f pairs)
     other_stays = ap (value_of (slice_cmp nat_cmp) old) seen_lifted ∙ value_of-put_other names_order new old (f empty) (seen names_order name f pairs) (λ same. apart (sym same))

@@ -1,4 +1,4 @@
--- The numbers kept for a point: what they are over all tests, without tests, with an empty test more, and how large they can be.
+-- The numbers of a point: over all tests, over no tests, with one more empty test, and how large they can be.
 use Rattle.std.proofs.Common.{◌≡◌, ℕ, ◌+◌, ◌<◌, ◌≤◌, Bool, true, false, cond, if◌then◌else◌, nat_lt, Option, Some, None, List, [], ◌∷◌, ◌++◌, length, refl, sym, ap, ◌∙◌, arith}
 use Rattle.std.specs.declared.cmp.Ordering.{Ordering}
 use Rattle.std.specs.List.{count_by, sum_by}
@@ -7,11 +7,11 @@ use Rattle.std.proofs.lemmas.Bool.{ltb-true}
 use Rattle.std.proofs.lemmas.List.Sums.{count_by-le-length, sum_by-append, sum_by-cons, sum_by-le-sum_by}
 use Rattle.std.proofs.lemmas.Option.{none-some, same_Some}
 use Rattle.covstore.specs.declared.sums.Tests.{Tests}
-use Rattle.covstore.specs.KindIndexCounts.{AreCounts, count_above, count_with, is_above_at, one_if, tests_at}
+use Rattle.covstore.specs.PointIndexCounts.{AreCounts, count_above, count_with, is_above_at, one_if, tests_at}
 use Rattle.covmap.specs.Puts.{value_of}
 use Rattle.covstore.proofs.Puts.{counted_one}
 
--- the numbers of a point, from how many tests have it and how many have it above 0
+-- the numbers of a point, if this many tests have it, and this many have it above 0
 abbrev pub tests_of : ℕ → ℕ → Option Tests
 tests_of tests hit = if nat_lt 0 tests then Some (record { tests = tests; hit = hit }) else None
 
@@ -20,14 +20,14 @@ same_tests {others = others} {hit = hit} e f = ap (λ (n : ℕ). tests_of n hit)
 
 -- ---- one test among others
 
--- the numbers with one test more, which has this value of the point
+-- the numbers with one more test, which has this value at the point
 abbrev pub tests_among : {V : Type 0} → (V → Bool) → ℕ → ℕ → Option V → Option Tests
 tests_among is_above tests hit value = tests_of (tests + one_if (is_some value)) (hit + one_if (is_above_at is_above value))
 
 pub sum_by-between : {X : Type 0} (f : X → ℕ) (front : List X) (x : X) (back : List X) → sum_by f (front ++ x ∷ back) ≡ sum_by f (front ++ back) + f x
 sum_by-between f front x back = omega (arith, sum_by-append f front (x ∷ back), sum_by-append f front back, sum_by-cons f x back)
 
--- what a count is with this member among the others
+-- a count with this member among the others
 pub count_by-between : {X : Type 0} (p : X → Bool) (front : List X) (x : X) (back : List X) → count_by p (front ++ x ∷ back) ≡ count_by p (front ++ back) + one_if (p x)
 count_by-between p front x back = omega (arith, sum_by-between (λ y. cond (p y) 1 0) front x back, counted_one (p x))
 
@@ -53,7 +53,7 @@ module _ {K V : Type 0} (cmp : K → K → Ordering) (is_above : V → Bool) whe
       same_tests (count_by-between (λ (test : List (K × V)). is_some (value_of cmp key test)) front pairs back)
       (count_by-between (λ (test : List (K × V)). is_above_at is_above (value_of cmp key test)) front pairs back)
 
-  -- ---- no tests, and an empty test more
+  -- ---- no tests, and one more empty test
 
   pub counts_none : AreCounts cmp is_above [] []
   counts_none = record { ascending = tt; counted = λ key. refl }
@@ -72,7 +72,7 @@ module _ {K V : Type 0} (cmp : K → K → Ordering) (is_above : V → Bool) whe
 
 -- ---- how large the numbers are
 
--- numbers of a point: some test has it, no more have it above 0, and no more than all have it
+-- numbers of a point: some test has it, no more have it above 0, and no more than all tests have it
 pub record IsWithin (committed : Tests) (tests : ℕ) : Type 0 where
   pub some : 0 < committed.tests
   pub hit : committed.hit ≤ committed.tests

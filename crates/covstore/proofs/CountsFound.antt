@@ -1,4 +1,5 @@
--- What is kept for a file's points is found and hit in its tests: each point that some test has, and each that some test has above 0.
+-- The counts of a file's points give what is found and hit in its tests: the points that some test has, and those that some test
+-- has above 0.
 use Rattle.std.proofs.Common.{◌≡◌, ℕ, Bool, true, false, ◌&&◌, ◌||◌, cond, nat_lt, Option, Some, None, List, [], ◌∷◌, ◌++◌, length, map, refl, sym, ap, ◌∙◌, subst, inl, inr, arith}
 use Rattle.std.specs.declared.cmp.Ordering.{Ordering}
 use Rattle.std.specs.declared.cmp.Ordering.TheVariants.{Less, Equal, Greater}
@@ -12,7 +13,7 @@ use Rattle.std.proofs.lemmas.List.Sums.{sum_by-cons}
 use Rattle.std.proofs.lemmas.Option.{cond_some}
 use Rattle.covstore.specs.declared.sums.Tests.{Tests}
 use Rattle.covstore.specs.Ascending.{ascending}
-use Rattle.covstore.specs.KindIndexCounts.{AreCounts, count_above, count_with, found_of, hit_of, is_above_at}
+use Rattle.covstore.specs.PointIndexCounts.{AreCounts, count_above, count_with, found_of, hit_of, is_above_at}
 use Rattle.covmap.specs.Puts.{ArePairs, value_of}
 use Rattle.covstore.proofs.Ascend.{IsExactOrder, In-ascending, In-to_ascending, ascending_sorted, one_sorted}
 use Rattle.covstore.proofs.CountsMapped.{count_by-map}
@@ -21,7 +22,7 @@ use Rattle.covstore.proofs.Puts.{pair_in, some_in, value_of_before, value_of_pai
 use Rattle.covstore.proofs.ContentsLists.{In-flat, In-unflat, any_from_in, in_from_any}
 use Rattle.covstore.proofs.TotalsRows.{any_agree, sum_above}
 
--- ---- what is counted is above 0 where some member passes
+-- ---- a count is above 0 if some member passes
 
 above_one : (b : Bool) → nat_lt 0 (cond {A = ℕ} b 1 0) ≡ b
 above_one true = refl
@@ -49,12 +50,12 @@ pub some_value : {V : Type 0} (value : Option V) → is_some value ≡ true → 
 some_value None e = absurd (false≢true e)
 some_value (Some v) e = (v, refl)
 
--- the points that a test speaks of
+-- the points of a test
 abbrev pub points_of : {K V : Type 0} → List (K × V) → List K
 points_of pairs = map (λ pair. pair.0) pairs
 
 module _ {K V : Type 0} {cmp : K → K → Ordering} (o : IsExactOrder cmp) {is_above : V → Bool} (tests : List (List (K × V))) (counts : List (K × Tests)) (are : AreCounts cmp is_above tests counts) where
-  -- the numbers of a point that is kept
+  -- the numbers of a point that is counted
   numbers_kept : (pair : K × Tests) → In pair counts → (nat_lt 0 (count_with cmp pair.0 tests) ≡ true) × (count_above cmp is_above pair.0 tests ≡ pair.1.hit)
   numbers_kept pair i =
       let found = cond_some (nat_lt 0 (count_with cmp pair.0 tests)) (record { tests = count_with cmp pair.0 tests; hit = count_above cmp is_above pair.0 tests }) pair.1
@@ -82,7 +83,7 @@ module _ {K V : Type 0} {cmp : K → K → Ordering} (o : IsExactOrder cmp) {is_
       (In-map (λ (p : K × Tests). p.0) counts (pair.0.0, committed)
       (pair_in o pair.0.0 committed counts (are.counted pair.0.0 ∙ cond-true (nat_lt 0 (count_with cmp pair.0.0 tests)) (Some committed) None some)))
 
-  -- the points that are kept are those of the tests, each once
+  -- the counted points are those of the tests, each once
   pub points_kept : points_of counts ≡ ascending cmp (flat_map points_of tests)
   points_kept =
       let all = flat_map points_of tests in
@@ -92,7 +93,7 @@ module _ {K V : Type 0} {cmp : K → K → Ordering} (o : IsExactOrder cmp) {is_
   pub found_is : length (ascending cmp (flat_map points_of tests)) ≡ found_of counts
   found_is = ap (λ (keys : List K). length keys) (sym points_kept) ∙ length-map counts (λ (pair : K × Tests). pair.0)
 
-  -- and those that are hit are those that some test has above 0
+  -- and the hit ones are those that some test has above 0
   pub hit_is : (is_hit : K → Bool) → ((key : K) → is_hit key ≡ nat_lt 0 (count_above cmp is_above key tests)) → count_by is_hit (ascending cmp (flat_map points_of tests)) ≡ hit_of counts
   hit_is is_hit same =
       ap (count_by is_hit) (sym points_kept)
@@ -122,7 +123,7 @@ module _ {K Y : Type 0} {cmp : K → K → Ordering} (o : IsExactOrder cmp) (at 
       sym (any_here (test y) (is_eq (cmp (at y) key)) (above y) (list_any test ys) (is y) (ap is_eq e) (sym rest ∙ ap (is_above_at above) none))
   above_at Greater y ys e following rest = rest ∙ sym (ap (λ (b : Bool). b || list_any test ys) (is y ∙ ap (λ (order : Ordering). is_eq order && above y) e))
 
-  -- a test has the point above 0 where a member of its list is the point and above 0
+  -- a test has the point above 0 if a member of its list is the point, above 0
   pub above_in : (ys : List Y) → ArePairs cmp (map (λ y. (at y, y)) ys) → is_above_at above (value_of cmp key (map (λ y. (at y, y)) ys)) ≡ list_any test ys
   above_in [] sorted = refl
   above_in (y ∷ ys) sorted = above_at (cmp (at y) key) y ys refl sorted.0 (above_in ys sorted.1)

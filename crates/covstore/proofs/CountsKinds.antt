@@ -1,4 +1,4 @@
--- For each kind of points, the numbers kept for a file give what is found and hit in its sections.
+-- For each kind of points, the counts of a file give what is found and hit in its sections.
 use Rattle.std.proofs.Common.{◌≡◌, ℕ, Bool, true, false, ◌==◌, ◌&&◌, nat_lt, List, [], ◌∷◌, length, map, filter, cond, refl, sym, ap, subst}
 use Rattle.std.specs.declared.cmp.Ordering.{Ordering}
 use Rattle.std.specs.declared.cmp.Ordering.TheVariants.{Less}
@@ -15,7 +15,7 @@ use Rattle.covline.specs.Points.{branch_points, func_points, line_points}
 use Rattle.covline.specs.Row.{ItemData, Row}
 use Rattle.covstore.specs.Ascending.{ascending}
 use Rattle.covstore.specs.Content.{BranchValueData, FunctionValueData, LineValueData, SectionData, branch_at, content_of, function_at, line_at, section_of, section_with}
-use Rattle.covstore.specs.KindIndexCounts.{AreCounts, found_of, hit_of}
+use Rattle.covstore.specs.PointIndexCounts.{AreCounts, found_of, hit_of}
 use Rattle.covmap.specs.Puts.{ArePairs}
 use Rattle.covstore.specs.Totals.{sections_of}
 use Rattle.covstore.specs.Value.{Key, branch_cmp, branches_in, is_branch, is_taken, items_at, keys_of, lines_in, names_in}
@@ -27,7 +27,7 @@ use Rattle.covstore.proofs.TotalsKinds.{itself, same_branch}
 use Rattle.covstore.proofs.Axis.{order_of}
 use Rattle.covstore.proofs.ContentsLists.{same_truth}
 
--- ---- what is seen of a kind
+-- ---- what sections show of a kind
 
 abbrev pub ValueOf : Kind → Type 0
 ValueOf Line = LineValueData
@@ -59,14 +59,14 @@ is_at Line line l = l.line == line
 is_at Function name f = bytes_eq f.name name
 is_at Branch point b = is_branch point b.point.line b.point.block b.point.branch
 
--- the points that sections have, each once, and those of which some section has a value above 0
+-- the points of sections, each once; and below, those that some section has above 0
 abbrev pub found_in : (kind : Kind) → List SectionData → List (KeyOf kind)
 found_in kind sections = ascending (cmp_of kind) (flat_map (λ s. map (key_in kind) (values_in kind s)) sections)
 
 abbrev pub is_hit_in : (kind : Kind) → List SectionData → KeyOf kind → Bool
 is_hit_in kind sections key = list_any (λ s. list_any (λ v. is_at kind key v && above_in kind v) (values_in kind s)) sections
 
--- a test that tells things apart is the one of their order
+-- a test for equality agrees with the order
 same_test : {X : Type 0} {cmp : X → X → Ordering} → IsExactOrder cmp → (equal : X → X → Bool) → ((x y : X) → equal x y ≡ true → x ≡ y) → ((x : X) → equal x x ≡ true)
     → (x y : X) → equal x y ≡ is_eq (cmp x y)
 same_test {X} {cmp} o equal to self x y =
@@ -79,7 +79,7 @@ at_is Line line l = same_test lines_order (λ x y. x == y) eqb-true (λ x. eq-eq
 at_is Function name f = same_test names_order bytes_eq (λ x y. (bytes_eq-Decides x y).0) (λ x. (bytes_eq-Decides x x).1 refl) f.name name
 at_is Branch point b = same_test branches_order (λ x y. is_branch y x.line x.block x.branch) (λ x y h. same_branch y x.line x.block x.branch h) itself b.point point
 
--- the counts of the sections' points tell how many are found, and how many of them hit
+-- the counts of the sections' points give how many are found, and how many of them are hit
 pub counted : (kind : Kind) (own : List SectionData) (counts : CountsOf kind) → AllByRecursion (λ s. ArePairs (cmp_of kind) (valued kind s)) own → AreCounts (cmp_of kind) (above_in kind) (map (valued kind) own) counts
     → (length (found_in kind own) ≡ found_of counts) × (count_by (is_hit_in kind own) (found_in kind own) ≡ hit_of counts)
 counted kind own counts sorted are = (
@@ -88,7 +88,7 @@ counted kind own counts sorted are = (
       (λ key v. ap (λ (b : Bool). b && above_in kind v) (at_is kind key v)) sorted,
 )
 
--- ---- the sections of a content are ascending
+-- ---- the sections of a content ascend
 
 All-made : {X Y : Type 0} (P : Y → Type 0) (p : Y → Bool) (make : X → Y) → ((x : X) → P (make x)) → (xs : List X) → AllByRecursion P (filter p (map make xs))
 All-made P p make all [] = tt

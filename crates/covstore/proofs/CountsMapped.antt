@@ -1,4 +1,4 @@
--- Values of another type keep the numbers, where they are above 0 in the same places.
+-- Values of another type have the same counts, if they are above 0 at the same places.
 use Rattle.std.proofs.Common.{◌≡◌, ℕ, Bool, true, false, cond, Option, Some, List, [], ◌∷◌, map, refl, sym, ap, ◌∙◌, arith}
 use Rattle.std.specs.declared.cmp.Ordering.{Ordering}
 use Rattle.std.specs.List.{count_by}
@@ -6,7 +6,7 @@ use Rattle.std.specs.Option.{is_some}
 use Rattle.std.specs.Ordering.{is_eq}
 use Rattle.std.proofs.lemmas.List.Sums.{sum_by-cons}
 use Rattle.covstore.specs.declared.sums.Tests.{Tests}
-use Rattle.covstore.specs.KindIndexCounts.{AreCounts, is_above_at, tests_at}
+use Rattle.covstore.specs.PointIndexCounts.{AreCounts, is_above_at, tests_at}
 use Rattle.covmap.specs.Puts.{value_of}
 use Rattle.covstore.proofs.Counts.{same_tests}
 

@@ -1,11 +1,11 @@
--- A value put into one test: the numbers that are kept then are those of the tests.
+-- A value put into one test: the new counts are those of the tests.
 use Rattle.std.proofs.Common.{◌≡◌, ℕ, ◌+◌, ◌<◌, ◌≤◌, Bool, true, false, ◌&&◌, not, if◌then◌else◌, nat_lt, Option, Some, None, List, ◌∷◌, ◌++◌, refl, sym, ap, ◌∙◌, subst, ⊎_elim, arith}
 use Rattle.std.specs.declared.cmp.Ordering.{Ordering}
 use Rattle.std.specs.Ordering.{is_eq}
 use Rattle.std.proofs.lemmas.Bool.{cases_Bool, cond-true, false≢true, lt-ltb, ltb-false}
 use Rattle.std.proofs.lemmas.Map.Views.{tells_apart}
 use Rattle.covstore.specs.declared.sums.Tests.{Tests}
-use Rattle.covstore.specs.KindIndexCounts.{AreCounts, count_above, count_with, counts_with, is_above_at, is_new, is_newly_hit, one_if, tests_at, tests_more}
+use Rattle.covstore.specs.PointIndexCounts.{AreCounts, count_above, count_with, counts_with, is_above_at, is_new, is_newly_hit, one_if, tests_at, tests_more}
 use Rattle.covmap.specs.Puts.{ArePairs, put, value_of}
 use Rattle.covstore.proofs.Ascend.{IsExactOrder}
 use Rattle.covstore.proofs.Counts.{above_le_with, same_tests, tests_among, tests_at-between, tests_of}
@@ -13,7 +13,7 @@ use Rattle.covstore.proofs.Puts.{ArePairs-put, value_of-put, value_of-put_apart}
 
 -- ---- the numbers of the point itself
 
--- one test more has the point, or one more has it above 0
+-- one more test has the point, or has it above 0
 more_at : (new newly : Bool) (tests hit : ℕ) (is : Bool) → nat_lt 0 tests ≡ is → hit ≤ tests → 0 < tests + one_if new
     → Some (tests_more new newly (if is then Some (record { tests = tests; hit = hit }) else None)) ≡ tests_of (tests + one_if new) (hit + one_if newly)
 more_at new newly tests hit true e less some =
@@ -47,7 +47,7 @@ module _ {K V : Type 0} {cmp : K → K → Ordering} (o : IsExactOrder cmp) (is_
   pub ArePairs-counts_with : (before : Option V) → ArePairs cmp counts → ArePairs cmp (counts_with cmp is_above key before value counts)
   ArePairs-counts_with before sorted = ascending_at (is_new before) (is_newly_hit is_above before value) before sorted
 
-  -- ---- and of the point
+  -- ---- the numbers of the point
 
   new_at : (above : Bool) (tests hit : ℕ) → hit ≤ tests → value_of cmp key counts ≡ tests_of (tests + 0) (hit + 0)
       → value_of cmp key (put cmp key (tests_more true (above && true) (value_of cmp key counts)) counts) ≡ tests_of (tests + 1) (hit + one_if above)
@@ -77,7 +77,7 @@ module _ {K V : Type 0} {cmp : K → K → Ordering} (o : IsExactOrder cmp) (is_
   here_at None tests hit less stays e = new_at (is_above value) tests hit less e
   here_at (Some committed) tests hit less stays e = old_at (is_above value) (is_above committed) tests hit less stays e
 
-  -- ---- the whole
+  -- ---- all together
 
   module _ (front : List (List (K × V))) (old : List (K × V)) (back : List (List (K × V))) (stays : is_above_at is_above (value_of cmp key old) ≡ true → is_above value ≡ true) where
     others_stay : (other : K) → is_eq (cmp key other) ≡ false → tests_at cmp is_above other (front ++ put cmp key value old ∷ back) ≡ tests_at cmp is_above other (front ++ old ∷ back)
@@ -106,7 +106,7 @@ module _ {K V : Type 0} {cmp : K → K → Ordering} (o : IsExactOrder cmp) (is_
         ∙ are.counted other ∙ sym (others_stay other e))
         (cases_Bool (is_eq (cmp key other)))
 
-    -- a value that doesn't fall back to 0 is put into one test
+    -- a value is put into one test, and what was above 0 stays above 0
     pub counts_put : AreCounts cmp is_above (front ++ old ∷ back) counts
         → AreCounts cmp is_above (front ++ put cmp key value old ∷ back) (counts_with cmp is_above key (value_of cmp key old) value counts)
     counts_put are = record { ascending = ArePairs-counts_with (value_of cmp key old) are.ascending; counted = counted_any are }

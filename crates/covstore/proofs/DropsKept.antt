@@ -1,4 +1,4 @@
--- What is kept of a file, whose tests are counted in whatever order they stand; and the file without one of them.
+-- The index of a file counts its tests in any order; and the file without one of its tests.
 use Rattle.std.proofs.Common.{◌≡◌, ℕ, Bool, nat_lt, if◌then◌else◌, Some, None, List, [], ◌∷◌, ◌++◌, map, refl, sym, ap, ◌∙◌, subst}
 use Rattle.std.specs.Cmp.Lexicographic.{slice_cmp}
 use Rattle.std.specs.declared.cmp.Ordering.{Ordering}
@@ -6,7 +6,7 @@ use Rattle.std.specs.Ordering.{nat_cmp}
 use Rattle.std.proofs.lemmas.List.{map-append}
 use Rattle.covstore.specs.declared.sums.Tests.{Tests}
 use Rattle.covstore.specs.Kinds.{PointsOf, above_of, at, cmp_of}
-use Rattle.covstore.specs.KindIndexCounts.{AreCounts, is_above_at}
+use Rattle.covstore.specs.PointIndexCounts.{AreCounts, is_above_at}
 use Rattle.covstore.specs.FileDrops.{IsWithoutTest, tests_without}
 use Rattle.covstore.specs.FileIndex.{FileIndexData, counts_totals, index_totals}
 use Rattle.covmap.specs.Puts.{value_of}
@@ -40,15 +40,15 @@ kept_first front test back index kept = record {
   holders = λ line. kept.holders line ∙ holders_first line front test back;
 }
 
--- ---- one list counts the tests
+-- ---- an index is decided by the tests
 
 pub one_totals : (tests : List TestData) (index other : FileIndexData) → IsIndexOf tests index → IsIndexOf tests other → index_totals index ≡ index_totals other
 one_totals tests index other kept also =
     ap counts_totals (same_each index.counts other.counts (λ kind. one_rest (order_of kind) {is_above = above_of kind} (map (at kind) tests) (at kind index.counts) (at kind other.counts) (kept.counts kind) (also.counts kind)))
 
--- ---- a file, one of whose tests goes
+-- ---- a file without one of its tests
 
--- what is seen of the tests without their names
+-- the tests without their names
 abbrev pub points_of_all : List (List ℕ × TestData) → List TestData
 points_of_all tests = map (λ pair. pair.1) tests
 
@@ -57,7 +57,7 @@ module _ (name : List ℕ) (points : TestData) (tests : List (List ℕ × TestDa
   place : IsBetween name points tests
   place = between name points tests whole.ascending found
 
-  -- the numbers count it, and the others
+  -- the index counts this test and the others
   pub index_first : IsIndexOf (points ∷ points_of_all (tests_without name tests)) index
   index_first =
       let front = points_of_all place.front in
@@ -77,7 +77,7 @@ module _ (name : List ℕ) (points : TestData) (tests : List (List ℕ × TestDa
 pub index_after : (name : List ℕ) (before after : FileData) → IsWithoutTest name before after → IsIndexOf (points_of_all (tests_without name before.tests)) after.index
 index_after name before after is = subst (λ (tests : List (List ℕ × TestData)). IsIndexOf (points_of_all tests) after.index) is.tests is.whole.kept
 
--- the test isn't there
+-- the file doesn't have the test
 module _ (name : List ℕ) (file : FileData) (whole : IsConsistentFile file) (none : value_of (slice_cmp nat_cmp) name file.tests ≡ None) where
   pub without_unfound : IsWithoutTest name file file
   without_unfound = record { tests = sym (others_of_none name file.tests none); texts = refl; whole = whole }

@@ -1,4 +1,4 @@
--- What is counted of the files of which a test goes, one after the other.
+-- Totals and sections of files without a test, counted one file after another.
 use Rattle.std.proofs.Common.{◌≡◌, ℕ, ◌+◌, ◌<◌, ◌^◌, Bool, cond, List, [], ◌∷◌, length, sym, ap, ◌∙◌, arith}
 use Rattle.std.specs.List.{AllByRecursion, count_by, sum_by}
 use Rattle.std.proofs.lemmas.List.Sums.{count_by-le-length, sum_by-cons}
@@ -17,7 +17,7 @@ no_totals_more totals = same_totals (together no_totals totals) totals (omega ar
 pub no_totals_after : (totals : Totals) → together totals (totals_in []) ≡ totals
 no_totals_after totals = same_totals (together totals (totals_in [])) totals (omega arith) (omega arith) (omega arith) (omega arith) (omega arith) (omega arith)
 
--- the first of the files that are left is taken
+-- the first of the files that are left is counted
 one_more : (f : List ℕ × FileData → ℕ) (pair : List ℕ × FileData) (files : List (List ℕ × FileData)) (n : ℕ) → (n + f pair) + sum_by f files ≡ n + sum_by f (pair ∷ files)
 one_more f pair files n = omega (arith, sum_by-cons f pair files)
 
@@ -28,7 +28,7 @@ totals_taken totals pair files =
     (one_more (found_at Function) pair files totals.ff) (one_more (hit_at Function) pair files totals.fh)
     (one_more (found_at Branch) pair files totals.bf) (one_more (hit_at Branch) pair files totals.bh)
 
--- what is added to others, where all of it fits
+-- a part fits, if all of it fits together
 pub part_fits : (totals own rest whole : Totals) → together (together totals own) rest ≡ whole → FitTotals whole → FitTogether own totals
 part_fits totals own rest whole sum fit = record {
   lf = omega (arith, fit.lf, ap (λ (t : Totals). t.lf) sum);
@@ -45,7 +45,7 @@ module _ (test : List ℕ) (all : List (List ℕ × FileData)) where
   abbrev has_points : List ℕ × FileData → Bool
   has_points pair = has_points_of test pair.1
 
-  -- what is counted so far, with the files that are left, is all of it
+  -- what is counted so far, and the files that are left, are all of it
   pub record IsCounted (left : List (List ℕ × FileData)) (sections : ℕ) (totals : Totals) : Type 0 where
     pub counted : sections + count_by has_points left ≡ count_by has_points all
     pub whole : AllByRecursion (λ pair. IsConsistentFile pair.1) left

@@ -1,4 +1,4 @@
--- The store's maps, of whose files a test is gone.
+-- The store's maps after a test is dropped from their files.
 use Rattle.std.proofs.Common.{◌≡◌, ℕ, Bool, true, false, cond, List, [], ◌∷◌, ◌++◌, refl, sym, ap, subst, inl, inr, Vec}
 use Rattle.std.specs.List.{AllByRecursion, list_any}
 use Rattle.std.specs.Map.{remove_entry}
@@ -13,7 +13,7 @@ use Rattle.covstore.specs.TestView.{test_staged, test_committed}
 use Rattle.covstore.proofs.DropsRetain.{AreWritten}
 use Rattle.covstore.proofs.Members.{All-in, In-joined}
 
--- a file of the code is written so: the test is gone, and of what nothing was staged nothing is
+-- a file is replaced by one without the test. If nothing was staged in a test, nothing is
 abbrev pub IsWritten : {A : Type 0} → List ℕ → File A → File A → Type 0
 IsWritten test before after = IsWithoutTest test (file_committed before) (file_committed after) × ((tests : List (List ℕ)) → IsSettledBut tests before → IsSettledBut tests after)
 
@@ -32,11 +32,11 @@ module _ {K A : Type 0} (name : K → List ℕ) where
   written_settled test touched (pair ∷ pairs) (later ∷ laters) are all =
       (subst (λ (key : K). IsSettledBut (tests_of (name key) touched) later.1) (sym are.0) (are.1.1 (tests_of (name pair.0) touched) all.0), written_settled test touched pairs laters are.2 all.1)
 
--- what holds of all entries holds of one between others
+-- what is true of all entries is true of one between others
 pub All-between : {X : Type 0} (P : X → Type 0) (before : List X) (x : X) (after all : List X) → AllByRecursion P all → all ≡ before ++ x ∷ after → P x
 All-between P before x after all holds is = All-in P (before ++ x ∷ after) x (subst (AllByRecursion P) is holds) (In-joined before (x ∷ after) x (inr (inl refl)))
 
--- and of those that are left when one is removed
+-- and of those that are left after one is removed
 pub All-removed : {K X : Type 0} (P : K × X → Type 0) (here : K → Bool) (entries : List (K × X)) → AllByRecursion P entries → AllByRecursion P (remove_entry here entries)
 All-removed P here [] all = tt
 All-removed {K} {X} P here (entry ∷ entries) all = by (here entry.0) (All-removed P here entries all.1)
@@ -45,11 +45,11 @@ All-removed {K} {X} P here (entry ∷ entries) all = by (here entry.0) (All-remo
     by true rest = all.1
     by false rest = (all.0, rest)
 
--- nothing is staged of a test, if its name isn't among these
+-- nothing is staged in a test whose name isn't among these
 abbrev IsSettledTest : {A : Type 0} → List (List ℕ) → Vec ℕ A × Test A → Type 0
 IsSettledTest tests pair = list_any (λ test. bytes_eq test pair.0.items) tests ≡ false → test_staged pair.1 ≡ test_committed pair.1
 
--- nothing is staged of a file's index; and of its tests, of which one is removed, as before
+-- nothing is staged in the file's index, and in its tests, one of which is removed, no more than before
 pub removed_settled : {A : Type 0} (tests : List (List ℕ)) (here : Vec ℕ A → Bool) (before after : File A) → index_staged after.index ≡ index_committed after.index
     → after.tests.entries ≡ remove_entry here before.tests.entries → IsSettledBut tests before → IsSettledBut tests after
 removed_settled {A} tests here before after index left settled = record {

@@ -1,4 +1,4 @@
--- What is kept of files where a test is gone can be told from what is kept with it: the points of the others, counted again.
+-- The index of a file without a test can be made from the index with it: the points of the other tests are counted again.
 use Rattle.std.proofs.Common.{◌≡◌, ℕ, ◌≤◌, Bool, true, false, cond, nat_lt, if◌then◌else◌, Option, Some, None, List, [], ◌∷◌, ◌++◌, map, refl, sym, ap, ◌∙◌, ⊎_elim, arith}
 use Rattle.std.specs.Cmp.Lexicographic.{slice_cmp}
 use Rattle.std.specs.declared.cmp.Ordering.{Ordering}
@@ -12,7 +12,7 @@ use Rattle.std.proofs.lemmas.Map.Views.{tells_apart}
 use Rattle.std.proofs.lemmas.Option.{none-some}
 use Rattle.covstore.specs.declared.sums.Tests.{Tests}
 use Rattle.covstore.specs.Kinds.{CountsOf, Kind, above_of, at, cmp_of, of_each}
-use Rattle.covstore.specs.KindIndexCounts.{AreCounts, count_above, count_with, is_above_at, tests_at}
+use Rattle.covstore.specs.PointIndexCounts.{AreCounts, count_above, count_with, is_above_at, tests_at}
 use Rattle.covstore.specs.FileDrops.{AreWithoutTest, IsWithoutTest, tests_without}
 use Rattle.covstore.specs.FileIndex.{FileIndexData}
 use Rattle.covmap.specs.Puts.{ArePairs, value_of}
@@ -24,7 +24,7 @@ use Rattle.covstore.proofs.Orders.{lines_order}
 use Rattle.covstore.proofs.Puts.{value_of_first, value_of_later}
 use Rattle.covstore.proofs.Axis.{of_all, order_of}
 
--- ---- pairs, each with another value, or none
+-- ---- pairs in which each value is replaced, or removed
 
 module _ {K V : Type 0} (again : K → Option V) where
   abbrev pair_of : K → Option V → List (K × V)
@@ -51,7 +51,7 @@ module _ {K V : Type 0} (again : K → Option V) where
         by None following rest = rest
         by (Some value) following rest = (following, rest)
 
-    -- what is found of a key is its new value, where it had one
+    -- a key has its new value, if it had one before
     abbrev again_at : K → Option V → Option V
     again_at key None = None
     again_at key (Some value) = again key
@@ -84,7 +84,7 @@ module _ {K V : Type 0} (again : K → Option V) where
             later_again key pair pairs (again pair.0) same rest
             ∙ sym (ap (again_at key) (cond-false (is_eq (cmp pair.0 key)) (Some pair.1) (value_of cmp key pairs) same))
 
-    -- so it is the new value, where only such keys have one that had one
+    -- so each key has its new value, if only keys with a value get one
     renewed_is : (key : K) (pairs : List (K × V)) → (value_of cmp key pairs ≡ None → again key ≡ None) → value_of cmp key (renewed pairs) ≡ again key
     renewed_is key pairs few = renewed_value key pairs ∙ by (value_of cmp key pairs) refl
       where
@@ -92,7 +92,7 @@ module _ {K V : Type 0} (again : K → Option V) where
         by None e = sym (few e)
         by (Some value) e = refl
 
--- ---- numbers of tests, of which one goes
+-- ---- numbers of tests without one of them
 
 none_counted : {X : Type 0} (n : ℕ) (x : X) → (if nat_lt 0 n then Some x else None) ≡ None → n ≤ 0
 none_counted {X} n x none = ⊎_elim {C = n ≤ 0}
@@ -103,7 +103,7 @@ none_counted {X} n x none = ⊎_elim {C = n ≤ 0}
 counted_none : {X : Type 0} (n : ℕ) (x : X) → n ≤ 0 → (if nat_lt 0 n then Some x else None) ≡ None
 counted_none n x few = cond-false (nat_lt 0 n) (Some x) None (le-ltb 0 n few)
 
--- what none of the tests has, none of the others has
+-- if no test has it, no other test has it
 none_of_others : {X Y : Type 0} (p : Y → Bool) (first : Y) (others : List Y) (x z : X) → (if nat_lt 0 (count_by p (first ∷ others)) then Some x else None) ≡ None
     → (if nat_lt 0 (count_by p others) then Some z else None) ≡ None
 none_of_others p first others x z none =
@@ -137,7 +137,7 @@ rest_of test others index are = (
 
 -- ---- files
 
--- a whole file can be told without the test
+-- a consistent file has a version without the test
 pub file_without : (name : List ℕ) (tests : List (List ℕ × TestData)) (index : FileIndexData) → IsConsistentFile (file_with tests index) → (after : FileData) × IsWithoutTest name (file_with tests index) after
 file_without name tests index whole = by (value_of (slice_cmp nat_cmp) name tests) refl
   where

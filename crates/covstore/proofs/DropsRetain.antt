@@ -1,9 +1,9 @@
--- What `retain` leaves where its closure keeps every entry, writes each value, and stays as it was.
+-- What `retain` leaves if its closure keeps every entry, replaces each value, and stays the same itself.
 use Rattle.std.proofs.Common.{◌≡◌, Bool, true, cond, List, [], ◌∷◌, refl, sym, ap, ◌∙◌, subst}
 use Rattle.std.specs.List.{AllByRecursion}
 use Rattle.std.specs.Map.Calls.{RetainsPairs}
 
--- the same keys, each value as it was written
+-- the same keys, each with its replaced value
 abbrev pub AreWritten : {K X : Type 0} → (X → X → Type 0) → List (K × X) → List (K × X) → Type 0
 AreWritten R [] [] = Unit {0}
 AreWritten R [] (later ∷ laters) = ⊥

@@ -1,4 +1,4 @@
--- Pairs under names, of which the one of a name is gone: what is found of the others, and where it stood.
+-- Pairs by name, without the pair of one name: what is found of the others, and where the removed one was.
 use Rattle.std.proofs.Common.{◌≡◌, ℕ, Bool, true, false, cond, not, Option, Some, None, List, [], ◌∷◌, ◌++◌, filter, refl, sym, ap, ◌∙◌, subst}
 use Rattle.std.specs.Cmp.Lexicographic.{slice_cmp}
 use Rattle.std.specs.declared.cmp.Ordering.TheVariants.{Less}
@@ -15,7 +15,7 @@ use Rattle.covstore.proofs.MapNames.{bytes_apart, has_name, is_eq-flipped, names
 use Rattle.covstore.proofs.Orders.{names_order}
 use Rattle.covstore.proofs.Puts.{value_of_before, value_of_later}
 
--- names that differ, by their order
+-- different names compare as different
 names_apart : (a b : List ℕ) → (a ≡ b → ⊥) → is_eq (slice_cmp nat_cmp a b) ≡ false
 names_apart a b apart = is_eq-slice_cmp a b ∙ bytes_apart a b apart
 
@@ -76,7 +76,7 @@ module _ (name : List ℕ) {V : Type 0} where
       by true e rest = subst (ArePairs (slice_cmp nat_cmp)) (sym (others_first pair pairs e)) rest
       by false e rest = subst (ArePairs (slice_cmp nat_cmp)) (sym (others_later pair pairs e)) (All-others (λ next. slice_cmp nat_cmp pair.0 next.0 ≡ Less) pairs sorted.0, rest)
 
-  -- ---- where the name isn't there, nothing goes
+  -- ---- if the name isn't there, nothing is removed
 
   some_at : (same : Bool) (value : V) (later : Option V) → same ≡ true → cond same (Some value) later ≡ None → ⊥
   some_at true value later e none = none-some value (sym none)
@@ -92,14 +92,14 @@ module _ (name : List ℕ) {V : Type 0} where
           others_later pair pairs e
           ∙ ap (λ (ps : List (List ℕ × V)). pair ∷ ps) (rest (sym (value_of_later names_order name pair pairs (is_eq-slice_cmp pair.0 name ∙ e)) ∙ none))
 
-  -- after the name itself it comes no more
+  -- the name isn't there again after its pair
   none_after : (pair : List ℕ × V) (pairs : List (List ℕ × V)) → ArePairs (slice_cmp nat_cmp) (pair ∷ pairs) → bytes_eq pair.0 name ≡ true → none_at pairs
   none_after pair pairs sorted e =
       subst (λ (n : List ℕ). value_of (slice_cmp nat_cmp) n pairs ≡ None) ((bytes_eq-Decides pair.0 name).0 e) (value_of_before names_order pair.0 pairs sorted.0)
 
-  -- ---- where it stood
+  -- ---- where it was
 
-  -- the pairs are the others with this one between them
+  -- the pairs are the others, with this one between them
   pub record IsBetween (value : V) (pairs : List (List ℕ × V)) : Type 0 where
     pub front : List (List ℕ × V)
     pub back : List (List ℕ × V)

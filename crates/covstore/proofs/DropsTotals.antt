@@ -1,4 +1,4 @@
--- What the files have is counted, one after the other: their totals, and in how many of them a test has points.
+-- Totals of files, and the number of files in which a test has points, counted one file after another.
 use Rattle.std.proofs.Common.{◌≡◌, ℕ, ◌+◌, ◌<◌, ◌^◌, Bool, cond, List, [], ◌∷◌, length, sym, ◌∙◌, arith}
 use Rattle.std.specs.List.{count_by}
 use Rattle.std.proofs.lemmas.List.Sums.{count_by-le-length, sum_by-cons}
@@ -10,7 +10,7 @@ use Rattle.covstore.proofs.DropsLoop.{no_totals_after, no_totals_more, part_fits
 -- ---- totals
 
 module _ (all : List (List ℕ × FileData)) where
-  -- what is added up so far, with the files that are left, is all of it
+  -- what is added up so far, and the files that are left, are all of it
   abbrev pub IsAddedUp : List (List ℕ × FileData) → Totals → Type 0
   IsAddedUp left totals = together totals (totals_in left) ≡ totals_in all
 

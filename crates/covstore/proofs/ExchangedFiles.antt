@@ -1,4 +1,4 @@
--- The totals of all files where one of them is exchanged: they fit, and are those of the files afterwards.
+-- The totals of all files after one of them is replaced: they fit, and are those of the files afterwards.
 use Rattle.std.proofs.Common.{◌≡◌, ℕ, ◌+◌, ◌-◌, ◌≤◌, ◌^◌, Some, List, [], ◌∷◌, length, map, sym, ap, ◌∙◌, subst, arith, inl, inr}
 use Rattle.std.specs.Cmp.Lexicographic.{slice_cmp}
 use Rattle.std.specs.List.{sum_by}
@@ -25,7 +25,7 @@ use Rattle.covstore.proofs.StateTotals.{totals_are}
 use Rattle.covstore.proofs.TotalsDifferent.{are_totals, branches_counted, functions_counted, lines_counted}
 use Rattle.covstore.proofs.TotalsKinds.{same_totals}
 
--- ---- a file's totals are among all
+-- ---- a file's totals are part of all totals
 
 in_sum : {X : Type 0} (f : X → ℕ) (xs : List X) (x : X) → In x xs → f x ≤ sum_by f xs
 in_sum f [] x i = absurd i
@@ -46,7 +46,7 @@ module _ (name : List ℕ) (file : FileData) (files : List (List ℕ × FileData
     bh = its_part (hit_at Branch);
   }
 
--- ---- the file exchanged
+-- ---- the file is replaced
 
 module _ (name : List ℕ) (before after : FileData) (files : List (List ℕ × FileData)) (ascending : ArePairs (slice_cmp nat_cmp) files) (there : value_of (slice_cmp nat_cmp) name files ≡ Some before) where
   exchanged_part : (f : List ℕ × FileData → ℕ) → sum_by f files - f (name, before) + f (name, after) ≡ sum_by f (put (slice_cmp nat_cmp) name after files)
@@ -61,7 +61,7 @@ module _ (name : List ℕ) (before after : FileData) (files : List (List ℕ × 
       (exchanged_part (found_at Function)) (exchanged_part (hit_at Function))
       (exchanged_part (found_at Branch)) (exchanged_part (hit_at Branch))
 
--- ---- no more than there are rows
+-- ---- no larger than the number of rows
 
 -- each total is at most this number
 pub record IsAtMost (most : ℕ) (totals : Totals) : Type 0 where
@@ -97,7 +97,7 @@ totals_few rows files state =
     let agree = state_agrees rows files state in
     subst (IsAtMost (length rows)) (ap totals_of (sym (sections_are rows files state agree)) ∙ totals_are rows files state agree) (content_few rows)
 
--- ---- the totals fit with those of the file as it is after rows came in
+-- ---- the totals fit together with those of the file after rows are added
 
 pub exchanged_fits : (rows more : List Row) (files files_after : List (List ℕ × FileData)) (name : List ℕ) (after : FileData) → IsStateOf rows files → IsStateOf more files_after
     → value_of (slice_cmp nat_cmp) name files_after ≡ Some after → length rows ≤ 2 ^ 47 → length more ≤ 2 ^ 47 → FitTogether (file_totals after) (totals_in files)

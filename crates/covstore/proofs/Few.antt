@@ -1,4 +1,4 @@
--- A section has fewer points than 64 bits count.
+-- A section has fewer than 2^64 points.
 use Rattle.std.proofs.Common.{◌≤◌, List, [], ◌∷◌, length, arith}
 use Rattle.std.specs.List.{flat_map}
 use Rattle.std.proofs.lemmas.List.{length-append}

@@ -1,11 +1,11 @@
--- A test less has a point: the numbers that are kept then are those of the other tests.
+-- One test loses a point: the new counts are those of the other tests.
 use Rattle.std.proofs.Common.{◌≡◌, ℕ, ◌+◌, ◌-◌, ◌<◌, ◌≤◌, Bool, true, false, nat_lt, Option, Some, None, List, [], ◌∷◌, refl, sym, ap, ◌∙◌, subst, arith}
 use Rattle.std.specs.declared.cmp.Ordering.{Ordering}
 use Rattle.std.specs.Ordering.{is_eq}
 use Rattle.std.proofs.lemmas.Bool.{cond-true, cond-false, lt-ltb, ltb-true, ltb-false}
 use Rattle.covstore.specs.declared.sums.Tests.{Tests}
-use Rattle.covstore.specs.KindIndexCounts.{AreCounts, count_above, count_with, one_if, tests_at}
-use Rattle.covstore.specs.KindIndexDrops.{CanLose, counts_without, fewer_of, fewer_tests}
+use Rattle.covstore.specs.PointIndexCounts.{AreCounts, count_above, count_with, one_if, tests_at}
+use Rattle.covstore.specs.PointIndexDrops.{CanLose, counts_without, fewer_of, fewer_tests}
 use Rattle.covmap.specs.Puts.{ArePairs, value_of}
 use Rattle.covstore.proofs.Ascend.{IsExactOrder}
 use Rattle.covstore.proofs.Assigned.{ArePairs-assigned, any_key, apart_assigned, own_assigned}
@@ -32,7 +32,7 @@ fewer_by above tests hit false e =
     cond-false (nat_lt 1 (tests + 1)) (Some (numbers (tests + 1 - 1) (hit + one_if above - one_if above))) None (ap (λ (n : ℕ). nat_lt 1 (n + 1)) none)
     ∙ sym (cond-false (nat_lt 0 tests) (Some (numbers tests hit)) None e)
 
--- a test less than one more
+-- one less than one more
 fewer_more : (above : Bool) (tests hit : ℕ) → fewer_of above (tests_of (tests + 1) (hit + one_if above)) ≡ tests_of tests hit
 fewer_more above tests hit = ap (fewer_of above) (some_tests (tests + 1) (hit + one_if above) (omega arith)) ∙ fewer_by above tests hit (nat_lt 0 tests) refl
 
@@ -42,26 +42,26 @@ can_more above tests hit less = subst (CanLose above) (sym (some_tests (tests + 
 -- ---- among the numbers of all points
 
 module _ {K V : Type 0} {cmp : K → K → Ordering} (o : IsExactOrder cmp) {is_above : V → Bool} where
-  -- the numbers of a point, by its value in the test that goes
+  -- the numbers of a point, by its value in the test that is dropped
   numbers_with : (points : List (K × V)) (others : List (List (K × V))) (counts : List (K × Tests)) → AreCounts cmp is_above (points ∷ others) counts → (key : K) (value : Option V) → value_of cmp key points ≡ value
       → value_of cmp key counts ≡ tests_among is_above (count_with cmp key others) (count_above cmp is_above key others) value
   numbers_with points others counts are key value e =
       are.counted key ∙ tests_at-between cmp is_above key [] points others ∙ ap (tests_among is_above (count_with cmp key others) (count_above cmp is_above key others)) e
 
-  -- the point is counted, at least once
+  -- the point is counted at least once
   pub can_lose : (points : List (K × V)) (others : List (List (K × V))) (counts : List (K × Tests)) → AreCounts cmp is_above (points ∷ others) counts → (key : K) (value : V) → value_of cmp key points ≡ Some value
       → CanLose (is_above value) (value_of cmp key counts)
   can_lose points others counts are key value e =
       subst (CanLose (is_above value)) (sym (numbers_with points others counts are key (Some value) e))
       (can_more (is_above value) (count_with cmp key others) (count_above cmp is_above key others) (above_le_with cmp is_above key others))
 
-  -- a point has the same numbers where a test has the same value of it
+  -- a point has the same numbers, if a test has the same value at it
   pub same_numbers : (points left : List (K × V)) (others : List (List (K × V))) (counts fewer : List (K × Tests)) → AreCounts cmp is_above (points ∷ others) counts → AreCounts cmp is_above (left ∷ others) fewer
       → (key : K) (value : V) → value_of cmp key points ≡ Some value → value_of cmp key left ≡ Some value → value_of cmp key fewer ≡ value_of cmp key counts
   same_numbers points left others counts fewer are own key value e f =
       numbers_with left others fewer own key (Some value) f ∙ sym (numbers_with points others counts are key (Some value) e)
 
-  -- the first point of the test taken out
+  -- the first point of the test is removed
   module _ (key : K) (value : V) (left : List (K × V)) (sorted : ArePairs cmp ((key, value) ∷ left)) (others : List (List (K × V))) (counts : List (K × Tests)) (are : AreCounts cmp is_above (((key, value) ∷ left) ∷ others) counts) where
     fewer_own : value_of cmp key (counts_without cmp key (is_above value) counts) ≡ tests_at cmp is_above key (left ∷ others)
     fewer_own =
@@ -88,6 +88,6 @@ module _ {K V : Type 0} {cmp : K → K → Ordering} (o : IsExactOrder cmp) {is_
 
   -- ---- a whole test
 
-  -- there is one such list
+  -- the counts of the others are decided
   pub one_rest : (others : List (List (K × V))) (rest counts : List (K × Tests)) → AreCounts cmp is_above others rest → AreCounts cmp is_above others counts → rest ≡ counts
   one_rest others rest counts left right = same_pairs o rest counts left.ascending right.ascending (λ key. left.counted key ∙ sym (right.counted key))

@@ -1,12 +1,12 @@
--- A test goes that holds checksums of lines: how many tests hold them then.
+-- A test that holds checksums of lines is dropped: how many tests hold them afterwards.
 use Rattle.std.proofs.Common.{◌≡◌, ℕ, ◌+◌, ◌-◌, ◌<◌, Bool, true, false, cond, nat_lt, Option, Some, None, List, [], ◌∷◌, refl, sym, ap, ◌∙◌, subst, arith}
 use Rattle.std.specs.Option.{is_some}
 use Rattle.std.specs.Ordering.{is_eq, nat_cmp}
 use Rattle.std.proofs.lemmas.Bool.{cond-true, cond-false, lt-ltb, ltb-true, ltb-false}
 use Rattle.covstore.specs.declared.sums.LineSum.{LineSum}
 use Rattle.covmap.specs.Assigned.{assigned}
-use Rattle.covstore.specs.KindIndexCounts.{is_above_at, one_if}
-use Rattle.covstore.specs.KindIndexDrops.{AreHolders, AreHoldersWith, LosesHolders, held_less, less_of, one_less, with_lines}
+use Rattle.covstore.specs.PointIndexCounts.{is_above_at, one_if}
+use Rattle.covstore.specs.PointIndexDrops.{AreHolders, AreHoldersWith, LosesHolders, held_less, less_of, one_less, with_lines}
 use Rattle.covmap.specs.Puts.{ArePairs, value_of}
 use Rattle.covstore.specs.State.{has_checksum, holders_at, holding}
 use Rattle.covstore.specs.Sums.{TestData}
@@ -37,7 +37,7 @@ less_more n = ap less_of (some_is (n + 1) (omega arith)) ∙ less_by n (nat_lt 0
 
 -- ---- among the numbers of all lines
 
--- how many hold a line's checksum, by the line's value in the test that goes
+-- how many tests hold a line's checksum, by the line's value in the test that is dropped
 holders_with : (lines : List (ℕ × LineSum)) (others : List TestData) (line : ℕ) (value : Option LineSum) → value_of nat_cmp line lines ≡ value
     → holders_at line (with_lines lines ∷ others) ≡ some_above (holding line others + one_if (is_above_at has_checksum value))
 holders_with lines others line value e =
@@ -65,7 +65,7 @@ module _ (line : ℕ) (value : LineSum) (left : List (ℕ × LineSum)) (sorted :
       any_key lines_order (λ (l : ℕ). value_of nat_cmp l holders ≡ holders_at l (with_lines left ∷ others)) line
       (own_with false none ∙ no_more (holding line others) ∙ sym own_left) apart_with
 
-  -- it holds one
+  -- the test holds a checksum of the first line
   pub is_released : value.has_checksum ≡ true → is_some (value_of nat_cmp line holders) ≡ true
   is_released holds = ap is_some (own_with true holds ∙ some_is (holding line others + 1) (omega arith))
 
@@ -75,12 +75,12 @@ module _ (line : ℕ) (value : LineSum) (left : List (ℕ × LineSum)) (sorted :
       (own_assigned lines_order line (less_of (value_of nat_cmp line holders)) holders ∙ ap less_of (own_with true holds) ∙ less_more (holding line others) ∙ sym own_left)
       (λ other apart. apart_assigned lines_order line other (less_of (value_of nat_cmp line holders)) holders apart ∙ apart_with other apart)
 
--- a test counts here by its lines alone
+-- only the lines of a test matter here
 pub holders_of_lines : (test : TestData) (others : List TestData) (holders : List (ℕ × ℕ)) → AreHolders (test ∷ others) holders → AreHolders (with_lines test.lines ∷ others) holders
 holders_of_lines test others holders are line =
     are line ∙ ap some_above (count_by-between (is_holding line) [] test others) ∙ sym (holders_with test.lines others line (value_of nat_cmp line test.lines) refl)
 
--- the lines of which a checksum is held where a test less holds one of this line are among those before
+-- if one test no longer holds the checksum of this line, the lines with a held checksum are among those before
 pub some_before : (line : ℕ) (value : Option ℕ) (holders fewer : List (ℕ × ℕ)) → fewer ≡ assigned nat_cmp line value holders → is_some (value_of nat_cmp line holders) ≡ true → (other : ℕ)
     → is_some (value_of nat_cmp other fewer) ≡ true → is_some (value_of nat_cmp other holders) ≡ true
 some_before line value holders fewer moved there =
@@ -92,7 +92,7 @@ holders_none others holders are line = are line ∙ holders_with [] others line 
 
 -- ---- line by line
 
--- these lines of the test are still to be passed
+-- these lines of the test are still to be visited
 pub record IsReleasing (lines : List (ℕ × LineSum)) (holders : List (ℕ × ℕ)) (left : List (ℕ × LineSum)) (fewer : List (ℕ × ℕ)) : Type 0 where
   pub sorted : ArePairs nat_cmp left
   pub counted : (others : List TestData) → AreHolders (with_lines lines ∷ others) holders → AreHolders (with_lines left ∷ others) fewer

@@ -1,12 +1,12 @@
--- The points of a test are taken out one by one: what is kept meanwhile, and the tally of it.
+-- The points of a test are removed one by one: the counts after each step, and their tally.
 use Rattle.std.proofs.Common.{◌≡◌, Bool, Some, List, [], ◌∷◌, sym, ap, ◌∙◌, subst}
 use Rattle.std.specs.declared.cmp.Ordering.{Ordering}
 use Rattle.std.proofs.lemmas.Option.{none-some}
-use Rattle.covstore.specs.declared.kind_index.KindTotals.{KindTotals}
+use Rattle.covstore.specs.declared.point_index.KindTotals.{KindTotals}
 use Rattle.covstore.specs.declared.sums.Tests.{Tests}
-use Rattle.covstore.specs.KindIndex.{IsTallyOf}
-use Rattle.covstore.specs.KindIndexCounts.{AreCounts}
-use Rattle.covstore.specs.KindIndexDrops.{AreWith, CanLose, IsTallyAt, IsTallyWithout, LosesTest, counts_without}
+use Rattle.covstore.specs.PointIndex.{IsTallyOf}
+use Rattle.covstore.specs.PointIndexCounts.{AreCounts}
+use Rattle.covstore.specs.PointIndexDrops.{AreWith, CanLose, IsTallyAt, IsTallyWithout, LosesTest, counts_without}
 use Rattle.covmap.specs.Puts.{ArePairs, value_of}
 use Rattle.covstore.proofs.Ascend.{IsExactOrder}
 use Rattle.covstore.proofs.Assigned.{any_key}
@@ -14,21 +14,21 @@ use Rattle.covstore.proofs.Counts.{counts_unempty}
 use Rattle.covstore.proofs.Fewer.{can_lose, counts_fewer, one_rest, same_numbers}
 use Rattle.covstore.proofs.Puts.{value_of_before, value_of_first, value_of_later}
 
--- these points of the test are still to be taken out
+-- these points of the test are still to be removed
 pub record IsLosing {K V : Type 0} (cmp : K → K → Ordering) (is_above : V → Bool) (points : List (K × V)) (counts : List (K × Tests)) (left : List (K × V)) (fewer : List (K × Tests)) : Type 0 where
   pub sorted : ArePairs cmp left
   pub counted : (others : List (List (K × V))) → AreCounts cmp is_above (points ∷ others) counts → AreCounts cmp is_above (left ∷ others) fewer
 
--- likewise of a tally alone; the points that are left have the values that they have in the test
+-- the same for a tally alone. The points that are left have the values that they have in the test
 pub record IsTallying {K V : Type 0} (cmp : K → K → Ordering) (is_above : V → Bool) (points : List (K × V)) (counts : List (K × Tests)) (left : List (K × V)) (tally : KindTotals) : Type 0 where
   pub sorted : ArePairs cmp left
   pub values : (key : K) (value : V) → value_of cmp key left ≡ Some value → value_of cmp key points ≡ Some value
   pub tallied : (others : List (List (K × V))) → AreCounts cmp is_above (points ∷ others) counts → (fewer : List (K × Tests)) × AreCounts cmp is_above (left ∷ others) fewer × IsTallyOf fewer tally
 
 module _ {K V : Type 0} {cmp : K → K → Ordering} (o : IsExactOrder cmp) (is_above : V → Bool) (points : List (K × V)) (counts : List (K × Tests)) where
-  -- ---- what is kept
+  -- ---- the counts
 
-  -- the next point, as it is asked for and as its value was read
+  -- the next point, as the query and as its value was read
   module _ (key : K) (value : V) (asked : K) (named : asked ≡ key) (above : Bool) (read : above ≡ is_above value) (left rest : List (K × V)) (first : left ≡ (key, value) ∷ rest) (fewer : List (K × Tests))
       (is : IsLosing cmp is_above points counts left fewer) where
     pub losing_can : AreWith cmp is_above points counts → CanLose above (value_of cmp asked fewer)

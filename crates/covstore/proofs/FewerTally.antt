@@ -1,14 +1,14 @@
--- A test less has a point: how many points there are then, and how many of them are hit.
+-- One test loses a point: how many points are found afterwards, and how many of them are hit.
 use Rattle.std.proofs.Common.{◌≡◌, ℕ, ◌+◌, ◌-◌, Bool, true, false, cond, nat_lt, Option, Some, None, List, refl, sym, ap, ◌∙◌, subst, arith}
 use Rattle.std.specs.declared.cmp.Ordering.{Ordering}
 use Rattle.std.specs.Option.{is_some}
 use Rattle.std.proofs.lemmas.Bool.{false≢true, lt-ltb, ltb-true}
-use Rattle.covstore.specs.declared.kind_index.KindTotals.{KindTotals}
+use Rattle.covstore.specs.declared.point_index.KindTotals.{KindTotals}
 use Rattle.covstore.specs.declared.sums.Tests.{Tests}
 use Rattle.covmap.specs.Assigned.{assigned}
-use Rattle.covstore.specs.KindIndex.{IsTallyOf}
-use Rattle.covstore.specs.KindIndexCounts.{found_of, hit_of, one_if}
-use Rattle.covstore.specs.KindIndexDrops.{CanBeLess, IsLess, IsTallyAt, counts_without, fewer_of, fewer_tests, is_hit}
+use Rattle.covstore.specs.PointIndex.{IsTallyOf}
+use Rattle.covstore.specs.PointIndexCounts.{found_of, hit_of, one_if}
+use Rattle.covstore.specs.PointIndexDrops.{CanBeLess, IsLess, IsTallyAt, counts_without, fewer_of, fewer_tests, is_hit}
 use Rattle.covmap.specs.Puts.{ArePairs, value_of}
 use Rattle.covstore.proofs.Ascend.{IsExactOrder}
 use Rattle.covstore.proofs.Assigned.{sum_assigned}
@@ -60,7 +60,7 @@ falls_at false above tests hit e = absurd (false≢true e)
 pub fewer_falls : (above : Bool) (before : Tests) → is_hit (fewer_tests above before) ≡ true → is_hit (Some before) ≡ true
 fewer_falls above before e = falls_at (nat_lt 1 before.tests) above (before.tests - 1) before.hit e
 
--- ---- of other counts, in which the point has the same numbers
+-- ---- for other counts in which the point has the same numbers
 
 module _ {K : Type 0} {cmp : K → K → Ordering} (o : IsExactOrder cmp) (key : K) (above : Bool) (counts others : List (K × Tests)) (tally : KindTotals) (at : IsTallyAt cmp key counts others tally) (before : Tests)
     (there : value_of cmp key counts ≡ Some before) (after : Option Tests) (fewer : after ≡ fewer_tests above before) where

@@ -1,4 +1,4 @@
--- Of which tests there are sections: those that have points in some file.
+-- The tests that have sections: those that have points in some file.
 use Rattle.std.proofs.Common.{◌≡◌, ℕ, Bool, true, false, cond, not, ◌&&◌, ◌||◌, Option, Some, None, List, [], ◌∷◌, length, arith, refl, sym, ap, ◌∙◌, subst}
 use Rattle.std.specs.Prelude.{IsTrue, ◌↔◌}
 use Rattle.std.specs.Cmp.Lexicographic.{slice_cmp}
@@ -54,7 +54,7 @@ module _ (test : List ℕ) where
   abbrev points_found : Option TestData → Bool
   points_found found = not (has_no_points (points_or_none found))
 
-  -- in ascending tests the name is at most once among them
+  -- in ascending tests, the name is there at most once
   found_at : (same : Bool) (points : TestData) (rest : Bool) (later : Option TestData) → rest ≡ points_found later → (same ≡ true → later ≡ None)
       → (same && not (has_no_points points)) || rest ≡ points_found (cond same (Some points) later)
   found_at true points rest later e none = last (not (has_no_points points)) (e ∙ ap points_found (none refl))
@@ -90,7 +90,7 @@ pub any_named : {K X Y : Type 0} (p : Y → Bool) (f : X → Y) (name : K → Li
 any_named p f name [] = refl
 any_named p f name (pair ∷ pairs) = ap (λ (b : Bool). p (f pair.1) || b) (any_named p f name pairs)
 
--- a test whether there is none
+-- whether a list is empty
 pub none_as : {X : Type 0} (xs : List X) (b : Bool) → IsTrue b ↔ (xs ≡ []) → b ≡ has_none xs
 none_as [] b is = is.1 refl
 none_as (x ∷ xs) true is = absurd (cons-nil x xs (is.0 refl))

@@ -1,4 +1,5 @@
--- Changes of one file that leave the state as it is: a test that is made ready, and texts of lines that nobody holds.
+-- Changes of one file that leave the state as it is: a test without points is added, or texts of lines whose checksum no test
+-- holds.
 use Rattle.std.specs.Prelude.{if◌then◌else◌}
 use Rattle.std.proofs.Common.{◌≡◌, ℕ, true, false, Option, Some, None, List, [], map, refl, sym, ap, ◌∙◌, subst, arith, ⊎_elim}
 use Rattle.std.specs.Cmp.Lexicographic.{slice_cmp}
@@ -10,7 +11,7 @@ use Rattle.covline.specs.Row.{Row}
 use Rattle.covstore.specs.Kinds.{CountsOf, Each, Kind, above_of, at, cmp_of}
 use Rattle.covstore.specs.Section.{IsIn}
 use Rattle.covstore.specs.Clash.{checksums_in}
-use Rattle.covstore.specs.KindIndexCounts.{AreCounts, found_of, hit_of}
+use Rattle.covstore.specs.PointIndexCounts.{AreCounts, found_of, hit_of}
 use Rattle.covstore.specs.FileSection.{KeepsIn}
 use Rattle.covstore.specs.FileView.{KeepsFile, tests_with, with_test}
 use Rattle.covstore.specs.Store.{KeepsState}
@@ -33,13 +34,13 @@ module _ (name : List ℕ) (before after : FileData) (files : List (List ℕ × 
       let own : at_before f name (value_of (slice_cmp nat_cmp) name files) ≡ f (name, before) = ap (at_before f name) there in
       omega (arith, sum_by-put names_order f name after files ascending, own, same)
 
-  -- a file with the same kept numbers changes no totals
+  -- a file with the same counts leaves the totals as they are
   pub totals_stay : after.index.counts ≡ before.index.counts → totals_in (put (slice_cmp nat_cmp) name after files) ≡ totals_in files
   totals_stay counts =
       totals_same (put (slice_cmp nat_cmp) name after files) files
       (λ kind. (as_much (found_at kind) (ap (λ (all : Each CountsOf). found_of (at kind all)) counts), as_much (hit_at kind) (ap (λ (all : Each CountsOf). hit_of (at kind all)) counts)))
 
--- ---- a test that is made ready
+-- ---- a test without points is added
 
 is_none : {X : Type 0} (found : Option X) → is_some found ≡ false → found ≡ None
 is_none None e = refl
@@ -65,7 +66,7 @@ module _ (name test : List ℕ) (file : FileData) (files : List (List ℕ × Fil
 pub test_keeps : (test : List ℕ) (file : FileData) → KeepsIn file (with_test test file)
 test_keeps test file files name ascending is = with_test_keeps name test file files ascending is
 
--- what is there then
+-- the entry that is there afterwards
 pub made_ready : {X : Type 0} (key : List ℕ) (new : X) (pairs : List (List ℕ × X))
     → (x : X) × (value_of (slice_cmp nat_cmp) key (if is_some (value_of (slice_cmp nat_cmp) key pairs) then pairs else put (slice_cmp nat_cmp) key new pairs) ≡ Some x)
 made_ready {X} key new pairs = at (value_of (slice_cmp nat_cmp) key pairs) refl
@@ -74,7 +75,7 @@ made_ready {X} key new pairs = at (value_of (slice_cmp nat_cmp) key pairs) refl
     at None e = (new, value_of-put names_order key new pairs)
     at (Some x) e = (x, e)
 
--- ---- texts of lines that nobody holds
+-- ---- texts of lines whose checksum no test holds
 
 module _ (before after : FileData) (keeps : KeepsFile before after) where
   still_whole : IsConsistentFile before → IsConsistentFile after
@@ -87,7 +88,7 @@ module _ (before after : FileData) (keeps : KeepsFile before after) where
   }
 
   module _ (name : List ℕ) (rows : List Row) (files : List (List ℕ × FileData)) (state : IsStateOf rows files) (is : value_of (slice_cmp nat_cmp) name files ≡ Some before) where
-    -- the file with a test made ready, of which the same is kept
+    -- the file with such a test added, and the same index
     its_place : IsIn rows (put (slice_cmp nat_cmp) name (with_test [] before) files) name [] (tests_with [] before.tests) (made_ready [] (test_of []) before.tests).0 before.index
     its_place = record {
       state = (test_keeps [] before files name state.ascending is).states rows state;
@@ -114,7 +115,7 @@ module _ (before after : FileData) (keeps : KeepsFile before after) where
     totals = totals_stay name before after files ascending is keeps.index.counts;
   }
 
--- ---- one after the other
+-- ---- one change after another
 
 pub state_stays : (files : List (List ℕ × FileData)) → KeepsState files files
 state_stays files = record { states = λ rows state. state; totals = refl }

@@ -64,6 +64,9 @@ pub mod AddsReady
 pub mod AddsWritten
 pub mod RunsKept
 pub mod RunsAdds
+pub mod TextsHeld
+pub mod TextsAdds
+pub mod TextsAscend
 pub mod AddsOrder
 pub mod StepsTally
 pub mod StepsTexts
@@ -82,6 +85,7 @@ pub mod SeenTests
 pub mod SeenStore
 pub mod Settled
 pub mod HasTest
+pub mod PathOrder
 pub mod Alike
 pub mod AlikeContents
 pub mod DropsRetain

@@ -1,4 +1,4 @@
--- The entries of a map, seen by their names: what is found at a name, and what comes of an entry that is put in or set.
+-- The entries of a map, seen by their names: what is found at a name, and the entries after one is inserted or replaced.
 use Rattle.std.proofs.Common.{◌≡◌, Bool, true, false, cond, Option, Some, None, List, [], ◌∷◌, map, option_map, refl, sym, ap, ◌∙◌}
 use Rattle.std.specs.BTreeMap.{insert_entry, is_at}
 use Rattle.std.specs.declared.cmp.Ordering.{Ordering}
@@ -19,7 +19,7 @@ reverse_eq Equal = refl
 reverse_eq Greater = refl
 
 module _ {K P V W : Type 0} {cmp : P → P → Ordering} (o : IsExactOrder cmp) (name : K → P) (f : V → W) where
-  -- an entry, and all of them, by name and as they are seen
+  -- an entry, and all of them, by name and as contracts see them
   abbrev pub seen_pair : K × V → P × W
   seen_pair pair = (name pair.0, f pair.1)
 
@@ -41,7 +41,7 @@ module _ {K P V W : Type 0} {cmp : P → P → Ordering} (o : IsExactOrder cmp) 
       ap (λ (here : Bool). cond here (Some (f pair.1)) (value_of cmp key (seen pairs))) (same_place key pair.0)
       ∙ found_at (is_eq (cmp key (name pair.0))) pair.1 (value_of cmp key (seen pairs)) (lookup (is_at (λ other. cmp key (name other))) pairs) (seen_value key pairs)
 
-  -- ---- an entry put in
+  -- ---- an entry is inserted
 
   same_first : (a b : P) (w : W) (pairs : List (P × W)) → a ≡ b → ◌≡◌ {A = List (P × W)} ((a, w) ∷ pairs) ((b, w) ∷ pairs)
   same_first a b w pairs e = ap (λ (p : P). (p, w) ∷ pairs) e
@@ -59,7 +59,7 @@ module _ {K P V W : Type 0} {cmp : P → P → Ordering} (o : IsExactOrder cmp) 
       insert_at key v pair pairs (insert_entry (λ a b. cmp (name a) (name b)) pairs key v) (cmp (name key) (name pair.0)) refl (seen_insert key v pairs)
       ∙ sym (ap (λ (order : Ordering). match_ordering order (seen_pair pair ∷ put cmp (name key) (f v) (seen pairs)) ((name key, f v) ∷ seen pairs) ((name key, f v) ∷ seen_pair pair ∷ seen pairs)) (o.total.antisymm (name pair.0) (name key)))
 
-  -- ---- the value of an entry set
+  -- ---- the value of an entry is replaced
 
   -- names that ascend
   pub seen_ascend : (pairs : List (K × V)) → IsStrictlySortedBy (λ a b. cmp (name a) (name b)) (keys_of pairs) → ArePairs cmp (seen pairs)

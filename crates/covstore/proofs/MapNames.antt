@@ -1,4 +1,4 @@
--- The entries of a map whose keys are names, before and after a value was written at one of them.
+-- The entries of a map whose keys are names, before and after the value at one name is replaced.
 use Rattle.std.proofs.Common.{◌≡◌, ℕ, Bool, true, false, cond, Option, Some, None, option_map, List, [], ◌∷◌, map, refl, sym, ap, ◌∙◌, subst}
 use Rattle.std.specs.Cmp.Lexicographic.{slice_cmp}
 use Rattle.std.specs.declared.cmp.Ordering.{Ordering}
@@ -17,16 +17,16 @@ use Rattle.std.proofs.lemmas.Slice.Eq.{bytes_eq-Decides}
 use Rattle.covmap.specs.Puts.{value_of}
 use Rattle.covstore.proofs.Orders.{names_order}
 
--- names that differ, by `bytes_eq`
+-- different names, by `bytes_eq`
 pub bytes_apart : (a b : List ℕ) → (a ≡ b → ⊥) → bytes_eq a b ≡ false
 bytes_apart a b apart = false_from_ne_true (bytes_eq a b) (λ e. apart ((bytes_eq-Decides a b).0 e))
 
--- the entries, their keys by their names, of which only a part of the value is seen
+-- the entries by their names, with a part of each value
 abbrev pub names_with : {K X Y : Type 0} → (K → List ℕ) → (X → Y) → List (K × X) → List (List ℕ × Y)
 names_with name f pairs = map (λ pair. (name pair.0, f pair.1)) pairs
 
 module _ {K : Type 0} (name : K → List ℕ) (key : List ℕ) where
-  -- whether a key has this name, as a look-up by the name asks it
+  -- whether a key has this name, as a look-up by the name compares it
   abbrev pub has_name : K → Bool
   has_name k = is_eq (slice_cmp nat_cmp key (name k))
 
@@ -37,7 +37,7 @@ module _ {K : Type 0} (name : K → List ℕ) (key : List ℕ) where
   not_named k e same = false≢true (sym e ∙ ap (λ (n : List ℕ). is_eq (slice_cmp nat_cmp key n)) same ∙ ap is_eq (tied_itself nat_list_cmp_total key))
 
   module _ {X : Type 0} where
-    -- what holds of entries of other names
+    -- what is true of the entries with other names
     pub All-others : (P Q : K × X → Type 0) (es : List (K × X)) → NonePasses has_name es → ((e : K × X) → P e → (name e.0 ≡ key → ⊥) → Q e) → AllByRecursion P es → AllByRecursion Q es
     All-others P Q [] none other all = tt
     All-others P Q (e ∷ es) none other all = (other e all.0 (not_named e.0 none.0), All-others P Q es none.1 other all.1)
@@ -51,7 +51,7 @@ module _ {K : Type 0} (name : K → List ℕ) (key : List ℕ) where
     none_after k (next ∷ es) e following =
         (ap is_eq (ap (λ (n : List ℕ). slice_cmp nat_cmp n (name next.0)) (sym e) ∙ following.0), none_after k es e following.1)
 
-    -- what holds of all entries after a value was written
+    -- what is true of all entries after a value is replaced
     All-written_at : (P Q : K × X → Type 0) (v w : X) (e : K × X) (es : List (K × X)) (here : Bool) → has_name e.0 ≡ here
         → AllByRecursion (λ next. slice_cmp nat_cmp (name e.0) (name next) ≡ Less) (keys_of es) → cond here (Some e.1) (lookup has_name es) ≡ Some v
         → ((k : K) → P (k, v) → name k ≡ key → Q (k, w)) → ((e : K × X) → P e → (name e.0 ≡ key → ⊥) → Q e) → AllByRecursion P (e ∷ es)
@@ -67,7 +67,7 @@ module _ {K : Type 0} (name : K → List ℕ) (key : List ℕ) where
     All-written P Q v w (e ∷ es) sorted found own other all =
         All-written_at P Q v w e es (has_name e.0) refl sorted.0 found own other all (λ later. All-written P Q v w es sorted.1 later own other all.1)
 
-    -- where only that is seen of the value that stays as it was
+    -- if the visible part of the value stays, the entries look the same
     map_written_at : {Y : Type 0} (f : X → Y) (v w : X) (e : K × X) (es : List (K × X)) (here : Bool) → f w ≡ f v → cond here (Some e.1) (lookup has_name es) ≡ Some v
         → (lookup has_name es ≡ Some v → names_with name f (set_value has_name es w) ≡ names_with name f es)
         → names_with name f (cond here ((e.0, w) ∷ es) (e ∷ set_value has_name es w)) ≡ names_with name f (e ∷ es)
@@ -88,7 +88,7 @@ is_eq-flipped a b = ap is_eq (nat_list_cmp_total.antisymm a b) ∙ flipped (slic
     flipped Equal = refl
     flipped Greater = refl
 
--- what a look-up in the map finds, seen as plain data
+-- what a look-up in the map finds, by names
 pub value_of_named : {K X Y : Type 0} (name : K → List ℕ) (f : X → Y) (key : List ℕ) (pairs : List (K × X)) → value_of (slice_cmp nat_cmp) key (names_with name f pairs) ≡ option_map f (lookup (has_name name key) pairs)
 value_of_named name f key [] = refl
 value_of_named {K} {X} {Y} name f key (pair ∷ pairs) =

@@ -1,4 +1,4 @@
--- The names of the files in which a test has points, one after the other.
+-- The names of the files in which a test has points, one after another.
 use Rattle.std.proofs.Common.{◌≡◌, ◌≢◌, ℕ, Bool, true, false, cond, List, [], ◌∷◌, ◌++◌, length, map, filter, sym, ap, ◌∙◌, arith}
 use Rattle.std.proofs.lemmas.List.{length-append}
 use Rattle.covstore.specs.Renaming.{names_with}
@@ -20,13 +20,13 @@ module _ (test : List ℕ) (pair : List ℕ × FileData) (files : List (List ℕ
 has_some : {X : Type 0} (xs : List X) (y : X) (ys : List X) → xs ++ y ∷ ys ≢ []
 has_some xs y ys e = let same = ap length e in omega (arith, same, length-append xs (y ∷ ys))
 
--- the names so far with those of the files that are left are all of them, also after such a file
+-- the names so far and those of the files that are left are all names, also after a file without points
 module _ {X : Type 0} (name : X → List ℕ) (test : List ℕ) (all left : List (List ℕ × FileData)) (pair : List ℕ × FileData) (files : List (List ℕ × FileData)) (steps : left ≡ pair ∷ files)
     (names : List X) (so_far : map name names ++ names_with test left ≡ names_with test all) where
   pub none_named : has_points_of test pair.1 ≡ false → map name names ++ names_with test files ≡ names_with test all
   none_named e = ap (λ (more : List (List ℕ)). map name names ++ more) (sym (unnamed test pair files e)) ∙ ap (λ (more : List (List ℕ × FileData)). map name names ++ names_with test more) (sym steps) ∙ so_far
 
-  -- and after one in which it has points there is a name
+  -- and a file in which it has points gives a name
   pub some_named : has_points_of test pair.1 ≡ true → names_with test all ≢ []
   some_named e none =
       has_some (map name names) pair.0 (names_with test files)

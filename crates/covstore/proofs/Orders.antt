@@ -1,4 +1,4 @@
--- The orders of lines, names, keys and branches tell all of them apart.
+-- The orders of lines, names, keys and branches are exact: only equal ones compare as equal.
 use Rattle.std.specs.Cmp.{IsTotalOrder}
 use Rattle.std.specs.Ordering.{nat_cmp}
 use Rattle.std.specs.Cmp.Lexicographic.{slice_cmp}

@@ -1,4 +1,4 @@
--- What is made ready to hold: from what is committed, with the rows of a submission.
+-- What is prepared: the committed rows with the rows of a submission.
 use Rattle.std.proofs.Common.{◌≡◌, ◌+◌, ◌*◌, ◌<◌, ◌≤◌, ◌^◌, None, [], ◌∷◌, ◌++◌, length, sym, ap, ◌∙◌, subst, arith}
 use Rattle.std.specs.List.{AllByRecursion}
 use Rattle.std.proofs.lemmas.List.{length-append}

@@ -1,4 +1,5 @@
--- Keys with values, ascending: what is found of a key, what a value put in changes, and that its look-ups tell the whole list.
+-- Keys with values, ascending: the value of a key, what putting in a value changes, and that the values of all keys decide the
+-- list.
 use Rattle.std.proofs.Common.{◌≡◌, ℕ, ◌+◌, Bool, true, false, cond, Option, Some, None, List, [], ◌∷◌, length, refl, sym, ap, ◌∙◌, subst, inl, inr, ⊎_elim, arith}
 use Rattle.std.specs.declared.cmp.Ordering.{Ordering}
 use Rattle.std.specs.declared.cmp.Ordering.TheVariants.{Less, Equal, Greater}
@@ -11,13 +12,13 @@ use Rattle.std.proofs.lemmas.Cmp.{on_total, tied_itself}
 use Rattle.std.proofs.lemmas.List.Sums.{sum_by-cons}
 use Rattle.std.proofs.lemmas.Map.Views.{tells_apart}
 use Rattle.std.proofs.lemmas.Option.{none-some, same_Some}
-use Rattle.covstore.specs.KindIndexCounts.{is_above_at, is_new, one_if}
+use Rattle.covstore.specs.PointIndexCounts.{is_above_at, is_new, one_if}
 use Rattle.covmap.specs.Puts.{value_of, put, ArePairs}
 use Rattle.covstore.proofs.Ascend.{IsExactOrder, All-match, All-weaker, flips, one_sorted}
 use Rattle.covstore.proofs.Members.{In, All-in}
 use Rattle.covstore.proofs.TotalsCounts.{one_each}
 
--- what a number for each pair is at a key that may have no value
+-- a number for each pair, at a key; 0 if the key has no value
 abbrev pub at_before : {K V : Type 0} → (K × V → ℕ) → K → Option V → ℕ
 at_before f key None = 0
 at_before f key (Some value) = f (key, value)
@@ -38,7 +39,7 @@ module _ {K V : Type 0} {cmp : K → K → Ordering} (o : IsExactOrder cmp) wher
   pub value_of_later : (key : K) (pair : K × V) (pairs : List (K × V)) → is_eq (cmp pair.0 key) ≡ false → value_of cmp key (pair ∷ pairs) ≡ value_of cmp key pairs
   value_of_later key pair pairs e = cond-false (is_eq (cmp pair.0 key)) (Some pair.1) (value_of cmp key pairs) e
 
-  -- a key before all others has no value among them
+  -- a key before all others has no value
   pub value_of_before : (key : K) (pairs : List (K × V)) → AllByRecursion (λ next. cmp key next.0 ≡ Less) pairs → value_of cmp key pairs ≡ None
   value_of_before key [] following = refl
   value_of_before key (pair ∷ pairs) following =
@@ -59,20 +60,20 @@ module _ {K V : Type 0} {cmp : K → K → Ordering} (o : IsExactOrder cmp) wher
   some_in_at true value rest e = refl
   some_in_at false value rest e = e
 
-  -- a key that is there has a value
+  -- a key with a pair has a value
   pub some_in : (key : K) (value : V) (pairs : List (K × V)) → In (key, value) pairs → is_some (value_of cmp key pairs) ≡ true
   some_in key value [] i = absurd i
   some_in key value (pair ∷ pairs) (inl e) = ap (λ (first : K × V). is_some (value_of cmp key (first ∷ pairs))) e ∙ ap is_some (value_of_first key value pairs)
   some_in key value (pair ∷ pairs) (inr i) = some_in_at (is_eq (cmp pair.0 key)) pair.1 (value_of cmp key pairs) (some_in key value pairs i)
 
-  -- and in ascending pairs each key has its own value
+  -- and in ascending pairs, it is the value of that pair
   pub value_of_pair : (key : K) (value : V) (pairs : List (K × V)) → ArePairs cmp pairs → In (key, value) pairs → value_of cmp key pairs ≡ Some value
   value_of_pair key value [] sorted i = absurd i
   value_of_pair key value (pair ∷ pairs) sorted (inl e) = ap (λ (first : K × V). value_of cmp key (first ∷ pairs)) e ∙ value_of_first key value pairs
   value_of_pair key value (pair ∷ pairs) sorted (inr i) =
       value_of_later key pair pairs (ap is_eq (All-in (λ (next : K × V). cmp pair.0 next.0 ≡ Less) pairs (key, value) sorted.0 i)) ∙ value_of_pair key value pairs sorted.1 i
 
-  -- ---- one list has these values
+  -- ---- the values of all keys decide the list
 
   sorted_pairs : (pairs : List (K × V)) → ArePairs cmp pairs → IsStrictlySortedBy (λ (a b : K × V). cmp a.0 b.0) pairs
   unfolding IsStrictlySortedBy
@@ -116,7 +117,7 @@ module _ {K V : Type 0} {cmp : K → K → Ordering} (o : IsExactOrder cmp) wher
   value_of-put_other key other value pairs differ =
       value_of-put_apart key other value pairs (false_from_ne_true (is_eq (cmp key other)) (λ e. differ (tells_apart o.exact key other e)))
 
-  -- both in one
+  -- both cases in one
   pub value_of-put_any : (key other : K) (value : V) (pairs : List (K × V)) → value_of cmp other (put cmp key value pairs) ≡ cond (is_eq (cmp key other)) (Some value) (value_of cmp other pairs)
   value_of-put_any key other value pairs = ⊎_elim
       (λ (e : is_eq (cmp key other) ≡ true).
@@ -161,13 +162,13 @@ module _ {K V : Type 0} {cmp : K → K → Ordering} (o : IsExactOrder cmp) wher
       ap (at_before f key) (value_of_before key pairs (All-weaker (λ next. cmp pair.0 next.0 ≡ Less) (λ next. cmp key next.0 ≡ Less) pairs (λ next l. o.total.trans key pair.0 next.0 first l) following)) in
       omega (arith, sum_by-cons f (key, value) (pair ∷ pairs), sum_by-cons f pair pairs, none)
 
-  -- what the key had before goes, and what it has now comes
+  -- the key's old part is subtracted, and its new part added
   pub sum_by-put : (f : K × V → ℕ) (key : K) (value : V) (pairs : List (K × V)) → ArePairs cmp pairs
       → sum_by f (put cmp key value pairs) + at_before f key (value_of cmp key pairs) ≡ sum_by f pairs + f (key, value)
   sum_by-put f key value [] sorted = omega (arith, sum_by-cons f (key, value) [])
   sum_by-put f key value (pair ∷ pairs) sorted = sum_by-put_at f key value pair pairs (cmp pair.0 key) refl sorted.0 (sum_by-put f key value pairs sorted.1)
 
-  -- a new key is one more
+  -- a new key makes the list longer by one
   pub length-put : (key : K) (value : V) (pairs : List (K × V)) → ArePairs cmp pairs → length (put cmp key value pairs) ≡ length pairs + one_if (is_new (value_of cmp key pairs))
   length-put key value pairs sorted =
       let sums = sum_by-put (λ pair. 1) key value pairs sorted in

@@ -1,4 +1,4 @@
--- A file that is made ready first: what is added to it then is added to the file as it was.
+-- A file that is prepared first: what is then added to it is added to the file as it was.
 use Rattle.std.proofs.Common.{◌≡◌, ℕ, Bool, true, false, List, [], ◌++◌, refl, ◌∙◌, subst}
 use Rattle.std.specs.Prelude.{if◌then◌else◌}
 use Rattle.std.specs.Cmp.Lexicographic.{slice_cmp}
@@ -66,9 +66,9 @@ module _ (file ready : FileData) (keeps : KeepsIn file ready) where
     few = room.few;
   }
 
--- ---- a test that is made ready
+-- ---- a test without points is added
 
--- another one stays
+-- another test stays
 pub other_test : (test other : List ℕ) (tests : List (List ℕ × TestData)) → (test ≡ other → ⊥) → value_of (slice_cmp nat_cmp) other (tests_with test tests) ≡ value_of (slice_cmp nat_cmp) other tests
 other_test test other tests apart = at (is_some (value_of (slice_cmp nat_cmp) test tests))
   where
@@ -76,7 +76,7 @@ other_test test other tests apart = at (is_some (value_of (slice_cmp nat_cmp) te
     at true = refl
     at false = value_of-put_other names_order test other (test_of []) tests apart
 
--- one that is new is put in
+-- a new test is inserted
 module _ (test : List ℕ) (tests : List (List ℕ × TestData)) (new : is_some (value_of (slice_cmp nat_cmp) test tests) ≡ false) where
   abbrev pub tests_more : List (List ℕ × TestData)
   tests_more = put (slice_cmp nat_cmp) test (test_of []) tests

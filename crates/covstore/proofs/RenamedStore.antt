@@ -1,4 +1,4 @@
--- A test's values in a store's maps under another name too: the file that has the test is found, and is written.
+-- A test's values under another name too, in a store's maps: the file that has the test is found and replaced.
 use Rattle.std.proofs.Common.{◌≡◌, ℕ, true, false, Option, Some, None, List, [], ◌∷◌, ◌++◌, Vec, refl, sym, ap, ◌∙◌, subst}
 use Rattle.std.specs.BTreeMap.{is_at}
 use Rattle.std.specs.Cmp.Lexicographic.{slice_cmp}
@@ -27,14 +27,14 @@ use Rattle.covstore.proofs.Settled.{file_name}
 use Rattle.covstore.proofs.StoreKept.{store_kept}
 use Rattle.covstore.proofs.Stores.{store_of}
 
--- ---- points that are there
+-- ---- a test with points
 
--- a test that has points is there
+-- a test that has points is in its file
 with_points : (found : Option TestData) → has_no_points (points_or_none found) ≡ false → (points : TestData) × (found ≡ Some points)
 with_points None e = absurd (false≢true (sym e))
 with_points (Some points) e = (points, refl)
 
--- and so is its file
+-- and so is its file in the store
 file_with_points : (test : List ℕ) (found : Option FileData) → has_no_points (points_in found test) ≡ false → is_some found ≡ true
 file_with_points test None e = absurd (false≢true (sym e))
 file_with_points test (Some file) e = refl
@@ -42,11 +42,11 @@ file_with_points test (Some file) e = refl
 pub file_there : (file old : List ℕ) (store : StoreData) → HasRoomToCopy file old store → is_some (value_of (slice_cmp nat_cmp) file store.staged) ≡ true
 file_there file old store room = file_with_points old (value_of (slice_cmp nat_cmp) file store.staged) room.some
 
--- ---- the file is written
+-- ---- the file is replaced
 
 module _ {A : Type 0} (files : List (Vec ℕ A × File A)) (members : ℕ) (totals : Totals) (name old new : List ℕ) (store : StoreData)
     (view : store_of members (files_committed file_name files) (files_staged file_name files) totals ≡ store) (given : HasRoomToCopy name old store) where
-  -- the store inside
+  -- the store by its parts
   abbrev inside : StoreData
   inside = store_of members (files_committed file_name files) (files_staged file_name files) totals
 
@@ -68,7 +68,7 @@ module _ {A : Type 0} (files : List (Vec ℕ A × File A)) (members : ℕ) (tota
         with_points (value_of (slice_cmp nat_cmp) old (file_staged before).tests)
         (ap (λ (f : Option FileData). has_no_points (points_in f old)) (sym there) ∙ room.some)
 
-    -- nothing is staged of the old test
+    -- nothing is staged in the old test
     pub copied_same : value_of (slice_cmp nat_cmp) old (file_staged before).tests ≡ value_of (slice_cmp nat_cmp) old (file_committed before).tests
     copied_same =
         let other = test_too file_name test_staged test_committed old before.tests.entries source.0 source.1 in

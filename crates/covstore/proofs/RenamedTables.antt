@@ -1,4 +1,4 @@
--- A table where the rows of one test have the name of another: its rows, its checksums and its totals.
+-- A table after a test is renamed: its rows, its checksums and its totals.
 use Rattle.std.proofs.Common.{◌≡◌, ℕ, ◌≤◌, ◌||◌, Bool, true, false, cond, List, [], ◌∷◌, ◌++◌, length, map, filter, refl, sym, ap, ◌∙◌, subst, arith}
 use Rattle.std.specs.Cmp.Lexicographic.{slice_cmp}
 use Rattle.std.specs.List.{AllByRecursion, list_any, sum_by}
@@ -35,7 +35,7 @@ same_name : (b : Bool) (test name : List ℕ) → (b ≡ true → name ≡ test)
 same_name true test name is = is refl
 same_name false test name is = refl
 
--- a row whose test isn't the old one, or is the new one too, is as it was
+-- a row stays, if its test isn't the old one, or has the new name already
 pub row_stays : (old new : List ℕ) (row : Row) → (bytes_eq row.test old ≡ true → new ≡ row.test) → renamed_row old new row ≡ row
 unfolding row_with
 row_stays old new row is = ap (λ (test : List ℕ). row_with test row.file row.item) (same_name (bytes_eq row.test old) row.test new is)
@@ -46,26 +46,26 @@ rows_stay old new (row ∷ rows) all = ap (λ (r : Row). r ∷ map (renamed_row 
 
 -- ---- rows
 
--- the checksums don't speak of tests
+-- the checksums don't depend on tests
 pub agree_renamed : (old new : List ℕ) (rows : List Row) → checksums_in (map (renamed_row old new) rows) ≡ checksums_in rows
 agree_renamed old new [] = refl
 agree_renamed old new (row ∷ rows) = ap (λ (cs : List Checksum). checksum_of_row row ++ cs) (agree_renamed old new rows)
 
--- a table's rows are renamed one by one
+-- the rows of a table are renamed one by one
 pub rows_renamed : (old new : List ℕ) (table : Table) → all_rows (renamed old new table) ≡ map (renamed_row old new) (all_rows table)
 rows_renamed old new [] = refl
 rows_renamed old new (rows ∷ table) = ap (λ (rs : List Row). map (renamed_row old new) rows ++ rs) (rows_renamed old new table) ∙ sym (map-append (renamed_row old new) rows (all_rows table))
 
--- checksums that agree still do where a test is renamed
+-- if checksums agree, they still do after a test is renamed
 pub agree_in_renamed : (old new : List ℕ) (table : Table) → Agree (checksums_in (all_rows table)) → Agree (checksums_in (all_rows (renamed old new table)))
 agree_in_renamed old new table agree = subst Agree (sym (ap checksums_in (rows_renamed old new table) ∙ agree_renamed old new (all_rows table))) agree
 
--- its members have as many rows as before
+-- its members keep their number of rows
 pub small_renamed : (old new : List ℕ) (table : Table) → AllByRecursion (λ rows. length rows ≤ max_items) table → AllByRecursion (λ rows. length rows ≤ max_items) (renamed old new table)
 small_renamed old new [] all = tt
 small_renamed old new (rows ∷ table) all = (omega (arith, all.0, length-map rows (renamed_row old new)), small_renamed old new table all.1)
 
--- ---- tables that stay
+-- ---- tables that don't change
 
 same_rows : (old : List ℕ) (rows : List Row) → map (renamed_row old old) rows ≡ rows
 same_rows old rows = rows_stay old old rows (by rows)
@@ -74,7 +74,7 @@ same_rows old rows = rows_stay old old rows (by rows)
     by [] = tt
     by (row ∷ rows) = (row_stays old old row (λ e. sym ((bytes_eq-Decides row.test old).0 e)), by rows)
 
--- a test renamed to its own name: the table stays
+-- renaming a test to its own name leaves the table as it is
 pub renamed_same : (old : List ℕ) (table : Table) → renamed old old table ≡ table
 renamed_same old [] = refl
 renamed_same old (rows ∷ table) = ap (λ (rs : List Row). rs ∷ renamed old old table) (same_rows old rows) ∙ ap (λ (t : Table). rows ∷ t) (renamed_same old table)
@@ -83,7 +83,7 @@ none_first : (a b : Bool) → (a || b) ≡ false → (a ≡ false) × (b ≡ fal
 none_first false b e = (refl, e)
 none_first true b e = absurd (false≢true (sym e))
 
--- rows of which none is of the test stay
+-- rows stay, if none of them is of the test
 pub none_renamed : (old new : List ℕ) (rows : List Row) → list_any (is_of_test old) rows ≡ false → map (renamed_row old new) rows ≡ rows
 none_renamed old new rows none = rows_stay old new rows (by rows none)
   where
@@ -107,7 +107,7 @@ renamed_none old new (rows ∷ table) none =
     let parts = any_joined (is_of_test old) rows (all_rows table) none in
     ap (λ (rs : List Row). rs ∷ renamed old new table) (none_renamed old new rows parts.0) ∙ ap (λ (t : Table). rows ∷ t) (renamed_none old new table parts.1)
 
--- rows that no key is of are none
+-- rows without a key are none
 empty_by_keys : (rows : List Row) → length (keys_of rows) ≡ 0 → (row : Row) → In row rows → ⊥
 empty_by_keys rows none row i = by (keys_of rows) none (In-to_ascending keys_order.exact (key_of_row row) (map key_of_row rows) (In-map key_of_row rows row i))
   where
@@ -115,7 +115,7 @@ empty_by_keys rows none row i = by (keys_of rows) none (In-to_ascending keys_ord
     by [] none i = i
     by (key ∷ keys) none i = absurd (omega (arith, none))
 
--- so does one in which the test stands in no section
+-- and so does one in which no section is of the test
 pub renamed_none_counted : (old new : List ℕ) (table : Table) → sections_of_test old table ≡ 0 → renamed old new table ≡ table
 renamed_none_counted old new table none = renamed_none old new table (by (list_any (is_of_test old) (all_rows table)) refl)
   where
@@ -127,7 +127,7 @@ renamed_none_counted old new table none = renamed_none old new table (by (list_a
 
 -- ---- totals
 
--- what is picked of rows that are made of others, by tests that say the same
+-- picking from mapped rows, by tests that agree
 pub items_picked : (p q : Row → Bool) (f : Row → Row) → ((row : Row) → p (f row) ≡ q row) → ((row : Row) → (f row).item ≡ row.item) → (rows : List Row)
     → map (λ row. row.item) (filter p (map f rows)) ≡ map (λ row. row.item) (filter q rows)
 items_picked p q f same item [] = refl
@@ -149,7 +149,7 @@ module _ (old new : List ℕ) (rows : List Row) where
   over_same : (count : List ItemData → ℕ) → sum_by (λ file. count (items_of_file file (map (renamed_row old new) rows))) (files_of (map (renamed_row old new) rows)) ≡ sum_by (λ file. count (items_of_file file rows)) (files_of rows)
   over_same count = λ i. sum_by (λ file. count (items_same file i)) (files_same i)
 
-  -- the totals of rows don't look at tests
+  -- the totals of rows don't depend on tests
   pub totals_renamed : totals_over (map (renamed_row old new) rows) ≡ totals_over rows
   totals_renamed =
       same_totals (totals_over (map (renamed_row old new) rows)) (totals_over rows)
@@ -160,7 +160,7 @@ module _ (old new : List ℕ) (rows : List Row) where
       (over_same (found_in branch_cmp branch_point))
       (over_same (hit_in branch_cmp branch_point hits_branch))
 
-  -- nor do those of what they add up to
+  -- nor do those of what the rows add up to
   pub content_totals_renamed : totals_of (content_of (map (renamed_row old new) rows)) ≡ totals_of (content_of rows)
   content_totals_renamed = totals_are (map (renamed_row old new) rows) ∙ totals_renamed ∙ sym (totals_are rows)
 

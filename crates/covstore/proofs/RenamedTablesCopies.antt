@@ -1,4 +1,5 @@
--- Copies of the rows of a test under a new name, file by file: what was to be copied stays, and all of them are the moved rows.
+-- The rows of a test are copied under a new name, file by file: what is still to be copied stays, and all copies are the moved
+-- rows.
 use Rattle.std.proofs.Common.{◌≡◌, ℕ, Bool, true, false, cond, not, ◌&&◌, Option, Some, None, List, [], ◌∷◌, ◌++◌, map, filter, refl, sym, ap, ◌∙◌, subst, append_assoc, inl, ⊎_elim}
 use Rattle.std.specs.Cmp.Lexicographic.{slice_cmp}
 use Rattle.std.specs.List.{flat_map}
@@ -38,7 +39,7 @@ not_both : (b : Bool) → (b && false) ≡ false
 not_both true = refl
 not_both false = refl
 
--- where one asks first and then the other
+-- picking by two tests, one after the other
 pub picked_both : {X : Type 0} (p q : X → Bool) (xs : List X) → filter q (filter p xs) ≡ filter (λ x. p x && q x) xs
 picked_both p q [] = refl
 picked_both {X} p q (x ∷ xs) = by (p x) (picked_both p q xs)
@@ -48,7 +49,7 @@ picked_both {X} p q (x ∷ xs) = by (p x) (picked_both p q xs)
     by true rest = ap (λ (ys : List X). cond (q x) (x ∷ ys) ys) rest
     by false rest = rest
 
--- tests that say the same pick the same
+-- tests that agree pick the same
 pub same_picked : {X : Type 0} (p q : X → Bool) → ((x : X) → p x ≡ q x) → (xs : List X) → filter p xs ≡ filter q xs
 same_picked p q same xs = λ i. filter (λ x. same x i) xs
 
@@ -56,7 +57,7 @@ none_picked : {X : Type 0} (xs : List X) → filter (λ x. false) xs ≡ []
 none_picked [] = refl
 none_picked (x ∷ xs) = none_picked xs
 
--- what is picked of rows that are made of items, all of them or none
+-- what is picked from rows made of items is all of them, or none
 kept_all : (p : Row → Bool) (f : ItemData → Row) (b : Bool) → ((item : ItemData) → p (f item) ≡ b) → ((item : ItemData) → (f item).item ≡ item) → (items : List ItemData)
     → map (λ row. row.item) (filter p (map f items)) ≡ cond b items []
 kept_all p f true same its [] = refl
@@ -92,13 +93,13 @@ module _ (old new : List ℕ) (apart : old ≡ new → ⊥) where
       (items_of_rows (key_of file old) name new own ∙ ap (λ (b : Bool). cond (bytes_eq name file && b) own []) (other_name (bytes_eq new old) refl) ∙ never (bytes_eq name file) own)
       ∙ none_of_old file rows names
 
-  -- the items of the old test are those that they were
+  -- the items of the old test stay as they were
   pub later_items : (file : List ℕ) (rows : List Row) (some : List (List ℕ)) → items_at (key_of file old) (rows ++ copies_of old new rows some) ≡ items_at (key_of file old) rows
   later_items file rows some =
       items_at-append (key_of file old) rows (copies_of old new rows some)
       ∙ ap (λ (is : List ItemData). items_at (key_of file old) rows ++ is) (none_of_old file rows some) ∙ append-nil (items_at (key_of file old) rows)
 
-  -- so a file's copy is the same after others
+  -- so a file's copy is the same after other copies
   pub later_copy : (file : List ℕ) (rows : List Row) (some : List (List ℕ)) → copied_rows file old new (rows ++ copies_of old new rows some) ≡ copied_rows file old new rows
   later_copy file rows some = ap (rows_of_items file new) (later_items file rows some)
 
@@ -112,7 +113,7 @@ module _ (old new : List ℕ) (apart : old ≡ new → ⊥) where
       → points_at (key_of file old) staged ≡ points_at (key_of file old) committed
   points_still file rows some committed staged before state = points_to_copy file rows some staged state ∙ sym (before.points (key_of file old))
 
-  -- one file more is copied
+  -- one more file is copied
   pub copied_next : (file : List ℕ) (rows : List Row) (some : List (List ℕ)) (before after : List (List ℕ × FileData)) → IsStateOf (rows ++ copies_of old new rows some) before
       → Copies file old new before after → IsStateOf (rows ++ copies_of old new rows (some ++ file ∷ [])) after
   copied_next file rows some before after state copies =
@@ -134,7 +135,7 @@ other_test true f new test name e = ap (λ (b : Bool). f && b) e ∙ not_both f
 other_test false f new test name e = refl
 
 module _ (old new : List ℕ) where
-  -- of the new name they are the old test's items, in their order
+  -- for the new name they are the old test's items, in their order
   pub moved_items : (key : Key) (rows : List Row) → items_at key (moved_rows old new rows) ≡ cond (bytes_eq new key.test) (items_at (key_of key.file old) rows) []
   moved_items key rows =
       items_picked (has_key key) (λ row. has_key key (renamed_row old new row)) (renamed_row old new) (λ row. refl) (λ row. refl) (filter (is_of_test old) rows)
@@ -153,7 +154,7 @@ module _ (old new : List ℕ) where
           (λ row. other_test (bytes_eq row.test old) (bytes_eq row.file key.file) new row.test key.test e) rows
           ∙ none_picked rows)
 
-  -- their checksums are among those of the rows
+  -- their checksums are checksums of the rows
   pub held_in_moved : (rows : List Row) (checksum : Checksum) → In checksum (checksums_in (rows ++ moved_rows old new rows)) → In checksum (checksums_in rows)
   held_in_moved rows checksum i =
       ⊎_elim {C = In checksum (checksums_in rows)}
@@ -173,7 +174,7 @@ and_turned true b = by b
     by false = refl
 and_turned false b = sym (not_both b)
 
--- one name and the others: of the name there are the items once
+-- one name and others: the items of this name are there once
 joined_at : (same has new rest : Bool) (own items others : List ItemData) → others ≡ cond (new && rest) items [] → (same ≡ true → own ≡ items) → (same ≡ true → rest ≡ false)
     → cond (has && (same && new)) own [] ++ others ≡ cond (new && cond same has rest) items []
 joined_at true has new rest own items others e is none =
@@ -191,7 +192,7 @@ has_none_of points e =
     let first = both (has_none points.lines) (has_none points.functions) last.0 in
     record { lines = none_is points.lines first.0; functions = none_is points.functions first.1; branches = none_is points.branches last.1 }
 
--- items without points are none
+-- items without points are no items
 pub no_items : (items : List ItemData) → not (has_no_points (test_of items)) ≡ false → items ≡ []
 no_items [] e = refl
 no_items (item ∷ items) e = absurd (some_points_of (item ∷ items) item (inl refl) (has_none_of (test_of (item ∷ items)) (by (has_no_points (test_of (item ∷ items))) e)))
@@ -223,7 +224,7 @@ module _ (old new : List ℕ) (rows : List Row) where
   one_copied key pair files false e =
       ap (λ (ps : List (List ℕ × FileData)). items_at key (copies_of old new rows (map (λ p. p.0) ps))) (passed_over (λ (p : List ℕ × FileData). has_points_of old p.1) pair files e)
 
-  -- of the new name they are the old test's items, where the file has points of it
+  -- for the new name they are the old test's items, if the file has points of it
   pub copied_items : (key : Key) (files : List (List ℕ × FileData)) → ArePairs (slice_cmp nat_cmp) files
       → items_at key (copies_of old new rows (names_with old files))
       ≡ cond (bytes_eq new key.test && has_found (value_of (slice_cmp nat_cmp) key.file files)) (items_at (key_of key.file old) rows) []
@@ -239,7 +240,7 @@ module _ (old new : List ℕ) (rows : List Row) where
       ∙ ap (λ (b : Bool). cond (bytes_eq new key.test && b) (items_at (key_of key.file old) rows) [])
       (sym (has_at same pair.1 found) ∙ ap (λ (b : Bool). has_found (cond b (Some pair.1) found)) (sym (is_eq-slice_cmp pair.0 key.file)))
 
-  -- where all files with points of the old test are copied, the moved rows are there
+  -- after all files with points of the old test are copied, the moved rows are there
   pub all_copied : (committed staged : List (List ℕ × FileData)) → IsStateOf rows committed → IsStateOf (rows ++ copies_of old new rows (names_with old committed)) staged
       → IsStateOf (rows ++ moved_rows old new rows) staged
   all_copied committed staged before state = record {

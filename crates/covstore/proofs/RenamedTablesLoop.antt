@@ -1,4 +1,4 @@
--- A rename that is made ready: the old test's values are copied file by file, and then the rename is ready.
+-- A rename is prepared: the old test's values are copied file by file, until all are copied.
 use Rattle.std.proofs.Common.{◌≡◌, ℕ, ◌+◌, ◌*◌, ◌≤◌, ◌^◌, Bool, true, false, cond, not, Option, Some, List, [], ◌∷◌, ◌++◌, length, filter, refl, sym, ap, ◌∙◌, subst, append_assoc, inl, inr, arith}
 use Rattle.std.specs.Cmp.Lexicographic.{slice_cmp}
 use Rattle.std.specs.Ordering.{nat_cmp}
@@ -31,7 +31,7 @@ use Rattle.covstore.proofs.RenamedTablesCopies.{all_copied, copied_next, copies_
 use Rattle.covstore.proofs.RenamedTablesFew.{copied_room}
 use Rattle.covstore.proofs.StateSame.{same_contents, tests_with_more}
 
--- ---- what is moved depends on the state alone
+-- ---- what is moved depends only on the state
 
 tests_joined : (xs ys some others : List ItemData) → test_of xs ≡ test_of some → test_of ys ≡ test_of others → test_of (xs ++ ys) ≡ test_of (some ++ others)
 tests_joined xs ys some others first second = tests_with_more xs some ys first ∙ tests_swapped some ys ∙ tests_with_more ys others some second ∙ tests_swapped others some
@@ -41,7 +41,7 @@ test_or_none true xs ys same = same
 test_or_none false xs ys same = refl
 
 module _ (old new : List ℕ) (rows others : List Row) (committed : List (List ℕ × FileData)) (state : IsStateOf rows committed) (other : IsStateOf others committed) where
-  -- with the moved rows of some there are those of the others
+  -- a state of `rows` with their moved rows is also one of `others` with theirs
   pub moved_too : (staged : List (List ℕ × FileData)) → IsStateOf (rows ++ moved_rows old new rows) staged → IsStateOf (others ++ moved_rows old new others) staged
   moved_too staged later = record {
     ascending = later.ascending;
@@ -61,7 +61,7 @@ module _ (old new : List ℕ) (rows others : List Row) (committed : List (List �
     whole = later.whole;
   }
 
--- ---- a file that is named has points of the test
+-- ---- each named file has points of the test
 
 last_in : (some others : List (List ℕ)) (file : List ℕ) → In file (some ++ file ∷ others)
 last_in some others file = In-joined some (file ∷ others) file (inr (inl refl))
@@ -85,7 +85,7 @@ named_has_points old files sorted file i =
 
 -- ---- the loop over the files
 
--- some of the files with points of the old test are copied, and these are to be
+-- these of the files with points of the old test are copied, and those are still to be
 pub record HasCopied (old new : List ℕ) (some rest : List (List ℕ)) (before now : StoreData) : Type 0 where
   pub committed : SameCommitted before now
   pub names : names_with old before.committed ≡ some ++ rest
@@ -109,7 +109,7 @@ none_copied old new names store totals kept still named =
     }
 
 module _ (old new : List ℕ) (apart : old ≡ new → ⊥) (some : List (List ℕ)) (before now : StoreData) where
-  -- there is room for the next one
+  -- there is room for the next file
   pub copy_room : (file : List ℕ) (rest : List (List ℕ)) → HasCopied old new some (file ∷ rest) before now → HasRoomToCopy file old now
   copy_room file rest copied =
       let items : items_at (key_of file old) (copied.rows ++ copies_of old new copied.rows some) ≡ items_at (key_of file old) copied.rows = later_items old new apart file copied.rows some in
@@ -139,7 +139,7 @@ module _ (old new : List ℕ) (apart : old ≡ new → ⊥) (some : List (List �
     state = copied_next old new apart file copied.rows some now.staged later.staged copied.state copies;
   }
 
-  -- after the last one the rename is ready
+  -- after the last file the rename is prepared
   pub moving_ready : HasCopied old new some [] before now → IsMoving now old new old
   moving_ready copied =
       let names : some ≡ names_with old before.committed = sym (copied.names ∙ append-nil some) in

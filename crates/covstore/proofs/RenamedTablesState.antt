@@ -1,4 +1,4 @@
--- The state of rows where a test has another name: what was staged of it under the new name is there, and the old test is gone.
+-- The state after a test is renamed: the staged values are there under the new name, and the old test is gone.
 use Rattle.std.proofs.Common.{◌≡◌, ℕ, Bool, true, false, cond, not, List, [], ◌∷◌, ◌++◌, map, filter, refl, sym, ap, ◌∙◌, subst, arith}
 use Rattle.std.specs.Option.{is_some}
 use Rattle.std.specs.List.Sorted.{IsPermutation}
@@ -43,7 +43,7 @@ use Rattle.covstore.proofs.WithoutState.{state_without}
 
 -- ---- states of other rows
 
--- the state of rows is that of alike rows
+-- the state of rows is that of alike rows too
 pub state_alike : (rows others : List Row) (files : List (List ℕ × FileData)) → AreAlike rows others → IsStateOf rows files → IsStateOf others files
 state_alike rows others files alike state = record {
   ascending = state.ascending;
@@ -66,7 +66,7 @@ tests_by_section key xs ys same =
     (sym (map_of_map (branch_at xs) branch (branch_sum xs) (branches_in xs) (λ n. refl)) ∙ ap (λ (s : SectionData). map branch s.branches) same
     ∙ map_of_map (branch_at ys) branch (branch_sum ys) (branches_in ys) (λ n. refl))
 
--- the state of rows is that of all rows with their content, whose checksums agree
+-- the state of rows is that of all rows with the same content, whose checksums agree
 pub state_by_content : (rows others : List Row) (files : List (List ℕ × FileData)) → content_of rows ≡ content_of others → Agree (checksums_in others) → IsStateOf rows files → IsStateOf others files
 state_by_content rows others files same agree state = record {
   ascending = state.ascending;
@@ -75,7 +75,7 @@ state_by_content rows others files same agree state = record {
   whole = state.whole;
 }
 
--- ---- renamed rows are the others and the moved ones
+-- ---- renamed rows are the other rows and the moved ones
 
 not_not : (b : Bool) → b ≡ not (not b)
 not_not true = refl
@@ -124,7 +124,7 @@ module _ (old new : List ℕ) where
             let over : moved_rows old new (row ∷ rows) ≡ moved_rows old new rows = ap (map (renamed_row old new)) (passed_over (is_of_test old) row rows e) in
             ap (rows_without old) over ∙ rest ∙ sym over
 
-    -- where the old test is gone, its moved rows and the others are the renamed ones, in another order
+    -- without the old test, its moved rows and the others are the renamed rows, in another order
     pub left_alike : (rows : List Row) → AreAlike (rows_without old (rows ++ moved_rows old new rows)) (map (renamed_row old new) rows)
     left_alike rows =
         let parts : List Row = rows_without old rows ++ filter (is_of_test old) rows in
@@ -137,7 +137,7 @@ module _ (old new : List ℕ) where
         subst (λ (rs : List Row). AreAlike rs (map (renamed_row old new) rows)) (sym left)
         (alike_mapped (renamed_row old new) parts rows (alike_permuted parts rows (IsPermutation-sym rows parts permuted)))
 
-    -- the state with the moved rows is, without the old test, that of the renamed rows
+    -- without the old test, the state with the moved rows is the state of the renamed rows
     pub renamed_state : (rows : List Row) (files after : List (List ℕ × FileData)) → IsStateOf (rows ++ moved_rows old new rows) files → AreWithoutTest old files after
         → IsStateOf (map (renamed_row old new) rows) after
     renamed_state rows files after state are =
@@ -147,11 +147,11 @@ module _ (old new : List ℕ) where
 
 module _ (old new : List ℕ) (apart : old ≡ new → ⊥) (members : ℕ) (committed : Totals) (files staged after : List (List ℕ × FileData)) (is : IsStore members committed files)
     (moves : (rows : List Row) → IsStateOf rows files → IsStateOf (rows ++ moved_rows old new rows) staged) (are : AreWithoutTest old staged after) where
-  -- the state of the renamed rows of any rows that the store is the state of
+  -- for any rows that the files are the state of: the files afterwards are the state of the renamed rows
   state_now : (rows : List Row) → IsStateOf rows files → IsStateOf (map (renamed_row old new) rows) after
   state_now rows state = renamed_state old new apart rows staged after (moves rows state) are
 
-  -- and of any table
+  -- and likewise for any table
   table_now : (table : Table) → IsStateOf (all_rows table) files → IsStateOf (all_rows (renamed old new table)) after
   table_now table state = subst (λ (rows : List Row). IsStateOf rows after) (sym (rows_renamed old new table)) (state_now (all_rows table) state)
 
@@ -164,7 +164,7 @@ module _ (old new : List ℕ) (apart : old ≡ new → ⊥) (members : ℕ) (com
       store_totals members committed files is ∙ ap totals_of (store_sections members committed files is)
       ∙ sym (content_totals_renamed old new rows) ∙ sym (ap totals_of (sections_are now after state agree)) ∙ totals_are now after state agree
 
-  -- the store where the test is renamed, with the same totals
+  -- the store after the rename, with the same totals
   pub store_renamed : IsStore members committed after
   store_renamed = record {
     own = renamed old new is.own;
@@ -176,7 +176,7 @@ module _ (old new : List ℕ) (apart : old ≡ new → ⊥) (members : ℕ) (com
     totals = totals_kept;
   }
 
-  -- it stands for the renamed table of each that the store stands for
+  -- if the store stands for a table, it then stands for the renamed table
   pub stands_renamed : (staged_before staged_after : List (List ℕ × FileData)) (before later : Totals) (table : Table) → StandsFor (store_of members files staged_before before) table
       → StandsFor (store_of members after staged_after later) (renamed old new table)
   stands_renamed staged_before staged_after before later table stands =
@@ -191,14 +191,14 @@ module _ (old new : List ℕ) (apart : old ≡ new → ⊥) (members : ℕ) (com
         small = small_renamed old new table stands.small;
       }
 
--- ---- a rename that was made ready
+-- ---- a prepared rename
 
 module _ (old new leaves : List ℕ) (members : ℕ) (committed later : Totals) (files staged after : List (List ℕ × FileData)) (is : IsStore members committed files)
     (moving : IsMoving (store_of members files staged later) old new leaves) (are : AreWithoutTest leaves staged after) where
   left_old : AreWithoutTest old staged after
   left_old = subst (λ (name : List ℕ). AreWithoutTest name staged after) moving.is_old are
 
-  -- what is kept when what is staged is committed, and the test that leaves is dropped
+  -- the store after the staged files are committed, and the old test is dropped
   pub store_moved : IsStore members committed after
   store_moved = store_renamed old new moving.apart members committed files staged after is moving.moves left_old
 

@@ -1,4 +1,5 @@
--- The values of items as items, one for each point: they add up to the same, also beside others, and are no more than the items.
+-- The values of items as items, one for each point: they add up to the same, also after other items, and are no more than the
+-- items.
 use Rattle.std.proofs.Common.{◌≡◌, ℕ, ◌+◌, ◌≤◌, eqb, Option, Some, None, unwrap_or, List, [], ◌∷◌, ◌++◌, length, map, refl, ap, ap₂, ◌∙◌, inl, inr, arith}
 use Rattle.std.specs.Cmp.Lexicographic.{slice_cmp}
 use Rattle.std.specs.List.{flat_map, sum_by}
@@ -45,7 +46,7 @@ branch_value_item ys point = BranchItem point.line point.block point.branch (bra
 abbrev pub values_of : List ItemData → List ItemData
 values_of ys = map (line_value_item ys) (lines_in ys) ++ (map (function_value_item ys) (names_in ys) ++ map (branch_value_item ys) (branches_in ys))
 
--- ---- what an item says of its own point
+-- ---- what an item gives its own point
 
 not_one : {P : Type 0} (p q : P) → (q ≡ p → ⊥) → In p (q ∷ []) → ⊥
 not_one p q other (inl is) = other is
@@ -63,7 +64,7 @@ bounded_one n =
     let nothing : sum_by (λ m. m) [] ≡ 0 = refl in
     omega (arith, sum_by-cons (λ m. m) (bounded n) [], nothing)
 
--- the item of a branch with these numbers says as much as they
+-- the item of a branch with the sum of these numbers gives the same sum
 own_taken : (point : BranchPoint) (numbers : List ℕ) → sum_if_any (taken_said point (BranchItem point.line point.block point.branch (sum_if_any numbers))) ≡ sum_if_any numbers
 own_taken point [] = refl
 own_taken point (n ∷ numbers) =
@@ -71,10 +72,10 @@ own_taken point (n ∷ numbers) =
     ap sum_if_any (cond-true (is_branch point point.line point.block point.branch) (bounded sum ∷ []) [] (itself point))
     ∙ ap (λ (k : ℕ). Some k) (bounded_one sum)
 
--- ---- the items by kinds
+-- ---- the items by kind
 
 module _ (ys : List ItemData) where
-  -- what all items say is what the kinds say
+  -- what all items give is what those of the three kinds give
   said_kinds : {Y : Type 0} (g : ItemData → List Y)
       → flat_map g (values_of ys)
       ≡ flat_map (λ line. g (line_value_item ys line)) (lines_in ys)
@@ -106,7 +107,7 @@ module _ (ys : List ItemData) where
   skip_last : {Y : Type 0} (us vs : List Y) → vs ≡ [] → us ++ vs ≡ us
   skip_last {Y} us vs none = ap (λ (ws : List Y). us ++ ws) none ∙ append-nil us
 
-  -- what functions and branches don't say, the lines say
+  -- if functions and branches give nothing, the lines give all
   said_of_lines : {Y : Type 0} (g : ItemData → List Y) → ((name : List ℕ) → g (function_value_item ys name) ≡ []) → ((point : BranchPoint) → g (branch_value_item ys point) ≡ [])
       → flat_map g (values_of ys) ≡ flat_map (λ line. g (line_value_item ys line)) (lines_in ys)
   said_of_lines g functions branches =
@@ -129,7 +130,7 @@ module _ (ys : List ItemData) where
       ∙ skip (flat_map (λ line. g (line_value_item ys line)) (lines_in ys)) _ (flat_nothing (λ line. g (line_value_item ys line)) (lines_in ys) (λ line _. lines line))
       ∙ skip (flat_map (λ name. g (function_value_item ys name)) (names_in ys)) _ (flat_nothing (λ name. g (function_value_item ys name)) (names_in ys) (λ name _. functions name))
 
-  -- and what they don't add
+  -- and if they add nothing, the lines add all
   added_by_lines : (f : ItemData → ℕ) → ((name : List ℕ) → f (function_value_item ys name) ≡ 0) → ((point : BranchPoint) → f (branch_value_item ys point) ≡ 0)
       → sum_by f (values_of ys) ≡ sum_by (λ line. f (line_value_item ys line)) (lines_in ys)
   added_by_lines f functions branches =
@@ -228,21 +229,21 @@ module _ (ys : List ItemData) where
 
   -- ---- all
 
-  -- the values of items add up to what the items do
+  -- the values of items add up to what the items add up to
   pub values_alone : test_of (values_of ys) ≡ test_of ys
   values_alone = same_sums (values_of ys) ys lines_stand functions_stand branches_stand
 
--- ---- beside others
+-- ---- after other items
 
--- two lists of items in either order
+-- two lists of items, in either order
 pub tests_swapped : (xs ys : List ItemData) → test_of (xs ++ ys) ≡ test_of (ys ++ xs)
 tests_swapped xs ys = test_alike (xs ++ ys) (ys ++ xs) (alike_permuted (xs ++ ys) (ys ++ xs) (IsPermutation-append_comm xs ys))
 
--- the values of items do beside others what the items do
+-- after other items, the values add up to what the items add up to
 pub values_stand : (xs ys : List ItemData) → test_of (xs ++ values_of ys) ≡ test_of (xs ++ ys)
 values_stand xs ys = tests_swapped xs (values_of ys) ∙ tests_with_more (values_of ys) ys xs (values_alone ys) ∙ tests_swapped ys xs
 
--- ---- how many they are
+-- ---- how many values there are
 
 -- each item has one point
 one_point : (item : ItemData) → length (line_point item) + (length (func_point item) + length (branch_point item)) ≡ 1
@@ -255,7 +256,7 @@ points_as_items [] = refl
 points_as_items (item ∷ ys) =
     omega (arith, length-append (line_point item) (line_points ys), length-append (func_point item) (func_points ys), length-append (branch_point item) (branch_points ys), one_point item, points_as_items ys)
 
--- the values of items are no more than the items
+-- there are no more values than items
 pub few_values : (ys : List ItemData) → length (values_of ys) ≤ length ys
 few_values ys =
     let lines = map (line_value_item ys) (lines_in ys) in

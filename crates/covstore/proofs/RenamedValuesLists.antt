@@ -1,4 +1,4 @@
--- Lists in which one member alone says or adds anything, and ascending lists of ascending lists.
+-- Lists in which only one member contributes anything, and ascending lists of ascending lists.
 use Rattle.std.proofs.Common.{◌≡◌, ℕ, List, [], ◌∷◌, ◌++◌, map, refl, sym, ap, ◌∙◌, subst, inl, inr, arith}
 use Rattle.std.specs.Cmp.{IsTotalOrder}
 use Rattle.std.specs.declared.cmp.Ordering.{Ordering}
@@ -32,7 +32,7 @@ module _ {P : Type 0} {cmp : P → P → Ordering} (total : IsTotalOrder cmp) wh
       let own : cmp p p ≡ Less = subst (λ (z : P). cmp p z ≡ Less) e less in
       cc
 
-  -- no member after the first is the first, and the first is none of them
+  -- no later member equals the first
   after_differs : (p : P) (ps : List P) → IsStrictlySortedBy cmp (p ∷ ps) → (q : P) → In q ps → q ≡ p → ⊥
   unfolding IsStrictlySortedBy
   after_differs p ps up q i = less_differs p q (All-in (λ z. cmp p z ≡ Less) ps q up.0 i)
@@ -69,7 +69,7 @@ map_same_in {X} {Y} f g (x ∷ xs) same =
     let others : map f xs ≡ map g xs = map_same_in f g xs (λ y i. same y (inr i)) in
     cc
 
--- a list with the members of an ascending list gives that list
+-- a list with the members of an ascending list has that ascending list
 pub ascending_again : {X : Type 0} (cmp : X → X → Ordering) → IsExactOrder cmp → (xs ys : List X) → ((x : X) → In x ys → In x (ascending cmp xs)) → ((x : X) → In x (ascending cmp xs) → In x ys) → ascending cmp ys ≡ ascending cmp xs
 ascending_again cmp order xs ys there back =
     same_ascending cmp order ys xs (λ x i. In-ascending order.exact x xs (there x i)) (λ x i. back x (In-to_ascending order.exact x xs i))

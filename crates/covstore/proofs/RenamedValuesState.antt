@@ -1,4 +1,4 @@
--- The values of a test of a file, as items, and the state of the rows that they are with another test's name.
+-- The values of a test of a file as items, and the state of their rows under another test's name.
 use Rattle.std.proofs.Common.{◌≡◌, ℕ, Bool, true, false, ◌&&◌, cond, Option, Some, List, [], ◌∷◌, ◌++◌, map, filter, refl, sym, ap, ap₂, ◌∙◌, subst, inl, ⊎_elim}
 use Rattle.std.specs.Cmp.Lexicographic.{slice_cmp}
 use Rattle.std.specs.Option.{is_some}
@@ -8,7 +8,7 @@ use Rattle.std.proofs.lemmas.Bool.{cond-false, cond-true}
 use Rattle.std.proofs.lemmas.List.Concat.{flat_map-append}
 use Rattle.covline.specs.Row.{ItemData, LineItem, Row}
 use Rattle.covstore.specs.Clash.{Checksum, checksum_of, checksum_of_row, checksums_in}
-use Rattle.covstore.specs.KindIndexCounts.{is_above_at}
+use Rattle.covstore.specs.PointIndexCounts.{is_above_at}
 use Rattle.covmap.specs.Puts.{value_of}
 use Rattle.covstore.specs.Renaming.{key_of, copied_rows, line_item, function_item, branch_item, items_of_test}
 use Rattle.covstore.specs.StoreSection.{rows_of_items}
@@ -27,7 +27,7 @@ use Rattle.covstore.proofs.StateSeen.{HasChecksums, map_of_map, text_as_said}
 
 -- ---- the items of a test
 
--- the items of what items add up to are their values
+-- the items of a test are the values of the items that it adds up
 pub items_as_values : (texts : List (ℕ × List ℕ)) (items : List ItemData) → HasChecksums texts items → items_of_test texts (test_of items) ≡ values_of items
 items_as_values texts items has =
     ap₂ (λ (ls others : List ItemData). ls ++ others)
@@ -37,13 +37,13 @@ items_as_values texts items has =
     (map_of_map (function_sum items) function_item (function_value_item items) (names_in items) (λ name. refl))
     (map_of_map (branch_sum items) branch_item (branch_value_item items) (branches_in items) (λ point. refl)))
 
--- the points of a test that is there are what its items add up to
+-- a test of a file is what its items add up to
 pub source_is : (rows : List Row) (files : List (List ℕ × FileData)) → IsStateOf rows files → (name old : List ℕ) (file : FileData) (source : TestData)
     → value_of (slice_cmp nat_cmp) name files ≡ Some file → value_of (slice_cmp nat_cmp) old file.tests ≡ Some source → source ≡ test_of (items_at (key_of name old) rows)
 source_is rows files state name old file source its_file its_test =
     sym (points_there file old source its_test) ∙ ap (λ (found : Option FileData). points_in found old) (sym its_file) ∙ state.points (key_of name old)
 
--- the items of a test that is there are the values of the items of its rows
+-- the items of a test of a file are the values of the items of its rows
 pub values_are : (rows : List Row) (files : List (List ℕ × FileData)) → IsStateOf rows files → (name old : List ℕ) (file : FileData) (source : TestData)
     → value_of (slice_cmp nat_cmp) name files ≡ Some file → value_of (slice_cmp nat_cmp) old file.tests ≡ Some source → items_of_test file.index.texts source ≡ values_of (items_at (key_of name old) rows)
 values_are rows files state name old file source its_file its_test =
@@ -55,7 +55,7 @@ values_are rows files state name old file source its_file its_test =
 abbrev row_with : List ℕ → List ℕ → ItemData → Row
 row_with name test item = record { test = test; file = name; item = item }
 
--- they are of one file and one test
+-- they are all of one file and one test
 pub items_of_rows : (key : Key) (name test : List ℕ) (items : List ItemData) (own : Bool) → (bytes_eq name key.file && bytes_eq test key.test) ≡ own
     → items_at key (rows_of_items name test items) ≡ cond own items []
 items_of_rows key name test [] true is = refl
@@ -102,7 +102,7 @@ module _ (rows : List Row) (name old new : List ℕ) where
       ⊎_elim {C = In c (checksums_in rows)} (λ j. j) (λ j. checksums_copied rows name old new c j)
       (In-parts (checksums_in rows) (checksums_in (copied_rows name old new rows)) c (subst (In c) (flat_map-append checksum_of_row rows (copied_rows name old new rows)) i))
 
-  -- files that are the state of the rows and the values of a test of a file are that of the rows and its copied rows
+  -- a state of the rows and the values of a test of a file is a state of the rows and its copied rows
   pub copied_state : (after : List (List ℕ × FileData)) → IsStateOf (rows ++ rows_of_items name new (values_of (items_at (key_of name old) rows))) after → IsStateOf (rows ++ copied_rows name old new rows) after
   copied_state after state = record {
     ascending = state.ascending;
@@ -118,7 +118,7 @@ module _ (rows : List Row) (name old new : List ℕ) where
 
 -- ---- the lines with a checksum
 
--- each line of a test that has a checksum is among those of which one is held
+-- each line of a test with a checksum has a held one
 pub holders_are : (rows : List Row) (files : List (List ℕ × FileData)) → IsStateOf rows files → (name old : List ℕ) (file : FileData) (source : TestData)
     → value_of (slice_cmp nat_cmp) name files ≡ Some file → value_of (slice_cmp nat_cmp) old file.tests ≡ Some source
     → (line : ℕ) → is_above_at has_checksum (value_of nat_cmp line source.lines) ≡ true → is_some (value_of nat_cmp line file.index.holders) ≡ true

@@ -1,4 +1,4 @@
--- Items without a checksum whose runs are staged: they are added.
+-- Items without a checksum are added when their runs are staged.
 use Rattle.std.proofs.Common.{◌≡◌, ℕ, Some, None, List, [], ◌++◌, length, map, refl, sym, ap, ◌∙◌, subst, inl, inr}
 use Rattle.std.specs.List.{All}
 use Rattle.std.specs.Option.{is_some}
@@ -11,14 +11,17 @@ use Rattle.covstore.specs.Items.{IsTextOf, KeepsTextsOf}
 use Rattle.covstore.specs.Kinds.{Each}
 use Rattle.covstore.specs.Order.{HasNoChecksum}
 use Rattle.covstore.specs.Runs.{HasRoomForRuns, KeepsCountsOfKinds, KeepsHeld, RunOf, runs_of, with_runs}
-use Rattle.covstore.specs.Section.{Adds, HasRoomFor}
+use Rattle.covstore.specs.Section.{Adds, Clashes, ClashesAt, HasRoomFor}
 use Rattle.covstore.specs.Sums.{TestData}
 use Rattle.covstore.proofs.AddsItem.{items_add}
+use Rattle.covstore.proofs.AddsMore.{clash_front, clash_later}
 use Rattle.covstore.proofs.Members.{Contains-from, In, In-joined, In-unmap}
 use Rattle.covstore.proofs.AddsLoop.{HasTaken, none_taken, some_have_room, some_taken}
 use Rattle.covstore.specs.FileIndexView.{KeepsCommitted, index_staged}
 use Rattle.covstore.specs.TestView.{test_staged, test_committed}
 use Rattle.covstore.specs.declared.index.FileIndex.{FileIndex}
+use Rattle.covstore.specs.declared.stage_fault.StageFault.{StageFault}
+use Rattle.covstore.specs.declared.stage_fault.StageFault.TheVariants.{Clash, Memory}
 use Rattle.covstore.specs.declared.test.Test.{Test}
 use Rattle.std.proofs.lemmas.List.{append-nil, append_assoc, nil_from_length}
 use Rattle.covstore.proofs.RunsKept.{plain_keep, runs_have_room}
@@ -30,7 +33,7 @@ plain_text (LineItem line count None) index plain = tt
 plain_text (FuncItem name line count) index plain = tt
 plain_text (BranchItem line block branch taken) index plain = tt
 
-texts_kept : (index more : FileIndexData) → KeepsHeld index more → KeepsTextsOf index more
+pub texts_kept : (index more : FileIndexData) → KeepsHeld index more → KeepsTextsOf index more
 texts_kept index more held = record {
   committed = λ line e. ap (λ (holders : List (ℕ × ℕ)). is_some (value_of nat_cmp line holders)) held.holders ∙ e;
   texts_stay = λ line e. ap (value_of nat_cmp line) held.texts;
@@ -46,16 +49,16 @@ module _ (items : List ItemData) (runs : Each RunOf) (are : runs ≡ runs_of ite
       let all = is ∙ ap (λ (some : Each RunOf). with_runs some test) are ∙ runs_sum items test in
       items_add items test after index more all (plain_keep items plain test after index more all counts held) (λ item i. plain_text item more (plain item i)) (texts_kept index more held)
 
--- where none of the items has a checksum, none of some of them has one
+-- if none of the items has a checksum, none of some of them has one
 pub all_plain : {D : Type 0} (f : D → ItemData) (items others : List D) → ((item : D) → In item others → In item items) → All (λ (item : D). HasNoChecksum (f item)) items
     → (item : ItemData) → In item (map f others) → HasNoChecksum item
 all_plain {D} f items others there plain item i =
     let from = In-unmap f others item i in
     subst HasNoChecksum from.2 (All-contains (λ (one : D). HasNoChecksum (f one)) items from.0 plain (Contains-from items from.0 (there from.0 from.1)))
 
--- ---- some at a time
+-- ---- some items at a time
 
--- of what says items, so much is left, and the items of all before it are taken
+-- this part of a list is left, and the items of everything before it are staged
 pub record HasTakenTo {A X : Type 0} (say : List X → List ItemData) (all left : List X) (test : Test A) (index : FileIndex A) (test_now : Test A) (index_now : FileIndex A) : Type 0 where
   pub taken : List X
   pub parts : all ≡ taken ++ left
@@ -75,31 +78,47 @@ module _ {A X : Type 0} (say : List X → List ItemData) (joins : (xs ys : List 
       let same : is.taken ≡ all = sym (is.parts ∙ ap (λ (xs : List X). is.taken ++ xs) (nil_from_length left none) ∙ append-nil is.taken) in
       subst (λ (xs : List X). Adds (say xs) (test_staged test) (index_staged index) (test_staged test_now) (index_staged index_now)) same is.so_far.adds
 
-  module _ (left some later : List X) (cut : left ≡ some ++ later) (test_now : Test A) (index_now : FileIndex A) (is : HasTakenTo say all left test index test_now index_now) (runs : Each RunOf)
-      (are : runs ≡ runs_of (say some)) where
+  module _ (left some later : List X) (cut : left ≡ some ++ later) (test_now : Test A) (index_now : FileIndex A) (is : HasTakenTo say all left test index test_now index_now) where
     before_some : HasTaken (say is.taken) (say some ++ say later) test index test_now index_now
     before_some = subst (λ (items : List ItemData). HasTaken (say is.taken) items test index test_now index_now) (ap say cut ∙ joins some later) is.so_far
 
-    pub next_runs_have_room : HasRoomForRuns runs (test_staged test_now) (index_staged index_now)
-    next_runs_have_room =
-        room_of_runs (say some) runs are (test_staged test_now) (index_staged index_now) (some_have_room (say is.taken) (say some) (say later) test index test_now index_now before_some)
+    pub next_have_room : HasRoomFor (say some) (test_staged test_now) (index_staged index_now)
+    next_have_room = some_have_room (say is.taken) (say some) (say later) test index test_now index_now before_some
 
     all_parts : all ≡ (is.taken ++ some) ++ later
     all_parts = is.parts ∙ ap (λ (xs : List X). is.taken ++ xs) cut ∙ sym (append_assoc is.taken some later)
 
-    -- what some say, all say
-    said : (item : ItemData) → In item (say some) → In item (say all)
-    said item i =
-        subst (In item) (sym (ap say all_parts ∙ joins (is.taken ++ some) later ∙ ap (λ (items : List ItemData). items ++ say later) (joins is.taken some)))
-        (In-joined (say is.taken ++ say some) (say later) item (inl (In-joined (say is.taken) (say some) item (inr i))))
+    all_said : say all ≡ (say is.taken ++ say some) ++ say later
+    all_said = ap say all_parts ∙ joins (is.taken ++ some) later ∙ ap (λ (items : List ItemData). items ++ say later) (joins is.taken some)
 
-    pub next_taken : ((item : ItemData) → In item (say all) → HasNoChecksum item) → (test_later : Test A) (index_later : FileIndex A) → test_committed test_later ≡ test_committed test_now → KeepsCommitted index_now index_later
-        → test_staged test_later ≡ with_runs runs (test_staged test_now) → KeepsCountsOfKinds (test_staged test_now) (test_staged test_later) (index_staged index_now) (index_staged index_later)
-        → KeepsHeld (index_staged index_now) (index_staged index_later) → HasTakenTo say all later test index test_later index_later
-    next_taken plain test_later index_later same keeps more counts held = record {
+    pub next_added : (test_later : Test A) (index_later : FileIndex A) → test_committed test_later ≡ test_committed test_now → KeepsCommitted index_now index_later
+        → Adds (say some) (test_staged test_now) (index_staged index_now) (test_staged test_later) (index_staged index_later) → HasTakenTo say all later test index test_later index_later
+    next_added test_later index_later same keeps adds = record {
       taken = is.taken ++ some;
       parts = all_parts;
       so_far = subst (λ (items : List ItemData). HasTaken items (say later) test index test_later index_later) (sym (joins is.taken some))
-          (some_taken (say is.taken) (say some) (say later) test index test_now index_now before_some test_later index_later same keeps
-          (runs_add (say some) runs are (test_staged test_now) (index_staged index_now) (λ item i. plain item (said item i)) (test_staged test_later) (index_staged index_later) more counts held));
+          (some_taken (say is.taken) (say some) (say later) test index test_now index_now before_some test_later index_later same keeps adds);
     }
+
+    -- a clash of these is the first of all
+    pub next_clash : (stop : StageFault A) → Clashes (say some) (test_staged test_now) (index_staged index_now) stop → Clashes (say all) (test_staged test) (index_staged index) stop
+    next_clash Memory clash = tt
+    next_clash (Clash line held given) clash =
+        subst (λ (items : List ItemData). ClashesAt items (test_staged test) (index_staged index) line held given) (sym all_said)
+        (clash_front (say is.taken ++ say some) (say later) (test_staged test) (index_staged index) line held given
+        (clash_later (say is.taken) (say some) (test_staged test) (test_staged test_now) (index_staged index) (index_staged index_now) line held given is.so_far.adds clash))
+
+    -- what some say, all say
+    said : (item : ItemData) → In item (say some) → In item (say all)
+    said item i = subst (In item) (sym all_said) (In-joined (say is.taken ++ say some) (say later) item (inl (In-joined (say is.taken) (say some) item (inr i))))
+
+    module _ (runs : Each RunOf) (are : runs ≡ runs_of (say some)) where
+      pub next_runs_have_room : HasRoomForRuns runs (test_staged test_now) (index_staged index_now)
+      next_runs_have_room = room_of_runs (say some) runs are (test_staged test_now) (index_staged index_now) next_have_room
+
+      pub next_taken : ((item : ItemData) → In item (say all) → HasNoChecksum item) → (test_later : Test A) (index_later : FileIndex A) → test_committed test_later ≡ test_committed test_now → KeepsCommitted index_now index_later
+          → test_staged test_later ≡ with_runs runs (test_staged test_now) → KeepsCountsOfKinds (test_staged test_now) (test_staged test_later) (index_staged index_now) (index_staged index_later)
+          → KeepsHeld (index_staged index_now) (index_staged index_later) → HasTakenTo say all later test index test_later index_later
+      next_taken plain test_later index_later same keeps more counts held =
+          next_added test_later index_later same keeps
+          (runs_add (say some) runs are (test_staged test_now) (index_staged index_now) (λ item i. plain item (said item i)) (test_staged test_later) (index_staged index_later) more counts held)

@@ -1,4 +1,4 @@
--- Items without a checksum: the numbers that are kept count the tests also with these items, where those of each kind do.
+-- Items without a checksum: if the counts of each kind are kept with these items, so is the index.
 use Rattle.std.proofs.Common.{◌≡◌, ℕ, Bool, false, Some, None, inl, inr, List, [], ◌∷◌, ◌++◌, length, map, refl, sym, ap, ◌∙◌, subst, arith}
 use Rattle.std.specs.declared.cmp.Ordering.{Ordering}
 use Rattle.covstore.specs.declared.sums.Tests.{Tests}
@@ -8,7 +8,7 @@ use Rattle.covline.specs.Row.{ItemData, LineItem, FuncItem, BranchItem}
 use Rattle.covmap.specs.Puts.{value_of}
 use Rattle.covstore.specs.FileIndex.{FileIndexData}
 use Rattle.covstore.specs.Items.{HasRoomForRun, KeepsCounts}
-use Rattle.covstore.specs.KindIndexCounts.{AreCounts, is_above_at}
+use Rattle.covstore.specs.PointIndexCounts.{AreCounts, is_above_at}
 use Rattle.covstore.specs.Kinds.{Branch, Function, Kind, Line, PointsOf, above_of, at, cmp_of}
 use Rattle.covstore.specs.Order.{HasNoChecksum}
 use Rattle.covstore.specs.Runs.{HasRoomForRuns, KeepsCountsOfKinds, KeepsHeld, run_of, runs_of, with_items}
@@ -28,9 +28,9 @@ use Rattle.covstore.proofs.StepsCounts.{line_bare}
 use Rattle.covstore.proofs.StepsKept.{holders_same, is_holding}
 use Rattle.std.proofs.lemmas.List.{length-map}
 
--- ---- a test holds no other checksums
+-- ---- a test holds the same checksums
 
-plain_holds : (item : ItemData) → HasNoChecksum item → (test : TestData) (line : ℕ) → is_holding line (with_item item test) ≡ is_holding line test
+pub plain_holds : (item : ItemData) → HasNoChecksum item → (test : TestData) (line : ℕ) → is_holding line (with_item item test) ≡ is_holding line test
 plain_holds (LineItem line count (Some checksum)) plain test other = absurd plain
 plain_holds (FuncItem name line count) plain test other = refl
 plain_holds (BranchItem line block branch taken) plain test other = refl
@@ -47,7 +47,7 @@ plain_hold (item ∷ items) plain test line =
 
 -- ---- the numbers
 
-counts_between : (kind : Kind) (before after : TestData) (index more : FileIndexData) → KeepsCountsOfKinds before after index more → (front back : List TestData)
+pub counts_between : (kind : Kind) (before after : TestData) (index more : FileIndexData) → KeepsCountsOfKinds before after index more → (front back : List TestData)
     → AreCounts (cmp_of kind) (above_of kind) (map (at kind) (front ++ before ∷ back)) (at kind index.counts) → AreCounts (cmp_of kind) (above_of kind) (map (at kind) (front ++ after ∷ back)) (at kind more.counts)
 counts_between kind before after index more keeps front back are =
     subst (λ (tests : List (PointsOf kind)). AreCounts (cmp_of kind) (above_of kind) tests (at kind more.counts)) (sym (map_between (at kind) front after back))
@@ -82,7 +82,7 @@ runs_have_room items test index room kind =
     run_at Function = refl
     run_at Branch = refl
 
--- the same for a run that is as long
+-- the same for a run of this length
 pub room_as_long : {K V : Type 0} {cmp : K → K → Ordering} {is_above : V → Bool} {points : List (K × V)} {counts : List (K × Tests)} (some run : ℕ) → some ≡ run → HasRoomForRun cmp is_above points counts run
     → HasRoomForRun cmp is_above points counts some
 room_as_long {cmp = cmp} {is_above} {points} {counts} some run same room = subst (HasRoomForRun cmp is_above points counts) (sym same) room

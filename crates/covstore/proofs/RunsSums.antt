@@ -1,4 +1,4 @@
--- Staged runs add up to what the items of the runs do, one after the other.
+-- Staged runs add up to what their items add up to, one after another.
 use Rattle.std.proofs.Common.{◌≡◌, ◌≤◌, Option, List, [], ◌∷◌, ◌++◌, length, map, refl, sym, ap, ◌∙◌, arith}
 use Rattle.std.specs.List.{flat_map}
 use Rattle.std.specs.Cmp.Lexicographic.{slice_cmp}
@@ -15,7 +15,7 @@ use Rattle.covstore.specs.Sums.{TestData, test_of, with_item}
 use Rattle.covstore.proofs.Axis.{same_each}
 use Rattle.covstore.proofs.SumsMore.{sums_more}
 
--- ---- several items more
+-- ---- several more items
 
 pub sums_more_items : (items more : List ItemData) → test_of (items ++ more) ≡ with_items more (test_of items)
 sums_more_items items [] = ap test_of (append-nil items)
@@ -24,7 +24,7 @@ sums_more_items items (item ∷ more) =
 
 -- ---- the runs of items
 
--- an item more is one more in the run of its kind
+-- one more item is one more in the run of its kind
 pub runs_more : (items : List ItemData) (item : ItemData) → runs_of (items ++ item ∷ []) ≡ runs_with item (runs_of items)
 runs_more items item = same_each (runs_of (items ++ item ∷ [])) (runs_with item (runs_of items)) (λ kind. by kind)
   where
@@ -52,7 +52,7 @@ pub run_few : (kind : Kind) (items : List ItemData) → length (flat_map (run_of
 run_few kind [] = omega arith
 run_few kind (item ∷ items) = omega (arith, length-append (run_of kind item) (flat_map (run_of kind) items), one_at_most kind item, run_few kind items)
 
--- ---- what they add up to
+-- ---- what the runs add up to
 
 -- the run of one item
 one_run : (kind : Kind) (item : ItemData) (test : TestData) → points_with kind (run_of kind item) (at kind test) ≡ at kind (with_item item test)
@@ -80,18 +80,18 @@ run_sums kind (item ∷ items) test = twice kind ∙ ap (points_with kind (flat_
     twice Function = summed_twice (slice_cmp nat_cmp) (λ key. key) (sum_of Function) (run_of Function item) (flat_map (run_of Function) items) test.functions
     twice Branch = summed_twice branch_cmp (λ key. key) (sum_of Branch) (run_of Branch item) (flat_map (run_of Branch) items) test.branches
 
--- the runs of items add up to what the items do
+-- the runs of items add up to what the items add up to
 pub runs_sum : (items : List ItemData) (test : TestData) → with_runs (runs_of items) test ≡ with_items items test
 runs_sum items test = λ i. record { lines = run_sums Line items test i; functions = run_sums Function items test i; branches = run_sums Branch items test i }
 
--- ---- by what names the points in the code
+-- ---- queries for points in the code
 
 pub summed_named : {K V Q M : Type 0} (cmp : K → K → Ordering) (named : Q → K) (sum : M → Option V → V) (run : List (Q × M)) (pairs : List (K × V))
     → summed cmp named sum run pairs ≡ summed cmp (λ key. key) sum (map (λ pair. (named pair.0, pair.1)) run) pairs
 summed_named cmp named sum [] pairs = refl
 summed_named cmp named sum (item ∷ run) pairs = summed_named cmp named sum run (summed cmp named sum (item ∷ []) pairs)
 
--- a run of the code, by what names its points
+-- a run of the code, by its queries
 pub summed_as : {K V Q M : Type 0} (cmp : K → K → Ordering) (named : Q → K) (sum : M → Option V → V) (run some : List (Q × M)) (pairs after : List (K × V)) → after ≡ summed cmp named sum some pairs → some ≡ run
     → after ≡ summed cmp (λ key. key) sum (map (λ pair. (named pair.0, pair.1)) run) pairs
 summed_as {Q = Q} {M = M} cmp named sum run some pairs after is same =

@@ -1,4 +1,4 @@
--- The sections that are seen of a file's tests, one test after another.
+-- The sections of a file's tests, one test after another.
 use Rattle.std.proofs.Common.{◌≡◌, ℕ, Bool, false, Option, Some, None, List, [], ◌∷◌, ◌++◌, map, sym, ap, ◌∙◌, subst}
 use Rattle.std.specs.Iterator.{YieldsFirstBy}
 use Rattle.std.specs.List.{flat_map, AllByRecursion}
@@ -23,7 +23,7 @@ tests_of_pairs name file kept pairs is =
     ap (flat_map (λ (test : List ℕ × TestData). section_seen file kept.index.texts test.0 test.1)) is
     ∙ flat_map-map (λ (test : List ℕ × TestData). section_seen file kept.index.texts test.0 test.1) (λ pair. (name pair.0, test_committed pair.1)) pairs
 
--- ---- what holds of all sections that are left
+-- ---- what is true of all sections that are left
 
 pub all_first : {X : Type 0} (P : X → Type 0) (xs ys : List X) → AllByRecursion P (xs ++ ys) → AllByRecursion P xs
 all_first P [] ys all = tt
@@ -33,7 +33,7 @@ pub all_last : {X : Type 0} (P : X → Type 0) (xs ys : List X) → AllByRecursi
 all_last P [] ys all = all
 all_last P (x ∷ xs) ys all = all_last P xs ys all.1
 
--- it holds of those of the file that comes next
+-- it is true of those of the next file
 pub all_of_next : {K A : Type 0} (P : SectionData → Type 0) (name : K → List ℕ) (current : Option (List SectionData)) (files : List (K × File A)) (all : List SectionData) (key : K) (file : File A) (rest : List (K × File A))
     → files ≡ (key, file) ∷ rest → sections_left name current files ≡ all → AllByRecursion P all → AllByRecursion P (sections_of_file (name key, file_committed file))
 all_of_next {K = K} {A = A} P name current files all key file rest is left holds =
@@ -41,7 +41,7 @@ all_of_next {K = K} {A = A} P name current files all key file rest is left holds
     all_first P (sections_of_file (name key, file_committed file)) (sections_of (files_committed name rest))
     (subst (λ (fs : List (K × File A)). AllByRecursion P (sections_of (files_committed name fs))) is files_in)
 
--- ---- the next file is at hand
+-- ---- the next file becomes the current one
 
 pub none_at_hand : (next : Option SectionData) (before after : Option (List SectionData)) (b : Bool) → b ≡ is_some next → b ≡ false → YieldsFirstBy (λ s. s) or_none before next after → or_none before ≡ []
 none_at_hand None before after b is none ends = ends.0

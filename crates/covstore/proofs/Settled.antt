@@ -1,4 +1,4 @@
--- Nothing is staged of a file but for some tests, and of files but for some tests of them.
+-- Nothing is staged in a file but in some tests, and in files but in some tests of theirs.
 use Rattle.std.proofs.Common.{◌≡◌, ℕ, Bool, true, false, cond, ◌||◌, length, arith, Some, None, List, [], ◌∷◌, ◌++◌, map, filter, refl, sym, ap, ◌∙◌, subst, Vec}
 use Rattle.std.specs.Cmp.Lexicographic.{slice_cmp}
 use Rattle.std.specs.List.{AllByRecursion, list_any}
@@ -28,7 +28,7 @@ use Rattle.covstore.proofs.MapNames.{All-unfound, All-written, bytes_apart, map_
 abbrev among : List ℕ → List (List ℕ) → Bool
 among name tests = list_any (λ test. bytes_eq test name) tests
 
--- a name that isn't the last one, nor among those before it
+-- a name that isn't the last one, and isn't among those before it
 not_among_at : (b rest all : Bool) → (rest ≡ false → all ≡ false) → b || rest ≡ false → b || all ≡ false
 not_among_at true rest all more e = absurd cc
 not_among_at false rest all more e = more e
@@ -37,7 +37,7 @@ not_among : (name last : List ℕ) (tests : List (List ℕ)) → (last ≡ name 
 not_among name last [] apart e = ap (λ (b : Bool). b || false) (bytes_apart last name apart)
 not_among name last (test ∷ tests) apart e = not_among_at (bytes_eq test name) (among name tests) (among name (tests ++ last ∷ [])) (not_among name last tests apart) e
 
--- nothing is staged of a test, if its name isn't among these
+-- nothing is staged in a test whose name isn't among these
 abbrev IsSettledTest : {A : Type 0} → List (List ℕ) → Vec ℕ A × Test A → Type 0
 IsSettledTest tests pair = among pair.0.items tests ≡ false → test_staged pair.1 ≡ test_committed pair.1
 
@@ -62,11 +62,11 @@ module _ {A : Type 0} (tests : List (List ℕ)) (test : List ℕ) (before after 
         (All-unfound (λ (k : Vec ℕ A). k.items) test (IsSettledTest (tests ++ test ∷ [])) (IsSettledTest tests) before.tests.entries none others_stay was.points);
   }
 
--- what is seen of a file: its tests, and what is kept of it
+-- a file by its tests and its index
 pub same_file : {tests others : List (List ℕ × TestData)} {index more : FileIndexData} → tests ≡ others → index ≡ more → file_with tests index ≡ file_with others more
 same_file {tests} {others} {index} {more} same equal = ap (λ (xs : List (List ℕ × TestData)). file_with xs index) same ∙ ap (λ (m : FileIndexData). file_with others m) equal
 
--- where only that is seen of a test that stays as it was
+-- if the visible part of a test stays, the tests look the same
 pub tests_written : {A : Type 0} (seen : Test A → TestData) (test : List ℕ) (before after : List (Vec ℕ A × Test A)) (v w : Test A)
     → after ≡ set_value (λ (k : Vec ℕ A). is_eq (slice_cmp nat_cmp test k.items)) before w → lookup (λ (k : Vec ℕ A). is_eq (slice_cmp nat_cmp test k.items)) before ≡ Some v → seen w ≡ seen v
     → names_with (λ (k : Vec ℕ A). k.items) seen after ≡ names_with (λ (k : Vec ℕ A). k.items) seen before
@@ -75,7 +75,7 @@ tests_written {A} seen test before after v w written found same =
 
 -- ---- the files
 
--- the last one is of the file, or not
+-- the last one is of the file, or isn't
 tests_of_last : (name : List ℕ) (front : List (List ℕ × List ℕ)) (file test : List ℕ) (same : Bool) → bytes_eq file name ≡ same → tests_of name (front ++ (file, test) ∷ []) ≡ tests_of name front ++ cond same (test ∷ []) []
 tests_of_last name front file test same e =
     ap (map (λ (t : List ℕ × List ℕ). t.1)) (filter-append (λ (t : List ℕ × List ℕ). bytes_eq t.0 name) front ((file, test) ∷ []))
@@ -89,11 +89,11 @@ tests_of_last name front file test same e =
         one_of true = refl
         one_of false = refl
 
--- the files by their names, in the code
+-- the name of a file in the code
 abbrev pub file_name : {A : Type 0} → Vec ℕ A → List ℕ
 file_name k = k.items
 
--- what is seen of the files stays, and but for the tests that are left nothing is staged
+-- what is seen of the files stays, and nothing is staged but in the tests that are left
 pub record IsSettling {A : Type 0} (seen : File A → FileData) (touched : List (Touched A)) (first now : List (Vec ℕ A × File A)) : Type 0 where
   pub stays : names_with file_name seen now ≡ names_with file_name seen first
   pub settled : AreSettledBut file_name (touched_data touched) now
@@ -105,6 +105,12 @@ touched_last {A} touched more last same =
   where
     touched_names : Touched A → List ℕ × List ℕ
     touched_names t = (t.file.items, t.test.items)
+
+-- there is one
+pub last_there : {A : Type 0} (touched : List (Touched A)) (front : List (List ℕ × List ℕ)) (file test : List ℕ) → touched_data touched ≡ front ++ (file, test) ∷ [] → touched ≡ [] → ⊥
+last_there {A} touched front file test same none =
+    let lengths : length (touched_data touched) ≡ 0 = ap (λ (all : List (Touched A)). length (touched_data all)) none in
+    omega (arith, lengths, ap length same, length_push front (file, test))
 
 module _ {A : Type 0} (seen : File A → FileData) (touched front : List (Touched A)) (file test : List ℕ) (popped : touched_data touched ≡ touched_data front ++ (file, test) ∷ [])
     (first before after : List (Vec ℕ A × File A)) (was : IsSettling seen touched first before) where
@@ -160,7 +166,7 @@ pub none_left : {A : Type 0} (touched : List (Touched A)) (pairs : List (Vec ℕ
 none_left [] pairs e all = all
 none_left (t ∷ touched) pairs e all = absurd (omega (arith, e))
 
--- ---- one test more
+-- ---- one more test
 
 or_false_left : (a b : Bool) → a || b ≡ false → a ≡ false
 or_false_left true b e = absurd cc
@@ -193,7 +199,7 @@ files_with_more {A} front file test pairs all =
     with_more pair false e settled =
         subst (λ (tests : List (List ℕ)). IsSettledBut tests pair.1) (sym (tests_of_last pair.0.items front file test false e ∙ append-nil (tests_of pair.0.items front))) settled
 
--- the last one was taken off
+-- the last one is removed
 pub popped_as : {A : Type 0} (touched front : List (Touched A)) (last : Touched A) (file test : List ℕ) → touched ≡ front ++ last ∷ [] → file ≡ last.file.items → test ≡ last.test.items
     → touched_data touched ≡ touched_data front ++ (file, test) ∷ []
 popped_as touched front last file test same its_file its_test =

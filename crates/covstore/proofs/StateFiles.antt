@@ -1,4 +1,4 @@
--- What is counted in the sections of a state, file by file: each file that has sections is counted once.
+-- What is counted in the sections of a state, file by file: each file with sections is counted once.
 use Rattle.std.proofs.Common.{◌≡◌, ℕ, Bool, true, false, List, [], ◌∷◌, ◌++◌, map, filter, refl, sym, ap, ◌∙◌, subst, inl, inr, arith}
 use Rattle.std.specs.Cmp.Lexicographic.{slice_cmp}
 use Rattle.std.specs.declared.cmp.Ordering.TheVariants.{Less}
@@ -50,7 +50,7 @@ own_none file files apart =
     keep_none (λ s. bytes_eq s.key.file file) (sections_of files)
     (λ section i. let pair = In-unflat sections_of_file files section i in not_own file pair.0 (apart pair.0 pair.1) section pair.2)
 
--- the sections of a file are those that are seen of it
+-- the sections of a file are those made from it
 pub own_seen : (files : List (List ℕ × FileData)) → ArePairs (slice_cmp nat_cmp) files → (pair : List ℕ × FileData) → In pair files → own_sections pair.0 (sections_of files) ≡ sections_of_file pair
 own_seen [] sorted pair i = absurd i
 own_seen (first ∷ files) sorted pair (inl is) =
@@ -69,9 +69,9 @@ own_seen (first ∷ files) sorted pair (inr i) =
     filter-append own (sections_of_file first) (sections_of files)
     ∙ ap (λ (left : List SectionData). left ++ filter own (sections_of files)) none ∙ own_seen files sorted.1 pair i
 
--- ---- the files that are seen
+-- ---- the files with sections
 
--- a file is seen where it has a section
+-- the file's name, if it has a section
 abbrev name_if : List ℕ → List SectionData → List (List ℕ)
 name_if name [] = []
 name_if name (section ∷ sections) = name ∷ []

@@ -1,4 +1,4 @@
--- A file more without tests, and a test more without points in a file: a state of the same rows.
+-- One more file without tests, or one more test without points in a file: the state of the same rows.
 use Rattle.std.proofs.Common.{◌≡◌, ℕ, cond, if◌then◌else◌, nat_lt, Option, Some, None, List, [], ◌∷◌, ◌++◌, map, refl, sym, ap, ◌∙◌, subst, inl, inr, arith}
 use Rattle.std.specs.Prelude.{◌⊎◌}
 use Rattle.std.specs.Cmp.Lexicographic.{slice_cmp}
@@ -9,7 +9,7 @@ use Rattle.std.proofs.lemmas.List.{map-append}
 use Rattle.std.proofs.lemmas.Option.{none-some}
 use Rattle.covline.specs.Row.{Row}
 use Rattle.covstore.specs.Kinds.{Kind, PointsOf, above_of, at, branch_above, cmp_of, function_above, line_above}
-use Rattle.covstore.specs.KindIndexCounts.{AreCounts, is_above_at}
+use Rattle.covstore.specs.PointIndexCounts.{AreCounts, is_above_at}
 use Rattle.covmap.specs.Puts.{put, value_of}
 use Rattle.covstore.specs.State.{FileData, IsIndexOf, IsStateOf, IsConsistentFile, file_with, has_checksum, holders_at, holding, points_in, tests_in, text_in}
 use Rattle.covstore.specs.Sums.{TestData, test_of}
@@ -24,9 +24,9 @@ use Rattle.covstore.proofs.StateRows.{file_whole, name_or_not, same_rows}
 use Rattle.covstore.proofs.StateSections.{points_none, points_same, points_there}
 use Rattle.covstore.proofs.Axis.{each_kind, map_between}
 
--- ---- a key that is put where it wasn't
+-- ---- a key is put in where it wasn't
 
--- the list after has one member more, between a front and a back of the list before
+-- the list after has one more member, between a front and a back of the list before
 pub record HasOneMore {X : Type 0} (x : X) (before after : List X) : Type 0 where
   pub front : List X
   pub back : List X
@@ -70,7 +70,7 @@ file_more rows files state name none =
 abbrev pub with_test : List ℕ → FileData → FileData
 with_test test file = file_with (put (slice_cmp nat_cmp) test (test_of []) file.tests) file.index
 
--- a test without points is counted nowhere
+-- a test without points isn't counted
 module _ (front back : List TestData) (index : FileIndexData) (kept : IsIndexOf (front ++ back) index) where
   counts_with_test : (kind : Kind) → AreCounts (cmp_of kind) (above_of kind) (map (at kind) (front ++ test_of [] ∷ back)) (at kind index.counts)
   counts_with_test kind =
@@ -103,7 +103,7 @@ whole_with_test test file whole none =
           (kept_with_test (map alone more.front) (map alone more.back) file.index (subst (λ (tests : List TestData). IsIndexOf tests file.index) before whole.kept));
     }
 
--- each test shows the points that it showed
+-- each test has the same points as before
 points_with_test : (test : List ℕ) (file : FileData) → value_of (slice_cmp nat_cmp) test file.tests ≡ None → (other : List ℕ) → (test ≡ other) ⊎ (test ≡ other → ⊥)
     → points_in (Some (with_test test file)) other ≡ points_in (Some file) other
 points_with_test test file none other (inl is) =

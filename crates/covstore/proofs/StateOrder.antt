@@ -1,4 +1,4 @@
--- The sections of ascending files with ascending tests ascend by their keys.
+-- The sections of ascending files with ascending tests are in ascending order.
 use Rattle.std.proofs.Common.{◌≡◌, ℕ, List, [], ◌∷◌, ◌++◌, map, refl, sym, ap, ◌∙◌, subst, inl, inr, ⊎_elim}
 use Rattle.std.specs.Cmp.Lexicographic.{slice_cmp}
 use Rattle.std.specs.declared.cmp.Ordering.{Ordering}
@@ -36,7 +36,7 @@ pub sorted_one : {X : Type 0} (cmp : X → X → Ordering) (x : X) → IsStrictl
 unfolding IsStrictlySortedBy
 sorted_one cmp x = (tt, tt)
 
--- the parts of ascending pairs, each ascending, one before the next
+-- the parts of ascending pairs, each part ascending and before the next
 pub sorted_parts : {K V X : Type 0} (order : K → K → Ordering) (cmp : X → X → Ordering) (part : K × V → List X) (pairs : List (K × V)) → ArePairs order pairs
     → ((pair : K × V) → In pair pairs → IsStrictlySortedBy cmp (part pair))
     → ((pair next : K × V) (x y : X) → order pair.0 next.0 ≡ Less → In x (part pair) → In y (part next) → cmp x y ≡ Less) → IsStrictlySortedBy cmp (flat_map part pairs)
@@ -51,7 +51,7 @@ sorted_parts {K} {V} {X} order cmp part (pair ∷ pairs) ascending each before =
 abbrev pub section_cmp : SectionData → SectionData → Ordering
 section_cmp a b = key_cmp a.key b.key
 
--- the sections of one test, of which there is at most one
+-- the sections of one test: there is at most one
 seen_sorted : (file : List ℕ) (texts : List (ℕ × List ℕ)) (test : List ℕ) (points : TestData) → IsStrictlySortedBy section_cmp (section_seen file texts test points)
 seen_sorted file texts test points =
     ⊎_elim {C = IsStrictlySortedBy section_cmp (section_seen file texts test points)}
@@ -62,11 +62,11 @@ seen_sorted file texts test points =
 by_key : (a b : SectionData) (k l : Key) → k ≡ a.key → l ≡ b.key → key_cmp k l ≡ Less → section_cmp a b ≡ Less
 by_key a b k l left right less = ap (λ (key : Key). key_cmp key b.key) (sym left) ∙ ap (key_cmp k) (sym right) ∙ less
 
--- of one file, by their tests
+-- sections of one file are ordered by their tests
 test_first : (file one other : List ℕ) → slice_cmp nat_cmp one other ≡ Less → ◌≡◌ {A = Ordering} (key_cmp (record { file = file; test = one }) (record { file = file; test = other })) Less
 test_first file one other less = ap (λ (o : Ordering). ordering_then o (slice_cmp nat_cmp one other)) (tied_itself names_order.total file) ∙ less
 
--- else by their files
+-- other sections are ordered by their files
 file_first : (file next one other : List ℕ) → slice_cmp nat_cmp file next ≡ Less → ◌≡◌ {A = Ordering} (key_cmp (record { file = file; test = one }) (record { file = next; test = other })) Less
 file_first file next one other less = ap (λ (o : Ordering). ordering_then o (slice_cmp nat_cmp one other)) less
 
@@ -95,7 +95,7 @@ state_sorted files ascending whole =
     let other = key_of_section next b j in
     by_key a b (record { file = pair.0; test = one.0 }) (record { file = next.0; test = other.0 }) one.1 other.1 (file_first pair.0 next.0 one.0 other.0 less))
 
--- ---- the same of a list that is made of keys
+-- ---- the same for a list made from keys
 
 All-made : {K X : Type 0} (cmp : K → K → Ordering) (made : K → X) (key_of : X → K) → ((k : K) → key_of (made k) ≡ k) → (key : K) (keys : List K) → AllByRecursion (λ next. cmp key next ≡ Less) keys
     → AllByRecursion (λ x. cmp (key_of (made key)) (key_of x) ≡ Less) (map made keys)

@@ -1,4 +1,4 @@
--- What a state is after more rows of a file and a test, a file more, or a test more in a file.
+-- A state after rows of a file and a test are added, or a file, or a test in a file.
 use Rattle.std.proofs.Common.{◌≡◌, ℕ, false, Option, Some, List, [], ◌∷◌, ◌++◌, filter, map, refl, sym, ap, ◌∙◌, subst, inl, inr, ⊎_elim}
 use Rattle.std.specs.Prelude.{◌⊎◌, Contains}
 use Rattle.std.specs.Cmp.Lexicographic.{slice_cmp}
@@ -28,13 +28,13 @@ use Rattle.covstore.proofs.StateSections.{points_same, points_there}
 pub name_or_not : (one other : List ℕ) → (one ≡ other) ⊎ (one ≡ other → ⊥)
 name_or_not one other = same_or_not (slice_cmp nat_cmp) names_order one other (slice_cmp nat_cmp one other) refl
 
--- a file that is there is whole
+-- a file of a state is consistent
 pub file_whole : (rows : List Row) (files : List (List ℕ × FileData)) → IsStateOf rows files → (name : List ℕ) (file : FileData) → value_of (slice_cmp nat_cmp) name files ≡ Some file → IsConsistentFile file
 file_whole rows files state name file there = All-in (λ (pair : List ℕ × FileData). IsConsistentFile pair.1) files (name, file) state.whole (pair_in names_order name file files there)
 
--- ---- one file is as it is now, and the others as they were
+-- ---- one file has changed, and the others haven't
 
--- the file is what the rows add up to, and of other files the rows are the same as before
+-- the file is what its rows add up to, and the rows of other files are the same as before
 pub record IsChange (rows more : List Row) (name : List ℕ) (after : FileData) : Type 0 where
   pub whole : IsConsistentFile after
   pub points : (test : List ℕ) → points_in (Some after) test ≡ test_of (items_at (record { file = name; test = test }) more)
@@ -71,7 +71,7 @@ module _ (rows more : List Row) (files : List (List ℕ × FileData)) (state : I
     whole = All-put names_order (λ (pair : List ℕ × FileData). IsConsistentFile pair.1) name after files change.whole state.whole;
   }
 
--- ---- a file that shows the same points and has the same texts
+-- ---- a file with the same points and the same texts
 
 pub same_rows : (rows : List Row) (files : List (List ℕ × FileData)) → IsStateOf rows files → (name : List ℕ) (after : FileData) → IsConsistentFile after
     → ((test : List ℕ) → points_in (Some after) test ≡ points_in (value_of (slice_cmp nat_cmp) name files) test)
@@ -95,7 +95,7 @@ module _ (name test : List ℕ) where
   abbrev more_rows : List ItemData → List Row
   more_rows items = rows_of_sect (section_of_items name test items)
 
-  -- the rows' own key, and others
+  -- the rows have this key, and no other
   not_has_key : (key : Key) (item : ItemData) → (name ≡ key.file → test ≡ key.test → ⊥) → has_key key (row_with item) ≡ false
   not_has_key key item other =
       false_from_ne_true (has_key key (row_with item))
@@ -156,7 +156,7 @@ module _ (name test : List ℕ) where
         points_same after file other (ap (value_of (slice_cmp nat_cmp) other) more ∙ value_of-put_other names_order test other (with_items items points) file.tests apart)
         ∙ ap (λ (kept : Option FileData). points_in kept other) (sym in_files) ∙ state.points key ∙ ap test_of (sym (items_as_before key rows items (λ same is. apart is)))
 
-    -- the state with the file as it is with the rows
+    -- the state with the file after the rows are added
     pub rows_more : IsStateOf rows files → value_of (slice_cmp nat_cmp) name files ≡ Some file → value_of (slice_cmp nat_cmp) test file.tests ≡ Some points
         → after.tests ≡ put (slice_cmp nat_cmp) test (with_items items points) file.tests → IsConsistentFile after
         → ((committed : Checksum) → Contains (checksums_in (rows ++ more_rows items)) committed → committed.file ≡ name → value_of nat_cmp committed.line after.index.texts ≡ Some committed.checksum)

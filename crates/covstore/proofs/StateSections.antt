@@ -1,4 +1,4 @@
--- The sections that are seen of a state are what its rows add up to.
+-- The sections of a state are what its rows add up to.
 use Rattle.std.proofs.Common.{◌≡◌, ℕ, true, Option, Some, None, List, [], ◌∷◌, map, filter, refl, sym, ap, ◌∙◌, subst, inl}
 use Rattle.std.specs.Cmp.Lexicographic.{slice_cmp}
 use Rattle.std.specs.Ordering.{nat_cmp}
@@ -20,16 +20,16 @@ use Rattle.covstore.proofs.Puts.{pair_in, value_of_pair}
 use Rattle.covstore.proofs.StateOrder.{made_sorted, section_of_test, state_sorted}
 use Rattle.covstore.proofs.StateSeen.{HasChecksums, HasNone, seen_as, seen_is, some_points_of}
 
--- ---- what is kept of a test
+-- ---- what a file keeps of a test
 
--- the points of a test that is there
+-- the points of a test of the file
 pub points_there : (file : FileData) (test : List ℕ) (points : TestData) → value_of (slice_cmp nat_cmp) test file.tests ≡ Some points → points_in (Some file) test ≡ points
 points_there file test points e = ap points_or_none e
 
 pub points_none : (file : FileData) (test : List ℕ) → value_of (slice_cmp nat_cmp) test file.tests ≡ None → points_in (Some file) test ≡ test_of []
 points_none file test e = ap points_or_none e
 
--- only the value of a test decides
+-- only the value at the test's name matters
 pub points_same : (file other : FileData) (test : List ℕ) → value_of (slice_cmp nat_cmp) test file.tests ≡ value_of (slice_cmp nat_cmp) test other.tests → points_in (Some file) test ≡ points_in (Some other) test
 points_same file other test e = ap points_or_none e
 
@@ -41,7 +41,7 @@ module _ (rows : List Row) (files : List (List ℕ × FileData)) (state : IsStat
       ap (λ (found : Option FileData). text_in found line) (sym there)
       ∙ state.texts checksum (Contains-from (checksums_in rows) checksum (line_checksum_held rows key line said e))
 
-  -- ---- each section that is seen is of a key of the rows
+  -- ---- each section has a key of the rows
 
   file_of_pair : (pair : List ℕ × FileData) → In pair files → value_of (slice_cmp nat_cmp) pair.0 files ≡ Some pair.1
   file_of_pair pair i = value_of_pair names_order pair.0 pair.1 files state.ascending i
@@ -69,7 +69,7 @@ module _ (rows : List Row) (files : List (List ℕ × FileData)) (state : IsStat
       (subst (λ (points : TestData). In section (section_seen pair.0.0 pair.0.1.index.texts test.0.0 points)) (points_of_pair pair.0 test.0 pair.1 test.1) test.2) in
       subst (λ (s : SectionData). In s (content_of rows)) seen.0 (In-map (section_of rows) (keys_of rows) key (key_there key seen.1 seen.2))
 
-  -- ---- and the other way
+  -- ---- and conversely
 
   item_there : (key : Key) → In key (keys_of rows) → (item : ItemData) × In item (items_at key rows)
   item_there key i =
@@ -77,7 +77,7 @@ module _ (rows : List Row) (files : List (List ℕ × FileData)) (state : IsStat
       let own = subst (λ (k : Key). has_key k row.0 ≡ true) row.2 (own_row row.0) in
       (row.0.item, In-map (λ (r : Row). r.item) (filter (has_key key) rows) row.0 (In-filter (has_key key) rows row.0 row.1 own))
 
-  -- no points are kept where a file or a test isn't there, and rows of that key have points
+  -- if rows of a key have points, its file and its test can't be missing
   not_missing : (key : Key) (item : ItemData) → In item (items_at key rows) → test_of [] ≡ test_of (items_at key rows) → ⊥
   not_missing key item i e = some_points_of (items_at key rows) item i (subst HasNone e (record { lines = refl; functions = refl; branches = refl }))
 

@@ -1,4 +1,4 @@
--- What is seen of a test whose points are what items add up to: the section of these items, and none where there are no items.
+-- What a test shows whose points are what items add up to: the section of these items, or none if there are no items.
 use Rattle.std.proofs.Common.{◌≡◌, ℕ, Option, Some, None, List, [], ◌∷◌, map, refl, sym, ap, ◌∙◌, subst, inl, inr, ⊎_elim}
 use Rattle.std.specs.Prelude.{◌⊎◌}
 use Rattle.std.specs.Option.{is_some}
@@ -31,7 +31,7 @@ not_empty {X} x xs i e = subst (In x) e i
 points_from : List (ℕ × LineSum) → List (List ℕ × FunctionSum) → List (BranchPoint × BranchSum) → TestData
 points_from lines functions branches = record { lines = lines; functions = functions; branches = branches }
 
--- what is seen of a test: nothing where it has no points, else one section
+-- what a test shows: nothing if it has no points, else one section
 abbrev pub IsSeen : List ℕ → List (ℕ × List ℕ) → List ℕ → TestData → Type 0
 IsSeen file texts test points =
     (HasNone points × (section_seen file texts test points ≡ [])) ⊎ ((HasNone points → ⊥) × (section_seen file texts test points ≡ section_with_points file texts test points ∷ []))
@@ -52,7 +52,7 @@ seen_or_not file texts test points = seen_at file texts test points.lines points
 pub seen_whole : (file : List ℕ) (texts : List (ℕ × List ℕ)) (test : List ℕ) (points : TestData) → (HasNone points → ⊥) → section_seen file texts test points ≡ section_with_points file texts test points ∷ []
 seen_whole file texts test points some = ⊎_elim (λ seen. absurd (some seen.0)) (λ seen. seen.1) (seen_or_not file texts test points)
 
--- a section that is seen has its file and test
+-- a section has the file and the test that it was made from
 pub seen_key : (file : List ℕ) (texts : List (ℕ × List ℕ)) (test : List ℕ) (points : TestData) (section : SectionData) → In section (section_seen file texts test points)
     → ◌≡◌ {A = Key} (record { file = file; test = test }) section.key
 seen_key file texts test points section i =
@@ -101,7 +101,7 @@ line_as : (texts : List (ℕ × List ℕ)) (items : List ItemData) (line : ℕ) 
 unfolding line_from
 line_as texts items line committed = ap (line_from line (line_sum items line).1.count) (text_as_said texts line (line_checksum line items) committed)
 
--- the texts have what the items give as checksums
+-- the texts have the checksums that the items give
 abbrev pub HasChecksums : List (ℕ × List ℕ) → List ItemData → Type 0
 HasChecksums texts items = (line : ℕ) (text : List ℕ) → line_checksum line items ≡ Some text → value_of nat_cmp line texts ≡ Some text
 
@@ -113,9 +113,9 @@ whole_as key texts items committed =
     map_of_map (line_sum items) (line_seen texts) (line_at items) (lines_in items) (λ line. line_as texts items line (committed line)) in
     λ i. record { key = key; functions = functions i; branches = branches i; lines = lines i }
 
--- ---- the section that is seen
+-- ---- the section
 
--- with items it is theirs
+-- if there are items, it is theirs
 pub seen_as : (key : Key) (texts : List (ℕ × List ℕ)) (items : List ItemData) (item : ItemData) → HasChecksums texts items → In item items
     → section_seen key.file texts key.test (test_of items) ≡ section_with key items ∷ []
 seen_as key texts [] item committed i = absurd i
@@ -123,7 +123,7 @@ seen_as key texts (first ∷ others) item committed i =
     let items = first ∷ others in
     seen_whole key.file texts key.test (test_of items) (some_points items first others refl) ∙ ap (λ (s : SectionData). s ∷ []) (whole_as key texts items committed)
 
--- what is seen is the section of some items
+-- the section is that of some items
 pub seen_is : (key : Key) (texts : List (ℕ × List ℕ)) (items : List ItemData) (section : SectionData) → HasChecksums texts items → In section (section_seen key.file texts key.test (test_of items))
     → (section_with key items ≡ section) × (item : ItemData) × In item items
 seen_is key texts [] section committed i = absurd i

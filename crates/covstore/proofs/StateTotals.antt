@@ -1,4 +1,4 @@
--- The totals of what is seen of a state are the numbers that are kept.
+-- The totals of a state's sections are the numbers that its indexes keep.
 use Rattle.std.proofs.Common.{◌≡◌, ℕ, Bool, List, [], ◌∷◌, ◌++◌, length, map, refl, sym, ap, subst, ⊎_elim, append_assoc}
 use Rattle.std.specs.declared.cmp.Ordering.{Ordering}
 use Rattle.std.specs.List.{AllByRecursion, count_by, flat_map, sum_by}
@@ -11,7 +11,7 @@ use Rattle.covstore.specs.declared.sums.Tests.{Tests}
 use Rattle.covstore.specs.Kinds.{Branch, Function, KeyOf, Kind, Line, SumOf, above_of, at, cmp_of}
 use Rattle.covstore.specs.Clash.{Agree, checksums_in}
 use Rattle.covstore.specs.Content.{BranchValueData, FunctionValueData, LineValueData, SectionData, content_of}
-use Rattle.covstore.specs.KindIndexCounts.{AreCounts, found_of, hit_of}
+use Rattle.covstore.specs.PointIndexCounts.{AreCounts, found_of, hit_of}
 use Rattle.covmap.specs.Puts.{ArePairs}
 use Rattle.covstore.specs.State.{FileData, IsStateOf, IsConsistentFile, branch_seen, found_at, function_seen, hit_at, line_seen, section_seen, section_with_points, sections_of, sections_of_file, totals_in}
 use Rattle.covstore.specs.Sums.{TestData}
@@ -25,7 +25,7 @@ use Rattle.covstore.proofs.StateSections.{sections_as}
 use Rattle.covstore.proofs.StateSeen.{HasNone, map_of_map, seen_or_not}
 use Rattle.covstore.proofs.TotalsKinds.{same_totals}
 
--- ---- what is kept for a file's points counts the sections that are seen
+-- ---- the counts of a file's points are those of its sections
 
 module _ {K V W : Type 0} (cmp : K → K → Ordering) (is_above : V → Bool) (is_other : W → Bool) (seen : K → V → W) (same : (key : K) (value : V) → is_other (seen key value) ≡ is_above value)
     (points : TestData → List (K × V)) (points_of : SectionData → List (K × W)) (file : List ℕ) (texts : List (ℕ × List ℕ)) (none : (test : TestData) → HasNone test → points test ≡ [])
@@ -39,7 +39,7 @@ module _ {K V W : Type 0} (cmp : K → K → Ordering) (is_above : V → Bool) (
   abbrev all_points : List (List ℕ × TestData) → List (List (K × W))
   all_points tests = map (map (λ (pair : K × V). (pair.0, seen pair.0 pair.1))) (map points (map (λ (test : List ℕ × TestData). test.1) tests))
 
-  -- tests without points have no section, and count nowhere
+  -- tests without points have no section, and aren't counted
   seen_counts_from : (front : List (List (K × W))) (tests : List (List ℕ × TestData)) (counts : List (K × Tests)) → AreCounts cmp is_other (front ++ all_points tests) counts
       → AreCounts cmp is_other (front ++ map points_of (flat_map part tests)) counts
   seen_counts_from front [] counts are = are
@@ -99,7 +99,7 @@ kind_seen kind pair whole =
 -- ---- all kinds
 
 module _ (rows : List Row) (files : List (List ℕ × FileData)) (state : IsStateOf rows files) where
-  -- what holds of the sections that rows add up to for a file holds of those that are seen of it
+  -- what is true of the sections that rows add up to for a file is true of those that the file shows
   of_seen : (P : SectionData → Type 0) (pair : List ℕ × FileData) → In pair files → AllByRecursion P (own_sections pair.0 (content_of rows)) → AllByRecursion P (sections_of_file pair)
   of_seen P pair i all =
       subst (AllByRecursion P) (own_seen files state.ascending pair i)

@@ -1,10 +1,10 @@
--- The numbers that the code changes are those that one item more asks for.
+-- The code changes the numbers as one more item requires.
 use Rattle.std.proofs.Common.{◌≡◌, ℕ, Bool, true, false, ◌||◌, if◌then◌else◌, Option, Some, None, List, refl}
 use Rattle.std.specs.declared.cmp.Ordering.{Ordering}
 use Rattle.covstore.specs.declared.sums.LineSum.{LineSum}
 use Rattle.covstore.specs.declared.sums.Tests.{Tests}
-use Rattle.covstore.specs.KindIndex.{changed}
-use Rattle.covstore.specs.KindIndexCounts.{change_by, change_of, counts_with, is_above_at, is_new, is_newly_hit, tests_more}
+use Rattle.covstore.specs.PointIndex.{changed}
+use Rattle.covstore.specs.PointIndexCounts.{change_by, change_of, counts_with, is_above_at, is_new, is_newly_hit, tests_more}
 use Rattle.covmap.specs.Puts.{put, value_of}
 use Rattle.covstore.specs.State.{has_checksum}
 use Rattle.covstore.specs.Sums.{line_with}

@@ -1,10 +1,10 @@
--- What an item's step asks for: the room for it.
+-- What staging an item requires: room for it.
 use Rattle.std.proofs.Common.{◌≡◌, ℕ, ◌+◌, ◌≤◌, ◌^◌, Bool, true, false, cond, nat_lt, Some, None, List, ◌∷◌, ◌++◌, sym, ap, ◌∙◌, subst, arith}
 use Rattle.std.specs.Option.{IfSome, is_some}
 use Rattle.std.specs.Ordering.{nat_cmp}
 use Rattle.std.proofs.lemmas.Bool.{cond-true, lt-ltb}
 use Rattle.std.proofs.lemmas.List.Sums.{count_by-le-length}
-use Rattle.covstore.specs.KindIndexCounts.{one_if}
+use Rattle.covstore.specs.PointIndexCounts.{one_if}
 use Rattle.covstore.specs.FileIndex.{FileIndexData}
 use Rattle.covmap.specs.Puts.{value_of}
 use Rattle.covstore.specs.State.{holding}
@@ -26,7 +26,7 @@ module _ (test : TestData) (index : FileIndexData) (room : HasRoom test index) (
   abbrev tests : List TestData
   tests = room.front ++ test ∷ room.back
 
-  -- where the test holds a line's checksum, one is held
+  -- if the test holds a line's checksum, the checksum is held
   pub held_by_test : is_holding line test ≡ true → is_some (value_of nat_cmp line index.holders) ≡ true
   held_by_test holds =
       ap is_some (room.kept.holders line)

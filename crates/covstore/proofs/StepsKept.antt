@@ -1,4 +1,4 @@
--- The numbers that are kept of a file count its tests, also with one item more in one of them.
+-- The index of a file still counts its tests after one more item is added to one of them.
 use Rattle.std.proofs.Common.{◌≡◌, ℕ, ◌+◌, ◌≤◌, ◌^◌, Bool, true, false, cond, if◌then◌else◌, nat_lt, Option, Some, None, List, ◌∷◌, ◌++◌, length, map, refl, sym, ap, ◌∙◌, subst, ⊎_elim, arith}
 use Rattle.std.specs.declared.cmp.Ordering.{Ordering}
 use Rattle.std.specs.Option.{IfSome}
@@ -9,7 +9,7 @@ use Rattle.covstore.specs.declared.sums.LineSum.{LineSum}
 use Rattle.covstore.specs.declared.sums.Tests.{Tests}
 use Rattle.covstore.specs.Kinds.{CountsOf, Each, Kind, Line, PointsOf, above_of, at, cmp_of, line_above, with_at}
 use Rattle.covstore.specs.Checksums.{held_more, one_more}
-use Rattle.covstore.specs.KindIndexCounts.{AreCounts, counts_with, is_above_at, one_if}
+use Rattle.covstore.specs.PointIndexCounts.{AreCounts, counts_with, is_above_at, one_if}
 use Rattle.covstore.specs.FileIndex.{FileIndexData}
 use Rattle.covmap.specs.Puts.{put, value_of}
 use Rattle.covstore.specs.State.{has_checksum, holders_at, holding}
@@ -86,7 +86,7 @@ module _ (front : List TestData) (before after : TestData) (back : List TestData
   other_holders line other true apart = refl
   other_holders line other false apart = value_of-put_apart lines_order line other (one_more (value_of nat_cmp line holders)) holders apart
 
-  -- a test holds a line's checksum then
+  -- a test holds a line's checksum from then on
   pub holders_more : (line : ℕ) → is_holding line after ≡ true → ((other : ℕ) → is_eq (nat_cmp line other) ≡ false → is_holding other after ≡ is_holding other before)
       → more ≡ held_more line (is_holding line before) holders → ((other : ℕ) → value_of nat_cmp other holders ≡ holders_at other (front ++ before ∷ back))
       → (other : ℕ) → value_of nat_cmp other more ≡ holders_at other (front ++ after ∷ back)
@@ -103,7 +103,7 @@ module _ (front : List TestData) (before after : TestData) (back : List TestData
 
 -- ---- one item more
 
--- the points of one kind change, and no test holds other checksums
+-- the points of one kind change, and no test holds another checksum
 pub keeps_point : (own : Kind) (after : PointsOf own) (counts : CountsOf own) (test : TestData) (index more : FileIndexData) → KeepsCountsOfKind (cmp_of own) (above_of own) (at own test) after (at own index.counts) counts
     → more.counts ≡ with_at own counts index.counts → ((line : ℕ) → is_holding line (with_at own after test) ≡ is_holding line test) → more.holders ≡ index.holders
     → KeepsCounts test (with_at own after test) index more
@@ -112,7 +112,7 @@ keeps_point own after counts test index more keeps moved same stay front back ar
   holders = holders_same front test (with_at own after test) back index.holders more.holders same stay are.holders;
 }
 
--- a line's item, with a checksum and without
+-- a line's item, with or without a checksum
 module _ (line : ℕ) (value : LineSum) (after : List (ℕ × LineSum)) (counts : List (ℕ × Tests)) (test : TestData) (index more : FileIndexData) (puts : after ≡ put nat_cmp line value test.lines)
     (keeps : KeepsCountsOfKind nat_cmp line_above test.lines after index.counts.lines counts) (moved : more.counts ≡ with_at Line counts index.counts) where
   abbrev changed : TestData

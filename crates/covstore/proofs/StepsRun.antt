@@ -1,4 +1,5 @@
--- A run of items at points of a kind: what they tell in their test is a run for the file's numbers, which count the tests then.
+-- A run of items at points of a kind: what they report in their test is a run for the file's counts, which then count the tests
+-- again.
 use Rattle.std.proofs.Common.{◌≡◌, ◌+◌, ◌≤◌, ◌^◌, Bool, true, false, Option, Some, None, List, [], ◌∷◌, ◌++◌, length, refl, sym, ap, ◌∙◌, subst, arith}
 use Rattle.std.specs.declared.cmp.Ordering.{Ordering}
 use Rattle.std.specs.Option.{IfSome}
@@ -8,14 +9,14 @@ use Rattle.covmap.specs.Run.{FitRun, sum_put, summed, told_one, told_run}
 use Rattle.covstore.specs.declared.sums.Tests.{Tests}
 use Rattle.covstore.specs.declared.sums.TestsAddend.{TestsAddend}
 use Rattle.covstore.specs.Items.{HasRoomForRun, KeepsCountsOfKind}
-use Rattle.covstore.specs.KindIndex.{changed}
-use Rattle.covstore.specs.KindIndexCounts.{AreCounts, change_of, is_above_at, is_new, one_if, tests_fit, tests_with}
+use Rattle.covstore.specs.PointIndex.{changed}
+use Rattle.covstore.specs.PointIndexCounts.{AreCounts, change_of, is_above_at, is_new, one_if, tests_fit, tests_with}
 use Rattle.covstore.proofs.Ascend.{IsExactOrder}
 use Rattle.covstore.proofs.Puts.{length-put}
 use Rattle.covstore.proofs.StepsCounts.{changed_is}
 use Rattle.covstore.proofs.StepsKept.{numbers_few, put_keeps}
 
--- ---- what one item tells, before the rest of the run
+-- ---- what one item reports, before the rest of the run
 
 module _ {K Q : Type 0} (cmp : K → K → Ordering) (named : Q → K) (query : Q) (rest : List (Q × TestsAddend)) (counts : List (K × Tests)) where
   pub summed_told : (change : Option TestsAddend) → summed cmp named tests_with (told_one query change ++ rest) counts ≡ summed cmp named tests_with rest (changed cmp (named query) change counts)
@@ -54,7 +55,7 @@ module _ {K V Q M : Type 0} {cmp : K → K → Ordering} (o : IsExactOrder cmp) 
       put_keeps is_above points counts o key after (sum_put cmp named sum item points) (changed cmp key (told_of item points) counts) refl (stays item.1 before)
       (ap (λ (change : Option TestsAddend). changed cmp key change counts) (tells item.1 before after) ∙ changed_is cmp is_above key counts before after)
 
-  -- the file's numbers count the tests, of which one has the run's points
+  -- the file's counts are those of the tests, one of which has the run's points
   pub run_keeps : (run : List (Q × M)) (points : List (K × V)) (counts : List (K × Tests))
       → KeepsCountsOfKind cmp is_above points (summed cmp named sum run points) counts (summed cmp named tests_with (told_run cmp named sum told run points) counts)
   run_keeps [] points counts front back are = are
@@ -65,7 +66,7 @@ module _ {K V Q M : Type 0} {cmp : K → K → Ordering} (o : IsExactOrder cmp) 
       (sym (summed_told cmp named item.0 (told_run cmp named sum told run next) counts (told_of item points)))
       (run_keeps run next more front back (one_keeps item points counts front back are))
 
-  -- each number can be raised, as no more tests have a point than there are
+  -- each number can grow, since no more tests have a point than there are
   runs_fit : (front back : List (List (K × V))) → length front + (length back + 1) ≤ 2 ^ 63 → (run : List (Q × M)) (points : List (K × V)) (counts : List (K × Tests)) → AreCounts cmp is_above (front ++ points ∷ back) counts
       → FitRun cmp named tests_fit tests_with (told_run cmp named sum told run points) counts
   runs_fit front back few [] points counts are = tt

@@ -1,14 +1,14 @@
--- How many points there are, and how many of them are hit, where the numbers of one point are put in.
+-- How many points are found, and how many of them are hit, after the numbers of one point change.
 use Rattle.std.proofs.Common.{◌≡◌, ℕ, ◌+◌, ◌≤◌, Bool, true, false, ◌&&◌, not, cond, nat_lt, Option, Some, None, List, [], ◌∷◌, ◌++◌, length, refl, sym, ap, ◌∙◌, subst, arith}
 use Rattle.std.specs.declared.cmp.Ordering.{Ordering}
 use Rattle.std.specs.List.{count_by}
 use Rattle.std.proofs.lemmas.Bool.{false≢true, lt-ltb, ltb-true}
 use Rattle.std.proofs.lemmas.List.Sums.{sum_by-append}
-use Rattle.covstore.specs.declared.kind_index.KindTotals.{KindTotals}
+use Rattle.covstore.specs.declared.point_index.KindTotals.{KindTotals}
 use Rattle.covstore.specs.declared.sums.Tests.{Tests}
 use Rattle.covstore.specs.declared.sums.TestsAddend.{TestsAddend}
-use Rattle.covstore.specs.KindIndex.{IsTallyOf}
-use Rattle.covstore.specs.KindIndexCounts.{change_by, change_of, found_of, hit_of, is_above_at, is_hit_by_some, is_new, is_newly_hit, one_if, tests_with}
+use Rattle.covstore.specs.PointIndex.{IsTallyOf}
+use Rattle.covstore.specs.PointIndexCounts.{change_by, change_of, found_of, hit_of, is_above_at, is_hit_by_some, is_new, is_newly_hit, one_if, tests_with}
 use Rattle.covmap.specs.MapData.{MapData}
 use Rattle.covmap.specs.Puts.{ArePairs, put, value_of}
 use Rattle.covmap.specs.Run.{sum_put, summed, told_one, told_run}
@@ -16,7 +16,7 @@ use Rattle.covstore.proofs.Ascend.{IsExactOrder}
 use Rattle.covstore.proofs.Puts.{ArePairs-put, count_by-put, length-put}
 
 module _ {K : Type 0} {cmp : K → K → Ordering} (o : IsExactOrder cmp) (key : K) (after : Tests) (counts : List (K × Tests)) (sorted : ArePairs cmp counts) where
-  -- the numbers move with the point
+  -- the tally follows the point
   pub tally_put : (before : Option Tests) → before ≡ value_of cmp key counts → (tally more : KindTotals) → IsTallyOf counts tally → more.found ≡ tally.found + one_if (is_new before)
       → more.hit + one_if (is_above_at (λ committed. nat_lt 0 committed.hit) before) ≡ tally.hit + one_if (nat_lt 0 after.hit) → IsTallyOf (put cmp key after counts) more
   tally_put before e tally more is found hit =
@@ -49,7 +49,7 @@ told_hit true false query = refl
 told_hit false true query = refl
 told_hit false false query = refl
 
--- numbers only rise, so what is above 0 afterwards was so before, or is so for the first time
+-- numbers only grow, so what is above 0 afterwards was so before, or is so for the first time
 rises : (before after : Bool) → (before ≡ true → after ≡ true) → one_if after ≡ one_if before + one_if (after && not before)
 rises true true stays = refl
 rises true false stays = absurd (false≢true (stays refl))
@@ -60,12 +60,12 @@ numbers_stay : (more : TestsAddend) (before : Option Tests) → is_above_at is_h
 numbers_stay more None e = absurd (false≢true e)
 numbers_stay more (Some tests) e = lt-ltb 0 (tests.hit + one_if more.is_hit) (omega (arith, ltb-true 0 tests.hit e))
 
--- what a run tells of the file's numbers
+-- what a run reports from the file's counts
 abbrev pub told_of_counts : {K Q : Type 0} → (K → K → Ordering) → (Q → K) → List (Q × TestsAddend) → List (K × Tests) → List (Q × TestsAddend)
 told_of_counts cmp named run counts = told_run cmp named tests_with (λ more before after. change_of is_hit_by_some before after) run counts
 
 module _ {K Q : Type 0} {cmp : K → K → Ordering} (o : IsExactOrder cmp) (named : Q → K) where
-  -- what the run tells of the file's numbers
+  -- what the run reports from the file's counts
   pub found_run : (run : List (Q × TestsAddend)) (counts : List (K × Tests)) → ArePairs cmp counts
       → found_of (summed cmp named tests_with run counts) ≡ found_of counts + count_by (λ item. item.1.is_new) (told_of_counts cmp named run counts)
   found_run [] counts sorted = omega arith
@@ -109,7 +109,7 @@ module _ {K Q : Type 0} {cmp : K → K → Ordering} (o : IsExactOrder cmp) (nam
     hit = omega (arith, hit_run run counts sorted, hit, is.hit);
   }
 
--- ---- how much a run tells
+-- ---- how much a run reports
 
 told_few : {Q N : Type 0} (query : Q) (note : Option N) (rest : List (Q × N)) (n : ℕ) → length rest ≤ n → length (told_one query note ++ rest) ≤ n + 1
 told_few query None rest n few = omega (arith, few)

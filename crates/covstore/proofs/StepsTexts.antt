@@ -1,4 +1,4 @@
--- The checksums' texts where one comes in, and the lines of which a checksum is held where one more test holds one.
+-- The checksums' texts after one is inserted, and the held checksums after one more test holds one.
 use Rattle.std.proofs.Common.{◌≡◌, ℕ, Bool, true, false, cond, Option, Some, None, List, [], ◌∷◌, refl, sym, ap, ◌∙◌, subst, inl, inr, ⊎_elim}
 use Rattle.std.specs.Prelude.{◌⊎◌, Result, Ok, Err, OnOk}
 use Rattle.std.specs.BTreeMap.{insert_entry}
@@ -14,7 +14,7 @@ use Rattle.covstore.proofs.Ascend.{IsExactOrder}
 use Rattle.covstore.proofs.Orders.{lines_order}
 use Rattle.covstore.proofs.Puts.{value_of-put, value_of-put_any, value_of-put_other}
 
--- a map's insertion is a value put in
+-- inserting into a map is putting in a value
 module _ {K V : Type 0} {cmp : K → K → Ordering} (o : IsExactOrder cmp) (key : K) (value : V) where
   insert_at : (pair : K × V) (pairs rest : List (K × V)) (order : Ordering) → cmp pair.0 key ≡ order → rest ≡ put cmp key value pairs
       → match_ordering (ordering_reverse order) ((key, value) ∷ pair ∷ pairs) ((pair.0, value) ∷ pairs) (pair ∷ rest)
@@ -35,7 +35,7 @@ some_if : {V : Type 0} (here : Bool) (value : V) (rest : Option V) → is_some r
 some_if true value rest e = refl
 some_if false value rest e = e
 
--- a line that has a value has one after another is put in
+-- a line with a value still has one after another value is put in
 pub some_after : {V : Type 0} (line other : ℕ) (value : V) (pairs : List (ℕ × V)) → is_some (value_of nat_cmp other pairs) ≡ true → is_some (value_of nat_cmp other (put nat_cmp line value pairs)) ≡ true
 some_after line other value pairs e =
     ap is_some (value_of-put_any lines_order line other value pairs) ∙ some_if (is_eq (nat_cmp line other)) value (value_of nat_cmp other pairs) e
@@ -44,7 +44,7 @@ module _ (line : ℕ) (text : List ℕ) (holders : List (ℕ × ℕ)) (texts mor
   is_put : more ≡ put nat_cmp line text texts
   is_put = comes ∙ insert_is_put lines_order line text texts
 
-  -- the text that came in is there
+  -- the inserted text is there
   pub inserted_is : value_of nat_cmp line more ≡ Some text
   inserted_is = ap (value_of nat_cmp line) is_put ∙ value_of-put lines_order line text texts
 
@@ -56,11 +56,11 @@ module _ (line : ℕ) (text : List ℕ) (holders : List (ℕ × ℕ)) (texts mor
       ap (value_of nat_cmp other) is_put
       ∙ value_of-put_other lines_order line other text texts (λ same. false≢true (sym (ap is_some none) ∙ ap (λ (l : ℕ). is_some (value_of nat_cmp l holders)) same ∙ e))
 
-  -- a text comes in of a line of which no checksum is to be held: those of the lines of which one is held stay
+  -- a text is inserted for a line without a held checksum: those of lines with one stay
   pub stay_inserted : (committed : List (ℕ × ℕ)) → AreAmong committed holders → value_of nat_cmp line holders ≡ None → StayTexts committed texts more
   stay_inserted committed among none other e = other_text none other (among other e)
 
-  -- and then its checksum is to be held
+  -- and then its checksum becomes held
   pub keeps_first : (others : List (ℕ × ℕ)) → value_of nat_cmp line holders ≡ None → others ≡ put nat_cmp line 1 holders → KeepsTexts holders texts others more
   keeps_first others none puts = record {
     committed = λ other e. ap (λ (pairs : List (ℕ × ℕ)). is_some (value_of nat_cmp other pairs)) puts ∙ some_after line other 1 holders e;
@@ -68,7 +68,7 @@ module _ (line : ℕ) (text : List ℕ) (holders : List (ℕ × ℕ)) (texts mor
   }
 
 module _ (line tests : ℕ) (holders others : List (ℕ × ℕ)) (puts : others ≡ put nat_cmp line tests holders) where
-  -- the line is held
+  -- the line has a held checksum
   pub held_is : is_some (value_of nat_cmp line others) ≡ true
   held_is = ap is_some (ap (value_of nat_cmp line) puts ∙ value_of-put lines_order line tests holders)
 
@@ -85,18 +85,18 @@ module _ (line tests : ℕ) (holders others : List (ℕ × ℕ)) (puts : others 
   have_held texts there have other e =
       ⊎_elim (λ (same : nat_cmp line other ≡ Equal). subst (λ (l : ℕ). is_some (value_of nat_cmp l texts) ≡ true) (lines_order.exact line other same) there) (λ h. have other h) (lookup_at other e)
 
-  -- what was among the lines of which a checksum is held is so still
+  -- lines with a held checksum still have one
   pub among_held : (committed : List (ℕ × ℕ)) → AreAmong committed holders → AreAmong committed others
   among_held committed among other e = ap (λ (pairs : List (ℕ × ℕ)). is_some (value_of nat_cmp other pairs)) puts ∙ some_after line other tests holders (among other e)
 
-  -- one test more holds a line's checksum
+  -- one more test holds a line's checksum
   pub keeps_committed : (texts : List (ℕ × List ℕ)) → KeepsTexts holders texts others texts
   keeps_committed texts = record {
     committed = λ other e. ap (λ (pairs : List (ℕ × ℕ)). is_some (value_of nat_cmp other pairs)) puts ∙ some_after line other tests holders e;
     texts_stay = λ other e. refl;
   }
 
--- what holds of a value holds where there is no refusal
+-- what is true of a value, if there is no refusal
 pub ok_unless : {T E P : Type 0} (r : Result T E) {b : Bool} → b ≡ is_err r → b ≡ false → OnOk r P → P
 ok_unless (Ok x) is without h = h
 ok_unless (Err e) is without h = absurd (false≢true (sym without ∙ is))

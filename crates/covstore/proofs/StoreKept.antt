@@ -1,4 +1,4 @@
--- What holds of the store where its maps change in a way that keeps the state.
+-- What stays true of the store when its maps change in a way that keeps the state.
 use Rattle.std.proofs.Common.{◌≡◌, ℕ, List, [], ◌∷◌, refl, sym, ◌∙◌}
 use Rattle.std.specs.BTreeMap.{insert_entry}
 use Rattle.std.specs.declared.cmp.Ordering.{Ordering}
@@ -22,7 +22,7 @@ store_kept members committed before after keeps is = record {
   totals = is.totals ∙ sym keeps.totals;
 }
 
--- ---- an entry put in
+-- ---- an entry is inserted
 
 All-inserted_at : {K V : Type 0} (P : K × V → Type 0) (key : K) (value : V) (pair : K × V) (pairs rest : List (K × V)) (order : Ordering) → AllByRecursion P rest → P (key, value) → (order ≡ Equal → P (pair.0, value)) → P pair
     → AllByRecursion P pairs → AllByRecursion P (match_ordering order ((key, value) ∷ pair ∷ pairs) ((pair.0, value) ∷ pairs) (pair ∷ rest))

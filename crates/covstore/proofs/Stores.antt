@@ -1,4 +1,4 @@
--- A store over maps: what it stands for, also with a submission more.
+-- A store over maps: what it stands for, also after one more submission.
 use Rattle.std.proofs.Common.{◌≡◌, ℕ, ◌+◌, ◌≤◌, List, [], ◌∷◌, ◌++◌, length, refl, sym, ap, ◌∙◌, subst, arith}
 use Rattle.std.specs.Prelude.{None}
 use Rattle.std.specs.List.{AllByRecursion}
@@ -33,7 +33,7 @@ pub All-joined : {X : Type 0} (P : X → Type 0) (xs ys : List X) → AllByRecur
 All-joined P [] ys all more = more
 All-joined P (x ∷ xs) ys all more = (all.0, All-joined P xs ys all.1 more)
 
--- ---- what is kept
+-- ---- the committed files
 
 pub no_store : IsStore 0 (record { lf = 0; lh = 0; ff = 0; fh = 0; bf = 0; bh = 0 }) []
 no_store = record {
@@ -56,7 +56,7 @@ module _ (members : ℕ) (committed : Totals) (files : List (List ℕ × FileDat
   pub store_bounds : AreTotals committed
   store_bounds = subst AreTotals (sym store_totals) (are_totals (sections_of files))
 
--- ---- a submission more
+-- ---- one more submission
 
 -- a store, seen as plain data
 abbrev pub store_of : ℕ → List (List ℕ × FileData) → List (List ℕ × FileData) → Totals → StoreData
@@ -81,7 +81,7 @@ module _ (members : ℕ) (totals : Totals) (committed staged : List (List ℕ ×
     totals = p.planned ∙ p.totals;
   }
 
-  -- it is one more in each table that the store stands for
+  -- it is one more member in each table that the store stands for
   module _ (table : Table) (stands : StandsFor (store_of members committed staged after) table) where
     same_content : content_of (all_rows is.own) ≡ content_of (all_rows table)
     same_content = sym (store_sections members totals committed is) ∙ stands.content

@@ -1,4 +1,4 @@
--- The sums of branches with one item more.
+-- The sums of branches after one more item.
 use Rattle.std.proofs.Common.{◌≡◌, ℕ, ◌+◌, Bool, true, ◌&&◌, eqb, Option, Some, None, List, [], ◌∷◌, ◌++◌, refl, ap, ◌∙◌, arith}
 use Rattle.std.specs.List.{flat_map, sum_by}
 use Rattle.std.proofs.lemmas.Bool.{cond-true, eq-eqb}
@@ -21,7 +21,7 @@ use Rattle.covstore.proofs.SumsLast.{last_said, none_said}
 abbrev pub branch_held : List ItemData → BranchPoint → BranchSum
 branch_held items point = (branch_sum items point).1
 
--- an item that doesn't speak of the branch leaves it
+-- an item without this branch leaves it as it is
 branch_others : (items : List ItemData) (item : ItemData) (point : BranchPoint) → (In point (branch_point item) → ⊥) → branch_held (items ++ item ∷ []) point ≡ branch_held items point
 branch_others items item point none =
     let said = none_said (taken_said point) items item (taken_unsaid point item none) in
@@ -35,7 +35,7 @@ point_of line block branch = record { line = line; block = block; branch = branc
 all_true : (x y z : Bool) → x ≡ true → y ≡ true → z ≡ true → (x && y && z) ≡ true
 all_true x y z a b c = ap (λ (x : Bool). x && y && z) a ∙ ap (λ (y : Bool). y && z) b ∙ c
 
--- the numbers that the item says for its branch
+-- the numbers that the item gives its branch
 abbrev told : Option ℕ → List ℕ
 told None = []
 told (Some taken) = taken ∷ []
@@ -81,6 +81,6 @@ module _ (items : List ItemData) (line block branch : ℕ) (taken : Option ℕ) 
       sums_put branches_order branch_point branch_held items (BranchItem line block branch taken) (branch_others items (BranchItem line block branch taken)) (point_of line block branch) (branch_with taken) refl
       branch_first (λ _. branch_more)
 
--- an item of another kind leaves all branches
+-- an item of another kind leaves all branches as they are
 pub branches_same : (items : List ItemData) (item : ItemData) → branch_point item ≡ [] → sums branch_cmp branch_point branch_held (items ++ item ∷ []) ≡ sums branch_cmp branch_point branch_held items
 branches_same items item none = sums_same branches_order branch_point branch_held items item (branch_others items item) none

@@ -1,4 +1,4 @@
--- The sums of functions with one item more.
+-- The sums of functions after one more item.
 use Rattle.std.proofs.Common.{◌≡◌, ℕ, true, min, Some, None, unwrap_or, List, [], ◌∷◌, ◌++◌, refl, ap, ◌∙◌}
 use Rattle.std.specs.Cmp.Lexicographic.{slice_cmp}
 use Rattle.std.specs.List.{flat_map}
@@ -24,11 +24,11 @@ use Rattle.covstore.proofs.SumsLast.{last_said, none_added, none_said, sum_first
 abbrev pub function_held : List ItemData → List ℕ → FunctionSum
 function_held items name = (function_sum items name).1
 
--- two sums of the same parts are the same
+-- two sums with the same parts are the same
 same_sum : (sum other : FunctionSum) → sum.line ≡ other.line → sum.count ≡ other.count → sum ≡ other
 same_sum sum other line count = λ i. record { line = line i; count = count i }
 
--- an item that doesn't speak of the function leaves it
+-- an item without this function leaves it as it is
 function_others : (items : List ItemData) (item : ItemData) (name : List ℕ) → (In name (func_point item) → ⊥) → function_held (items ++ item ∷ []) name ≡ function_held items name
 function_others items item name none =
     same_sum (function_held (items ++ item ∷ []) name) (function_held items name)
@@ -71,7 +71,7 @@ module _ (name : List ℕ) (items : List ItemData) (line count : ℕ) where
   functions_put =
       sums_put names_order func_point function_held items (FuncItem name line count) (function_others items (FuncItem name line count)) name (function_with line count) refl function_first function_more
 
--- an item of another kind leaves all functions
+-- an item of another kind leaves all functions as they are
 pub functions_same : (items : List ItemData) (item : ItemData) → func_point item ≡ []
     → sums (slice_cmp nat_cmp) func_point function_held (items ++ item ∷ []) ≡ sums (slice_cmp nat_cmp) func_point function_held items
 functions_same items item none = sums_same names_order func_point function_held items item (function_others items item) none

@@ -1,4 +1,4 @@
--- The sums of one kind of points (lines, functions or branches): each point of the items once, in order, with its value.
+-- The sums of one kind of points (lines, functions or branches): each point of the items once, ascending, with its value.
 use Rattle.std.proofs.Common.{◌≡◌, cond, Option, Some, None, List, [], ◌∷◌, ◌++◌, map, refl, sym, ap, ◌∙◌, subst, inl, inr, ⊎_elim}
 use Rattle.std.specs.Prelude.{◌⊎◌, Contains}
 use Rattle.std.specs.declared.cmp.Ordering.{Ordering}
@@ -56,7 +56,7 @@ paired_some order value p [] i = absurd i
 paired_some {P} {V} {cmp} order value p (q ∷ ps) (inl is) = some_at order value p q (value_of cmp p (map (paired value) ps)) (cmp q p) refl (inl is)
 paired_some {P} {V} {cmp} order value p (q ∷ ps) (inr i) = some_at order value p q (value_of cmp p (map (paired value) ps)) (cmp q p) refl (inr (paired_some order value p ps i))
 
--- and another has none
+-- and any other point has none
 paired_none : {P V : Type 0} {cmp : P → P → Ordering} → IsExactOrder cmp → (value : P → V) (p : P) (ps : List P) → (In p ps → ⊥) → value_of cmp p (map (paired value) ps) ≡ None
 paired_none order value p [] none = refl
 paired_none {P} {V} {cmp} order value p (q ∷ ps) none =
@@ -92,7 +92,7 @@ module _ {P V : Type 0} {cmp : P → P → Ordering} (order : IsExactOrder cmp) 
       (In-parts (flat_map point items) (flat_map point (item ∷ [])) p (subst (In p) (flat_map-append point items (item ∷ [])) i))
 
   module _ (items : List ItemData) (item : ItemData) (others : (p : P) → (In p (point item) → ⊥) → value (items ++ item ∷ []) p ≡ value items p) where
-    -- a point of which the item doesn't speak has the value that it had
+    -- a point that the item doesn't have keeps its value
     sums_others : (p : P) → (In p (point item) → ⊥) → value_of cmp p (sums cmp point value (items ++ item ∷ [])) ≡ value_of cmp p (sums cmp point value items)
     sums_others p not =
         ⊎_elim
@@ -101,13 +101,13 @@ module _ {P V : Type 0} {cmp : P → P → Ordering} (order : IsExactOrder cmp) 
         sums_none (items ++ item ∷ []) p (λ i. ⊎_elim none not (In-unlast items item p i)) ∙ sym (sums_none items p none))
         (In-or_not cmp order p (flat_map point items))
 
-    -- an item that speaks of no point changes nothing
+    -- an item without points changes nothing
     pub sums_same : point item ≡ [] → sums cmp point value (items ++ item ∷ []) ≡ sums cmp point value items
     sums_same nothing =
         same_pairs order (sums cmp point value (items ++ item ∷ [])) (sums cmp point value items) (sums_pairs (items ++ item ∷ [])) (sums_pairs items)
         (λ p. sums_others p (λ i. subst (In p) nothing i))
 
-    -- an item of one point puts in a value made from the one before
+    -- an item with one point puts in a value made from the one before
     module _ (own : P) (with : Option V → V) (one : point item ≡ own ∷ []) (none : (In own (flat_map point items) → ⊥) → value (items ++ item ∷ []) own ≡ with None)
         (some : In own (flat_map point items) → value (items ++ item ∷ []) own ≡ with (Some (value items own))) where
       own_with : value (items ++ item ∷ []) own ≡ with (value_of cmp own (sums cmp point value items))

@@ -1,4 +1,4 @@
--- What items say of a point with one item more at their end.
+-- What items give a point after one more item at their end.
 use Rattle.std.proofs.Common.{◌≡◌, ℕ, ◌+◌, List, [], ◌∷◌, ◌++◌, refl, ap, ◌∙◌, arith}
 use Rattle.std.specs.List.{flat_map, sum_by}
 use Rattle.std.proofs.lemmas.List.{append-nil}
@@ -13,7 +13,7 @@ last_added added items item =
     let nothing : sum_by added [] ≡ 0 = refl in
     omega (arith, sum_by-append added items (item ∷ []), sum_by-cons added item [], nothing)
 
--- the sum that stops, by the one before and the number of the last item
+-- the bounded sum, from the one before and the number of the last item
 pub sum_last : (added : ItemData → ℕ) (items : List ItemData) (item : ItemData) (count : ℕ) → added item ≡ count → bounded (sum_by added (items ++ item ∷ [])) ≡ bounded (bounded (sum_by added items) + count)
 sum_last added items item count own =
     ap bounded (last_added added items item ∙ ap (λ (n : ℕ). sum_by added items + n) own) ∙ bounded_sum (sum_by added items) count

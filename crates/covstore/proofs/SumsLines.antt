@@ -1,4 +1,4 @@
--- The sums of lines with one item more.
+-- The sums of lines after one more item.
 use Rattle.std.proofs.Common.{◌≡◌, ℕ, Bool, ◌||◌, eqb, Option, Some, None, List, [], ◌∷◌, ◌++◌, refl, ap, ◌∙◌}
 use Rattle.std.specs.List.{flat_map}
 use Rattle.std.specs.Option.{is_some}
@@ -20,11 +20,11 @@ use Rattle.covstore.proofs.SumsLast.{last_said, none_added, none_said, sum_first
 abbrev pub line_held : List ItemData → ℕ → LineSum
 line_held items line = (line_sum items line).1
 
--- two sums of the same parts are the same
+-- two sums with the same parts are the same
 same_sum : (sum other : LineSum) → sum.count ≡ other.count → sum.has_checksum ≡ other.has_checksum → sum ≡ other
 same_sum sum other count has_checksum = λ i. record { count = count i; has_checksum = has_checksum i }
 
--- an item that doesn't speak of the line leaves it
+-- an item without this line leaves it as it is
 line_others : (items : List ItemData) (item : ItemData) (line : ℕ) → (In line (line_point item) → ⊥) → line_held (items ++ item ∷ []) line ≡ line_held items line
 line_others items item line none =
     same_sum (line_held (items ++ item ∷ []) line) (line_held items line)
@@ -70,6 +70,6 @@ module _ (items : List ItemData) (line count : ℕ) (checksum : Option (List ℕ
       sums_put lines_order line_point line_held items (LineItem line count checksum) (line_others items (LineItem line count checksum)) line (line_with count (is_some checksum)) refl
       line_first (λ _. line_more)
 
--- an item of another kind leaves all lines
+-- an item of another kind leaves all lines as they are
 pub lines_same : (items : List ItemData) (item : ItemData) → line_point item ≡ [] → sums nat_cmp line_point line_held (items ++ item ∷ []) ≡ sums nat_cmp line_point line_held items
 lines_same items item none = sums_same lines_order line_point line_held items item (line_others items item) none

@@ -1,4 +1,4 @@
--- A line that items speak of has its value, which says whether an item has a checksum of it.
+-- A line of the items has its value, which says whether an item has a checksum for it.
 use Rattle.std.proofs.Common.{◌≡◌, ℕ, Some, List, sym, ap}
 use Rattle.std.specs.Prelude.{Contains}
 use Rattle.std.specs.Option.{is_some}
@@ -16,7 +16,7 @@ use Rattle.covstore.proofs.SumsLines.{line_held}
 pub line_known : (items : List ItemData) (line : ℕ) → Contains (line_points items) line → value_of nat_cmp line (test_of items).lines ≡ Some (line_sum items line).1
 line_known items line there = sums_known lines_order line_point line_held items line there
 
--- the value that a line has is the sum of its items
+-- the value of a line is the sum of its items
 pub line_is : (items : List ItemData) (line : ℕ) (value : LineSum) → value_of nat_cmp line (test_of items).lines ≡ Some value → (line_sum items line).1 ≡ value
 line_is items line value h = (sums_held lines_order line_point line_held items line value h).1
 

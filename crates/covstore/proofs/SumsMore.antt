@@ -1,4 +1,4 @@
--- What items add up to with one item more.
+-- What items add up to after one more item.
 use Rattle.std.proofs.Common.{◌≡◌, List, [], ◌∷◌, ◌++◌, refl}
 use Rattle.covline.specs.Row.{ItemData, LineItem, FuncItem, BranchItem}
 use Rattle.covstore.specs.Sums.{test_of, with_item}
@@ -7,7 +7,7 @@ use Rattle.covstore.proofs.SumsFunctions.{functions_put, functions_same}
 use Rattle.covstore.proofs.SumsLines.{lines_put, lines_same}
 use Rattle.covstore.proofs.Axis.{same_test}
 
--- one item more does to the sums what `with_item` says
+-- one more item changes the sums as `with_item` says
 pub sums_more : (items : List ItemData) (item : ItemData) → test_of (items ++ item ∷ []) ≡ with_item item (test_of items)
 sums_more items (LineItem line count checksum) =
     let item = LineItem line count checksum in

@@ -1,4 +1,4 @@
--- What is counted along an ascending list, and how much that can be.
+-- Counting along an ascending list, and how large the count can be.
 use Rattle.std.proofs.Common.{◌≡◌, List, [], ◌∷◌, length, refl, arith}
 use Rattle.std.specs.List.{sum_by}
 use Rattle.std.proofs.lemmas.List.Sums.{sum_by-cons}

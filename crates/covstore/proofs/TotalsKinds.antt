@@ -1,4 +1,4 @@
--- The totals of the content, kind by kind, are what is counted over rows.
+-- The totals of the content, kind by kind, are those counted over rows.
 use Rattle.std.proofs.Common.{◌≡◌, ℕ, Bool, true, false, cond, if◌then◌else◌, ◌==◌, ◌&&◌, ◌||◌, nat_lt, Some, None, List, [], ◌∷◌, length, map, refl, sym, ap, ◌∙◌, subst, inl, arith}
 use Rattle.std.specs.Cmp.Lexicographic.{slice_cmp}
 use Rattle.std.specs.List.{flat_map, list_any, sum_by, count_by}
@@ -19,7 +19,7 @@ use Rattle.covstore.proofs.Members.{In}
 use Rattle.covstore.proofs.Orders.{lines_order, names_order, branches_order}
 use Rattle.covstore.proofs.TotalsRows.{files_are, points_found, hit_in_file, hit_in_section, sum_above, any_agree, any_flat}
 
--- what stands at each point is read back
+-- what is made from each point can be read back
 read_back : {X Y : Type 0} (read : Y → X) (at : X → Y) → ((x : X) → read (at x) ≡ x) → (xs : List X) → map read (map at xs) ≡ xs
 read_back read at same [] = refl
 read_back {X} read at same (x ∷ xs) = ap (λ (y : X). y ∷ map read (map at xs)) (same x) ∙ ap (λ (ys : List X). x ∷ ys) (read_back read at same xs)

@@ -1,4 +1,4 @@
--- The walk over what is committed gives the items of a file over all tests, in the order of the rows, and the files of the rows.
+-- A walk over the keys of rows gives the items of a file over all tests, and the files of the rows.
 use Rattle.std.proofs.Common.{◌≡◌, ℕ, List, map, ap, subst}
 use Rattle.covline.specs.Row.{Row}
 use Rattle.covstore.specs.Value.{Key, key_of_row}

@@ -1,4 +1,4 @@
--- What a table without a test adds up to: the sections of the other tests. And of how many sections a test is.
+-- What a table without a test adds up to: the sections of the other tests. And how many sections a test has.
 use Rattle.std.proofs.Common.{◌≡◌, ℕ, ◌+◌, Bool, true, false, cond, not, List, [], ◌∷◌, ◌++◌, length, map, filter, refl, sym, ap, ◌∙◌}
 use Rattle.std.specs.declared.cmp.Ordering.{Ordering}
 use Rattle.std.specs.declared.cmp.Ordering.TheVariants.{Less}
@@ -19,7 +19,7 @@ use Rattle.covstore.proofs.ContentsLists.{In-filter, In-unfilter}
 use Rattle.covstore.proofs.ContentsSections.{own_key}
 use Rattle.covstore.proofs.Orders.{keys_order}
 
--- ---- lists of which some members are picked
+-- ---- picked members of lists
 
 pub picked : {X : Type 0} (p : X → Bool) (x : X) (xs : List X) → p x ≡ true → filter p (x ∷ xs) ≡ x ∷ filter p xs
 picked p x xs e = cond-true (p x) (x ∷ filter p xs) (filter p xs) e
@@ -58,7 +58,7 @@ map_picked {X} {Y} f p (x ∷ xs) = by (p (f x)) (map_picked f p xs)
     by true rest = ap (λ (ys : List Y). f x ∷ ys) rest
     by false rest = rest
 
--- those that are picked twice are those that are picked the second time, where that asks more
+-- picking twice gives what the second test picks, if it is the stricter one
 picked_again : {X : Type 0} (a p : X → Bool) → ((x : X) → a x ≡ true → p x ≡ true) → (xs : List X) → filter a (filter p xs) ≡ filter a xs
 picked_again a p more [] = refl
 picked_again {X} a p more (x ∷ xs) = by (p x) refl (a x) refl (picked_again a p more xs)
@@ -83,7 +83,7 @@ count_mapped p f (x ∷ xs) =
     let own = count_mapped p f xs in
     sum_by-cons (λ y. cond {A = ℕ} (p y) 1 0) (f x) (map f xs) ∙ ap (λ (n : ℕ). cond {A = ℕ} (p (f x)) 1 0 + n) own ∙ sym (sum_by-cons (λ y. cond {A = ℕ} (p (f y)) 1 0) x xs)
 
--- ---- rows of which those of some keys are picked
+-- ---- rows picked by their keys
 
 module _ (q : Key → Bool) where
   abbrev own_rows : List Row → List Row

@@ -1,4 +1,4 @@
--- In how many sections a test stands: in as many as there are files in which it has points.
+-- How many sections a test has: as many as there are files in which it has points.
 use Rattle.std.proofs.Common.{◌≡◌, ℕ, ◌+◌, Bool, true, false, cond, not, ◌&&◌, Option, Some, None, List, [], ◌∷◌, refl, sym, ap, ◌∙◌, subst, arith}
 use Rattle.std.specs.Cmp.Lexicographic.{slice_cmp}
 use Rattle.std.specs.List.{AllByRecursion, count_by, flat_map}
@@ -54,7 +54,7 @@ module _ (test : List ℕ) where
   abbrev points_found : Option TestData → Bool
   points_found found = not (has_no_points (points_or_none found))
 
-  -- in ascending tests the name is at most once among them
+  -- in ascending tests, the name is there at most once
   found_at : (same : Bool) (points : TestData) (rest : ℕ) (later : Option TestData) → rest ≡ one_for (points_found later) → (same ≡ true → later ≡ None)
       → one_for (same && not (has_no_points points)) + rest ≡ one_for (points_found (cond same (Some points) later))
   found_at true points rest later e none = let nothing : rest ≡ 0 = e ∙ ap (λ (found : Option TestData). one_for (points_found found)) (none refl) in omega (arith, nothing)

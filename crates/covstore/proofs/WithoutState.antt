@@ -1,4 +1,4 @@
--- The state of rows, of which those of a test are gone: each file is without the test.
+-- The state of rows without those of a test: each file is without the test.
 use Rattle.std.proofs.Common.{◌≡◌, ℕ, ◌≤◌, Bool, true, false, not, Option, Some, None, List, [], ◌∷◌, length, filter, refl, sym, ap, ◌∙◌, subst, cond, arith}
 use Rattle.std.specs.Prelude.{Contains}
 use Rattle.std.specs.Cmp.Lexicographic.{slice_cmp}
@@ -29,9 +29,9 @@ use Rattle.covstore.proofs.Members.{Contains-from, In-from}
 use Rattle.covstore.proofs.WithoutContent.{items_of_others, items_of_test, rows_left, rows_without}
 
 module _ (test : List ℕ) where
-  -- ---- what is found of a name
+  -- ---- what is found at a name
 
-  -- both are there, or neither
+  -- both are there, or neither is
   abbrev IsFileWithout : Option FileData → Option FileData → Type 0
   IsFileWithout None None = Unit {0}
   IsFileWithout None (Some after) = ⊥
@@ -95,7 +95,7 @@ module _ (test : List ℕ) where
   all_whole (pair ∷ pairs) [] are = absurd are
   all_whole (pair ∷ pairs) (later ∷ laters) are = (are.1.whole, all_whole pairs laters are.2)
 
-  -- ---- the checksums that are left are of those that were there
+  -- ---- the checksums that are left were there before
 
   pub held_before : (rows : List Row) (checksum : Checksum) → Contains (checksums_in (rows_without test rows)) checksum → Contains (checksums_in rows) checksum
   held_before rows checksum i =
@@ -150,7 +150,7 @@ module _ (test : List ℕ) where
         totals = same;
       }
 
--- checksums that agree still do where a test is gone
+-- if checksums agree, they still do after a test is dropped
 pub agree_left : (table : Table) (test : List ℕ) → Agree (checksums_in (all_rows table)) → Agree (checksums_in (all_rows (without_test test table)))
 agree_left table test agree a b i j =
     let before : (sum : Checksum) → Contains (checksums_in (all_rows (without_test test table))) sum → Contains (checksums_in (all_rows table)) sum =

@@ -1,4 +1,4 @@
--- A store without a test: what it stands for, and its totals.
+-- A store after a test is dropped: what it stands for, and its totals.
 use Rattle.std.proofs.Common.{◌≡◌, ℕ, ◌≤◌, ◌^◌, not, List, [], ◌∷◌, length, filter, map, refl, sym, ap, ◌∙◌, arith}
 use Rattle.std.specs.List.{AllByRecursion, count_by}
 use Rattle.std.specs.Str.{bytes_eq}
@@ -74,16 +74,16 @@ module _ (test : List ℕ) (members : ℕ) (committed : Totals) (files : List (L
       small = fewer test table stands.small;
     }
 
-  -- there are such files
+  -- there are files without the test
   pub some_left : (after : List (List ℕ × FileData)) × AreWithoutTest test files after × FitTotals (totals_in after)
   some_left = let found = files_without test files is.state.whole in (found.0, found.1, totals_fit found.0 found.1)
 
-  -- and the test stands in as many sections as there are files with points of it
+  -- and the test has as many sections as there are files with points of it
   pub sections_with : (table : Table) → sections_of files ≡ content_at table → count_by (λ pair. has_points_of test pair.1) files ≡ sections_of_test test table
   sections_with table content =
       count_in_files test files is.state.whole ∙ ap (count_by (λ s. bytes_eq s.key.test test)) content ∙ sym (sections_counted test table)
 
-  -- of whose names there are as many
+  -- and as many as there are names of such files
   pub sections_named : (table : Table) → sections_of files ≡ content_at table → length (names_with test files) ≡ sections_of_test test table
   sections_named table content =
       length-map (filter (λ pair. has_points_of test pair.1) files) (λ (pair : List ℕ × FileData). pair.0) ∙ length-filter (λ pair. has_points_of test pair.1) files ∙ sections_with table content
@@ -101,7 +101,7 @@ stands_too store other table sections members stands = record {
   small = stands.small;
 }
 
--- whole files, by their names or not
+-- consistent files, with or without their names
 pub whole_files : {K A : Type 0} (name : K → List ℕ) (pairs : List (K × File A)) → AllByRecursion (λ pair. IsConsistentFile pair.1) (files_committed name pairs) → AllByRecursion (λ pair. IsConsistentFile (file_committed pair.1)) pairs
 whole_files name [] whole = tt
 whole_files name (pair ∷ pairs) whole = (whole.0, whole_files name pairs whole.1)

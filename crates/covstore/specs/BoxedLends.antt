@@ -1,4 +1,4 @@
--- What a box holds after it lent its value.
+-- What a box holds after it has lent its value.
 use Rattle.std.specs.Borrow.{Lends, Fml, RattleType, MutBor}
 use Rattle.std.specs.declared.alloc.Allocator.{Ghosts}
 use Rattle.covstore.specs.contracts.boxed.Boxed.{the_row}

@@ -1,4 +1,4 @@
--- The checksums of a file's lines: how many tests hold one, and the texts.
+-- The checksums of a file's lines: how many tests hold each one, and its text.
 use Rattle.std.specs.Prelude.{◌≡◌, ℕ, ◌+◌, Bool, true, false, Option, Some, None, List}
 use Rattle.std.specs.Option.{is_some}
 use Rattle.std.specs.Ordering.{nat_cmp}
@@ -6,30 +6,31 @@ use Rattle.covstore.specs.declared.stage_fault.StageFault.{StageFault}
 use Rattle.covstore.specs.declared.stage_fault.StageFault.TheVariants.{Clash, Memory}
 use Rattle.covmap.specs.Puts.{put, value_of}
 
--- how many tests hold a checksum of a line, committed and staged; and the texts
+-- for each line, how many tests hold a checksum of it, committed and staged; and the checksums' texts
 pub record ChecksumsData : Type 0 where
   pub committed : List (ℕ × ℕ)
   pub staged : List (ℕ × ℕ)
   pub texts : List (ℕ × List ℕ)
 
--- each line of which a checksum is held has its text
+-- each line with a held checksum has its text
 abbrev pub HaveTexts : List (ℕ × ℕ) → List (ℕ × List ℕ) → Type 0
 HaveTexts holders texts = (line : ℕ) → is_some (value_of nat_cmp line holders) ≡ true → is_some (value_of nat_cmp line texts) ≡ true
 
--- each line of which a checksum is held is among those of which one is staged
+-- each line with a committed checksum has a staged one
 abbrev pub AreAmong : List (ℕ × ℕ) → List (ℕ × ℕ) → Type 0
 AreAmong committed staged = (line : ℕ) → is_some (value_of nat_cmp line committed) ≡ true → is_some (value_of nat_cmp line staged) ≡ true
 
--- the text of each line of which a checksum is held stays
+-- each line with a held checksum keeps its text
 abbrev pub StayTexts : List (ℕ × ℕ) → List (ℕ × List ℕ) → List (ℕ × List ℕ) → Type 0
 StayTexts holders texts more = (line : ℕ) → is_some (value_of nat_cmp line holders) ≡ true → value_of nat_cmp line more ≡ value_of nat_cmp line texts
 
--- each line of which a checksum is held stays one, and its text stays
+-- each line with a held checksum keeps it, and keeps its text
 pub record KeepsTexts (holders : List (ℕ × ℕ)) (texts : List (ℕ × List ℕ)) (more_holders : List (ℕ × ℕ)) (more_texts : List (ℕ × List ℕ)) : Type 0 where
   pub committed : (line : ℕ) → is_some (value_of nat_cmp line holders) ≡ true → is_some (value_of nat_cmp line more_holders) ≡ true
   pub texts_stay : (line : ℕ) → is_some (value_of nat_cmp line holders) ≡ true → value_of nat_cmp line more_texts ≡ value_of nat_cmp line texts
 
--- one test more holds the checksum of the line, unless it held it before
+-- the number of tests with one more; and below, the numbers after a test holds the line's checksum. A test that held it before
+-- isn't counted again
 abbrev pub one_more : Option ℕ → ℕ
 one_more None = 1
 one_more (Some tests) = tests + 1
@@ -38,19 +39,19 @@ abbrev pub held_more : ℕ → Bool → List (ℕ × ℕ) → List (ℕ × ℕ)
 held_more line true holders = holders
 held_more line false holders = put nat_cmp line (one_more (value_of nat_cmp line holders)) holders
 
--- the line's checksum is held, and is this text; and it was, where one was held
+-- the line's checksum is held, and is this text. If one was held before, it was this text
 pub record IsHeldToo (line : ℕ) (text : List ℕ) (before after : ChecksumsData) : Type 0 where
   pub is_held : is_some (value_of nat_cmp line after.staged) ≡ true
   pub is_kept : value_of nat_cmp line after.texts ≡ Some text
   pub agrees : is_some (value_of nat_cmp line before.staged) ≡ true → value_of nat_cmp line before.texts ≡ Some text
 
--- another checksum of the line is held
+-- the line holds another checksum than the given one
 pub record IsOther (before : ChecksumsData) (line : ℕ) (held given : List ℕ) : Type 0 where
   pub is_held : is_some (value_of nat_cmp line before.staged) ≡ true
   pub is_kept : value_of nat_cmp line before.texts ≡ Some held
   pub other : held ≡ given → ⊥
 
--- a clash is told only where another checksum of the line is held, and then that one
+-- a clash is reported only if the line holds another checksum, and then that one is reported
 abbrev pub IsToldOf : {A : Type 0} → ChecksumsData → ℕ → List ℕ → StageFault A → Type 0
 IsToldOf before line text Memory = Unit {0}
 IsToldOf before line text (Clash told held given) = (told ≡ line) × (given ≡ text) × IsOther before line held text

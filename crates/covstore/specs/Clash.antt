@@ -1,5 +1,5 @@
--- When a submission clashes: two different checksums of one line of one file come from two versions of the source, and
--- their counts are never mixed, in whatever tests the two checksums stand.
+-- When a submission clashes. Two different checksums of one line of a file come from two versions of its source. Their counts are
+-- never mixed, even if the checksums are of different tests.
 use Rattle.std.specs.Prelude.{◌≡◌, ℕ, Bool, true, false, ◌==◌, ◌&&◌, not, List, [], ◌∷◌, ◌++◌, Option, Some, None, Contains}
 use Rattle.std.specs.Str.{bytes_eq}
 use Rattle.std.specs.List.{flat_map, find}
@@ -18,11 +18,11 @@ checksum_of file item = []
 abbrev pub checksum_of_row : Row → List Checksum
 checksum_of_row row = checksum_of row.file row.item
 
--- the checksums that rows have, in their order
+-- the checksums of rows, in the order of the rows
 abbrev pub checksums_in : List Row → List Checksum
 checksums_in rows = flat_map checksum_of_row rows
 
--- they are of one line of one file, and differ
+-- two different checksums of one line of one file
 abbrev pub differs : Checksum → Checksum → Bool
 differs a b = bytes_eq a.file b.file && a.line == b.line && not (bytes_eq a.checksum b.checksum)
 
@@ -30,7 +30,7 @@ differs a b = bytes_eq a.file b.file && a.line == b.line && not (bytes_eq a.chec
 abbrev pub Agree : List Checksum → Type 0
 Agree checksums = (a b : Checksum) → Contains checksums a → Contains checksums b → differs a b ≡ false
 
--- what is told of a clash: the file, the line, the checksum that was held and the one that was given
+-- a clash: the file, the line, the held checksum and the given one
 pub record ClashData : Type 0 where
   pub file : List ℕ
   pub line : ℕ
@@ -40,12 +40,12 @@ pub record ClashData : Type 0 where
 abbrev pub clash_with : Checksum → Checksum → ClashData
 clash_with given held = record { file = given.file; line = given.line; held = held.checksum; given = given.checksum }
 
--- the clash of the first checksum, where one that was held before differs; else what the others give
+-- the clash of this given checksum, if a held one differs from it; else the clash of the later given ones
 abbrev pub or_later : Checksum → Option Checksum → Option ClashData → Option ClashData
 or_later given (Some held) later = Some (clash_with given held)
 or_later given None later = later
 
--- the first of the given checksums from which a held one differs; an earlier one of the given counts as held
+-- the first given checksum that differs from a held one or from an earlier given one
 abbrev pub first_clash : List Checksum → List Checksum → Option ClashData
 first_clash held [] = None
 first_clash held (given ∷ others) = or_later given (find (differs given) held) (first_clash (held ++ given ∷ []) others)
@@ -54,7 +54,7 @@ first_clash held (given ∷ others) = or_later given (find (differs given) held)
 abbrev pub clash_of : List Row → List Row → Option ClashData
 clash_of rows given = first_clash (checksums_in rows) (checksums_in given)
 
--- what the word says: this is the first of the given checksums that differs from one before it
+-- the clash is that of the first given checksum that differs from a held one or from an earlier given one
 pub record IsFirstClash (held given : List Checksum) (clash : ClashData) : Type 0 where
   pub before : List Checksum
   pub first : Checksum

@@ -16,13 +16,13 @@ pub record BranchValueData : Type 0 where
   pub point : BranchPoint
   pub taken : Option ℕ
 
--- a line with its count, and its checksum where it has one
+-- a line with its count, and its checksum if it has one
 pub record LineValueData : Type 0 where
   pub line : ℕ
   pub count : ℕ
   pub checksum : Option (List ℕ)
 
--- the functions by their names, the branches and the lines of a file and a test, in order
+-- the section of a file and a test: its functions by name, its branches and its lines, ascending
 pub record SectionData : Type 0 where
   pub key : Key
   pub functions : List FunctionValueData
@@ -38,7 +38,7 @@ branch_at items point = record { point = point; taken = branch_value point items
 abbrev pub line_at : List ItemData → ℕ → LineValueData
 line_at items line = record { line = line; count = line_value line items; checksum = line_checksum line items }
 
--- the section of a key, whose items these are
+-- the section of a file and a test with these items
 abbrev pub section_with : Key → List ItemData → SectionData
 section_with key items = record {
   key = key;
@@ -50,7 +50,7 @@ section_with key items = record {
 abbrev pub section_of : List Row → Key → SectionData
 section_of rows key = section_with key (items_at key rows)
 
--- the sections of all keys, in order
+-- the sections of all files and tests with a row, ascending
 abbrev pub content_of : List Row → List SectionData
 content_of rows = map (section_of rows) (keys_of rows)
 

@@ -1,4 +1,4 @@
--- The sections that are left of a store.
+-- The sections that an iterator over a store has left.
 use Rattle.std.specs.Prelude.{ℕ, ◌<◌, ◌^◌, Option, Some, None, List, [], ◌++◌, length}
 use Rattle.std.specs.List.{flat_map}
 use Rattle.covstore.specs.declared.test.Test.{Test}
@@ -8,7 +8,7 @@ use Rattle.covstore.specs.StoreView.{files_committed}
 use Rattle.covstore.specs.State.{section_seen, sections_of}
 use Rattle.covstore.specs.TestView.{test_committed}
 
--- the points of each kind are fewer than 64 bits count
+-- there are fewer than 2^64 points of each kind
 pub record IsFewOf (section : SectionData) : Type 0 where
   pub functions : length section.functions < 2 ^ 64
   pub branches : length section.branches < 2 ^ 64
@@ -18,7 +18,7 @@ pub record IsFewOf (section : SectionData) : Type 0 where
 abbrev pub tests_seen : {K A : Type 0} → (K → List ℕ) → List ℕ → List (ℕ × List ℕ) → List (K × Test A) → List SectionData
 tests_seen name file texts pairs = flat_map (λ pair. section_seen file texts (name pair.0) (test_committed pair.1)) pairs
 
--- those of the file that is at hand, and then those of the files that are left
+-- the sections left of the current file, if there is one; and below, followed by those of the later files
 abbrev pub or_none : Option (List SectionData) → List SectionData
 or_none None = []
 or_none (Some sections) = sections

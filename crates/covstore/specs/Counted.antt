@@ -1,5 +1,5 @@
--- What the totals count, in lcov's words: of each kind the different points of all rows, each in its file, and how many of
--- these some test has with a value above 0.
+-- What the totals count, in lcov's words. Found: the different points of a kind, in all files. Hit: those of them that some test
+-- has with a value above 0.
 use Rattle.std.specs.Prelude.{ℕ, Bool, nat_lt, ◌==◌, ◌&&◌, List, map, filter}
 use Rattle.std.specs.List.{flat_map, list_any}
 use Rattle.std.specs.Set.{distinct_count}
@@ -8,7 +8,7 @@ use Rattle.covline.specs.Points.{BranchPoint, line_point, func_point, branch_poi
 use Rattle.covline.specs.Row.{ItemData, Row}
 use Rattle.covstore.specs.Value.{items_at, line_value, function_count, branch_value, is_branch, is_taken}
 
--- a kind of points: those that an item speaks of, which are the same, and whether what items add up to is above 0
+-- a kind of points: which points an item has, which points are the same, and whether the items' value at a point is above 0
 pub record Kind (X : Type 0) : Type 0 where
   pub point : ItemData → List X
   pub same : X → X → Bool
@@ -34,15 +34,15 @@ in_file file x = record { file = file; point = x }
 abbrev pub is_same : {X : Type 0} → Kind X → FilePoint X → FilePoint X → Bool
 is_same kind a b = bytes_eq a.file b.file && kind.same a.point b.point
 
--- the points of a kind that rows have, as often as they do
+-- the points of a kind in the rows, with repetitions
 abbrev pub points_of : {X : Type 0} → Kind X → List Row → List (FilePoint X)
 points_of kind rows = flat_map (λ row. map (in_file row.file) (kind.point row.item)) rows
 
--- some test of the rows has the point with a value above 0
+-- some test in the rows has the point with a value above 0
 abbrev pub is_hit_in_a_test : {X : Type 0} → Kind X → List Row → FilePoint X → Bool
 is_hit_in_a_test kind rows p = list_any (λ test. kind.is_above p.point (items_at (record { file = p.file; test = test }) rows)) (map (λ row. row.test) rows)
 
--- how many different points of a kind rows have, and how many of these are hit
+-- how many different points of a kind the rows have, and how many of them are hit
 abbrev pub found : {X : Type 0} → Kind X → List Row → ℕ
 found kind rows = distinct_count (is_same kind) (points_of kind rows)
 

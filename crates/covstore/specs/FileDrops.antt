@@ -1,4 +1,4 @@
--- Files of which a test is gone.
+-- Files after a test is dropped.
 use Rattle.std.specs.Prelude.{◌≡◌, ℕ, not, List, [], ◌∷◌, filter}
 use Rattle.std.specs.Str.{bytes_eq}
 use Rattle.covstore.specs.State.{FileData, IsConsistentFile}
@@ -7,8 +7,8 @@ use Rattle.covstore.specs.Sums.{TestData}
 abbrev pub tests_without : List ℕ → List (List ℕ × TestData) → List (List ℕ × TestData)
 tests_without test tests = filter (λ pair. not (bytes_eq pair.0 test)) tests
 
--- a file as it is where the test is gone: the others stay, and what is kept counts them. The texts stay, also those that no test
--- holds any more
+-- a file before and after the test is dropped. The other tests stay, and the index counts only them. All texts stay, even those
+-- that no test holds any more
 pub record IsWithoutTest (test : List ℕ) (before after : FileData) : Type 0 where
   pub tests : after.tests ≡ tests_without test before.tests
   pub texts : after.index.texts ≡ before.index.texts

@@ -1,20 +1,20 @@
--- What is kept of a file beside its tests.
+-- The index of a file: numbers over all its tests, and its checksums.
 use Rattle.std.specs.Prelude.{◌≡◌, ℕ, true, List}
 use Rattle.std.specs.Option.{is_some}
 use Rattle.std.specs.Ordering.{nat_cmp}
 use Rattle.covstore.specs.declared.totals.Totals.{Totals}
 use Rattle.covmap.specs.Puts.{value_of}
-use Rattle.covstore.specs.KindIndexCounts.{found_of, hit_of}
+use Rattle.covstore.specs.PointIndexCounts.{found_of, hit_of}
 use Rattle.covstore.specs.Kinds.{CountsOf, Each}
 
--- for each point of a kind in how many tests it is; for each line with a checksum how many tests hold it; and the checksums' texts,
--- among them some that no test holds any more
+-- for each point, how many tests have it; for each line with a checksum, how many tests hold the checksum; and the checksums'
+-- texts, including some that no test holds any more
 pub record FileIndexData : Type 0 where
   pub counts : Each CountsOf
   pub holders : List (ℕ × ℕ)
   pub texts : List (ℕ × List ℕ)
 
--- the same numbers, and the text of each line of which a checksum is held: texts may come in of which none is held
+-- the numbers stay, and so does the text of each held checksum. Texts that no test holds may be added
 pub record KeepsIndex (before after : FileIndexData) : Type 0 where
   pub counts : after.counts ≡ before.counts
   pub holders : after.holders ≡ before.holders

@@ -1,4 +1,4 @@
--- What is kept of a file beside its tests, of the code, seen as plain data: committed, and staged.
+-- The index of a file, seen as plain data: committed, and staged.
 use Rattle.std.specs.Prelude.{[]}
 use Rattle.covstore.specs.declared.index.FileIndex.{FileIndex}
 use Rattle.covstore.specs.FileIndex.{FileIndexData, KeepsIndex}

@@ -1,4 +1,4 @@
--- What the items of a section do to the state of which their file is.
+-- What staging a section's items does to the files that their file is one of.
 use Rattle.std.specs.Prelude.{◌≡◌, ℕ, ◌+◌, ◌≤◌, ◌^◌, Some, None, List, ◌++◌, length}
 use Rattle.std.specs.Cmp.Lexicographic.{slice_cmp}
 use Rattle.std.specs.Ordering.{nat_cmp}
@@ -11,32 +11,32 @@ use Rattle.covmap.specs.Puts.{ArePairs, put, value_of}
 use Rattle.covstore.specs.State.{FileData, IsStateOf}
 use Rattle.covstore.specs.Store.{KeepsState}
 
--- wherever the file stands, the files with the other in its place are the state of the same rows
+-- whatever the other files are: with the file replaced by the second one, the files are still the state of the same rows
 abbrev pub KeepsIn : FileData → FileData → Type 0
 KeepsIn before after =
     (files : List (List ℕ × FileData)) (name : List ℕ) → ArePairs (slice_cmp nat_cmp) files → value_of (slice_cmp nat_cmp) name files ≡ Some before → KeepsState files (put (slice_cmp nat_cmp) name after files)
 
--- the files are the state of rows whose checksums agree, and one of them is this one
+-- the files are the state of rows whose checksums agree, and the file of this name is this one
 pub record HasFile (rows : List Row) (files : List (List ℕ × FileData)) (name : List ℕ) (file : FileData) : Type 0 where
   pub state : IsStateOf rows files
   pub agree : Agree (checksums_in rows)
   pub there : value_of (slice_cmp nat_cmp) name files ≡ Some file
 
--- wherever the file stands, it stands for these items of the test more afterwards, and these clash with nothing
+-- whatever the other files are: the second file is the first one with these items of the test added, and they clash with nothing
 abbrev pub AddsItems : List ItemData → List ℕ → FileData → FileData → Type 0
 AddsItems items test before after =
     (rows : List Row) (files : List (List ℕ × FileData)) (name : List ℕ) → HasFile rows files name before
     → (clash_of rows (rows_of_sect (section_of_items name test items)) ≡ None)
     × HasFile (rows ++ rows_of_sect (section_of_items name test items)) (put (slice_cmp nat_cmp) name after files) name after
 
--- wherever the file stands, these items clash, and this is the first clash
+-- whatever the other files are: these items clash, and this is their first clash
 abbrev pub ClashesIn : {A : Type 0} → List ItemData → List ℕ → FileData → StageFault A → Type 0
 ClashesIn items test file Memory = Unit {0}
 ClashesIn items test file (Clash line held given) =
     (rows : List Row) (files : List (List ℕ × FileData)) (name : List ℕ) → HasFile rows files name file
     → clash_of rows (rows_of_sect (section_of_items name test items)) ≡ Some (clash_told name line held given)
 
--- the file stands for rows, not too many with these items more
+-- the file is one of the files of some rows, which leave room for these items
 pub record HasRoomIn (items : List ItemData) (file : FileData) : Type 0 where
   pub rows : List Row
   pub files : List (List ℕ × FileData)

@@ -21,14 +21,14 @@ file_staged file = file_with (map (λ pair. (pair.0.items, test_staged pair.1)) 
 abbrev pub no_file : FileData
 no_file = file_with [] empty_index
 
--- the file with this test, without points where it wasn't there
+-- the tests with this one added, without points, unless it is there already
 abbrev pub tests_with : List ℕ → List (List ℕ × TestData) → List (List ℕ × TestData)
 tests_with test tests = if is_some (value_of (slice_cmp nat_cmp) test tests) then tests else put (slice_cmp nat_cmp) test (test_of []) tests
 
 abbrev pub with_test : List ℕ → FileData → FileData
 with_test test file = file_with (tests_with test file.tests) file.index
 
--- the same tests and numbers, and the text of each line of which a checksum is held
+-- the tests and the numbers stay, and so does the text of each held checksum
 pub record KeepsFile (before after : FileData) : Type 0 where
   pub tests : after.tests ≡ before.tests
   pub index : KeepsIndex before.index after.index

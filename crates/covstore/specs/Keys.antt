@@ -1,4 +1,4 @@
--- Branches go by line, block and number, and only equal ones are alike in that.
+-- The order of branches: by line, block and number. It is total, and only equal branches compare as equal.
 use Rattle.std.specs.Prelude.{◌≡◌, refl}
 use Rattle.std.specs.Cmp.{IsTotalOrder}
 use Rattle.std.specs.declared.cmp.Ordering.{Ordering}

@@ -1,4 +1,4 @@
--- The axis: the kinds of points, and what each has: its keys and its sums; how keys are ordered, and which sums are above 0.
+-- The kinds of points: for each kind its keys, their order, its sums, and which sums are above 0.
 use Rattle.std.specs.Prelude.{ℕ, Bool, nat_lt, List}
 use Rattle.std.specs.Cmp.Lexicographic.{slice_cmp}
 use Rattle.std.specs.declared.cmp.Ordering.{Ordering}
@@ -45,7 +45,7 @@ above_of Line = line_above
 above_of Function = function_above
 above_of Branch = branch_above
 
--- the points of a kind that an item speaks of
+-- the points of a kind in an item
 abbrev pub point_of : (kind : Kind) → ItemData → List (KeyOf kind)
 point_of Line = line_point
 point_of Function = func_point
@@ -66,13 +66,13 @@ at Branch each = each.branches
 abbrev pub of_each : {T : Kind → Type 0} → ((kind : Kind) → T kind) → Each T
 of_each f = record { lines = f Line; functions = f Function; branches = f Branch }
 
--- the same with another thing of one kind
+-- the same, with another value for one kind
 abbrev pub with_at : {T : Kind → Type 0} → (kind : Kind) → T kind → Each T → Each T
 with_at Line value each = record { lines = value; functions = each.functions; branches = each.branches }
 with_at Function value each = record { lines = each.lines; functions = value; branches = each.branches }
 with_at Branch value each = record { lines = each.lines; functions = each.functions; branches = value }
 
--- the points of a kind with their sums, and in how many tests they are
+-- the points of a kind with their sums; and below, with their numbers of tests
 abbrev pub PointsOf : Kind → Type 0
 PointsOf kind = List (KeyOf kind × SumOf kind)
 

@@ -1,4 +1,4 @@
--- Items by their places, and whether one can clash.
+-- Items by their index in a section, and items that can't clash.
 use Rattle.std.specs.Prelude.{◌≡◌, Some, None, List, slice_get}
 use Rattle.std.specs.List.{flat_map}
 use Rattle.std.specs.List.Sorted.{IsPermutation}
@@ -6,7 +6,7 @@ use Rattle.std.specs.Option.{option_to_list}
 use Rattle.covline.specs.Row.{ItemData, LineItem, FuncItem, BranchItem}
 use Rattle.covstore.specs.declared.order.Spot.{Spot}
 
--- the items at these spots, in the order of the spots
+-- the items at these spots, in the spots' order
 abbrev pub picked : {D : Type 0} → List D → List Spot → List D
 picked items spots = flat_map (λ spot. option_to_list (slice_get items spot.index)) spots
 
@@ -16,7 +16,7 @@ pub record AreSpotsOf {D : Type 0} (items : List D) (spots : List Spot) : Type 0
   pub permuted : IsPermutation others spots
   pub all : picked items others ≡ items
 
--- an item without a checksum clashes with nothing
+-- the item has no checksum, so it clashes with nothing
 abbrev pub HasNoChecksum : ItemData → Type 0
 HasNoChecksum (LineItem line count (Some checksum)) = ⊥
 HasNoChecksum (LineItem line count None) = Unit {0}

@@ -1,15 +1,15 @@
--- The table where the rows of one test have the name of another.
+-- The table after a test is renamed.
 use Rattle.std.specs.Prelude.{ℕ, List, map, filter, if◌then◌else◌}
 use Rattle.std.specs.Str.{bytes_eq}
 use Rattle.covline.specs.Row.{Row}
 use Rattle.covstore.specs.Table.{Table}
 use Rattle.covstore.specs.Without.{is_of_test}
 
--- a row of the old test is of the new one; another row is as it was
+-- the row with the new test's name if it is of the old test; else the row as it is
 abbrev pub renamed_row : List ℕ → List ℕ → Row → Row
 renamed_row old new row = record { test = if bytes_eq row.test old then new else row.test; file = row.file; item = row.item }
 
--- its members stay, each with its rows in their order
+-- the table after the rename: its members stay, and so does the order of their rows
 abbrev pub renamed : List ℕ → List ℕ → Table → Table
 renamed old new table = map (map (renamed_row old new)) table
 

@@ -1,5 +1,4 @@
--- A rename that a store has made ready: what is staged has the values of the old test under the new name too. Then the old test
--- goes.
+-- A prepared rename: the staged files have the old test's values under the new name too. The commit then drops the old test.
 use Rattle.std.specs.Prelude.{◌≡◌, ◌≢◌, ℕ, ◌+◌, ◌≤◌, ◌^◌, true, false, List, ◌++◌, Option, Some, None, length, map, filter}
 use Rattle.std.specs.Cmp.Lexicographic.{slice_cmp}
 use Rattle.std.specs.Option.{is_some}
@@ -19,26 +18,26 @@ use Rattle.covstore.specs.Store.{StandsFor, StoreData}
 use Rattle.covstore.specs.Sums.{TestData}
 use Rattle.covstore.specs.Table.{Table}
 use Rattle.covstore.specs.Value.{Key, items_at}
-use Rattle.covstore.specs.KindIndexCounts.{is_above_at}
+use Rattle.covstore.specs.PointIndexCounts.{is_above_at}
 
--- what is planned: in how many sections the test stands, and the test that goes, where one does
+-- a rename: in how many sections the old test is, and the test that the commit drops, if any
 pub record RenamingData : Type 0 where
   pub sections : ℕ
   pub leaves : Option (List ℕ)
 
--- what is staged are the committed rows and, under the new name, those of the old test
+-- the staged files are the state of the committed rows together with the old test's rows under the new name
 pub record IsMoving (store : StoreData) (old new leaves : List ℕ) : Type 0 where
   pub is_old : leaves ≡ old
   pub apart : old ≢ new
   pub moves : (rows : List Row) → IsStateOf rows store.committed → IsStateOf (rows ++ moved_rows old new rows) store.staged
 
--- nothing is to be done where the table stays as it is
+-- if no test is dropped, the rename leaves the table as it is
 abbrev pub IsMovingIfAny : StoreData → List ℕ → List ℕ → Option (List ℕ) → Type 0
 IsMovingIfAny store old new None = (table : Table) → StandsFor store table → renamed old new table ≡ table
 IsMovingIfAny store old new (Some leaves) = IsMoving store old new leaves
 
--- the store is as `prepare_rename` left it when it planned this rename. Callers hand it from there to `commit_rename` and look at
--- none of its parts
+-- the store is as `prepare_rename` left it when it made this rename. Callers pass the rename on to `commit_rename`, and look at
+-- nothing else in it
 abbrev pub IsRenamingOf : StoreData → List ℕ → List ℕ → RenamingData → Type 0
 IsRenamingOf store old new renaming = IsMovingIfAny store old new renaming.leaves
 
@@ -47,21 +46,21 @@ IsRenamingOf store old new renaming = IsMovingIfAny store old new renaming.leave
 abbrev pub key_of : List ℕ → List ℕ → Key
 key_of file test = record { file = file; test = test }
 
--- the items of the old test of a file, under the new name
+-- the old test's items in a file, as rows of the new test
 abbrev pub copied_rows : List ℕ → List ℕ → List ℕ → List Row → List Row
 copied_rows file old new rows = rows_of_items file new (items_at (key_of file old) rows)
 
--- files that are the state of rows are, with the old test's values under the new name, the state of the copied rows too
+-- if the files before are the state of some rows, the files after are the state of these rows and the copied ones
 abbrev pub Copies : List ℕ → List ℕ → List ℕ → List (List ℕ × FileData) → List (List ℕ × FileData) → Type 0
 Copies file old new before after = (rows : List Row) → IsStateOf rows before → IsStateOf (rows ++ copied_rows file old new rows) after
 
--- the same, of the file alone
+-- the same for one file, whatever the other files are
 abbrev pub CopiesIn : List ℕ → List ℕ → FileData → FileData → Type 0
 CopiesIn old new before after =
     (rows : List Row) (files : List (List ℕ × FileData)) (name : List ℕ) → HasFile rows files name before
     → HasFile (rows ++ copied_rows name old new rows) (put (slice_cmp nat_cmp) name after files) name after
 
--- the file has the old test and stands for rows, not too many with those that are copied
+-- the file has the old test. It is one of the files of some rows, which leave room for the copied rows
 pub record HasRoomToCopyIn (old : List ℕ) (file : FileData) : Type 0 where
   pub source : TestData
   pub its_source : value_of (slice_cmp nat_cmp) old file.tests ≡ Some source
@@ -71,8 +70,8 @@ pub record HasRoomToCopyIn (old : List ℕ) (file : FileData) : Type 0 where
   pub stands : HasFile rows files name file
   pub few : length rows + length (items_at (key_of name old) rows) ≤ 2 ^ 47
 
--- what is staged is the state of rows, not too many with those of the file that are copied; its old test has points, and of these
--- nothing is staged. What is committed is the state of some rows too
+-- the staged files are the state of some rows, which leave room for the rows that are copied in this file. The old test has
+-- points in it, the same committed as staged. The committed files are the state of some rows too
 pub record HasRoomToCopy (file old : List ℕ) (store : StoreData) : Type 0 where
   pub own : List Row
   pub stands : IsStateOf own store.committed
@@ -82,11 +81,11 @@ pub record HasRoomToCopy (file old : List ℕ) (store : StoreData) : Type 0 wher
   pub some : has_no_points (points_at (key_of file old) store.staged) ≡ false
   pub same : points_at (key_of file old) store.staged ≡ points_at (key_of file old) store.committed
 
--- the names of the files in which a test has points
+-- the names of the files in which the test has points
 abbrev pub names_with : List ℕ → List (List ℕ × FileData) → List (List ℕ)
 names_with test files = map (λ pair. pair.0) (filter (λ pair. has_points_of test pair.1) files)
 
--- ---- the items that the values of a test are
+-- ---- a test's values as items
 
 abbrev pub line_item : List (ℕ × List ℕ) → ℕ × LineSum → ItemData
 line_item texts pair = LineItem pair.0 pair.1.count (text_at texts pair.0 pair.1.has_checksum)
@@ -97,10 +96,10 @@ function_item pair = FuncItem pair.0 pair.1.line pair.1.count
 abbrev pub branch_item : BranchPoint × BranchSum → ItemData
 branch_item pair = BranchItem pair.0.line pair.0.block pair.0.branch pair.1.times
 
--- one for each point, with its value; the checksums' texts are these
+-- one item for each point, with its value. `texts` has the checksums' texts
 abbrev pub items_of_test : List (ℕ × List ℕ) → TestData → List ItemData
 items_of_test texts test = map (line_item texts) test.lines ++ (map function_item test.functions ++ map branch_item test.branches)
 
--- each line that has a checksum is among those of which one is held
+-- each line with a checksum is one whose checksum the index holds
 abbrev pub HasHolders : List (ℕ × LineSum) → FileIndexData → Type 0
 HasHolders lines index = (line : ℕ) → is_above_at has_checksum (value_of nat_cmp line lines) ≡ true → is_some (value_of nat_cmp line index.holders) ≡ true

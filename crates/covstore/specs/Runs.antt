@@ -1,4 +1,4 @@
--- The items of a section cut into a run for each kind of points, and what the runs do where they are staged.
+-- The items of a section, split by kind into runs, and what staging these runs does.
 use Rattle.std.specs.Prelude.{◌≡◌, Option, List, [], ◌∷◌, ◌++◌, length}
 use Rattle.std.specs.List.{flat_map}
 use Rattle.std.specs.Option.{is_some}
@@ -12,15 +12,15 @@ use Rattle.covstore.specs.Items.{HasRoomForRun, KeepsCountsOfKind}
 use Rattle.covstore.specs.Kinds.{Branch, Each, Function, KeyOf, Kind, Line, PointsOf, SumOf, above_of, at, cmp_of, of_each}
 use Rattle.covstore.specs.Sums.{TestData, branch_with, function_with, line_with, with_item}
 
--- ---- what items say of a kind
+-- ---- what items add to a kind of points
 
--- what an item adds at a point of a kind
+-- what an item adds to a point of a kind
 abbrev pub AddendOf : Kind → Type 0
 AddendOf Line = LineAddend
 AddendOf Function = FunctionAddend
 AddendOf Branch = BranchAddend
 
--- points, each with what is added there, in the order of the items
+-- points, each with what is added to it, in the order of the items
 abbrev pub RunOf : Kind → Type 0
 RunOf kind = List (KeyOf kind × AddendOf kind)
 
@@ -48,25 +48,25 @@ run_of Branch = branch_run
 abbrev pub runs_of : List ItemData → Each RunOf
 runs_of items = of_each (λ kind. flat_map (run_of kind) items)
 
--- the same with an item more
+-- the runs with one more item
 abbrev pub runs_with : ItemData → Each RunOf → Each RunOf
 runs_with item runs = of_each (λ kind. at kind runs ++ run_of kind item)
 
--- ---- what staged runs do
+-- ---- what staging runs does
 
 abbrev pub sum_of : (kind : Kind) → AddendOf kind → Option (SumOf kind) → SumOf kind
 sum_of Line more before = line_with more.count more.has_checksum before
 sum_of Function more before = function_with more.line more.count before
 sum_of Branch more before = branch_with more.times before
 
--- each run is added up at the points of its kind
+-- the points of a kind after a run is added to them
 abbrev pub points_with : (kind : Kind) → RunOf kind → PointsOf kind → PointsOf kind
 points_with kind run points = summed (cmp_of kind) (λ key. key) (sum_of kind) run points
 
 abbrev pub with_runs : Each RunOf → TestData → TestData
 with_runs runs test = of_each (λ kind. points_with kind (at kind runs) (at kind test))
 
--- a test with each of these items more, in order
+-- the test with these items added, one after another
 abbrev pub with_items : List ItemData → TestData → TestData
 with_items [] test = test
 with_items (item ∷ items) test = with_items items (with_item item test)
@@ -75,11 +75,11 @@ with_items (item ∷ items) test = with_items items (with_item item test)
 abbrev pub HasRoomForRuns : Each RunOf → TestData → FileIndexData → Type 0
 HasRoomForRuns runs test index = (kind : Kind) → HasRoomForRun (cmp_of kind) (above_of kind) (at kind test) (at kind index.counts) (length (at kind runs))
 
--- of each kind, numbers that counted the tests count them with the changed one
+-- for each kind: if the counts before were those of the tests, the counts after are those with the changed test
 abbrev pub KeepsCountsOfKinds : TestData → TestData → FileIndexData → FileIndexData → Type 0
 KeepsCountsOfKinds before after index more = (kind : Kind) → KeepsCountsOfKind (cmp_of kind) (above_of kind) (at kind before) (at kind after) (at kind index.counts) (at kind more.counts)
 
--- no checksum comes or goes
+-- the held checksums and their texts stay
 pub record KeepsHeld (before after : FileIndexData) : Type 0 where
   pub holders : after.holders ≡ before.holders
   pub texts : after.texts ≡ before.texts

@@ -1,4 +1,4 @@
--- What the items of a section do: to the state of which their test and their file are, and when they clash.
+-- What staging a section's items does to their test and their file, among all files, and when the items clash.
 use Rattle.std.specs.Prelude.{◌≡◌, ℕ, ◌+◌, ◌≤◌, ◌^◌, Some, None, List, ◌++◌, length}
 use Rattle.std.specs.Cmp.Lexicographic.{slice_cmp}
 use Rattle.std.specs.Ordering.{nat_cmp}
@@ -11,8 +11,8 @@ use Rattle.covmap.specs.Puts.{put, value_of}
 use Rattle.covstore.specs.State.{FileData, IsStateOf, file_with}
 use Rattle.covstore.specs.Sums.{TestData}
 
--- the files are the state of rows whose checksums agree; the file of this name has these tests and this index, and the test of this
--- name these points
+-- the files are the state of rows whose checksums agree. The file of this name has these tests and this index, and the test of
+-- this name has these points
 pub record IsIn (rows : List Row) (files : List (List ℕ × FileData)) (file : List ℕ) (name : List ℕ) (tests : List (List ℕ × TestData)) (test : TestData) (index : FileIndexData) : Type 0 where
   pub state : IsStateOf rows files
   pub agree : Agree (checksums_in rows)
@@ -22,22 +22,22 @@ pub record IsIn (rows : List Row) (files : List (List ℕ × FileData)) (file : 
 abbrev pub section_of_items : List ℕ → List ℕ → List ItemData → SectData
 section_of_items file name items = record { test = name; file = file; items = items }
 
--- the files where a test of a file has other points, and the file another index
+-- the files after a test of a file gets these points, and the file this index
 abbrev pub files_with : List ℕ → List ℕ → List (List ℕ × TestData) → TestData → FileIndexData → List (List ℕ × FileData) → List (List ℕ × FileData)
 files_with file name tests test index files = put (slice_cmp nat_cmp) file (file_with (put (slice_cmp nat_cmp) name test tests) index) files
 
--- wherever the test and the index stand, they stand for these items more afterwards, and these clash with nothing
+-- whatever the other files are: the test and the index afterwards are those with these items added, and they clash with nothing
 abbrev pub Adds : List ItemData → TestData → FileIndexData → TestData → FileIndexData → Type 0
 Adds items test index test_after index_after =
     (rows : List Row) (files : List (List ℕ × FileData)) (file name : List ℕ) (tests : List (List ℕ × TestData)) → IsIn rows files file name tests test index
     → (clash_of rows (rows_of_sect (section_of_items file name items)) ≡ None)
     × IsIn (rows ++ rows_of_sect (section_of_items file name items)) (files_with file name tests test_after index_after files) file name (put (slice_cmp nat_cmp) name test_after tests) test_after index_after
 
--- what is told of a clash in a file
+-- a clash in this file
 abbrev pub clash_told : List ℕ → ℕ → List ℕ → List ℕ → ClashData
 clash_told file line held given = record { file = file; line = line; held = held; given = given }
 
--- wherever the test and the index stand, these items clash, and this is the first clash
+-- whatever the other files are: these items clash, and this is their first clash
 abbrev pub ClashesAt : List ItemData → TestData → FileIndexData → ℕ → List ℕ → List ℕ → Type 0
 ClashesAt items test index line held given =
     (rows : List Row) (files : List (List ℕ × FileData)) (file name : List ℕ) (tests : List (List ℕ × TestData)) → IsIn rows files file name tests test index
@@ -47,7 +47,7 @@ abbrev pub Clashes : {A : Type 0} → List ItemData → TestData → FileIndexDa
 Clashes items test index Memory = Unit {0}
 Clashes items test index (Clash line held given) = ClashesAt items test index line held given
 
--- the test and the index stand for rows, not too many with these items more, and there are not too many tests
+-- the test and the index are in the files of some rows, which leave room for these items; and there are at most 2^63 tests
 pub record HasRoomFor (items : List ItemData) (test : TestData) (index : FileIndexData) : Type 0 where
   pub rows : List Row
   pub files : List (List ℕ × FileData)

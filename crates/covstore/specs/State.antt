@@ -1,5 +1,5 @@
--- What a store keeps: for each file its tests, each with its points, and for each point in how many tests it is; and of which
--- rows that is what they add up to.
+-- What a store keeps: for each file its tests, for each test its points, and for each point how many tests have it; and which
+-- rows these files are the state of.
 use Rattle.std.specs.Prelude.{◌≡◌, ℕ, Bool, true, false, nat_lt, ◌&&◌, not, if◌then◌else◌, Option, Some, None, List, [], ◌∷◌, map, count_by, Contains}
 use Rattle.std.specs.Cmp.Lexicographic.{slice_cmp}
 use Rattle.std.specs.List.{flat_map, sum_by, AllByRecursion}
@@ -13,7 +13,7 @@ use Rattle.covstore.specs.declared.totals.Totals.{Totals}
 use Rattle.covstore.specs.Clash.{Checksum, checksums_in}
 use Rattle.covstore.specs.Content.{FunctionValueData, BranchValueData, LineValueData, SectionData}
 use Rattle.covstore.specs.FileIndex.{FileIndexData, index_totals}
-use Rattle.covstore.specs.KindIndexCounts.{AreCounts, found_of, hit_of, is_above_at}
+use Rattle.covstore.specs.PointIndexCounts.{AreCounts, found_of, hit_of, is_above_at}
 use Rattle.covstore.specs.Kinds.{Branch, Function, Kind, Line, above_of, at, cmp_of}
 use Rattle.covmap.specs.Puts.{ArePairs, value_of}
 use Rattle.covstore.specs.Sums.{TestData, test_of}
@@ -21,7 +21,7 @@ use Rattle.covstore.specs.Value.{Key, items_at}
 
 -- ---- one file
 
--- what is kept for a file: its tests, and what is kept beside them
+-- what is kept for a file: its tests, and its index
 pub record FileData : Type 0 where
   pub tests : List (List ℕ × TestData)
   pub index : FileIndexData
@@ -32,18 +32,18 @@ file_with tests index = record { tests = tests; index = index }
 abbrev pub has_checksum : LineSum → Bool
 has_checksum sum = sum.has_checksum
 
--- the tests alone
+-- the tests without their names
 abbrev pub tests_in : FileData → List TestData
 tests_in file = map (λ pair. pair.1) file.tests
 
--- how many of the tests hold a checksum of the line; none where no test does
+-- how many of the tests hold a checksum of the line; and below, none if no test does
 abbrev pub holding : ℕ → List TestData → ℕ
 holding line tests = count_by (λ test. is_above_at has_checksum (value_of nat_cmp line test.lines)) tests
 
 abbrev pub holders_at : ℕ → List TestData → Option ℕ
 holders_at line tests = if nat_lt 0 (holding line tests) then Some (holding line tests) else None
 
--- each number that is kept counts these tests: of each kind of points, and of lines those that hold a checksum
+-- the index counts these tests: for each point, how many have it; for each line, how many hold a checksum of it
 pub record IsIndexOf (tests : List TestData) (index : FileIndexData) : Type 0 where
   pub counts : (kind : Kind) → AreCounts (cmp_of kind) (above_of kind) (map (at kind) tests) (at kind index.counts)
   pub holders : (line : ℕ) → value_of nat_cmp line index.holders ≡ holders_at line tests
@@ -54,9 +54,9 @@ AreKept tests file = IsIndexOf tests file.index
 abbrev pub file_totals : FileData → Totals
 file_totals file = index_totals file.index
 
--- ---- what is seen of it
+-- ---- what contracts see of a file
 
--- the checksum of a line, where a test holds one
+-- the text of a line's checksum, if the test holds one
 abbrev pub text_at : List (ℕ × List ℕ) → ℕ → Bool → Option (List ℕ)
 text_at texts line true = value_of nat_cmp line texts
 text_at texts line false = None
@@ -70,7 +70,7 @@ function_seen pair = record { line = pair.1.line; name = pair.0; count = pair.1.
 abbrev pub branch_seen : BranchPoint × BranchSum → BranchValueData
 branch_seen pair = record { point = pair.0; taken = pair.1.times }
 
--- the section of a test's points, and none where there are no points
+-- the section with a test's points; and below, no section if it has no points
 abbrev pub section_with_points : List ℕ → List (ℕ × List ℕ) → List ℕ → TestData → SectionData
 section_with_points file texts test points = record {
   key = record { file = file; test = test };
@@ -114,7 +114,7 @@ totals_in files = record {
   bh = sum_by (hit_at Branch) files;
 }
 
--- the points of a file and a test, and none where one of the two isn't there
+-- the points of a test of a file; no points if the file or the test isn't there
 abbrev pub points_or_none : Option TestData → TestData
 points_or_none None = test_of []
 points_or_none (Some points) = points
@@ -126,22 +126,22 @@ points_in (Some file) test = points_or_none (value_of (slice_cmp nat_cmp) test f
 abbrev pub points_at : Key → List (List ℕ × FileData) → TestData
 points_at key files = points_in (value_of (slice_cmp nat_cmp) key.file files) key.test
 
--- whether a test of the file has points
+-- the test has points in the file
 abbrev pub has_points_of : List ℕ → FileData → Bool
 has_points_of test file = not (has_no_points (points_in (Some file) test))
 
--- the checksum's text that is kept for a line of a file
+-- the text that is kept for a line's checksum in a file
 abbrev pub text_in : Option FileData → ℕ → Option (List ℕ)
 text_in None line = None
 text_in (Some file) line = value_of nat_cmp line file.index.texts
 
--- one file is whole: its tests stand in order, and its numbers count them
+-- a file is consistent: its tests ascend, and its index counts them
 pub record IsConsistentFile (file : FileData) : Type 0 where
   pub ascending : ArePairs (slice_cmp nat_cmp) file.tests
   pub kept : AreKept (tests_in file) file
 
--- the files are what the rows add up to: each file and test has the points of its items, with their values; the texts are those
--- of the rows' checksums; and the kept numbers count what is below them
+-- the files are what the rows add up to. Each test of a file has the points of its items, with their values; the texts are those
+-- of the rows' checksums; and the index of each file counts its tests
 pub record IsStateOf (rows : List Row) (files : List (List ℕ × FileData)) : Type 0 where
   pub ascending : ArePairs (slice_cmp nat_cmp) files
   pub points : (key : Key) → points_at key files ≡ test_of (items_at key rows)

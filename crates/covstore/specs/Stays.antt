@@ -1,4 +1,4 @@
--- A sum with one item more doesn't fall back to 0.
+-- A sum above 0 stays above 0 when an item is added.
 use Rattle.std.specs.Prelude.{◌≡◌, ℕ, ◌+◌, true, nat_lt, Option, Some, None}
 use Rattle.std.proofs.Common.{arith}
 use Rattle.std.proofs.lemmas.Bool.{false≢true, lt-ltb, ltb-true}
@@ -8,7 +8,7 @@ use Rattle.covstore.specs.declared.sums.FunctionAddend.{FunctionAddend}
 use Rattle.covstore.specs.declared.sums.FunctionSum.{FunctionSum}
 use Rattle.covstore.specs.declared.sums.LineAddend.{LineAddend}
 use Rattle.covstore.specs.declared.sums.LineSum.{LineSum}
-use Rattle.covstore.specs.KindIndexCounts.{is_above_at}
+use Rattle.covstore.specs.PointIndexCounts.{is_above_at}
 use Rattle.covstore.specs.Kinds.{branch_above, function_above, line_above}
 use Rattle.covstore.specs.Sums.{branch_with, function_with, line_with, sum_taken}
 use Rattle.covstore.specs.Value.{bounded, is_taken}

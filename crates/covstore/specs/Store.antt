@@ -1,4 +1,4 @@
--- What a store is to its callers: its content, and the tables that it stands for; and what is staged of it.
+-- What a store is to its callers: its content, the tables that it stands for, and what is staged.
 use Rattle.std.specs.Prelude.{◌≡◌, ℕ, ◌+◌, ◌<◌, ◌≤◌, ◌^◌, List, ◌++◌, Some, None, length}
 use Rattle.std.specs.List.{AllByRecursion}
 use Rattle.covline.specs.Row.{Row, SubmissionData, rows_of}
@@ -9,12 +9,11 @@ use Rattle.covstore.specs.Content.{SectionData, content_at}
 use Rattle.covstore.specs.State.{FileData, IsStateOf, totals_in}
 use Rattle.covstore.specs.Table.{Table, all_rows, clash_at}
 
--- how many submissions a store holds at the most
+-- the largest number of submissions in a store
 abbrev pub max_members : ℕ
 max_members = 1048576
 
--- the sections, and how many submissions there are; what is kept of the files, committed and staged, and the totals
--- that are to be
+-- the sections, and the number of submissions; the files, committed and staged; and the totals after the next commit
 pub record StoreData : Type 0 where
   pub sections : List SectionData
   pub members : ℕ
@@ -27,18 +26,18 @@ pub record SameContent (before after : StoreData) : Type 0 where
   pub sections : after.sections ≡ before.sections
   pub members : after.members ≡ before.members
 
--- files that are the state of rows still are, and their totals are the same: places may be made ready in them
+-- the files before and after are the state of the same rows, and have the same totals. Entries without values may be added
 pub record KeepsState (before after : List (List ℕ × FileData)) : Type 0 where
   pub states : (rows : List Row) → IsStateOf rows before → IsStateOf rows after
   pub totals : totals_in after ≡ totals_in before
 
--- the content and the state that is kept are the same; what is staged may differ
+-- the content stays, and the committed files are the state of the same rows; what is staged may differ
 pub record SameCommitted (before after : StoreData) : Type 0 where
   pub sections : after.sections ≡ before.sections
   pub members : after.members ≡ before.members
   pub committed : KeepsState before.committed after.committed
 
--- the store's content is the value of all rows of the table, which has no two different checksums of one line of a file
+-- the store's content is the value of all rows of the table, and the table has no two different checksums of one line of a file
 pub record StandsFor (store : StoreData) (table : Table) : Type 0 where
   pub content : store.sections ≡ content_at table
   pub members : store.members ≡ length table
@@ -46,19 +45,20 @@ pub record StandsFor (store : StoreData) (table : Table) : Type 0 where
   pub few : length table ≤ max_members
   pub small : AllByRecursion (λ rows. length rows ≤ max_items) table
 
--- what is planned: the totals with it. It is the store's own, and so is what makes it a plan of a store
+-- a plan: the totals after its commit. What makes it a plan of a store is private to the store
 pub record PlanData : Type 0 where
   pub after : Totals
 
--- files that are the state of rows are, with these added, the state of both, and the added rows clash with nothing
+-- if the files before are the state of some rows, the files after are the state of these rows and the added ones, which clash
+-- with nothing
 abbrev pub AddsTo : List Row → List (List ℕ × FileData) → List (List ℕ × FileData) → Type 0
 AddsTo added before after =
     (rows : List Row) → IsStateOf rows before → Agree (checksums_in rows)
     → (clash_of rows added ≡ None) × IsStateOf (rows ++ added) after × Agree (checksums_in (rows ++ added))
 
--- the store is as `prepare` left it when it made this plan for this submission: what is staged is what is kept with the
--- submission, which is lawful and clashes with nothing, and the totals are those of what is staged. Callers hand it from
--- `prepare` to `commit` and look at none of its parts
+-- the store is as `prepare` left it when it made this plan for this submission. The submission is lawful and clashes with
+-- nothing. The staged files are the committed ones with the submission added, and the plan's totals are theirs. Callers pass the
+-- plan on to `commit`, and look at nothing else in it
 pub record IsPlanOf (store : StoreData) (submission : SubmissionData) (plan : PlanData) : Type 0 where
   pub lawful : IsLawful submission
   pub adds : AddsTo (rows_of submission) store.committed store.staged
@@ -71,19 +71,19 @@ pub data RefuseData : Type 0 where
   ClashRefuse : (clash : ClashData) → RefuseData
   MemoryRefuse : RefuseData
 
--- a clash is told only where the submission clashes with the table, and then that one
+-- a clash is reported only if the submission clashes with the table, and then this clash is reported
 abbrev pub IsRefusedAt : Table → SubmissionData → RefuseData → Type 0
 IsRefusedAt table submission (ClashRefuse clash) = clash_at table submission ≡ Some clash
 IsRefusedAt table submission MemoryRefuse = Unit {0}
 
--- ---- rows that come in
+-- ---- staging rows
 
--- rows are staged, and the totals with them
+-- rows are staged, and the totals follow them
 pub record AddsRows (added : List Row) (before after : StoreData) : Type 0 where
   pub adds : AddsTo added before.staged after.staged
   pub totals : before.after ≡ totals_in before.staged → after.after ≡ totals_in after.staged
 
--- a clash is told only where the rows clash with those of the files, and then the first
+-- a clash is reported only if the rows clash with those of the files, and then their first clash is reported
 abbrev pub ClashesAmong : List Row → List (List ℕ × FileData) → RefuseData → Type 0
 ClashesAmong added files MemoryRefuse = Unit {0}
 ClashesAmong added files (ClashRefuse clash) = (rows : List Row) → IsStateOf rows files → Agree (checksums_in rows) → clash_of rows added ≡ Some clash
@@ -91,7 +91,7 @@ ClashesAmong added files (ClashRefuse clash) = (rows : List Row) → IsStateOf r
 abbrev pub ClashesWith : List Row → StoreData → RefuseData → Type 0
 ClashesWith added store refusal = ClashesAmong added store.staged refusal
 
--- what is staged is the state of rows, not too many with those that are added
+-- the staged files are the state of some rows, which leave room for the added ones
 pub record HasRoomForRows (added : List Row) (store : StoreData) : Type 0 where
   pub rows : List Row
   pub state : IsStateOf rows store.staged

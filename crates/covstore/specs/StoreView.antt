@@ -1,4 +1,4 @@
--- The store's maps, seen as plain data; what holds of them; and of which tests something is staged.
+-- The store's maps, seen as plain data; what always holds for them; and which tests have something staged.
 use Rattle.std.specs.Prelude.{◌≡◌, ℕ, ◌≤◌, false, List, [], length, map, filter}
 use Rattle.std.specs.List.{AllByRecursion, list_any}
 use Rattle.std.specs.Str.{bytes_eq}
@@ -14,14 +14,14 @@ use Rattle.covstore.specs.Store.{max_members}
 use Rattle.covstore.specs.Table.{Table, all_rows}
 use Rattle.covstore.specs.TestView.{test_staged, test_committed}
 
--- the files by their names, which a key of the map tells
+-- the files by their names. `name` gives the name for a key of the map
 abbrev pub files_committed : {K A : Type 0} → (K → List ℕ) → List (K × File A) → List (List ℕ × FileData)
 files_committed name pairs = map (λ pair. (name pair.0, file_committed pair.1)) pairs
 
 abbrev pub files_staged : {K A : Type 0} → (K → List ℕ) → List (K × File A) → List (List ℕ × FileData)
 files_staged name pairs = map (λ pair. (name pair.0, file_staged pair.1)) pairs
 
--- what is kept is the state of the rows of some table of as many members, whose checksums agree; the totals are those
+-- the files are the state of the rows of some table with this number of members, whose checksums agree; the totals are theirs
 pub record IsStore (members : ℕ) (committed : Totals) (files : List (List ℕ × FileData)) : Type 0 where
   pub own : Table
   pub state : IsStateOf (all_rows own) files
@@ -36,15 +36,15 @@ pub record IsStore (members : ℕ) (committed : Totals) (files : List (List ℕ 
 abbrev pub touched_data : {A : Type 0} → List (Touched A) → List (List ℕ × List ℕ)
 touched_data touched = map (λ t. (t.file.items, t.test.items)) touched
 
--- the tests of a file among them
+-- the tests of one file in this list
 abbrev pub tests_of : List ℕ → List (List ℕ × List ℕ) → List (List ℕ)
 tests_of file touched = map (λ t. t.1) (filter (λ t. bytes_eq t.0 file) touched)
 
--- but for these tests nothing is staged of a file; where it is none, nothing is staged of what is kept of the file either
+-- nothing is staged in the file but in these tests. If there are none, nothing is staged in its index either
 pub record IsSettledBut {A : Type 0} (tests : List (List ℕ)) (file : File A) : Type 0 where
   pub index : tests ≡ [] → index_staged file.index ≡ index_committed file.index
   pub points : AllByRecursion (λ pair. list_any (λ test. bytes_eq test pair.0.items) tests ≡ false → test_staged pair.1 ≡ test_committed pair.1) file.tests.entries
 
--- but for these tests of these files nothing is staged
+-- nothing is staged but in these tests of these files
 abbrev pub AreSettledBut : {K A : Type 0} → (K → List ℕ) → List (List ℕ × List ℕ) → List (K × File A) → Type 0
 AreSettledBut name touched pairs = AllByRecursion (λ pair. IsSettledBut (tests_of (name pair.0) touched) pair.1) pairs

@@ -1,4 +1,4 @@
--- What the items of a file and a test add up to, by kinds: each point with its value, ascending; and what one item more does.
+-- What the items of a file and a test add up to, by kind: each point with its value, ascending; and what one more item changes.
 use Rattle.std.specs.Prelude.{ℕ, ◌+◌, min, Bool, ◌||◌, Option, Some, None, List, map}
 use Rattle.std.specs.Option.{is_some}
 use Rattle.std.specs.Cmp.Lexicographic.{slice_cmp}
@@ -38,7 +38,7 @@ test_of items = record {
   branches = map (branch_sum items) (branches_in items);
 }
 
--- ---- one item more
+-- ---- one more item
 
 abbrev pub line_with : ℕ → Bool → Option LineSum → LineSum
 line_with count has_checksum None = record { count = bounded count; has_checksum = has_checksum }
@@ -48,7 +48,7 @@ abbrev pub function_with : ℕ → ℕ → Option FunctionSum → FunctionSum
 function_with line count None = record { line = line; count = bounded count }
 function_with line count (Some before) = record { line = min before.line line; count = bounded (before.count + count) }
 
--- two numbers that may be missing: their sum, and none where both are missing
+-- the sum of two numbers that may be missing; none if both are missing
 abbrev pub sum_taken : Option ℕ → Option ℕ → Option ℕ
 sum_taken None None = None
 sum_taken None (Some taken) = Some (bounded taken)

@@ -10,7 +10,7 @@ use Rattle.covstore.specs.Ascending.{ascending}
 use Rattle.covstore.specs.Content.{SectionData}
 use Rattle.covstore.specs.Value.{branch_cmp, is_branch, is_taken}
 
--- the files that sections are of, each once
+-- the files of the sections, each once
 abbrev pub files_in : List SectionData → List (List ℕ)
 files_in sections = ascending (slice_cmp nat_cmp) (map (λ s. s.key.file) sections)
 
@@ -54,7 +54,7 @@ totals_of sections = record {
   bh = over_files (λ own. count_by (is_branch_hit own) (branches_found own)) sections;
 }
 
--- of each kind no more points are hit than found
+-- for each kind, no more points are hit than found
 pub record AreTotals (totals : Totals) : Type 0 where
   pub lines : totals.lh ≤ totals.lf
   pub functions : totals.fh ≤ totals.ff

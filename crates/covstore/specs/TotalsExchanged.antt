@@ -1,8 +1,8 @@
--- Totals of which a part is exchanged.
+-- Totals in which a part is replaced.
 use Rattle.std.specs.Prelude.{◌≡◌, ◌+◌, ◌-◌, ◌≤◌, ◌<◌, ◌^◌}
 use Rattle.covstore.specs.declared.totals.Totals.{Totals}
 
--- the part is no larger than the whole
+-- no number of the part is larger than that of the whole
 pub record IsAmong (part whole : Totals) : Type 0 where
   pub lf : part.lf ≤ whole.lf
   pub lh : part.lh ≤ whole.lh
@@ -11,7 +11,7 @@ pub record IsAmong (part whole : Totals) : Type 0 where
   pub bf : part.bf ≤ whole.bf
   pub bh : part.bh ≤ whole.bh
 
--- both together fit
+-- the sums of both fit in 64 bits
 pub record FitTogether (a b : Totals) : Type 0 where
   pub lf : b.lf + a.lf < 2 ^ 64
   pub lh : b.lh + a.lh < 2 ^ 64
@@ -30,7 +30,7 @@ exchanged whole before after = record {
   bh = whole.bh - before.bh + after.bh;
 }
 
--- a part of the whole is exchanged for another one, which gives this whole
+-- in the whole, the part `before` is replaced by `after`, which gives `later`
 pub record IsExchange (before after whole later : Totals) : Type 0 where
   pub part : IsAmong before whole
   pub fits : FitTogether after whole
@@ -39,11 +39,11 @@ pub record IsExchange (before after whole later : Totals) : Type 0 where
 abbrev pub no_totals : Totals
 no_totals = record { lf = 0; lh = 0; ff = 0; fh = 0; bf = 0; bh = 0 }
 
--- both together
+-- the sums of both
 abbrev pub together : Totals → Totals → Totals
 together a b = record { lf = a.lf + b.lf; lh = a.lh + b.lh; ff = a.ff + b.ff; fh = a.fh + b.fh; bf = a.bf + b.bf; bh = a.bh + b.bh }
 
--- each total fits
+-- each total fits in 64 bits
 pub record FitTotals (totals : Totals) : Type 0 where
   pub lf : totals.lf < 2 ^ 64
   pub lh : totals.lh < 2 ^ 64

@@ -11,7 +11,7 @@ use Rattle.covstore.specs.declared.totals.Totals.{Totals}
 use Rattle.covstore.specs.Ascending.{ascending}
 use Rattle.covstore.specs.Value.{branch_cmp, is_branch, is_taken}
 
--- the files with a row, in order
+-- the files with a row, ascending
 abbrev pub files_of : List Row → List (List ℕ)
 files_of rows = ascending (slice_cmp nat_cmp) (map (λ row. row.file) rows)
 
@@ -44,7 +44,7 @@ hits_branch point item = false
 abbrev pub is_hit_in : {X : Type 0} → (X → ItemData → Bool) → List ItemData → X → Bool
 is_hit_in hits items point = list_any (hits point) items
 
--- how many points of a kind items have, and how many of these are hit
+-- how many points of a kind the items have, and how many of them are hit
 abbrev pub found_in : {X : Type 0} → (X → X → Ordering) → (ItemData → List X) → List ItemData → ℕ
 found_in cmp point items = length (ascending cmp (flat_map point items))
 
@@ -53,7 +53,7 @@ hit_in cmp point hits items = count_by (is_hit_in hits items) (ascending cmp (fl
 
 -- ---- all files
 
--- the totals counted over rows: of each kind the different points of each file, and those that some row hits
+-- the totals counted over rows: for each kind the different points of each file, and those of them that some row hits
 abbrev pub totals_over : List Row → Totals
 totals_over rows = record {
   lf = sum_by (λ file. found_in nat_cmp line_point (items_of_file file rows)) (files_of rows);

@@ -9,7 +9,7 @@ use Rattle.covline.specs.Row.{ItemData, LineItem, FuncItem, BranchItem, Row}
 use Rattle.covline.specs.Points.{BranchPoint, line_points, func_points, branch_points, least}
 use Rattle.covstore.specs.Ascending.{ascending}
 
--- a file and a test: what a printed section is of
+-- a file and a test: the key of a section
 pub record Key : Type 0 where
   pub file : List ℕ
   pub test : List ℕ
@@ -21,7 +21,7 @@ key_cmp a b = ordering_then (slice_cmp nat_cmp a.file b.file) (slice_cmp nat_cmp
 abbrev pub key_of_row : Row → Key
 key_of_row row = record { file = row.file; test = row.test }
 
--- the files and tests with a row, in order
+-- the files and tests with a row, ascending
 abbrev pub keys_of : List Row → List Key
 keys_of rows = ascending key_cmp (map key_of_row rows)
 
@@ -33,17 +33,17 @@ has_key key row = bytes_eq row.file key.file && bytes_eq row.test key.test
 abbrev pub items_at : Key → List Row → List ItemData
 items_at key rows = map (λ row. row.item) (filter (has_key key) rows)
 
--- a sum stops at the largest number of 128 bits
+-- a sum that stops at the largest number of 128 bits
 abbrev pub bounded : ℕ → ℕ
 bounded n = min n (2 ^ 128 - 1)
 
 -- ---- lines
 
--- the lines that items speak of, in order
+-- the lines of the items, each once, ascending
 abbrev pub lines_in : List ItemData → List ℕ
 lines_in items = ascending nat_cmp (line_points items)
 
--- the count that an item adds to this line
+-- what an item adds to the count of this line
 abbrev pub line_added : ℕ → ItemData → ℕ
 line_added line (LineItem at count checksum) = if at == line then count else 0
 line_added line item = 0
@@ -52,7 +52,7 @@ line_added line item = 0
 abbrev pub line_value : ℕ → List ItemData → ℕ
 line_value line items = bounded (sum_by (line_added line) items)
 
--- the checksum that an item has for this line
+-- the checksum that an item gives for this line
 abbrev pub checksum_said : ℕ → ItemData → List (List ℕ)
 checksum_said line (LineItem at count (Some checksum)) = if at == line then checksum ∷ [] else []
 checksum_said line item = []
@@ -61,22 +61,22 @@ abbrev pub first_of : {X : Type 0} → List X → Option X
 first_of [] = None
 first_of (x ∷ xs) = Some x
 
--- and its checksum, where an item has one. Items of one table have no two different ones for a line
+-- the line's checksum, if an item gives one. The items of a table give no two different ones
 abbrev pub line_checksum : ℕ → List ItemData → Option (List ℕ)
 line_checksum line items = first_of (flat_map (checksum_said line) items)
 
 -- ---- functions
 
--- the names of the functions that items speak of, in order
+-- the names of the items' functions, each once, ascending
 abbrev pub names_in : List ItemData → List (List ℕ)
 names_in items = ascending (slice_cmp nat_cmp) (func_points items)
 
--- the start line that an item has for this function
+-- the start line that an item gives for this function
 abbrev pub start_said : List ℕ → ItemData → List ℕ
 start_said name (FuncItem other line count) = if bytes_eq other name then line ∷ [] else []
 start_said name item = []
 
--- the value of a function: its least start line (0 where no item speaks of it), and the sum of its counts
+-- the value of a function: its least start line (0 if no item gives one), and the sum of its counts
 abbrev pub function_start : List ℕ → List ItemData → ℕ
 function_start name items = unwrap_or (least (flat_map (start_said name) items)) 0
 
@@ -93,24 +93,24 @@ function_count name items = bounded (sum_by (function_added name) items)
 abbrev pub branch_cmp : BranchPoint → BranchPoint → Ordering
 branch_cmp a b = ordering_then (nat_cmp a.line b.line) (ordering_then (nat_cmp a.block b.block) (nat_cmp a.branch b.branch))
 
--- the branches that items speak of, in order
+-- the branches of the items, each once, ascending
 abbrev pub branches_in : List ItemData → List BranchPoint
 branches_in items = ascending branch_cmp (branch_points items)
 
 abbrev pub is_branch : BranchPoint → ℕ → ℕ → ℕ → Bool
 is_branch point line block branch = line == point.line && block == point.block && branch == point.branch
 
--- the number that an item has for this branch
+-- the number of times taken that an item gives for this branch
 abbrev pub taken_said : BranchPoint → ItemData → List ℕ
 taken_said point (BranchItem line block branch (Some taken)) = if is_branch point line block branch then taken ∷ [] else []
 taken_said point item = []
 
--- none where there are no numbers, else their sum
+-- none if there are no numbers, else their sum
 abbrev pub sum_if_any : List ℕ → Option ℕ
 sum_if_any [] = None
 sum_if_any (n ∷ ns) = Some (bounded (sum_by (λ m. m) (n ∷ ns)))
 
--- the value of a branch: none where no item has a number for it, else the sum of the numbers
+-- the value of a branch: none if no item gives a number for it, else the sum of the numbers
 abbrev pub branch_value : BranchPoint → List ItemData → Option ℕ
 branch_value point items = sum_if_any (flat_map (taken_said point) items)
 

@@ -8,10 +8,10 @@ use Rattle.covstore.specs.Value.{keys_of}
 abbrev pub is_of_test : List ℕ → Row → Bool
 is_of_test test row = bytes_eq row.test test
 
--- its members stay, also those that have no row any more
+-- the table without the test's rows: its members stay, even those with no rows left
 abbrev pub without_test : List ℕ → Table → Table
 without_test test table = map (filter (λ row. not (is_of_test test row))) table
 
--- of how many different files and tests the rows of a test are
+-- the number of different files and tests with a row of this test
 abbrev pub sections_of_test : List ℕ → Table → ℕ
 sections_of_test test table = length (keys_of (filter (is_of_test test) (all_rows table)))

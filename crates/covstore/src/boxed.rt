@@ -6,8 +6,8 @@ ghost use Rattle.std.specs.Borrow.{sem};
 use std::alloc::{AllocError, Allocator};
 use std::marker::Model;
 
-/// A value in a box. A map's node has places for fifteen values, and is half full on the average: with a box a place
-/// takes little. Contracts see the value.
+/// A value in a box. A map's node has places for fifteen values and is half full on average; a place for a box is small.
+/// Contracts see the value.
 #[derive(Drop)]
 pub(crate) struct Boxed<T, A: Allocator> {
     value: Box<T, A>,
@@ -39,7 +39,7 @@ impl<T, A: Allocator> Boxed<T, A> {
         &*self.value
     }
 
-    /// The value itself, which can be changed in its place.
+    /// The value itself, to be changed in place.
     pub(crate) fn get_mut(&mut self) -> &mut T
         ensures* writes_back { sem 𝓛 (lends_value T.row A.row A.Allocator self.entry result) }
         ensures value { result.now ≡ self.old }

@@ -2,7 +2,7 @@
 
 ghost use Rattle.std.specs.Prelude.{◌≡◌, ◌≤◌, ◌^◌, [], true, Some, is_some, option_map, IfErr, IfSome, OnOk};
 ghost use Rattle.covstore.specs.Checksums.{IsToldOf, IsHeldToo, KeepsTexts, StayTexts, held_more};
-ghost use Rattle.covstore.specs.KindIndexDrops.{held_less, one_less};
+ghost use Rattle.covstore.specs.PointIndexDrops.{held_less, one_less};
 ghost use Rattle.covmap.specs.Puts.{put, value_of};
 ghost use Rattle.covstore.specs.declared.stage_fault.StageFault.TheVariants as stops;
 ghost use Rattle.std.specs.Ordering.{nat_cmp};
@@ -14,8 +14,8 @@ use std::alloc::Allocator;
 use std::collections::BTreeMap;
 use std::marker::Model;
 
-/// How many tests hold a checksum of a line, committed and staged, and what the checksums are: among them some that
-/// no test holds any more, in whose place another may come. Contracts see both.
+/// For each line, how many tests hold a checksum of it, committed and staged; and the checksums. Some of these no test holds any
+/// more, so another may take their place. Contracts see both.
 #[derive(Drop)]
 pub(crate) struct Checksums<A: Allocator> {
     holders: StagedMap<u64, u64, A>,
@@ -74,7 +74,7 @@ impl<A: Allocator + Copy> Checksums<A> {
         self.count(alloc, line, tests + 1)
     }
 
-    /// Stages how many tests hold the checksum of a line, which has a text. A refusal forgets what is staged.
+    /// Stages how many tests hold the checksum of a line, which has a text. If memory is refused, forgets what is staged.
     fn count(&mut self, alloc: A, line: u64, tests: u64) -> Result<(), StageFault<A>>
         requires { is_some (value_of nat_cmp line self.old.texts) ≡ true }
         ensures committed { self.new.committed ≡ self.old.committed }

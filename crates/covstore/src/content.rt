@@ -9,6 +9,7 @@ pub use self::points::{Branches, Functions, Lines};
 use crate::boxed::Boxed;
 use crate::file::File;
 use crate::index::FileIndex;
+use crate::path::Path;
 use crate::test::Test;
 use std::alloc::{Allocator, Global};
 use std::collections::btree_map::Iter;
@@ -142,11 +143,11 @@ impl<'a, A: Allocator> FileSections<'a, A> {
     }
 }
 
-/// Goes over the sections of a store, ascending by file and then by test. Contracts see the sections that are left.
+/// An iterator over the sections of a store, ascending by file and then by test. Contracts see the sections that are left.
 #[derive(Drop)]
 pub struct Sections<'a, A: Allocator = Global> {
     current: Option<FileSections<'a, A>>,
-    files: Iter<'a, Vec<u8, A>, Boxed<File<A>, A>>,
+    files: Iter<'a, Path<A>, Boxed<File<A>, A>>,
 }
 
 impl<'a, A: Allocator> Model for Sections<'a, A> {
@@ -170,7 +171,7 @@ impl<'a, A: Allocator> Sections<'a, A> {
     ghost use Rattle.covstore.specs.State.{sections_of};
 
     /// The sections of these files.
-    pub(crate) fn of(files: Iter<'a, Vec<u8, A>, Boxed<File<A>, A>>) -> Sections<'a, A>
+    pub(crate) fn of(files: Iter<'a, Path<A>, Boxed<File<A>, A>>) -> Sections<'a, A>
         requires { AllByRecursion IsFewOf (sections_of (files_committed (λ name. name.items) files)) }
         ensures { result ≡ sections_of (files_committed (λ name. name.items) files.entry) }
     {
@@ -181,7 +182,7 @@ impl<'a, A: Allocator> Sections<'a, A> {
     }
 }
 
-/// The next section of the file that is at hand.
+/// The next section of the current file.
 fn next_of_file<'a, A: Allocator>(
     current: &mut Option<FileSections<'a, A>>,
 ) -> Option<Section<'a, A>>

@@ -1,4 +1,4 @@
-//! What a test has, for another test of the same file: each value is an item more of the other test.
+//! Copies a test's values to another test of the same file: each value is added as one item.
 
 ghost use Rattle.std.specs.Prelude.{◌≡◌, map, option_map, IfOk, OnOk};
 ghost use Rattle.covstore.specs.Section.{Adds, HasRoomFor};
@@ -19,7 +19,7 @@ use covline::Memory;
 use covmap::StagedMap;
 use std::alloc::Allocator;
 
-/// Stages the values that a test has for another one. Both are of the file that the index is of.
+/// Stages one test's values as items of another test. Both tests are of the index's file.
 pub(crate) fn stage_values<A: Allocator + Copy>(
     test: &mut Test<A>,
     index: &mut FileIndex<A>,
@@ -58,7 +58,7 @@ fn add_lines<A: Allocator + Copy>(
     Ok(())
 }
 
-/// Stages the value of a line. Its checksum is copied into this text first, since the index can't lend it while it changes.
+/// Stages the value of a line. Copies its checksum into this text first, since the index can't lend it while it changes.
 fn add_line_value<A: Allocator + Copy>(
     test: &mut Test<A>,
     index: &mut FileIndex<A>,
@@ -83,7 +83,7 @@ fn add_line_value<A: Allocator + Copy>(
     }
 }
 
-/// Copies the checksum of a line into this text, if there is one.
+/// Copies a line's checksum into this text, if there is one.
 fn copied_text<'t, A: Allocator>(
     index: &FileIndex<A>,
     line: u64,

@@ -1,4 +1,4 @@
-//! A test that goes from the files of a store.
+//! Drops a test from the files of a store.
 
 ghost use Rattle.std.specs.Prelude.{◌≡◌, ◌≢◌, ℕ, List, [], true, count_by, map, IfOk, OnErr};
 ghost use Rattle.std.specs.List.{AllByRecursion};
@@ -11,12 +11,13 @@ ghost use Rattle.covstore.specs.State.{FileData, IsConsistentFile, has_points_of
 
 use crate::boxed::Boxed;
 use crate::file::File;
+use crate::path::Path;
 use crate::totals::Totals;
 use covline::Memory;
 use std::alloc::Allocator;
 use std::collections::BTreeMap;
 
-/// The test goes from every file. A file whose last test goes stays, without tests. Takes no memory.
+/// Drops the test from every file. A file whose last test is dropped stays, without tests. Takes no memory.
 pub(crate) fn drop_from_files<K: Ord + Drop, A: Allocator + Copy>(
     files: &mut BTreeMap<K, Boxed<File<A>, A>, A>,
     test: &[u8],
@@ -39,9 +40,9 @@ pub(crate) fn drop_from_files<K: Ord + Drop, A: Allocator + Copy>(
     );
 }
 
-/// In how many files the test has points, and the totals of all files where it is gone. Takes no memory.
+/// In how many files the test has points, and the totals of all files without the test. Takes no memory.
 pub(crate) fn count_without<A: Allocator + Copy>(
-    files: &BTreeMap<Vec<u8, A>, Boxed<File<A>, A>, A>,
+    files: &BTreeMap<Path<A>, Boxed<File<A>, A>, A>,
     test: &[u8],
 ) -> (u64, Totals)
     requires whole { AllByRecursion (λ pair. IsConsistentFile pair.1) (files_committed (λ name. name.items) files.now.entries) }
@@ -61,7 +62,7 @@ pub(crate) fn count_without<A: Allocator + Copy>(
 
 /// In how many files the test has points. Takes no memory.
 pub(crate) fn count_sections<A: Allocator + Copy>(
-    files: &BTreeMap<Vec<u8, A>, Boxed<File<A>, A>, A>,
+    files: &BTreeMap<Path<A>, Boxed<File<A>, A>, A>,
     test: &[u8],
 ) -> u64
     ensures { result ≡ count_by (λ pair. has_points_of test.now pair.1) (files_committed (λ name. name.items) files.now.entries) }
@@ -73,10 +74,8 @@ pub(crate) fn count_sections<A: Allocator + Copy>(
     sections
 }
 
-/// The totals of all files, by what each keeps of its own. Takes no memory.
-pub(crate) fn add_up<A: Allocator + Copy>(
-    files: &BTreeMap<Vec<u8, A>, Boxed<File<A>, A>, A>,
-) -> Totals
+/// The totals of all files: the sum of those that each file keeps. Takes no memory.
+pub(crate) fn add_up<A: Allocator + Copy>(files: &BTreeMap<Path<A>, Boxed<File<A>, A>, A>) -> Totals
     requires { FitTotals (totals_in (files_committed (λ name. name.items) files.now.entries)) }
     ensures { result ≡ totals_in (files_committed (λ name. name.items) files.now.entries) }
 {
@@ -89,7 +88,7 @@ pub(crate) fn add_up<A: Allocator + Copy>(
 
 /// The names of the files in which the test has points.
 pub(crate) fn names_with<A: Allocator + Copy>(
-    files: &BTreeMap<Vec<u8, A>, Boxed<File<A>, A>, A>,
+    files: &BTreeMap<Path<A>, Boxed<File<A>, A>, A>,
     alloc: A,
     test: &[u8],
 ) -> Result<Vec<Vec<u8, A>, A>, Memory>

@@ -1,4 +1,4 @@
-//! A file of the store: its tests, and what is kept of them.
+//! A file of the store: its tests, and its index.
 
 ghost use Rattle.std.specs.Prelude.{◌≡◌, ℕ, List, [], ◌∷◌, ◌++◌, map, IfErr, IfOk, OnErr, OnOk};
 
@@ -16,7 +16,7 @@ use std::alloc::Allocator;
 use std::collections::BTreeMap;
 use std::mem;
 
-/// The tests of a file, each with its points, and what is kept of them.
+/// The tests of a file, each with its points, and the file's index.
 #[derive(Drop)]
 pub(crate) struct File<A: Allocator> {
     tests: BTreeMap<Vec<u8, A>, Boxed<Test<A>, A>, A>,
@@ -29,7 +29,7 @@ impl<A: Allocator> File<A> {
     ghost use Rattle.covstore.specs.FileView.{file_committed};
     ghost use Rattle.covstore.specs.State.{sections_of_file};
 
-    /// The sections of the file, which has this name.
+    /// The sections of the file, whose name this is.
     pub(crate) fn sections<'a>(&'a self, name: &'a [u8]) -> FileSections<'a, A>
         requires { AllByRecursion IsFewOf (sections_of_file (name.now, file_committed self.now)) }
         ensures { result ≡ sections_of_file (name.now, file_committed self.now) }
@@ -68,7 +68,7 @@ impl<A: Allocator + Copy> File<A> {
         }
     }
 
-    /// Stages the items of a test, in order, up to the first that clashes. A test that isn't there is put in with them.
+    /// Stages the items of a test, in order, up to the first that clashes. Adds the test if the file doesn't have it.
     fn add(&mut self, alloc: A, test: &[u8], items: &[Item<A>]) -> Result<(), StageFault<A>>
         requires { HasRoomIn (map item_data items.now) (file_staged self.old) }
         ensures committed { KeepsIn (file_committed self.old) (file_committed self.new) }
@@ -76,7 +76,7 @@ impl<A: Allocator + Copy> File<A> {
         ensures clash { IfErr result (ClashesIn (map item_data items.now) test.now (file_staged self.old)) }
         ensures settled { (tests : List (List ℕ)) → list_any (λ name. bytes_eq name test.now) tests ≡ true → IsSettledBut tests self.old → IsSettledBut tests self.new }
     {
-        // Tells that a map has fewer than 2^63 entries.
+        // The contract of this call says that a map has fewer than 2^63 entries.
         self.tests.len();
         if let Some(points) = self.tests.get_mut(test) {
             return stage_items(points.get_mut(), &mut self.index, alloc, items);
@@ -84,7 +84,7 @@ impl<A: Allocator + Copy> File<A> {
         self.stage_new(alloc, test, items)
     }
 
-    /// The same of a test that isn't there.
+    /// The same for a test that the file doesn't have.
     fn stage_new(&mut self, alloc: A, test: &[u8], items: &[Item<A>]) -> Result<(), StageFault<A>>
         requires room { HasRoomIn (map item_data items.now) (file_staged self.old) }
         requires new { is_some (value_of (slice_cmp nat_cmp) test.now (file_staged self.old).tests) ≡ false }
@@ -100,7 +100,7 @@ impl<A: Allocator + Copy> File<A> {
         Ok(())
     }
 
-    /// Stages the items of a test of this file, whose name comes with them, and tells its staged totals before and after.
+    /// Stages the items of a test, and returns the file's staged totals before and after. `file` is the file's name.
     pub(crate) fn stage_section(
         &mut self,
         alloc: A,
@@ -128,7 +128,7 @@ impl<A: Allocator + Copy> File<A> {
         }
     }
 
-    /// Stages what a test has for another test of the file, which is made where it isn't there.
+    /// Stages one test's values as items of another test of the file, which is added if the file doesn't have it.
     pub(crate) fn copy_test(&mut self, alloc: A, old: &[u8], new: &[u8]) -> Result<(), Memory>
         requires apart { old.now ≢ new.now }
         requires room { HasRoomToCopyIn old.now (file_staged self.old) }
@@ -141,7 +141,7 @@ impl<A: Allocator + Copy> File<A> {
         self.copy_points(alloc, old, new)
     }
 
-    /// Puts in an empty test of this name, unless there is one.
+    /// Adds an empty test of this name, unless there is one.
     fn open(&mut self, alloc: A, test: &[u8]) -> Result<(), Memory>
         ensures committed { OnOk result (file_committed self.new ≡ with_test test.now (file_committed self.old)) }
         ensures staged { OnOk result (file_staged self.new ≡ with_test test.now (file_staged self.old)) }
@@ -158,7 +158,7 @@ impl<A: Allocator + Copy> File<A> {
         Ok(())
     }
 
-    /// Stages what a test has for another test of the file. Both are there.
+    /// Stages one test's values as items of another test. The file has both.
     fn copy_points(&mut self, alloc: A, old: &[u8], new: &[u8]) -> Result<(), Memory>
         requires apart { old.now ≢ new.now }
         requires room { HasRoomToCopyIn old.now (file_staged self.old) }
@@ -169,12 +169,12 @@ impl<A: Allocator + Copy> File<A> {
         ensures settled { (tests : List (List ℕ)) → list_any (λ name. bytes_eq name new.now) tests ≡ true → IsSettledBut tests self.old → IsSettledBut tests self.new }
     {
         let empty = Boxed::new(alloc, Test::new(alloc))?;
-        // Tells that a map has fewer than 2^63 entries.
+        // The contract of this call says that a map has fewer than 2^63 entries.
         self.tests.len();
         let Some(place) = self.tests.get_mut(new) else {
             unreachable!();
         };
-        // Lifted out while the other test is looked at.
+        // Taken out of the map while the other test is borrowed.
         let mut points = mem::replace(place, empty);
         let Some(source) = self.tests.get(old) else {
             unreachable!();
@@ -187,7 +187,7 @@ impl<A: Allocator + Copy> File<A> {
         added
     }
 
-    /// Commits what is staged of a test and of the index of the file.
+    /// Commits what is staged in a test and in the file's index.
     pub(crate) fn commit(&mut self, test: &[u8])
         ensures staged { file_staged self.new ≡ file_staged self.old }
         ensures settled { (tests : List (List ℕ)) → IsSettledBut (tests ++ test.now ∷ []) self.old → IsSettledBut tests self.new }
@@ -198,7 +198,7 @@ impl<A: Allocator + Copy> File<A> {
         self.index.commit();
     }
 
-    /// Forgets what is staged of a test and of the index of the file.
+    /// Forgets what is staged in a test and in the file's index.
     pub(crate) fn rollback(&mut self, test: &[u8])
         ensures committed { file_committed self.new ≡ file_committed self.old }
         ensures settled { (tests : List (List ℕ)) → IsSettledBut (tests ++ test.now ∷ []) self.old → IsSettledBut tests self.new }
@@ -223,7 +223,7 @@ impl<A: Allocator + Copy> File<A> {
         self.index.totals_now()
     }
 
-    /// Whether the test has points now.
+    /// Whether the test has committed points.
     pub(crate) fn has_test(&self, test: &[u8]) -> bool
         ensures { result ≡ has_points_of test.now (file_committed self.now) }
     {
@@ -233,7 +233,7 @@ impl<A: Allocator + Copy> File<A> {
         }
     }
 
-    /// The test is gone, with its points. Takes no memory.
+    /// Drops the test with its points.
     pub(crate) fn drop_test(&mut self, test: &[u8])
         requires { IsConsistentFile (file_committed self.old) }
         ensures committed { IsWithoutTest test.now (file_committed self.old) (file_committed self.new) }
@@ -244,7 +244,7 @@ impl<A: Allocator + Copy> File<A> {
         }
     }
 
-    /// Whether the test has points now, and the file's totals where it is gone. Takes no memory.
+    /// Whether the test has committed points, and the file's totals without the test.
     pub(crate) fn without_test(&self, test: &[u8]) -> (bool, Totals)
         requires { IsConsistentFile (file_committed self.now) }
         ensures has_points { result.0 ≡ has_points_of test.now (file_committed self.now) }

@@ -1,24 +1,24 @@
-//! What is kept of a file beside its tests.
+//! The index of a file: numbers over all its tests, and its checksums.
 
 ghost use Rattle.std.specs.Prelude.{◌≡◌};
-ghost use Rattle.covstore.specs.KindIndexDrops.{totals_by};
+ghost use Rattle.covstore.specs.PointIndexDrops.{totals_by};
 
 mod drops;
 
 use crate::checksums::Checksums;
 use crate::index::drops::{drop_checksums, drop_kind, tally_without};
 use crate::keys::{Branch, FunctionName};
-use crate::kind_index::{KindIndex, KindTotals};
+use crate::point_index::{KindTotals, PointIndex};
 use crate::test::Test;
 use crate::totals::Totals;
 use std::alloc::Allocator;
 
-/// In how many tests of a file each of its points is, and the checksums of its lines.
+/// For each point of a file, how many tests have it; and the checksums of the file's lines.
 #[derive(Drop)]
 pub(crate) struct FileIndex<A: Allocator> {
-    pub lines: KindIndex<u64, A>,
-    pub functions: KindIndex<FunctionName<A>, A>,
-    pub branches: KindIndex<Branch, A>,
+    pub lines: PointIndex<u64, A>,
+    pub functions: PointIndex<FunctionName<A>, A>,
+    pub branches: PointIndex<Branch, A>,
     pub checksums: Checksums<A>,
 }
 
@@ -30,20 +30,20 @@ impl<A: Allocator + Copy> FileIndex<A> {
     ghost use Rattle.covstore.specs.Sums.{TestData};
     ghost use Rattle.covstore.specs.TestView.{test_committed};
 
-    /// No tests, and no points.
+    /// The index of a file without tests.
     pub(crate) fn new(alloc: A) -> FileIndex<A>
         ensures committed { index_committed result ≡ empty_index }
         ensures staged { index_staged result ≡ empty_index }
     {
         FileIndex {
-            lines: KindIndex::new(alloc),
-            functions: KindIndex::new(alloc),
-            branches: KindIndex::new(alloc),
+            lines: PointIndex::new(alloc),
+            functions: PointIndex::new(alloc),
+            branches: PointIndex::new(alloc),
             checksums: Checksums::new(alloc),
         }
     }
 
-    /// Commits what is staged. Takes no memory.
+    /// Commits what is staged.
     pub(crate) fn commit(&mut self)
         ensures committed { index_committed self.new ≡ index_staged self.old }
         ensures staged { index_staged self.new ≡ index_staged self.old }
@@ -54,7 +54,7 @@ impl<A: Allocator + Copy> FileIndex<A> {
         self.checksums.commit();
     }
 
-    /// Forgets what is staged. Takes no memory.
+    /// Forgets what is staged.
     pub(crate) fn rollback(&mut self)
         ensures committed { index_committed self.new ≡ index_committed self.old }
         ensures staged { index_staged self.new ≡ index_committed self.old }
@@ -76,7 +76,7 @@ impl<A: Allocator + Copy> FileIndex<A> {
         )
     }
 
-    /// A test with these points is gone. Nothing else is staged after it. Takes no memory.
+    /// Removes a test with these points. Nothing is staged afterwards.
     pub(crate) fn drop_points(&mut self, points: &Test<A>)
         requires { (others : List TestData) × IsIndexOf (test_committed points.now ∷ others) (index_committed self.old) }
         ensures committed { (others : List TestData) → IsIndexOf (test_committed points.now ∷ others) (index_committed self.old) → IsIndexOf others (index_committed self.new) }
@@ -100,7 +100,7 @@ impl<A: Allocator + Copy> FileIndex<A> {
         )
     }
 
-    /// The file's totals where a test with these points is gone. Takes no memory.
+    /// The file's totals without a test that has these points.
     pub(crate) fn totals_without(&self, points: &Test<A>) -> Totals
         requires { (others : List TestData) × IsIndexOf (test_committed points.now ∷ others) (index_committed self.now) }
         ensures { (others : List TestData) (rest : FileIndexData) → IsIndexOf (test_committed points.now ∷ others) (index_committed self.now) → IsIndexOf others rest → result ≡ index_totals rest }
@@ -113,7 +113,7 @@ impl<A: Allocator + Copy> FileIndex<A> {
     }
 }
 
-/// The totals of a file, by the tallies of its points.
+/// The totals of a file, from the tally of each kind of points.
 fn totals_of(lines: KindTotals, functions: KindTotals, branches: KindTotals) -> Totals
     ensures { result ≡ totals_by lines functions branches }
 {

@@ -1,4 +1,4 @@
-//! One item more: of its test, and of what is kept of the file.
+//! Stages one item, in its test and in the file's index.
 
 ghost use Rattle.std.specs.Prelude.{◌≡◌, ◌+◌, ◌≤◌, length, option_map, IfErr, IfOk, OnOk};
 ghost use Rattle.covmap.specs.Puts.{put, value_of};
@@ -11,7 +11,7 @@ ghost use Rattle.covstore.specs.FileIndexView.{KeepsCommitted};
 ghost use Rattle.covstore.specs.declared.stage_fault.StageFault.TheVariants as stops;
 
 use crate::index::FileIndex;
-use crate::kind_index::KindIndex;
+use crate::point_index::PointIndex;
 use crate::stage_fault::StageFault;
 use crate::sums::{BranchAddend, FunctionAddend, LineAddend, LineSum, PointAddend, PointSum};
 use crate::test::Test;
@@ -89,7 +89,7 @@ pub(crate) fn stage_line<A: Allocator + Copy>(
         count,
         has_checksum: checksum.is_some(),
     };
-    let before = stage_at_point(&mut test.lines, &mut index.lines, alloc, line, addend)?;
+    let before = stage_addend(&mut test.lines, &mut index.lines, alloc, line, addend)?;
     if let Some(text) = checksum {
         let is_held = LineSum::is_checked(&before);
         index.checksums.hold(alloc, line, text, is_held)?;
@@ -115,7 +115,7 @@ pub(crate) fn stage_function<A: Allocator + Copy>(
     ensures clash { IfErr result (λ stop. stop ≡ stops.Memory) }
 {
     let addend = FunctionAddend { line, count };
-    stage_at_point(
+    stage_addend(
         &mut test.functions,
         &mut index.functions,
         alloc,
@@ -142,7 +142,7 @@ pub(crate) fn stage_branch<A: Allocator + Copy>(
     ensures clash { IfErr result (λ stop. stop ≡ stops.Memory) }
 {
     let addend = BranchAddend { times: taken };
-    stage_at_point(
+    stage_addend(
         &mut test.branches,
         &mut index.branches,
         alloc,
@@ -152,8 +152,8 @@ pub(crate) fn stage_branch<A: Allocator + Copy>(
     Ok(())
 }
 
-/// Stages what an item adds at a point of a kind, in its test and in the file's numbers of the point. Tells the sum before.
-pub(crate) fn stage_at_point<
+/// Stages what an item adds to a point of a kind, in its test and in the file's index. Returns the test's sum before.
+pub(crate) fn stage_addend<
     K: Key + Drop,
     S: PointSum,
     A: Allocator + Copy,
@@ -161,7 +161,7 @@ pub(crate) fn stage_at_point<
     M: PointAddend<S>,
 >(
     points: &mut StagedMap<K, S, A>,
-    kept: &mut KindIndex<K, A>,
+    kept: &mut PointIndex<K, A>,
     alloc: A,
     query: Q,
     addend: M,
@@ -175,7 +175,7 @@ pub(crate) fn stage_at_point<
     ensures few { OnOk result (length kept.new.staged ≤ length kept.old.staged + 1) }
 {
     let added = points.stage_sum(alloc, query, addend, points.cursor())?;
-    let change = addend.tell(&added.before, &added.after);
+    let change = addend.report(&added.before, &added.after);
     kept.add(alloc, query, change, added.place)?;
     Ok(added.before)
 }

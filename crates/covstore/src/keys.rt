@@ -1,4 +1,4 @@
-//! What functions and branches are told apart by, as keys of a map.
+//! Function names and branches, as keys of a map.
 
 ghost use Rattle.std.specs.Prelude.{◌≡◌};
 ghost use Rattle.std.specs.Cmp.Lexicographic.{slice_cmp};
@@ -17,10 +17,10 @@ use std::marker::Model;
 
 /// A key of the points of a kind.
 pub(crate) trait PointKey<'a, A: Allocator>: Key {
-    /// What names a key in a look-up.
+    /// The query for a key of this type.
     type Name: Query<Self, A>;
 
-    /// What names this key.
+    /// The query for this key.
     fn name(&'a self) -> Self::Name
         ensures { Self.Name.named result ≡ self.now };
 }
@@ -48,7 +48,7 @@ impl<A: Allocator> Model for FunctionName<A> {
 }
 
 impl<A: Allocator> FunctionName<A> {
-    /// Its bytes.
+    /// The bytes of the name.
     pub(crate) fn get(&self) -> &[u8]
         ensures { result.now ≡ self.now }
     {
@@ -87,7 +87,7 @@ impl<A: Allocator> Query<FunctionName<A>, A> for &[u8] {
     }
 }
 
-/// How one name stands to another. Both have one lifetime, which is the form of this call that is covered.
+/// Compares two names. Both have one lifetime: only this form of the call has a contract.
 fn compare_names<'a>(name: &'a [u8], other: &'a [u8]) -> Ordering
     ensures { result ≡ slice_cmp nat_cmp name.now other.now }
 {
@@ -110,7 +110,7 @@ impl Model for Branch {
 }
 
 impl Branch {
-    /// Its line, block and number.
+    /// The line, block and number of the branch.
     pub(crate) fn get(&self) -> BranchPoint
         ensures { branch_point_data result ≡ self.now }
     {

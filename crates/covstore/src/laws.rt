@@ -17,21 +17,21 @@ ghost use Rattle.covstore.specs.TotalsSteps.{totals_over};
 ghost use Rattle.covstore.specs.Without.{without_test};
 ghost use Rattle.covstore.specs.Value.{Key, key_cmp, key_of_row, keys_of, lines_in, names_in, branch_cmp, branches_in};
 
-/// The sections of a store stand in strictly ascending order, one for each file and test with a row.
+/// The sections of a store are in strictly ascending order, one for each file and test with a row.
 pub fn keys_stand_in_order()
     ensures { (rows : List Row) → IsAscendingOf key_cmp (map key_of_row rows) (keys_of rows) }
 {}
 
-/// The functions, branches and lines of a section stand in strictly ascending order, each of its items' once: functions
-/// by their names' bytes, branches by line, block and number, lines by number.
+/// The functions, branches and lines of a section are in strictly ascending order, each point of its items once: functions by the
+/// bytes of their names, branches by line, block and number, lines by number.
 pub fn points_stand_in_order()
     ensures functions { (items : List ItemData) → IsAscendingOf (slice_cmp nat_cmp) (func_points items) (names_in items) }
     ensures branches { (items : List ItemData) → IsAscendingOf branch_cmp (branch_points items) (branches_in items) }
     ensures lines { (items : List ItemData) → IsAscendingOf nat_cmp (line_points items) (lines_in items) }
 {}
 
-/// There is at most one strictly ascending list of given members: of files and tests, of functions by their names' bytes, of
-/// branches or of lines.
+/// There is at most one strictly ascending list of given members: of files and tests, of functions by the bytes of their names,
+/// of branches, or of lines.
 pub fn order_is_unique()
     ensures keys { (all some others : List Key) → IsAscendingOf key_cmp all some → IsAscendingOf key_cmp all others → some ≡ others }
     ensures functions { (all some others : List (List ℕ)) → IsAscendingOf (slice_cmp nat_cmp) all some → IsAscendingOf (slice_cmp nat_cmp) all others → some ≡ others }
@@ -39,57 +39,56 @@ pub fn order_is_unique()
     ensures lines { (all some others : List ℕ) → IsAscendingOf nat_cmp all some → IsAscendingOf nat_cmp all others → some ≡ others }
 {}
 
-/// Of held checksums that agree with each other: a clash is told exactly where it is the first one, that of the first
-/// given checksum that differs from a held one or from an earlier given one, none of these differing from each other.
-/// None is told exactly where no two of all differ.
+/// If the held checksums agree with each other, a clash is reported exactly if it is the first one: that of the first given
+/// checksum that differs from a held one or from an earlier given one, while those agree with each other. No clash is reported
+/// exactly if no two of all the checksums differ.
 pub fn the_first_clash_is_told()
     ensures first { (held given : List Checksum) (clash : ClashData) → Agree held → first_clash held given ≡ Some clash ↔ IsFirstClash held given clash }
     ensures none { (held given : List Checksum) → Agree held → first_clash held given ≡ None ↔ Agree (held ++ given) }
 {}
 
-/// No table comes to have two different checksums of one line of a file: the empty one has none, and the rows of a
-/// submission that doesn't clash bring none, nor does a test that is dropped. A rename brings none either:
-/// `renaming_keeps_totals`.
+/// A table never gets two different checksums of one line of a file. The empty table has none; a submission that doesn't clash
+/// adds none; and dropping a test adds none. Nor does a rename: see `renaming_keeps_totals`.
 pub fn accepted_rows_agree()
     ensures empty { Agree (checksums_in (all_rows [])) }
     ensures accepted { (table : Table) (s : SubmissionData) → clash_at table s ≡ None → Agree (checksums_in (all_rows table)) → Agree (checksums_in (all_rows (table ++ rows_of s ∷ []))) }
     ensures dropped { (table : Table) (test : List ℕ) → Agree (checksums_in (all_rows table)) → Agree (checksums_in (all_rows (without_test test table))) }
 {}
 
-/// The totals are what they are called: found is how many different points of a kind all rows have, each in its file, and
-/// hit is how many of these some test has with a value above 0.
+/// The totals are what their names say. Found is how many different points of a kind all rows have, each in its file. Hit is how
+/// many of them some test has with a value above 0.
 pub fn totals_count_different_points()
     ensures lines { (rows : List Row) → ((totals_of (content_of rows)).lf ≡ found lines rows) × ((totals_of (content_of rows)).lh ≡ hit lines rows) }
     ensures functions { (rows : List Row) → ((totals_of (content_of rows)).ff ≡ found functions rows) × ((totals_of (content_of rows)).fh ≡ hit functions rows) }
     ensures branches { (rows : List Row) → ((totals_of (content_of rows)).bf ≡ found branches rows) × ((totals_of (content_of rows)).bh ≡ hit branches rows) }
 {}
 
-/// Of each kind no more points are hit than found, in any sections, and so in what any rows add up to.
+/// For each kind, no more points are hit than found: in any sections, and so in what any rows add up to.
 pub fn no_more_are_hit_than_found()
     ensures sections { (sections : List SectionData) → AreTotals (totals_of sections) }
     ensures rows { (rows : List Row) → AreTotals (totals_of (content_of rows)) }
 {}
 
-/// The totals of what rows add up to are those of the rows: for each file its different points, over all tests, and of
-/// these the ones that some row counts above 0.
+/// The totals of what rows add up to can be counted from the rows: for each file its different points, over all tests, and those
+/// of them that some row counts above 0.
 pub fn totals_count_the_rows()
     ensures { (rows : List Row) → totals_of (content_of rows) ≡ totals_over rows }
 {}
 
-/// What rows add up to doesn't depend on their order, where their checksums agree.
+/// What rows add up to doesn't depend on their order, if their checksums agree.
 pub fn order_of_rows_does_not_matter()
     ensures content { (rows others : List Row) → IsPermutation rows others → Agree (checksums_in rows) → content_of rows ≡ content_of others }
     ensures agree { (rows others : List Row) → IsPermutation rows others → Agree (checksums_in rows) → Agree (checksums_in others) }
 {}
 
-/// What a table adds up to doesn't depend on the order of its submissions, where their checksums agree.
+/// What a table adds up to doesn't depend on the order of its submissions, if their checksums agree.
 pub fn order_of_submissions_does_not_matter()
     ensures content { (table others : Table) → IsPermutation table others → Agree (checksums_in (all_rows table)) → content_at table ≡ content_at others }
     ensures agree { (table others : Table) → IsPermutation table others → Agree (checksums_in (all_rows table)) → Agree (checksums_in (all_rows others)) }
 {}
 
-/// A rename doesn't change the totals, since points are counted once for all tests of their file. Checksums that agree still
-/// do after it. A rename to the same name leaves the table as it is.
+/// A rename doesn't change the totals, since points are counted once for all tests of their file. If checksums agree before it,
+/// they agree after it. A rename to the same name leaves the table as it is.
 pub fn renaming_keeps_totals()
     ensures totals { (old new : List ℕ) (table : Table) → totals_of (content_at (renamed old new table)) ≡ totals_of (content_at table) }
     ensures agree { (old new : List ℕ) (table : Table) → Agree (checksums_in (all_rows table)) → Agree (checksums_in (all_rows (renamed old new table))) }

@@ -1,31 +1,27 @@
-//! The store of merged execution counts: what all submissions that it holds add up to. Counts are added up for matching
-//! test and file (lcov(1), --add-tracefile), where a sum stops at 2^128 - 1, and two versions of one source are never
-//! mixed.
+//! The store of merged execution counts: what all its submissions add up to. Counts are added up for matching test and file
+//! (lcov(1), --add-tracefile). A sum stops at 2^128 - 1. Two versions of one source are never mixed.
 //!
-//! A submission is held in two steps. `prepare` tells whether it clashes, makes all growths and gives a plan; `commit`
-//! holds it, and needs no memory. Between the two the caller can make its own growths, and drop the plan where one is
-//! refused. A test is renamed in two such steps, `prepare_rename` and `commit_rename`; it is dropped in one, which needs no
+//! A submission is added in two steps. `prepare` checks whether it clashes, allocates all memory and returns a plan. `commit`
+//! adds it, and needs no memory. Between the two, the caller can allocate memory of its own, and drop the plan if that is
+//! refused. A test is renamed in two such steps, `prepare_rename` and `commit_rename`. It is dropped in one step, which needs no
 //! memory.
 //!
-//! A store is nested ordered maps: for each file its tests, for each test its points, and for each point of a file how
-//! many tests have it and how many have it above 0; totals run along. `prepare` stages values beside those that are committed,
-//! at the same places, and `commit` exchanges it.
+//! A store is nested ordered maps: for each file its tests, for each test its points, and for each point of a file how many tests
+//! have it and how many have it above 0. Totals are kept alongside. `prepare` stages values beside the committed ones, at the
+//! same places, and `commit` exchanges them.
 //!
-//! A sketch: a submission is held, and the counts of all lines are passed over.
+//! An example, proved and run in `covuses`: the store of two submissions, or a `Refuse::Clash` if they have two checksums
+//! of one line. `Store::sections` and `Store::totals` show what it holds.
 //!
 //! ```text
-//! let mut store = Store::new(alloc);
-//! match store.prepare(alloc, &submission) {
-//!     Ok(plan) => store.commit(plan),
-//!     Err(Refuse::Clash { file, line, held, given }) => .., // another checksum of this line is held
-//!     Err(Refuse::Memory) => return Err(Memory),
+//! pub fn merged(alloc: Global, first: &Submission, second: &Submission) -> Result<Store, Refuse> {
+//!     let mut store = Store::new(alloc);
+//!     let plan = store.prepare(alloc, first)?;
+//!     store.commit(plan);
+//!     let plan = store.prepare(alloc, second)?;
+//!     store.commit(plan);
+//!     Ok(store)
 //! }
-//! for section in store.sections() {
-//!     for line in section.lines() {
-//!         put_count(section.file(), section.test(), line.line, line.count)?;
-//!     }
-//! }
-//! let hit = store.totals().lh;
 //! ```
 #![tactic(auto)]
 
@@ -38,13 +34,14 @@ mod file;
 mod index;
 mod items;
 mod keys;
-mod kind_index;
 pub mod laws;
 mod order;
 mod packed_taken;
 mod packed_u128;
 mod packed_u64;
+mod path;
 mod plan;
+mod point_index;
 mod points;
 mod refuse;
 mod renaming;
@@ -54,6 +51,7 @@ mod stage_section;
 mod store;
 mod sums;
 mod test;
+mod texts;
 mod totals;
 mod values;
 

@@ -16,24 +16,24 @@ use crate::test::Test;
 use covline::Item;
 use std::alloc::{AllocError, Allocator};
 
-/// How many items a section has at least whose items are sorted.
+/// The smallest number of items for which a section is sorted.
 const MIN_SORTED: usize = 1024;
 
-/// One item of so many is looked at to see whether lines ascend.
+/// One item of this many is sampled to see whether the lines ascend.
 const SAMPLE_STRIDE: usize = 16;
 
-/// Items are sorted where the lines fall at more than one of so many that are looked at.
+/// Items are sorted if the lines fall at more than one of this many samples.
 const SAMPLES_PER_FALL: usize = 4;
 
-/// Where an item stands in its section. Spots ascend by lines, and at one line as the items stand.
+/// Where an item is in its section. Spots ascend by line, and on one line by the items' order in the section.
 #[derive(PartialEq, Eq, PartialOrd, Ord, Drop)]
 struct Spot {
     line: u64,
     index: usize,
 }
 
-/// Stages the items, of which none has a checksum: in the order of their lines where these fall often, else as they stand.
-pub(crate) fn stage_plain<A: Allocator + Copy>(
+/// Stages the items, none of which has a checksum: in the order of their lines if these fall often, else in the section's order.
+pub(crate) fn stage_without_checksums<A: Allocator + Copy>(
     test: &mut Test<A>,
     index: &mut FileIndex<A>,
     alloc: A,
@@ -95,7 +95,7 @@ fn line_of<A: Allocator>(item: &Item<A>) -> u64 {
     }
 }
 
-/// Stages the items, of which none has a checksum, in the order of their lines.
+/// Stages the items, none of which has a checksum, in the order of their lines.
 fn stage_in_order<A: Allocator + Copy>(
     test: &mut Test<A>,
     index: &mut FileIndex<A>,
@@ -163,7 +163,7 @@ fn sorted_spots<A: Allocator + Copy>(
     Ok(spots)
 }
 
-/// The spots of items, as these stand.
+/// The spots of the items, in the section's order.
 fn spots_of<A: Allocator + Copy>(alloc: A, items: &[Item<A>]) -> Result<Vec<Spot, A>, AllocError>
     ensures { IfOk result (λ spots. picked items.now spots.items ≡ items.now) }
 {

@@ -1,5 +1,4 @@
-//! How often a branch was taken, which may be missing, in 20 bytes. An `Option<u128>` takes 32, and 48 where it is an
-//! option's value once more.
+//! How often a branch was taken, which may be missing, in 20 bytes. An `Option<u128>` takes 32, and an option of that takes 48.
 
 ghost use Rattle.std.specs.Prelude.{◌≡◌, None};
 ghost use Rattle.covstore.specs.Sums.{sum_taken};
@@ -8,7 +7,7 @@ ghost use Rattle.covstore.specs.Value.{is_taken};
 use crate::packed_u128::PackedU128;
 use std::marker::Model;
 
-/// A number below 2^128, or none. Contracts see the one or the other.
+/// A number below 2^128, or none. Contracts see an option.
 #[derive(Drop)]
 pub(crate) struct PackedTaken {
     count: PackedU128,
@@ -40,7 +39,7 @@ impl PackedTaken {
         }
     }
 
-    /// The same once more.
+    /// A copy.
     pub(crate) fn copy(&self) -> PackedTaken
         ensures { result ≡ self.now }
     {
@@ -50,7 +49,7 @@ impl PackedTaken {
         }
     }
 
-    /// The sum with a number that may be missing too. It stops at the largest number of 128 bits.
+    /// The sum with another number that may be missing. It stops at the largest number of 128 bits.
     pub(crate) fn plus(&self, times: Option<u128>) -> PackedTaken
         ensures { result ≡ sum_taken self.now times }
     {
@@ -76,7 +75,7 @@ impl PackedTaken {
         false
     }
 
-    /// The number, where there is one.
+    /// The number, if there is one.
     pub(crate) fn get(&self) -> Option<u128>
         ensures { result ≡ self.now }
     {

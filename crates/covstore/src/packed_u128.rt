@@ -1,4 +1,4 @@
-//! A number of 128 bits in four words of 32. As fields of a struct these are laid out without gaps, which a `u128` leaves.
+//! A number of 128 bits in four words of 32. A struct lays out these words without gaps, which a `u128` would leave.
 
 ghost use Rattle.std.specs.Prelude.{◌≡◌, ◌+◌, nat_lt};
 ghost use Rattle.covstore.specs.Value.{bounded};
@@ -32,7 +32,7 @@ impl PackedU128 {
         }
     }
 
-    /// The same number once more.
+    /// A copy.
     pub(crate) fn copy(&self) -> PackedU128
         ensures { result ≡ self.now }
     {
@@ -42,7 +42,7 @@ impl PackedU128 {
         }
     }
 
-    /// The sum with one more, which stops at the largest number of 128 bits.
+    /// The sum with another number. It stops at the largest number of 128 bits.
     pub(crate) fn plus(&self, number: u128) -> PackedU128
         ensures { result ≡ bounded (self.now + number) }
     {

@@ -1,5 +1,5 @@
-//! A number of 64 bits in two words of 32. A struct of these may lie at each multiple of 4, and an option of it takes 4
-//! bytes more, where a word of 64 bits takes 8.
+//! A number of 64 bits in two words of 32. A struct of these words is aligned to 4 bytes, so an option of it takes 4 bytes more.
+//! With a word of 64 bits, it would take 8 bytes more.
 
 ghost use Rattle.std.specs.Prelude.{◌≡◌};
 
@@ -31,7 +31,7 @@ impl PackedU64 {
         }
     }
 
-    /// The same number once more.
+    /// A copy.
     pub(crate) fn copy(&self) -> PackedU64
         ensures { result ≡ self.now }
     {

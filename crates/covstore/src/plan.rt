@@ -1,10 +1,9 @@
-//! What a store has made ready to hold.
+//! A submission that a store is prepared to add.
 
 use crate::totals::Totals;
 use std::marker::Model;
 
-/// The totals that stand when what a store has made ready is taken; the values themselves wait at their places in the store.
-/// Contracts see the totals.
+/// The totals after a commit that a store has prepared. The values are staged in the store itself. Contracts see the totals.
 #[derive(Drop)]
 pub struct Plan {
     after: Totals,
@@ -25,7 +24,7 @@ impl Plan {
     ghost use Rattle.std.specs.Prelude.{◌≡◌};
     ghost use Rattle.covstore.specs.Totals.{AreTotals};
 
-    /// The plan after which these totals stand.
+    /// A plan with these totals after its commit.
     pub(crate) fn new(after: Totals) -> Plan
         requires { AreTotals after }
         ensures { result.after ≡ after }
@@ -33,7 +32,7 @@ impl Plan {
         Plan { after }
     }
 
-    /// The totals that stand after the commit. Takes no memory.
+    /// The totals after the commit.
     pub fn after(&self) -> Totals
         ensures value { result ≡ self.now.after }
         ensures bounds { AreTotals result }

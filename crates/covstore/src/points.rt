@@ -1,17 +1,17 @@
-//! A run of items of one kind: of their points in a test, and of what is kept of these in the file.
+//! Stages a run of items of one kind, in their test and in the file's index.
 
 ghost use Rattle.std.specs.Prelude.{◌≡◌, length, OnOk};
 ghost use Rattle.covmap.specs.Run.{summed};
 ghost use Rattle.covstore.specs.Items.{HasRoomForRun, KeepsCountsOfKind};
 
-use crate::items::stage_at_point;
-use crate::kind_index::KindIndex;
+use crate::items::stage_addend;
+use crate::point_index::PointIndex;
 use crate::sums::{PointAddend, PointSum};
 use covmap::{Key, Query, StagedMap};
 use std::alloc::{AllocError, Allocator};
 
-/// Stages a run of items at their points of a kind, in their test and in the file's numbers of these points.
-pub(crate) fn stage_at_points<
+/// Stages a run of items of one kind, in their test and in the file's index.
+pub(crate) fn stage_whole_run<
     K: Key + Drop,
     S: PointSum,
     A: Allocator + Copy,
@@ -19,7 +19,7 @@ pub(crate) fn stage_at_points<
     M: PointAddend<S>,
 >(
     points: &mut StagedMap<K, S, A>,
-    kept: &mut KindIndex<K, A>,
+    kept: &mut PointIndex<K, A>,
     alloc: A,
     run: &[(Q, M)],
 ) -> Result<(), AllocError>
@@ -37,8 +37,7 @@ pub(crate) fn stage_at_points<
     kept.add_run(alloc, changes.as_slice())
 }
 
-/// Stages a run of items at their points of a kind, one by one, as it pays where their points come in another order than
-/// that of the points.
+/// Stages a run of items of one kind, one by one. That pays if the items aren't in the order of their points.
 pub(crate) fn stage_one_by_one<
     K: Key + Drop,
     S: PointSum,
@@ -47,7 +46,7 @@ pub(crate) fn stage_one_by_one<
     M: PointAddend<S>,
 >(
     points: &mut StagedMap<K, S, A>,
-    kept: &mut KindIndex<K, A>,
+    kept: &mut PointIndex<K, A>,
     alloc: A,
     run: &[(Q, M)],
 ) -> Result<(), AllocError>
@@ -60,7 +59,7 @@ pub(crate) fn stage_one_by_one<
     let mut rest = run;
     while let Some((item, others)) = rest.split_first() {
         let (query, addend) = *item;
-        stage_at_point(points, kept, alloc, query, addend)?;
+        stage_addend(points, kept, alloc, query, addend)?;
         rest = others;
     }
     Ok(())

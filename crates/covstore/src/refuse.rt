@@ -1,20 +1,20 @@
-//! Why a store takes no submission.
+//! Why a store refuses a submission.
 
 use covline::{Bytes, Memory};
 use std::alloc::{AllocError, AllocFailed, Allocator, Global};
 
-/// Why a submission can't be held too.
+/// Why a store refuses a submission.
 #[derive(Drop)]
 pub enum Refuse<A: Allocator = Global> {
-    /// Refusal 1: the submission brings another checksum of this line of this file than the one that is held, or than an
-    /// earlier one of its own, so the two come from two versions of the source.
+    /// Refusal 1: for this line of this file, the submission has another checksum than the held one, or than an earlier one of
+    /// its own. So the two come from two versions of the source.
     Clash {
         file: Bytes<A>,
         line: u64,
         held: Bytes<A>,
         given: Bytes<A>,
     },
-    /// Refusal 2: a growth was refused.
+    /// Refusal 2: memory was refused.
     Memory,
 }
 

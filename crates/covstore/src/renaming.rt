@@ -1,10 +1,10 @@
-//! A rename that a store has made ready.
+//! A rename that a store is prepared to do.
 
 use std::alloc::{Allocator, Global};
 use std::marker::Model;
 
-/// In how many sections the old test stands, and its name where it is to go; its values wait under the new name in the
-/// store. Contracts see both.
+/// In how many sections the old test is, and its name if the commit drops it. Its values are staged in the store under the new
+/// name. Contracts see both.
 #[derive(Drop)]
 pub struct Renaming<A: Allocator = Global> {
     sections: u64,
@@ -34,7 +34,7 @@ impl<A: Allocator> Renaming<A> {
         }
     }
 
-    /// The old test leaves, and its values are under the new name then.
+    /// The commit drops the old test; its values are then under the new name.
     pub(crate) fn of(sections: u64, leaves: Vec<u8, A>) -> Renaming<A>
         ensures sections { result.sections ≡ sections }
         ensures leaves { result.leaves ≡ Some leaves.items }
@@ -45,14 +45,14 @@ impl<A: Allocator> Renaming<A> {
         }
     }
 
-    /// In how many sections the old test stands. Takes no memory.
+    /// In how many sections the old test is. Takes no memory.
     pub fn sections(&self) -> u64
         ensures { result ≡ self.now.sections }
     {
         self.sections
     }
 
-    /// The test that goes, where one does.
+    /// The test that the commit drops, if any.
     pub(crate) fn leaves(&self) -> Option<&[u8]>
         ensures { option_map (λ name. name.now) result ≡ self.now.leaves }
     {

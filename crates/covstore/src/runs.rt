@@ -1,4 +1,4 @@
-//! The items of a section as runs: what is said of one kind of points is staged at once.
+//! The items of a section as runs: all items of one kind of points are staged at once.
 
 ghost use Rattle.std.specs.Prelude.{◌≡◌, [], map, IfOk, OnOk};
 ghost use Rattle.std.specs.List.{All};
@@ -11,16 +11,16 @@ ghost use Rattle.covstore.specs.FileIndexView.{KeepsCommitted, index_staged};
 ghost use Rattle.covstore.specs.TestView.{test_staged, test_committed};
 
 use crate::index::FileIndex;
-use crate::points::{stage_at_points, stage_one_by_one};
+use crate::points::{stage_one_by_one, stage_whole_run};
 use crate::sums::{BranchAddend, FunctionAddend, LineAddend};
 use crate::test::Test;
 use covline::{BranchPoint, Item};
 use std::alloc::{AllocError, Allocator};
 
-/// How many items are staged at once at most. Their runs take memory beside them, and are to stay in the processor's caches.
+/// The largest number of items that are staged at once. Their runs take memory, and should fit in the processor's caches.
 pub(crate) const MAX_STAGED_AT_ONCE: usize = 1024;
 
-/// Items of a section, none of which has a checksum, cut into a run for each kind of point.
+/// Items of a section, split by kind into runs.
 #[derive(Drop)]
 pub(crate) struct Runs<'a, A: Allocator> {
     lines: Vec<(u64, LineAddend), A>,
@@ -82,7 +82,7 @@ impl<'a, A: Allocator + Copy> Runs<'a, A> {
 }
 
 /// The runs of items.
-fn runs_in<'a, A: Allocator + Copy>(
+pub(crate) fn runs_in<'a, A: Allocator + Copy>(
     alloc: A,
     items: &'a [Item<A>],
 ) -> Result<Runs<'a, A>, AllocError>
@@ -109,15 +109,15 @@ pub(crate) fn stage_runs<'a, A: Allocator + Copy>(
     ensures counts { OnOk result (KeepsCountsOfKinds (test_staged test.old) (test_staged test.new) (index_staged index.old) (index_staged index.new)) }
     ensures held { OnOk result (KeepsHeld (index_staged index.old) (index_staged index.new)) }
 {
-    stage_at_points(&mut test.lines, &mut index.lines, alloc, &runs.lines)?;
-    // Functions come by their lines, and their points are in the order of the names.
+    stage_whole_run(&mut test.lines, &mut index.lines, alloc, &runs.lines)?;
+    // Functions come in the order of their lines, but their points are in the order of the names.
     stage_one_by_one(
         &mut test.functions,
         &mut index.functions,
         alloc,
         &runs.functions,
     )?;
-    stage_at_points(
+    stage_whole_run(
         &mut test.branches,
         &mut index.branches,
         alloc,
@@ -126,7 +126,7 @@ pub(crate) fn stage_runs<'a, A: Allocator + Copy>(
     Ok(())
 }
 
-/// Stages the items, of which none has a checksum, as they stand.
+/// Stages the items, none of which has a checksum, in the section's order.
 pub(crate) fn stage_as_they_are<A: Allocator + Copy>(
     test: &mut Test<A>,
     index: &mut FileIndex<A>,

@@ -1,18 +1,18 @@
-//! Why a section isn't taken.
+//! Why the items of a section can't be staged.
 
 use covline::{Bytes, Memory};
 use std::alloc::{AllocError, AllocFailed, Allocator};
 
-/// Why the items of a section can't be taken.
+/// Why the items of a section can't be staged.
 #[derive(Drop)]
 pub(crate) enum StageFault<A: Allocator> {
-    /// The line's checksum differs from the one that is held, or from an earlier one of the submission.
+    /// The line's checksum differs from the held one, or from an earlier one of the submission.
     Clash {
         line: u64,
         held: Bytes<A>,
         given: Bytes<A>,
     },
-    /// A growth was refused.
+    /// Memory was refused.
     Memory,
 }
 

@@ -1,20 +1,26 @@
-//! The items of a section: of their test, and of what is kept of the file.
+//! Stages the items of a section, in their test and in the file's index.
 
 ghost use Rattle.std.specs.Prelude.{◌≡◌, map, IfErr, OnOk};
+ghost use Rattle.std.specs.List.Sorted.{IsStrictlySortedBy};
+ghost use Rattle.std.specs.Ordering.{nat_cmp};
 ghost use Rattle.covline.specs.Row.{item_data};
 ghost use Rattle.covstore.specs.Section.{Adds, Clashes, HasRoomFor};
 ghost use Rattle.covstore.specs.FileIndexView.{KeepsCommitted, index_staged};
 ghost use Rattle.covstore.specs.TestView.{test_staged, test_committed};
+ghost use Rattle.covstore.specs.Texts.{checked_lines};
 
 use crate::index::FileIndex;
 use crate::items::stage_item;
-use crate::order::{have_no_checksum, stage_plain};
+use crate::order::{have_no_checksum, stage_without_checksums};
+use crate::runs::{MAX_STAGED_AT_ONCE, runs_in, stage_runs};
 use crate::stage_fault::StageFault;
 use crate::test::Test;
+use crate::texts::{checked_lines_ascend, hold_texts};
 use covline::Item;
 use std::alloc::Allocator;
 
-/// Stages the items, up to the first that clashes. If none has a checksum, runs of items of one kind are staged.
+/// Stages the items, up to the first that clashes: some at once, and in the order of their lines where none has a checksum
+/// and the lines fall often.
 pub(crate) fn stage_items<A: Allocator + Copy>(
     test: &mut Test<A>,
     index: &mut FileIndex<A>,
@@ -28,9 +34,68 @@ pub(crate) fn stage_items<A: Allocator + Copy>(
     ensures clash { IfErr result (Clashes (map item_data items.now) (test_staged test.old) (index_staged index.old)) }
 {
     if have_no_checksum(items) {
-        stage_plain(test, index, alloc, items)?;
+        stage_without_checksums(test, index, alloc, items)?;
         return Ok(());
     }
+    for some in items.chunks(MAX_STAGED_AT_ONCE) {
+        stage_some(test, index, alloc, some)?;
+    }
+    Ok(())
+}
+
+/// Stages some of a section's items, up to the first that clashes: at once where their lines with a checksum ascend, as they
+/// do in what geninfo writes.
+fn stage_some<A: Allocator + Copy>(
+    test: &mut Test<A>,
+    index: &mut FileIndex<A>,
+    alloc: A,
+    items: &[Item<A>],
+) -> Result<(), StageFault<A>>
+    requires room { HasRoomFor (map item_data items.now) (test_staged test.old) (index_staged index.old) }
+    ensures test_committed { test_committed test.new ≡ test_committed test.old }
+    ensures index_committed { KeepsCommitted index.old index.new }
+    ensures ok { OnOk result (Adds (map item_data items.now) (test_staged test.old) (index_staged index.old) (test_staged test.new) (index_staged index.new)) }
+    ensures clash { IfErr result (Clashes (map item_data items.now) (test_staged test.old) (index_staged index.old)) }
+{
+    if checked_lines_ascend(items) {
+        return stage_at_once(test, index, alloc, items);
+    }
+    stage_each(test, index, alloc, items)
+}
+
+/// Stages items at once, up to the first that clashes: first their checksums, then runs of items of one kind.
+fn stage_at_once<A: Allocator + Copy>(
+    test: &mut Test<A>,
+    index: &mut FileIndex<A>,
+    alloc: A,
+    items: &[Item<A>],
+) -> Result<(), StageFault<A>>
+    requires room { HasRoomFor (map item_data items.now) (test_staged test.old) (index_staged index.old) }
+    requires ascend { IsStrictlySortedBy nat_cmp (checked_lines (map item_data items.now)) }
+    ensures test_committed { test_committed test.new ≡ test_committed test.old }
+    ensures index_committed { KeepsCommitted index.old index.new }
+    ensures ok { OnOk result (Adds (map item_data items.now) (test_staged test.old) (index_staged index.old) (test_staged test.new) (index_staged index.new)) }
+    ensures clash { IfErr result (Clashes (map item_data items.now) (test_staged test.old) (index_staged index.old)) }
+{
+    hold_texts(test, index, alloc, items)?;
+    let runs = runs_in(alloc, items)?;
+    stage_runs(test, index, alloc, &runs)?;
+    Ok(())
+}
+
+/// Stages items one by one, up to the first that clashes.
+fn stage_each<A: Allocator + Copy>(
+    test: &mut Test<A>,
+    index: &mut FileIndex<A>,
+    alloc: A,
+    items: &[Item<A>],
+) -> Result<(), StageFault<A>>
+    requires room { HasRoomFor (map item_data items.now) (test_staged test.old) (index_staged index.old) }
+    ensures test_committed { test_committed test.new ≡ test_committed test.old }
+    ensures index_committed { KeepsCommitted index.old index.new }
+    ensures ok { OnOk result (Adds (map item_data items.now) (test_staged test.old) (index_staged index.old) (test_staged test.new) (index_staged index.new)) }
+    ensures clash { IfErr result (Clashes (map item_data items.now) (test_staged test.old) (index_staged index.old)) }
+{
     for item in items {
         stage_item(test, index, alloc, item)?;
     }

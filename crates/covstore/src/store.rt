@@ -17,6 +17,7 @@ use crate::boxed::Boxed;
 use crate::content::Sections;
 use crate::drops::{add_up, count_sections, count_without, drop_from_files, names_with};
 use crate::file::File;
+use crate::path::Path;
 use crate::plan::Plan;
 use crate::refuse::Refuse;
 use crate::renaming::Renaming;
@@ -29,12 +30,12 @@ use std::marker::Model;
 /// A test of a file of which something is staged.
 #[derive(Drop)]
 pub(crate) struct Touched<A: Allocator> {
-    file: Vec<u8, A>,
+    file: Path<A>,
     test: Vec<u8, A>,
 }
 
 impl<A: Allocator + Copy> Touched<A> {
-    ghost use Rattle.std.specs.Prelude.{◌≡◌, ◌++◌, [], ◌∷◌, OnErr, OnOk};
+    ghost use Rattle.std.specs.Prelude.{◌≡◌, ◌≢◌, ℕ, List, ◌++◌, [], ◌∷◌, OnErr, OnOk};
     ghost use Rattle.covstore.specs.StoreView.{touched_data};
 
     /// Adds a test to those of which something is staged.
@@ -48,17 +49,28 @@ impl<A: Allocator + Copy> Touched<A> {
         ensures err { OnErr result (touched.new.items ≡ touched.old.items) }
     {
         let last = Touched {
-            file: Vec::from_slice(alloc, file)?,
+            file: Path::from_slice(alloc, file)?,
             test: Vec::from_slice(alloc, test)?,
         };
         touched.push(last)?;
         Ok(())
     }
+
+    /// The file of the last of these tests.
+    fn last_file(touched: &[Touched<A>]) -> &Path<A>
+        requires { touched.now ≢ [] }
+        ensures { (front : List (List ℕ × List ℕ)) (file test : List ℕ) → touched_data touched.now ≡ front ++ (file, test) ∷ [] → result.now.items ≡ file }
+    {
+        let Some(last) = touched.last() else {
+            unreachable!();
+        };
+        &last.file
+    }
 }
 
-/// Commits what is staged of each of these tests. The list of them is empty then.
+/// Commits what is staged in each of these tests, and empties the list of them.
 fn commit_staged<A: Allocator + Copy>(
-    files: &mut BTreeMap<Vec<u8, A>, Boxed<File<A>, A>, A>,
+    files: &mut BTreeMap<Path<A>, Boxed<File<A>, A>, A>,
     touched: &mut Vec<Touched<A>, A>,
 )
     requires { AreSettledBut (λ name. name.items) (touched_data touched.old.items) files.old.entries }
@@ -68,37 +80,38 @@ fn commit_staged<A: Allocator + Copy>(
     ensures settled { AreSettledBut (λ name. name.items) [] files.new.entries }
 {
     while let Some(last) = touched.pop() {
-        if let Some(file) = files.get_mut(last.file.as_slice()) {
+        if let Some(file) = files.get_mut(&last.file) {
             file.get_mut().commit(last.test.as_slice());
         }
     }
 }
 
-/// Stages the items of a test of a file, and tells the file's staged totals before and after. Looks the file up once; one
-/// that isn't there is put in with its items.
+/// Stages the items of a test of a file, and returns the file's staged totals before and after. Looks the file up once, and adds
+/// it if it isn't there.
 fn stage_in_files<A: Allocator + Copy>(
-    files: &mut BTreeMap<Vec<u8, A>, Boxed<File<A>, A>, A>,
+    files: &mut BTreeMap<Path<A>, Boxed<File<A>, A>, A>,
     alloc: A,
-    file: &[u8],
+    file: &Path<A>,
     test: &[u8],
     items: &[Item<A>],
 ) -> Result<(Totals, Totals), Refuse<A>>
-    requires { HasRoomAmong (rows_of_items file.now test.now (map item_data items.now)) (files_staged (λ name. name.items) files.old.entries) }
+    requires { HasRoomAmong (rows_of_items file.now.items test.now (map item_data items.now)) (files_staged (λ name. name.items) files.old.entries) }
     ensures committed { KeepsState (files_committed (λ name. name.items) files.old.entries) (files_committed (λ name. name.items) files.new.entries) }
-    ensures ok { OnOk result (AddsTo (rows_of_items file.now test.now (map item_data items.now)) (files_staged (λ name. name.items) files.old.entries) (files_staged (λ name. name.items) files.new.entries)) }
+    ensures ok { OnOk result (AddsTo (rows_of_items file.now.items test.now (map item_data items.now)) (files_staged (λ name. name.items) files.old.entries) (files_staged (λ name. name.items) files.new.entries)) }
     ensures totals { IfOk result (λ t. IsExchange t.0 t.1 (totals_in (files_staged (λ name. name.items) files.old.entries)) (totals_in (files_staged (λ name. name.items) files.new.entries))) }
-    ensures clash { IfErr result (λ e. ClashesAmong (rows_of_items file.now test.now (map item_data items.now)) (files_staged (λ name. name.items) files.old.entries) (refuse_data e)) }
-    ensures settled { (touched : List (List ℕ × List ℕ)) → AreSettledBut (λ name. name.items) touched files.old.entries → AreSettledBut (λ name. name.items) (touched ++ (file.now, test.now) ∷ []) files.new.entries }
+    ensures clash { IfErr result (λ e. ClashesAmong (rows_of_items file.now.items test.now (map item_data items.now)) (files_staged (λ name. name.items) files.old.entries) (refuse_data e)) }
+    ensures settled { (touched : List (List ℕ × List ℕ)) → AreSettledBut (λ name. name.items) touched files.old.entries → AreSettledBut (λ name. name.items) (touched ++ (file.now.items, test.now) ∷ []) files.new.entries }
 {
+    let name = file.as_slice();
     if let Some(found) = files.get_mut(file) {
-        return found.get_mut().stage_section(alloc, file, test, items);
+        return found.get_mut().stage_section(alloc, name, test, items);
     }
-    stage_in_new_file(files, alloc, file, test, items)
+    stage_in_new_file(files, alloc, name, test, items)
 }
 
-/// The same of a file that isn't there.
+/// The same for a file that isn't there.
 fn stage_in_new_file<A: Allocator + Copy>(
-    files: &mut BTreeMap<Vec<u8, A>, Boxed<File<A>, A>, A>,
+    files: &mut BTreeMap<Path<A>, Boxed<File<A>, A>, A>,
     alloc: A,
     file: &[u8],
     test: &[u8],
@@ -114,17 +127,17 @@ fn stage_in_new_file<A: Allocator + Copy>(
 {
     let mut made = Boxed::new(alloc, File::new(alloc))?;
     let totals = made.get_mut().stage_section(alloc, file, test, items)?;
-    files.insert(Vec::from_slice(alloc, file)?, made)?;
+    files.insert(Path::from_slice(alloc, file)?, made)?;
     Ok(totals)
 }
 
-/// What the held submissions say: for each file and each test in it, the value of every line, function and branch. There are
-/// at most 1,048,576 submissions. Where a test is dropped or renamed, its rows are dropped or renamed in all of them.
-/// Contracts see the values as sections, the number of submissions, and what the store keeps of its files, once as it is
-/// and once as it is to be after the next commit.
+/// The merged counts of all its submissions: for each file and each test in it, the value of every line, function and branch.
+/// There are at most 1,048,576 submissions. Dropping or renaming a test drops or renames its rows in all of them. Contracts see
+/// the values as sections, the number of submissions, and the files: as they are committed, and as they will be after the next
+/// commit.
 #[derive(Drop)]
 pub struct Store<A: Allocator = Global> {
-    files: BTreeMap<Vec<u8, A>, Boxed<File<A>, A>, A>,
+    files: BTreeMap<Path<A>, Boxed<File<A>, A>, A>,
     touched: Vec<Touched<A>, A>,
     totals: Totals,
     totals_after: Totals,
@@ -174,15 +187,15 @@ impl<A: Allocator + Copy> Store<A> {
         }
     }
 
-    /// Makes the store ready to hold the submission too. The content stays as it is. What a plan is made of is private.
-    /// Callers know three things of it: the submission clashes with no table that the store stands for; the plan has the
-    /// totals after the submission; and it is a plan of the store as it is left here, which `commit` asks for.
+    /// Prepares to add the submission. The content stays as it is. What a plan consists of is private. Callers know three things
+    /// of it: the submission clashes with no table that the store stands for; the plan has the totals after the submission; and
+    /// it is a plan of the store as this call leaves it, which `commit` requires.
     ///
     /// # Errors
     ///
-    /// `Clash` with the first checksum that differs from a held one. `Memory` where a growth was refused: no contract can say
-    /// that memory suffices, so a submission that clashes may be answered `Memory` too. A submission without a row is never
-    /// refused, since nothing grows for it.
+    /// `Clash` with the first checksum that differs from a held one. `Memory` if memory was refused: no contract can promise that
+    /// memory suffices, so a submission that clashes may get `Memory` too. A submission without a row is never refused, since it
+    /// allocates nothing.
     pub fn prepare(&mut self, alloc: A, submission: &Submission<A>) -> Result<Plan, Refuse<A>>
         requires { self.old.members < max_members }
         ensures content { SameContent self.old self.new }
@@ -192,7 +205,7 @@ impl<A: Allocator + Copy> Store<A> {
         ensures refused { IfErr result (λ e. (table : Table) → StandsFor self.old table → IsRefusedAt table submission.now (refuse_data e)) }
         ensures some { OnErr result (rows_of submission.now ≢ []) }
     {
-        // The contract of this call tells that few enough rows are held.
+        // The contract of this call says that the held rows are few enough.
         self.kept();
         // A plan that was dropped may have left something staged.
         self.rollback();
@@ -206,7 +219,7 @@ impl<A: Allocator + Copy> Store<A> {
         }
     }
 
-    /// Holds the planned submission too, where the store is as `prepare` left it. Takes no memory.
+    /// Adds the planned submission. The store must be as `prepare` left it. Takes no memory.
     pub fn commit(&mut self, plan: Plan)
         requires { (s : SubmissionData) × IsPlanOf self.old s plan }
         ensures stands { (s : SubmissionData) (table : Table) → IsPlanOf self.old s plan → StandsFor self.old table → StandsFor self.new (table ++ rows_of s ∷ []) }
@@ -217,15 +230,14 @@ impl<A: Allocator + Copy> Store<A> {
         self.members += 1;
     }
 
-    /// Makes the store ready to give the rows of one test another name, which can be any. The content stays as it is. What a
-    /// renaming is made of is private. Callers know two things of it: in how many sections the old test stands; and that it
-    /// is a renaming of the store as it is left here, which `commit_rename` asks for. Where no row is of the old test, or both
-    /// names are the same, it does nothing. The call takes a look-up in each file, and time for each point of the old
-    /// test.
+    /// Prepares to give the rows of one test another name, which can be any. The content stays as it is. What a renaming consists
+    /// of is private. Callers know two things of it: in how many sections the old test is; and that it is a renaming of the store
+    /// as this call leaves it, which `commit_rename` requires. If no row is of the old test, or both names are the same, it does
+    /// nothing. The call takes a look-up in each file, and time for each point of the old test.
     ///
     /// # Errors
     ///
-    /// `Memory` where a growth was refused. A rename that does nothing is never refused, since nothing grows for it.
+    /// `Memory` if memory was refused. A rename that does nothing is never refused, since it allocates nothing.
     pub fn prepare_rename(
         &mut self,
         alloc: A,
@@ -257,8 +269,8 @@ impl<A: Allocator + Copy> Store<A> {
         }
     }
 
-    /// Gives the rows of the old test their new name, where the store is as `prepare_rename` left it. Where a point has rows
-    /// of both names, its value is that of all these rows together. The totals stay. Takes no memory.
+    /// Gives the rows of the old test their new name. The store must be as `prepare_rename` left it. If a point has rows of both
+    /// names, its value is that of all these rows together. The totals stay. Takes no memory.
     pub fn commit_rename(&mut self, renaming: Renaming<A>)
         requires { (old new : List ℕ) × IsRenamingOf self.old old new renaming }
         ensures stands { (old new : List ℕ) (table : Table) → IsRenamingOf self.old old new renaming → StandsFor self.old table → StandsFor self.new (renamed old new table) }
@@ -269,14 +281,14 @@ impl<A: Allocator + Copy> Store<A> {
         }
     }
 
-    /// The committed totals. The contract tells that what is committed is the state of the rows of some table.
+    /// The committed totals. The contract says that the committed files are the state of the rows of some table.
     fn kept(&self) -> Totals
         ensures { IsKept self.now result }
     {
         self.totals
     }
 
-    /// The staged totals, which the next commit leaves.
+    /// The staged totals: those after the next commit.
     fn after(&self) -> Totals
         ensures { result ≡ self.now.after }
     {
@@ -292,7 +304,7 @@ impl<A: Allocator + Copy> Store<A> {
         ensures after { self.new.after ≡ totals_in self.old.committed }
     {
         while let Some(touched) = self.touched.pop() {
-            if let Some(file) = self.files.get_mut(touched.file.as_slice()) {
+            if let Some(file) = self.files.get_mut(&touched.file) {
                 file.get_mut().rollback(touched.test.as_slice());
             }
         }
@@ -328,7 +340,7 @@ impl<A: Allocator + Copy> Store<A> {
         self.stage_items(alloc, sect.file.get(), sect.test.get(), items)
     }
 
-    /// Stages the items of a test, and notes that something is staged of it.
+    /// Stages the items of a test, and notes that the test has something staged.
     fn stage_items(
         &mut self,
         alloc: A,
@@ -342,12 +354,13 @@ impl<A: Allocator + Copy> Store<A> {
         ensures clash { IfErr result (λ e. ClashesWith (rows_of_items file.now test.now (map item_data items.now)) self.old (refuse_data e)) }
     {
         Touched::push(&mut self.touched, alloc, file, test)?;
-        let totals = stage_in_files(&mut self.files, alloc, file, test, items)?;
+        let path = Touched::last_file(self.touched.as_slice());
+        let totals = stage_in_files(&mut self.files, alloc, path, test, items)?;
         self.totals_after = self.totals_after.exchanged(totals.0, totals.1);
         Ok(())
     }
 
-    /// Stages the values of the old test for the new one, in the files of these names, which are those that have it.
+    /// Stages the old test's values as items of the new one, in the files of these names: those in which the old test has points.
     fn copy_all(
         &mut self,
         alloc: A,
@@ -361,7 +374,7 @@ impl<A: Allocator + Copy> Store<A> {
         ensures committed { SameCommitted self.old self.new }
         ensures ok { OnOk result (IsMoving self.new old.now new.now old.now) }
     {
-        // The contract of this call tells that few enough rows are held.
+        // The contract of this call says that the held rows are few enough.
         self.kept();
         for name in names {
             self.copy_file(alloc, name.as_slice(), old, new)?;
@@ -369,7 +382,7 @@ impl<A: Allocator + Copy> Store<A> {
         Ok(())
     }
 
-    /// The same in one file, in which the old test has values. Notes that something is staged of the new one.
+    /// The same in one file, in which the old test has values. Notes that the new test has something staged.
     fn copy_file(&mut self, alloc: A, file: &[u8], old: &[u8], new: &[u8]) -> Result<(), Memory>
         requires apart { old.now ≢ new.now }
         requires room { HasRoomToCopy file.now old.now self.old }
@@ -377,14 +390,15 @@ impl<A: Allocator + Copy> Store<A> {
         ensures ok { OnOk result (Copies file.now old.now new.now self.old.staged self.new.staged) }
     {
         Touched::push(&mut self.touched, alloc, file, new)?;
-        let Some(opened) = self.files.get_mut(file) else {
+        let path = Touched::last_file(self.touched.as_slice());
+        let Some(opened) = self.files.get_mut(path) else {
             unreachable!();
         };
         opened.get_mut().copy_test(alloc, old, new)
     }
 
-    /// Whether some section, and so some row, is of this test. Looks the test up in one file after the other, up to the
-    /// first that has it. Takes no memory.
+    /// Whether some section, and so some row, is of this test. Looks the test up in one file after another, up to the first that
+    /// has it. Takes no memory.
     pub fn has_test(&self, test: &[u8]) -> bool
         ensures value { result ≡ list_any (λ s. bytes_eq s.key.test test.now) self.now.sections }
         ensures rows { (table : Table) → StandsFor self.now table → result ≡ list_any (λ row. bytes_eq row.test test.now) (all_rows table) }
@@ -392,7 +406,7 @@ impl<A: Allocator + Copy> Store<A> {
         self.files.values().any(|file| file.get().has_test(test))
     }
 
-    /// In how many sections the test stands, and the totals that `drop_test` would leave. Takes no memory.
+    /// In how many sections the test is, and the totals that `drop_test` would leave. Takes no memory.
     pub fn after_drop(&self, test: &[u8]) -> (u64, Totals)
         ensures sections { (table : Table) → StandsFor self.now table → result.0 ≡ sections_of_test test.now table }
         ensures totals { (table : Table) → StandsFor self.now table → result.1 ≡ totals_of (content_at (without_test test.now table)) }
@@ -401,8 +415,8 @@ impl<A: Allocator + Copy> Store<A> {
         count_without(&self.files, test)
     }
 
-    /// Drops all rows of a test: its points go, and what other tests have stays. Tells in how many sections it stood. Takes
-    /// no memory.
+    /// Drops all rows of a test: its points go, and what other tests have stays. Returns in how many sections it was. Takes no
+    /// memory.
     pub fn drop_test(&mut self, test: &[u8]) -> u64
         ensures sections { (table : Table) → StandsFor self.old table → result ≡ sections_of_test test.now table }
         ensures stands { (table : Table) → StandsFor self.old table → StandsFor self.new (without_test test.now table) }

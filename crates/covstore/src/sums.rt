@@ -1,9 +1,8 @@
-//! What the items of a file and a test add up to at a point, and in how many tests a file has a point. A sum stops at
-//! 2^128 - 1.
+//! What the items of a file and a test add up to at a point, and how many tests of a file have a point. A sum stops at 2^128 - 1.
 
 ghost use Rattle.std.specs.Prelude.{◌≡◌, Bool, true, Option};
 ghost use Rattle.std.proofs.Common.{refl};
-ghost use Rattle.covstore.specs.KindIndexCounts.{change_of, is_above_at, is_hit_by_some, tests_fit, tests_with};
+ghost use Rattle.covstore.specs.PointIndexCounts.{change_of, is_above_at, is_hit_by_some, tests_fit, tests_with};
 ghost use Rattle.covstore.specs.Kinds.{branch_above, function_above, line_above};
 ghost use Rattle.covstore.specs.State.{has_checksum};
 ghost use Rattle.covstore.specs.Stays.{branch_stays, function_stays, line_stays};
@@ -12,7 +11,7 @@ ghost use Rattle.covstore.specs.Sums.{branch_with, function_with, line_with};
 use crate::packed_taken::PackedTaken;
 use crate::packed_u64::PackedU64;
 use crate::packed_u128::PackedU128;
-use covmap::{Addend, Telling, Value};
+use covmap::{Addend, ReportingAddend, Value};
 
 /// What the items of a test add up to at a point.
 pub(crate) trait PointSum: Value {
@@ -23,8 +22,8 @@ pub(crate) trait PointSum: Value {
         ensures { result ≡ above self.now };
 }
 
-/// What an item adds at a point. No sum falls back to 0 by it. It tells what its test adds to the numbers of the point then.
-pub(crate) trait PointAddend<S: PointSum>: Telling<S, TestsAddend> {
+/// What an item adds to the sum at a point. A sum above 0 stays above 0. Reports what the test then adds to the point's numbers.
+pub(crate) trait PointAddend<S: PointSum>: ReportingAddend<S, TestsAddend> {
     ghost always_fits: { (more : Self) (before : Option S) → Self.fits more before };
 
     ghost stays: { (more : Self) (before : Option S) → is_above_at S.above before ≡ true → S.above (Self.sum more before) ≡ true };
@@ -32,7 +31,7 @@ pub(crate) trait PointAddend<S: PointSum>: Telling<S, TestsAddend> {
     ghost tells: { (more : Self) (before : Option S) (after : S) → Self.told more before after ≡ change_of S.above before after };
 }
 
-/// Whether the point is there, above 0.
+/// Whether there is a sum, and it is above 0.
 fn is_hit<S: PointSum>(value: &Option<S>) -> bool
     ensures { result ≡ is_above_at S.above value.now }
 {
@@ -56,13 +55,13 @@ pub(crate) struct FunctionSum {
     pub count: PackedU128,
 }
 
-/// A branch: how often it was taken, none where its block was never executed (geninfo(1): `BRDA:`).
+/// A branch: how often it was taken; none if its block was never executed (geninfo(1): `BRDA:`).
 #[derive(Drop)]
 pub(crate) struct BranchSum {
     pub times: PackedTaken,
 }
 
-// A map has an option of these for each point.
+// A map keeps an option of one of these for each point, so their size matters.
 const _: () = prove!(size_of::<Option<LineSum>>() <= 24);
 
 const _: () = prove!(size_of::<Option<FunctionSum>>() <= 28);
@@ -99,10 +98,10 @@ impl Addend<LineSum> for LineAddend {
     }
 }
 
-impl Telling<LineSum, TestsAddend> for LineAddend {
+impl ReportingAddend<LineSum, TestsAddend> for LineAddend {
     ghost told = { λ more before after. change_of line_above before after };
 
-    fn tell(self, before: &Option<LineSum>, after: &LineSum) -> Option<TestsAddend> {
+    fn report(self, before: &Option<LineSum>, after: &LineSum) -> Option<TestsAddend> {
         TestsAddend::of(before, after)
     }
 }
@@ -141,10 +140,10 @@ impl Addend<FunctionSum> for FunctionAddend {
     }
 }
 
-impl Telling<FunctionSum, TestsAddend> for FunctionAddend {
+impl ReportingAddend<FunctionSum, TestsAddend> for FunctionAddend {
     ghost told = { λ more before after. change_of function_above before after };
 
-    fn tell(self, before: &Option<FunctionSum>, after: &FunctionSum) -> Option<TestsAddend> {
+    fn report(self, before: &Option<FunctionSum>, after: &FunctionSum) -> Option<TestsAddend> {
         TestsAddend::of(before, after)
     }
 }
@@ -157,7 +156,7 @@ impl PointAddend<FunctionSum> for FunctionAddend {
     ghost tells = { λ more before after. refl };
 }
 
-/// A branch's item: how often it was taken, none where its block was never executed.
+/// A branch's item: how often it was taken; none if its block was never executed.
 #[derive(Clone, Copy)]
 pub(crate) struct BranchAddend {
     pub times: Option<u128>,
@@ -179,10 +178,10 @@ impl Addend<BranchSum> for BranchAddend {
     }
 }
 
-impl Telling<BranchSum, TestsAddend> for BranchAddend {
+impl ReportingAddend<BranchSum, TestsAddend> for BranchAddend {
     ghost told = { λ more before after. change_of branch_above before after };
 
-    fn tell(self, before: &Option<BranchSum>, after: &BranchSum) -> Option<TestsAddend> {
+    fn report(self, before: &Option<BranchSum>, after: &BranchSum) -> Option<TestsAddend> {
         TestsAddend::of(before, after)
     }
 }
@@ -195,8 +194,8 @@ impl PointAddend<BranchSum> for BranchAddend {
     ghost tells = { λ more before after. refl };
 }
 
-/// What a test adds to the numbers of a point: whether it has the point now, and whether it has it above 0 for the first
-/// time.
+/// What a test adds to a point's numbers: whether the test is new at the point, and whether it has the point above 0 for the
+/// first time.
 #[derive(Clone, Copy)]
 pub(crate) struct TestsAddend {
     pub is_new: bool,
@@ -204,8 +203,8 @@ pub(crate) struct TestsAddend {
 }
 
 impl TestsAddend {
-    /// What a test adds where its sum of a point was one and is another: nothing where the point isn't new there, and is as
-    /// much above 0 as it was.
+    /// What a test adds when its sum at a point changes; none if it had the point before, and doesn't have it above 0 for the
+    /// first time.
     pub(crate) fn of<S: PointSum>(before: &Option<S>, after: &S) -> Option<TestsAddend>
         ensures { result ≡ change_of S.above before.now after.now }
     {
@@ -239,11 +238,11 @@ impl Addend<Tests> for TestsAddend {
     }
 }
 
-/// It tells whether the point is new in the file, and whether a test has it above 0 for the first time.
-impl Telling<Tests, TestsAddend> for TestsAddend {
+/// Reports whether the point is new in the file, and whether some test has it above 0 for the first time.
+impl ReportingAddend<Tests, TestsAddend> for TestsAddend {
     ghost told = { λ more before after. change_of is_hit_by_some before after };
 
-    fn tell(self, before: &Option<Tests>, after: &Tests) -> Option<TestsAddend> {
+    fn report(self, before: &Option<Tests>, after: &Tests) -> Option<TestsAddend> {
         TestsAddend::of(before, after)
     }
 }
@@ -256,9 +255,9 @@ pub(crate) struct Tests {
 }
 
 impl Tests {
-    ghost use Rattle.covstore.specs.KindIndexDrops.{HaveOne, fewer_tests, is_hit};
+    ghost use Rattle.covstore.specs.PointIndexDrops.{HaveOne, fewer_tests, is_hit};
 
-    /// Whether there are tests, and one of them has the point above 0.
+    /// Whether some test has the point above 0.
     pub(crate) fn is_hit(value: &Option<Tests>) -> bool
         ensures { result ≡ is_hit value.now }
     {
@@ -268,7 +267,7 @@ impl Tests {
         }
     }
 
-    /// The numbers where a test less has the point, above 0 or not; none where it was the only one.
+    /// The numbers without one test, which had the point above 0 or not; none if it was the only one.
     pub(crate) fn fewer(&self, was_above: bool) -> Option<Tests>
         requires { HaveOne was_above self.now }
         ensures { result ≡ fewer_tests was_above self.now }
@@ -360,7 +359,7 @@ impl PointSum for Tests {
 }
 
 impl LineSum {
-    /// Whether the line is there, with a checksum.
+    /// Whether the line has a sum, with a checksum.
     pub(crate) fn is_checked(value: &Option<LineSum>) -> bool
         ensures { result ≡ is_above_at has_checksum value.now }
     {

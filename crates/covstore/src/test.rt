@@ -1,4 +1,4 @@
-//! What a test of a file has: its points of each kind, each with what its items add up to.
+//! A test of a file: its points of each kind, with what its items add up to.
 
 ghost use Rattle.std.specs.Prelude.{◌≡◌, []};
 
@@ -31,7 +31,7 @@ impl<A: Allocator + Copy> Test<A> {
         }
     }
 
-    /// Commits what is staged. Takes no memory.
+    /// Commits what is staged.
     pub(crate) fn commit(&mut self)
         ensures committed { test_committed self.new ≡ test_staged self.old }
         ensures staged { test_staged self.new ≡ test_staged self.old }
@@ -41,7 +41,7 @@ impl<A: Allocator + Copy> Test<A> {
         self.branches.commit();
     }
 
-    /// Forgets what is staged. Takes no memory.
+    /// Forgets what is staged.
     pub(crate) fn rollback(&mut self)
         ensures committed { test_committed self.new ≡ test_committed self.old }
         ensures staged { test_staged self.new ≡ test_committed self.old }
@@ -56,7 +56,7 @@ impl<A: Allocator> Test<A> {
     ghost use Rattle.covstore.specs.TestView.{test_committed};
     ghost use Rattle.covstore.specs.State.{has_no_points};
 
-    /// Whether there are no points now.
+    /// Whether there are no committed points.
     pub(crate) fn is_empty(&self) -> bool
         ensures { result ≡ has_no_points (test_committed self.now) }
     {

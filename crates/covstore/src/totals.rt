@@ -22,7 +22,7 @@ pub struct Totals {
 }
 
 impl Totals {
-    /// Nothing is found.
+    /// The totals if nothing is found: all 0.
     pub(crate) fn none() -> Totals
         ensures { result ≡ no_totals }
     {
@@ -36,7 +36,7 @@ impl Totals {
         }
     }
 
-    /// These totals where what counted as `before` counts as `after`.
+    /// These totals with the part `before` replaced by `after`.
     pub(crate) fn exchanged(self, before: Totals, after: Totals) -> Totals
         requires part { IsAmong before self }
         requires fits { FitTogether after self }
@@ -52,7 +52,7 @@ impl Totals {
         }
     }
 
-    /// These totals and those of others.
+    /// The sum of these totals and others.
     pub(crate) fn plus(self, more: Totals) -> Totals
         requires { FitTogether more self }
         ensures { result ≡ together self more }

@@ -9,7 +9,7 @@ pub struct FunctionValue<'a> {
     pub count: u128,
 }
 
-/// A branch with how often it was taken, and none where its block was never executed (geninfo(1): `BRDA:`).
+/// A branch, and how often it was taken; none if its block was never executed (geninfo(1): `BRDA:`).
 #[derive(Clone, Copy)]
 pub struct BranchValue {
     pub line: u64,
@@ -18,7 +18,7 @@ pub struct BranchValue {
     pub taken: Option<u128>,
 }
 
-/// A line with the sum of its execution counts, and the checksum of its text where a row has one (geninfo(1): `DA:`).
+/// A line with the sum of its execution counts, and the checksum of its text if a row has one (geninfo(1): `DA:`).
 #[derive(Clone, Copy)]
 pub struct LineValue<'a> {
     pub line: u64,

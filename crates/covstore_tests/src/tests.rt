@@ -3,7 +3,6 @@
 use std::process::Abort;
 use std::test::*;
 
-mod calls;
 mod drops;
 mod held;
 mod maps;
@@ -13,6 +12,7 @@ mod renames;
 mod runs;
 mod shuffled;
 mod texts;
+mod wrappers;
 
 /// Checks that the bytes are as wanted. The tests compare here, since each comparison in a test's own body is proved
 /// there.

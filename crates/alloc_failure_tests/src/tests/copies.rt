@@ -1,9 +1,9 @@
 //! Copies, which are equal to what was copied.
 
-use super::calls::{bytes, copied_answer, copied_op, list_of, op_of, read, shared_text};
 use super::heap::{check_none, check_rising, narrow, widen};
 use super::said::check_answer;
 use super::texts::{CHECKED, SMALL};
+use super::wrappers::{bytes, copied_answer, copied_op, list_of, op_of, read, shared_text};
 use super::{check_bytes, made};
 use bumpalo::Bump;
 use covbook::Answer;

@@ -4,7 +4,7 @@
 use super::heap::{check_rising, narrow, widen};
 use super::made;
 use bumpalo::Bump;
-use covmap::{Addend, StagedMap, Telling};
+use covmap::{Addend, ReportingAddend, StagedMap};
 use std::alloc::{AllocError, Allocator};
 use std::process::Abort;
 use std::test::*;
@@ -25,12 +25,12 @@ impl Addend<u64> for Newest {
     }
 }
 
-impl Telling<u64, u64> for Newest {
+impl ReportingAddend<u64, u64> for Newest {
     ghost use Rattle.std.specs.Prelude.{Some};
 
     ghost told = { λ newest before after. Some after };
 
-    fn tell(self, _before: &Option<u64>, after: &u64) -> Option<u64> {
+    fn report(self, _before: &Option<u64>, after: &u64) -> Option<u64> {
         Some(*after)
     }
 }

@@ -2,10 +2,10 @@
 
 ghost use Rattle.covstore.specs.Totals.{AreTotals};
 
-use super::calls::{add, bytes, list_of, printed, put};
 use super::heap::{check_rising, narrow, widen};
 use super::stores::holding;
 use super::texts::{SMALL, TRACED};
+use super::wrappers::{add, bytes, list_of, printed, put};
 use super::{check_bytes, made};
 use bumpalo::Bump;
 use covline::{lines, read_line};

@@ -1,9 +1,9 @@
 //! Texts that are read. What was read is printed, and so looked at whole.
 
-use super::calls::{printed, read, read_annotated};
 use super::heap::{check_rising_by, narrow, widen};
 use super::stores::stored;
 use super::texts::{ANNOTATED, CHECKED, SMALL, TRACED};
+use super::wrappers::{printed, read, read_annotated};
 use super::{check_bytes, made};
 use bumpalo::Bump;
 use covline::Submission;

@@ -2,10 +2,10 @@
 
 ghost use Rattle.std.specs.Prelude.{◌≡◌};
 
-use super::calls::op_of;
 use super::heap::{check_none, check_rising, check_rising_by, narrow, widen};
 use super::made;
 use super::said::{BEGUN, STEPS, Step, check_entry, check_told, step_of};
+use super::wrappers::op_of;
 use bumpalo::Bump;
 use covbook::{BookFault, Entries, Op};
 use covjobs::{Done, Live, Name, OpenFault, ReaderFault, Seat, Seats, Shared, Start, open_book};

@@ -1,9 +1,9 @@
 //! Steps of a book. A refusal leaves its entries and totals.
 
-use super::calls::{op_of, step, step_in_halves};
 use super::heap::{check_rising, narrow, widen};
 use super::made;
 use super::said::{BEGUN, STEPS, Step, check_entry, check_told, step_of};
+use super::wrappers::{op_of, step, step_in_halves};
 use bumpalo::Bump;
 use covbook::{Book, BookFault, Op, Receipt};
 use std::alloc::Allocator;

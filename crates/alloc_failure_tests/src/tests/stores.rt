@@ -3,9 +3,9 @@
 ghost use Rattle.std.specs.Prelude.{◌<◌, OnErr};
 ghost use Rattle.covstore.specs.Store.{max_members};
 
-use super::calls::{printed, read};
 use super::heap::{check_rising, check_rising_by, narrow, widen};
 use super::texts::{APART, DOUBLED, JOINED, RENAMED, SMALL};
+use super::wrappers::{printed, read};
 use super::{check_bytes, made};
 use bumpalo::Bump;
 use covline::{Memory, Submission};

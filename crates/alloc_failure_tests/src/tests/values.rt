@@ -1,8 +1,8 @@
 //! Values that are made of others: texts, and what is shared.
 
-use super::calls::{bytes, read, shared, shared_text};
 use super::heap::{check_rising, narrow, widen};
 use super::texts::SMALL;
+use super::wrappers::{bytes, read, shared, shared_text};
 use super::{check_bytes, made};
 use bumpalo::Bump;
 use std::process::Abort;

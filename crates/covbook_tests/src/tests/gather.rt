@@ -1,10 +1,10 @@
 //! A history of six calls, and what `gather` returns for it and for what two jobs kept.
 
-use super::calls::{
-    bytes_of, copied_answer, copied_op, entries, gathered, is_same_answer, is_same_op,
-};
 use super::said::put_answer;
 use super::script::{check_run, op_of, run};
+use super::wrappers::{
+    bytes_of, copied_answer, copied_op, entries, gathered, is_same_answer, is_same_op,
+};
 use covbook::{
     Answer, Book, Entry, GatherFault, JobLog, Logs, Reading, Readings, Receipt, Receipts, TextRef,
 };

@@ -1,7 +1,7 @@
 //! Calls of covbook that no session shows: receipts, entries, copies, and the length of a history.
 
-use super::calls::{bytes_of, entries, step};
 use super::script::{check_new, check_words};
+use super::wrappers::{bytes_of, entries, step};
 use covbook::{Answer, Book, BookFault, Entries, Entry, Op, Receipt, Receipts, TextRef};
 use covline::Memory;
 use covstore::Totals;

@@ -1,8 +1,8 @@
 //! Random submissions beside a plain list of their rows.
 
-use super::calls::{after_dropped, hand_in};
 use super::push_line;
 use super::script::{check_printed, receipt_of};
+use super::wrappers::{after_dropped, hand_in};
 use covbook::{Answer, Book};
 use covline::{Bytes, Memory};
 use covreport::summary_text;

@@ -1,8 +1,8 @@
 //! The same submissions in other orders.
 
-use super::calls::hand_in;
 use super::list::{Random, random_text};
 use super::script::{check_printed, printed};
+use super::wrappers::hand_in;
 use covbook::Book;
 use std::alloc::Global;
 use std::process::Abort;

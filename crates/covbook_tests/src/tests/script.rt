@@ -1,8 +1,8 @@
 //! Histories as text: what each job asks, a line each, and the words on each step.
 
-use super::calls::{bytes_of, copied_answer, copied_op, entries, list_of, submit, take, totals};
 use super::push_line;
 use super::said::{put_answer, put_number, words_of};
+use super::wrappers::{bytes_of, copied_answer, copied_op, entries, list_of, submit, take, totals};
 use covbook::{Answer, Book, Entry, Op, Receipt};
 use covstore::Totals;
 use std::alloc::Global;

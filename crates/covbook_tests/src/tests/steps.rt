@@ -1,7 +1,7 @@
 //! Steps in two halves, and tests that are dropped.
 
-use super::calls::{after_dropped, entry_ready, hand_in, submit, totals};
 use super::script::{check_lines, check_run};
+use super::wrappers::{after_dropped, entry_ready, hand_in, submit, totals};
 use covbook::Book;
 use covstore::Totals;
 use std::alloc::Global;

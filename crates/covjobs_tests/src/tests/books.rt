@@ -3,8 +3,8 @@
 
 ghost use Rattle.std.specs.Prelude.{◌≡◌};
 
-use super::calls::{close, done, drop_of, open, rename_of, submit};
 use super::turns::SMALL;
+use super::wrappers::{close, done, drop_of, open, rename_of, submit};
 use covbook::{Entries, JobLog, Op, Readings, Receipt, Receipts};
 use covjobs::{Done, Name, News, Seat, Shared, Start};
 use std::alloc::{Allocator, Global};

@@ -3,8 +3,8 @@
 ghost use Rattle.std.specs.Prelude.{◌≡◌};
 
 use super::books::{history_of, op_of, opened, receipt_of};
-use super::calls::{close, none, start, with};
 use super::turns::check_entries;
+use super::wrappers::{close, none, start, with};
 use covjobs::{CloseFault, Name, Seat, Shared, Start};
 use std::marker::Brand;
 use std::process::Abort;

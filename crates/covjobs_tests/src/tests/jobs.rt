@@ -1,6 +1,6 @@
 //! How many jobs share a book.
 
-use super::calls::start;
+use super::wrappers::start;
 use covjobs::{CloseFault, OpenFault};
 use std::alloc::Global;
 use std::test::*;

@@ -4,8 +4,8 @@
 ghost use Rattle.std.specs.Prelude.{◌≡◌};
 
 use super::books::{empty_logs, history_of, keep, op_of, opened, receipt_of};
-use super::calls::{copied, gathered, start};
 use super::turns::{ASKED, check_entries};
+use super::wrappers::{copied, gathered, start};
 use covbook::{Answer, Entries, GatherFault, JobLog, Op, Reading, Readings, Receipt, Receipts};
 use covjobs::{Name, Seat, Shared, Start};
 use covstore::Totals;

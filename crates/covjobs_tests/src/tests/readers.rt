@@ -3,7 +3,7 @@
 ghost use Rattle.std.specs.Prelude.{◌≡◌};
 
 use super::books::{closed, done_of, keep, op_of, opened};
-use super::calls::{gathered, learn, reader, reading, start, totals};
+use super::wrappers::{gathered, learn, reader, reading, start, totals};
 use covbook::{JobLog, Op, Reading, Readings, Receipts};
 use covjobs::{Live, Name, News, ReaderFault, Seat, Shared, Start};
 use std::alloc::Global;

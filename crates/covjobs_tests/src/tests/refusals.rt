@@ -3,7 +3,7 @@
 ghost use Rattle.std.specs.Prelude.{◌≡◌};
 
 use super::books::{history_of, opened};
-use super::calls::{perform, start};
+use super::wrappers::{perform, start};
 use covbook::{BookFault, Op};
 use covjobs::{Name, Seat, Shared, Start};
 use linked_list_allocator::LocalHeap;

@@ -3,8 +3,8 @@
 ghost use Rattle.std.specs.Prelude.{◌≡◌};
 
 use super::books::{empty_logs, history_of, keep, op_of, opened, receipt_of};
-use super::calls::{gathered, start};
 use super::check_bytes;
+use super::wrappers::{gathered, start};
 use covbook::{Answer, Entry, JobLog, Op, Receipt};
 use covjobs::{Name, Seat, Shared, Start};
 use std::alloc::Global;

@@ -3,9 +3,9 @@
 ghost use Rattle.std.specs.Prelude.{◌≡◌};
 
 use super::books::{history_of, op_of, opened, receipt_of};
-use super::calls::start;
 use super::check_bytes;
 use super::said::{put_entries, put_receipt};
+use super::wrappers::start;
 use covbook::{Entry, Receipt};
 use covjobs::{Name, Seat, Shared, Start};
 use std::alloc::{AllocError, Global};

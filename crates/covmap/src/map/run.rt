@@ -3,22 +3,22 @@
 ghost use Rattle.std.specs.Prelude.{◌≡◌, ◌<◌, ◌≤◌, ◌++◌, IfOk, OnOk, length, take};
 ghost use Rattle.covmap.specs.Run.{FitRun, summed, told_run};
 
-use crate::key::{Key, Query, Telling, Value};
+use crate::key::{Key, Query, ReportingAddend, Value};
 use crate::map::StagedMap;
 use crate::slots::run::make_slots;
 use std::alloc::{AllocError, Allocator};
 
 impl<K: Key + Drop, V: Value, A: Allocator + Copy> StagedMap<K, V, A> {
-    /// Stages the sums of the staged values of a run of keys and their addends, in order, and appends what these tell to
-    /// `told`. Keys may come in any order and more than once.
+    /// Stages, item by item, the sum of the key's staged value and its addend. Appends what the addends report to `told`. Keys
+    /// may come in any order, and more than once.
     ///
-    /// Keys that ascend are looked up once for each page that they stand on. New keys greater than all others get pages of
-    /// their own at once; one between others is put in by itself.
+    /// Ascending keys are looked up once for each page that they are on. New keys that are greater than all others get pages of
+    /// their own at once; a new key between others is inserted by itself.
     ///
     /// # Errors
     ///
-    /// `AllocError` where memory was refused. Anything may be staged then, and is best rolled back.
-    pub fn stage_run<Q: Query<K, A>, N: Drop, M: Telling<V, N>>(
+    /// `AllocError` if memory was refused. Anything may be staged then, so roll it back.
+    pub fn stage_run<Q: Query<K, A>, N: Drop, M: ReportingAddend<V, N>>(
         &mut self,
         alloc: A,
         run: &[(Q, M)],
@@ -37,8 +37,8 @@ impl<K: Key + Drop, V: Value, A: Allocator + Copy> StagedMap<K, V, A> {
         Ok(())
     }
 
-    /// Stages one or more items at the front of a run, and returns how many.
-    fn stage_some<Q: Query<K, A>, N: Drop, M: Telling<V, N>>(
+    /// Stages one or more items at the front of a run, and returns their number.
+    fn stage_some<Q: Query<K, A>, N: Drop, M: ReportingAddend<V, N>>(
         &mut self,
         alloc: A,
         run: &[(Q, M)],

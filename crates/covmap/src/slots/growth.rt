@@ -1,6 +1,6 @@
-//! A slot more, also while values are staged: their columns follow the pages.
+//! Inserts a slot, even while values are staged: their columns follow the pages.
 //!
-//! Where memory is refused after the slots have changed, what is staged is forgotten.
+//! If memory is refused after the slots have changed, what is staged is forgotten.
 
 ghost use Rattle.std.specs.Prelude.{◌≡◌, ◌+◌, ◌^◌, ◌<◌, IfOk, OnOk, length};
 ghost use Rattle.std.specs.declared.cmp.Ordering.TheVariants.{Less};
@@ -14,7 +14,7 @@ use crate::slots::staged::StagedColumns;
 use crate::slots::{HALF, PAGE_SLOTS, SlotIndex, Slots};
 use std::alloc::{AllocError, Allocator};
 
-/// Returns the place of what is asked for, and puts in an empty slot where it has none.
+/// Returns the place of the queried key, and inserts an empty slot if it has none.
 pub(crate) fn make_slot<K: Key + Drop, V: Value, A: Allocator + Copy, Q: Query<K, A>>(
     slots: &mut Slots<K, V, A>,
     staged: &mut StagedColumns<V, A>,
@@ -37,7 +37,7 @@ pub(crate) fn make_slot<K: Key + Drop, V: Value, A: Allocator + Copy, Q: Query<K
     }
 }
 
-/// Puts an empty slot where it would go.
+/// Inserts an empty slot for a key at the place where it belongs.
 fn put_slot<K: Key + Drop, V: Value, A: Allocator + Copy>(
     slots: &mut Slots<K, V, A>,
     staged: &mut StagedColumns<V, A>,
@@ -58,7 +58,7 @@ fn put_slot<K: Key + Drop, V: Value, A: Allocator + Copy>(
     put_after(slots, staged, alloc, key)
 }
 
-/// Puts an empty slot on a page that is there.
+/// Inserts an empty slot on an existing page.
 fn put_within<K: Key + Drop, V: Value, A: Allocator + Copy>(
     slots: &mut Slots<K, V, A>,
     staged: &mut StagedColumns<V, A>,
@@ -117,7 +117,7 @@ fn put_after<K: Key + Drop, V: Value, A: Allocator + Copy>(
     })
 }
 
-/// Puts an empty slot on a page that has room for it.
+/// Inserts an empty slot on a page that has room for it.
 fn put_at<K: Key + Drop, V: Value, A: Allocator + Copy>(
     slots: &mut Slots<K, V, A>,
     staged: &mut StagedColumns<V, A>,
@@ -143,7 +143,7 @@ fn put_at<K: Key + Drop, V: Value, A: Allocator + Copy>(
     }
 }
 
-/// Cuts a full page in two.
+/// Splits a full page in two.
 fn split<K: Key + Drop, V: Value, A: Allocator + Copy>(
     slots: &mut Slots<K, V, A>,
     staged: &mut StagedColumns<V, A>,

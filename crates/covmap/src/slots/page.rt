@@ -1,7 +1,7 @@
-//! A page of slots: ascending keys, and values beside the first of them.
+//! A page of slots: ascending keys, and values for the first of them.
 //!
-//! Keys and values are lists of their own: a search goes over keys alone, and all values of a page are exchanged at once.
-//! Slots after the last value are empty, so a page without committed values takes memory for its keys alone.
+//! Keys and values are separate lists: a search reads only keys, and all values of a page are exchanged at once. Slots after the
+//! last value are empty, so a page without committed values takes memory only for its keys.
 
 ghost use Rattle.std.specs.Prelude.{◌≡◌, ◌<◌, ◌≤◌, ◌-◌, ◌++◌, None, [], ◌∷◌, IfNone, IfOk, IfSome, OnErr, OnOk, true, is_some, length, map, drop, option_map, slice_get, slice_set, take};
 ghost use Rattle.std.specs.List.{insert};
@@ -116,7 +116,7 @@ impl<'a, K, V> Rest<'a, K, V> {
 }
 
 impl<K: Key, V, A: Allocator> Page<K, V, A> {
-    /// Whether the last key comes before what is asked for.
+    /// Whether the last key comes before the queried key.
     pub(crate) fn ends_before<Q: Query<K, A>>(&self, query: Q) -> bool
         ensures { result ≡ ends_before (λ key. K.cmp key (Q.named query)) self.now }
     {
@@ -126,7 +126,7 @@ impl<K: Key, V, A: Allocator> Page<K, V, A> {
         }
     }
 
-    /// The first slot that doesn't come before what is asked for.
+    /// The number of the first slot whose key doesn't come before the queried key.
     pub(crate) fn index_of<Q: Query<K, A>>(&self, query: Q) -> usize
         requires { IsAscending K.cmp self.now }
         ensures { result ≡ lead (is_before (λ key. K.cmp key (Q.named query))) self.now }
@@ -165,7 +165,7 @@ impl<K, V: Value, A: Allocator> Page<K, V, A> {
         Ok(column)
     }
 
-    /// Takes these values in place of its own.
+    /// Replaces its values by these.
     pub(crate) fn fill(&mut self, column: Vec<Option<V>, A>)
         requires { length column.items ≡ length self.old }
         ensures { self.new ≡ with_column self.old column.items }
@@ -173,7 +173,7 @@ impl<K, V: Value, A: Allocator> Page<K, V, A> {
         self.values = column;
     }
 
-    /// Writes a value, or none, into a slot that has one.
+    /// Replaces the value in a slot, which has one, by this value or by none.
     pub(crate) fn write(&mut self, index: usize, value: Option<V>)
         requires { is_some (value_in (option_map (λ slot. slot.1) (slice_get self.old index))) ≡ true }
         ensures { self.new ≡ with_column self.old (slice_set (column_of self.old) index value) }
@@ -183,7 +183,7 @@ impl<K, V: Value, A: Allocator> Page<K, V, A> {
 }
 
 impl<K: Drop, V: Value, A: Allocator + Copy> Page<K, V, A> {
-    /// Puts an empty slot in.
+    /// Inserts an empty slot.
     pub(crate) fn insert(&mut self, index: usize, key: K) -> Result<(), AllocError>
         requires { index ≤ length self.old }
         ensures ok { OnOk result (self.new ≡ insert self.old index (key, None)) }
@@ -197,14 +197,14 @@ impl<K: Drop, V: Value, A: Allocator + Copy> Page<K, V, A> {
             self.keys.insert(index, key)?;
             return Ok(());
         }
-        // Room for the value first, so that the keys change only where it comes too.
+        // Reserves room for the value first, so that the keys don't change if that is refused.
         self.values.reserve(1)?;
         self.keys.insert(index, key)?;
         self.values.insert(index, None)?;
         Ok(())
     }
 
-    /// Moves the second half of a full page to one of its own.
+    /// Moves the second half of a full page to a page of its own.
     pub(crate) fn split(&mut self, alloc: A) -> Result<Page<K, V, A>, AllocError>
         requires { length self.old ≡ 256 }
         ensures front { OnOk result (self.new ≡ take 128 self.old) }
@@ -219,7 +219,7 @@ impl<K: Drop, V: Value, A: Allocator + Copy> Page<K, V, A> {
 }
 
 impl<K, V: Value, A: Allocator> Page<K, V, A> {
-    /// A copy of the values from a slot on. Slots after them are empty.
+    /// A copy of the values from a slot on. The slots after the last of them are empty.
     fn values_from(&self, alloc: A, start: usize) -> Result<Vec<Option<V>, A>, AllocError>
         ensures values { IfOk result (λ values. beside (drop start (map (λ slot. slot.0) self.now)) values.items ≡ drop start self.now) }
         ensures fits { IfOk result (λ values. length values.items ≤ length self.now - start) }
@@ -231,7 +231,7 @@ impl<K, V: Value, A: Allocator> Page<K, V, A> {
     }
 }
 
-/// Appends empty values until the column has `len` of them. Reserves no more room than that.
+/// Appends empty values until the column has `len` values. Reserves no more room than that.
 fn fill_up<V: Drop, A: Allocator>(
     column: &mut Vec<Option<V>, A>,
     len: usize,

@@ -16,7 +16,7 @@ use std::alloc::{AllocError, Allocator};
 const SHORT_RUN: usize = 32;
 
 impl SlotIndex {
-    /// Another slot of its page.
+    /// Another slot of the same page.
     pub(crate) fn at(self, index: usize) -> SlotIndex {
         SlotIndex {
             page: self.page,
@@ -26,7 +26,7 @@ impl SlotIndex {
 }
 
 impl<K: Key, V, A: Allocator> Slots<K, V, A> {
-    /// Whether the last page has room for a slot more.
+    /// Whether the last page has room for one more slot.
     fn has_room(&self) -> bool {
         match self.pages.last() {
             Some(page) => page.len() < PAGE_SLOTS,
@@ -34,7 +34,7 @@ impl<K: Key, V, A: Allocator> Slots<K, V, A> {
         }
     }
 
-    /// A place to begin the search for a key at, no search among the pages: on the page of the guess.
+    /// Where to begin the search for a key: a place on the page of the guess, found without a search among the pages.
     fn near<Q: Query<K, A>>(&self, query: Q, guess: SlotIndex) -> SlotIndex
     where
         V: Value,
@@ -45,7 +45,7 @@ impl<K: Key, V, A: Allocator> Slots<K, V, A> {
         }
     }
 
-    /// The page of this number, which is there.
+    /// The page of this number, which exists.
     pub(crate) fn page_there(&self, number: usize) -> &Page<K, V, A>
         requires { number < length self.now }
         ensures page { result.now ≡ page_at self.now number }
@@ -73,8 +73,8 @@ impl<K: Key + Drop, V: Value, A: Allocator + Copy> Slots<K, V, A> {
     }
 }
 
-/// Returns the place of the first key of a run, and puts in an empty slot where it has none. Where that slot comes last of
-/// all, the keys after it get theirs at once.
+/// Returns the place of the first key of a run, and inserts an empty slot if it has none. If that slot is the last of all, the
+/// next keys get theirs at once.
 pub(crate) fn make_slots<
     K: Key + Drop,
     V: Value,
@@ -109,8 +109,8 @@ pub(crate) fn make_slots<
     }
 }
 
-/// Puts in empty slots for the keys at the front of a run, as long as these ascend on one page that has room. A page that has
-/// no staged values yet gets them all before it has a column, into which each would have to be put as well.
+/// Inserts empty slots for the keys at the front of a run, as long as these ascend on one page that has room. A page without
+/// staged values gets all slots before it gets a column: after that, each slot would have to be inserted into the column too.
 fn make_ahead<K: Key + Drop, V: Value, A: Allocator + Copy, Q: Query<K, A>, M: Addend<V>>(
     slots: &mut Slots<K, V, A>,
     staged: &mut StagedColumns<V, A>,

@@ -1,4 +1,4 @@
-//! Staged values, which stand beside the slots until they are committed.
+//! Staged values, which are kept beside the slots until they are committed.
 
 ghost use Rattle.std.specs.Prelude.{◌≡◌, ◌↔◌, ◌+◌, ◌^◌, ◌<◌, ◌≤◌, nat_lt, None, [], ◌∷◌, ◌++◌, IfNone, IfOk, IfSome, IsTrue, OnErr, OnOk, length, map, option_map, slice_get};
 ghost use Rattle.std.specs.List.{AllByRecursion, insert};
@@ -15,8 +15,8 @@ use crate::slots::{HALF, SlotIndex, Slots};
 use std::alloc::{AllocError, Allocator};
 use std::marker::Model;
 
-/// The columns of staged values, each with the number of its page. Pages on which nothing is staged have none. Contracts
-/// see the numbers and the columns.
+/// The columns of staged values, each with the number of its page. A page on which nothing is staged has no column. Contracts see
+/// the numbers and the columns.
 #[derive(Drop)]
 pub(crate) struct StagedColumns<V, A: Allocator> {
     columns: Vec<(usize, Vec<Option<V>, A>), A>,
@@ -43,7 +43,7 @@ impl<V, A: Allocator> StagedColumns<V, A> {
         }
     }
 
-    /// Takes out the column of the greatest number. Where there is none, the list gives its memory back.
+    /// Removes and returns the column with the greatest number. If there is none, the list frees its memory.
     pub(crate) fn pop(&mut self) -> Option<(usize, Vec<Option<V>, A>)>
         ensures some { IfSome result (λ column. self.old ≡ self.new ++ (column.0, column.1.items) ∷ []) }
         ensures none { IfNone result (self.new ≡ []) }
@@ -53,7 +53,7 @@ impl<V, A: Allocator> StagedColumns<V, A> {
         pop_last(&mut self.columns)
     }
 
-    /// How many columns have a smaller number. Costs no search where the last one has this number.
+    /// How many columns have a smaller number. Costs no search if the last column has this number.
     fn index_of(&self, page: usize) -> usize
         ensures { result ≡ lead (λ column. nat_lt column.0 page) self.now }
     {
@@ -81,7 +81,7 @@ impl<V, A: Allocator> StagedColumns<V, A> {
         low
     }
 
-    /// Whether the column there is of this page.
+    /// Whether the column at this index is that of this page.
     fn has(&self, index: usize, page: usize) -> bool
         ensures there { IsTrue result ↔ (option_map (λ column. column.0) (slice_get self.now index) ≡ Some page) }
         ensures ascending { AreAscending self.now }
@@ -94,7 +94,7 @@ impl<V, A: Allocator> StagedColumns<V, A> {
 }
 
 impl<V: Drop, A: Allocator> StagedColumns<V, A> {
-    /// Forgets all of them, and gives their memory back.
+    /// Forgets all columns, and frees their memory.
     pub(crate) fn clear(&mut self)
         ensures { self.new ≡ [] }
     {
@@ -104,7 +104,7 @@ impl<V: Drop, A: Allocator> StagedColumns<V, A> {
 }
 
 impl<V: Value, A: Allocator> StagedColumns<V, A> {
-    /// Returns the index of a page's column, and makes one where the page has none. Staged values stay the same.
+    /// Returns the index of a page's column, and makes a column if the page has none. Staged values stay the same.
     fn touch<K: Key>(
         &mut self,
         alloc: A,
@@ -150,7 +150,7 @@ impl<V: Value, A: Allocator> StagedColumns<V, A> {
         Ok(())
     }
 
-    /// Adds to the staged value at the place of a slot, and tells it before and after.
+    /// Adds to the staged value at the place of a slot, and returns the value before and after.
     pub(crate) fn add<K: Key, M: Addend<V>>(
         &mut self,
         alloc: A,
@@ -207,7 +207,7 @@ impl<V: Value, A: Allocator> StagedColumns<V, A> {
 }
 
 impl<V: Value, A: Allocator + Copy> StagedColumns<V, A> {
-    /// Makes room for a slot that is put in at a place: nothing is staged into it.
+    /// Makes room for a slot that is inserted at a place. Nothing is staged in it.
     pub(crate) fn insert_empty(&mut self, place: SlotIndex) -> Result<(), AllocError>
         requires { AllByRecursion (λ column. column.0 ≡ place.page → place.index ≤ length column.1) self.old }
         ensures ok { OnOk result (IsWidened place.page place.index self.old self.new) }
@@ -220,7 +220,7 @@ impl<V: Value, A: Allocator + Copy> StagedColumns<V, A> {
         Ok(())
     }
 
-    /// Follows the cut of a page in two: the pages after it get the next number.
+    /// Follows the split of a page in two: the later pages get the next number.
     pub(crate) fn split(&mut self, page: usize) -> Result<(), AllocError>
         requires numbers { AllByRecursion (λ column. column.0 + 1 < 2 ^ 64) self.old }
         requires full { AllByRecursion (λ column. column.0 ≡ page → length column.1 ≡ 256) self.old }
@@ -238,7 +238,7 @@ impl<V: Value, A: Allocator + Copy> StagedColumns<V, A> {
         Ok(())
     }
 
-    /// Gives the columns of the pages after this one the next number.
+    /// Gives the columns of the later pages the next number.
     fn renumber(&mut self, page: usize)
         requires { AllByRecursion (λ column. column.0 + 1 < 2 ^ 64) self.old }
         ensures { self.new ≡ map (moved page) self.old }
@@ -247,7 +247,7 @@ impl<V: Value, A: Allocator + Copy> StagedColumns<V, A> {
     }
 }
 
-/// Takes out the last item. Where there is none, the list gives its memory back.
+/// Removes and returns the last item. If there is none, the list frees its memory.
 fn pop_last<T, A: Allocator>(list: &mut Vec<T, A>) -> Option<T>
     ensures items { list.old.items ≡ list.new.items ++ option_to_list result }
     ensures some { IfSome result (λ last. list.old.items ≡ list.new.items ++ last ∷ []) }
@@ -260,7 +260,7 @@ fn pop_last<T, A: Allocator>(list: &mut Vec<T, A>) -> Option<T>
     list.pop()
 }
 
-/// Puts an item in. The first one takes room for itself alone, as most lists of columns have one.
+/// Inserts an item. The first item reserves room for itself only, since most lists of columns have one item.
 fn insert_first<T: Drop, A: Allocator>(
     list: &mut Vec<T, A>,
     index: usize,
@@ -277,7 +277,7 @@ fn insert_first<T: Drop, A: Allocator>(
     Ok(())
 }
 
-/// Puts an empty value in.
+/// Inserts an empty value.
 fn insert_empty<V: Drop, A: Allocator>(
     column: &mut Vec<Option<V>, A>,
     index: usize,
@@ -294,7 +294,7 @@ fn insert_empty<V: Drop, A: Allocator>(
     Ok(())
 }
 
-/// Gives the columns of the pages after this one the next number.
+/// Gives the columns of the later pages the next number.
 fn renumber<V, A: Allocator>(columns: &mut [(usize, Vec<Option<V>, A>)], page: usize)
     requires { AllByRecursion (λ column. column.0 + 1 < 2 ^ 64) columns.old }
     ensures { columns.new ≡ map (λ column. (number_after page column.0, column.1)) columns.old }
@@ -304,7 +304,7 @@ fn renumber<V, A: Allocator>(columns: &mut [(usize, Vec<Option<V>, A>)], page: u
     }
 }
 
-/// The number of a page once another one is cut in two.
+/// The number of a page after another page is split in two.
 fn number_after(page: usize, number: usize) -> usize
     requires { number + 1 < 2 ^ 64 }
     ensures { result ≡ number_after page number }

@@ -1,6 +1,6 @@
 //! The reader of gcov's annotated source: what it returns, item by item, and what no session hands it.
 
-use super::calls::annotated;
+use super::wrappers::annotated;
 use super::{check_bytes, push_line};
 use std::alloc::Global;
 use std::process::Abort;

@@ -1,8 +1,8 @@
 //! What a check reports of a text, with ample memory.
 
-use super::calls::{checked, checked_gcov, told, without_shape};
+use super::wrappers::{checked, checked_gcov, told, without_shape};
 use super::{check_bytes, push_line};
-use covcheck::Holding;
+use covcheck::TextSummary;
 use covread::ReadFault;
 use std::alloc::Global;
 use std::process::Abort;
@@ -15,7 +15,7 @@ enum Kind {
     Gcov,
 }
 
-fn check(alloc: Global, kind: Kind, text: &[u8]) -> Result<Holding<'_>, ReadFault> {
+fn check(alloc: Global, kind: Kind, text: &[u8]) -> Result<TextSummary<'_>, ReadFault> {
     match kind {
         Kind::Trace => checked(alloc, text),
         Kind::Gcov => checked_gcov(alloc, text),
@@ -25,7 +25,7 @@ fn check(alloc: Global, kind: Kind, text: &[u8]) -> Result<Holding<'_>, ReadFaul
 /// The line that a check reports of a text, or its fault.
 fn line_of(alloc: Global, kind: Kind, text: &[u8]) -> Result<Vec<u8>, Fail> {
     match check(alloc, kind, text) {
-        Ok(holding) => Ok(told(alloc, &holding)?),
+        Ok(summary) => Ok(told(alloc, &summary)?),
         Err(fault) => {
             let words = format!(in alloc; "{fault}\n")?;
             Ok(Vec::from_slice(alloc, words.as_bytes())?)
@@ -154,7 +154,7 @@ call    2 returned 3
 /// Whether a tracefile has an item.
 fn check_has_item(rt: &(impl Abort + AllocGlobal), text: &[u8], wanted: bool) -> Result<(), Fail> {
     let has_item = match checked(rt.alloc(), text) {
-        Ok(holding) => holding.has_item(),
+        Ok(summary) => summary.has_item(),
         Err(_) => !wanted,
     };
     assert_eq!(rt; has_item, wanted);

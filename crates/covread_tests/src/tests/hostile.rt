@@ -1,6 +1,6 @@
 //! Texts that are cut off, with numbers of a million digits, or with bytes that few names have.
 
-use super::calls::{annotated, read, text_of};
+use super::wrappers::{annotated, read, text_of};
 use super::{check_bytes, push_line};
 use covline::Submission;
 use covread::ReadFault;

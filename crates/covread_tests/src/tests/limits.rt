@@ -1,6 +1,6 @@
 //! Limits, and what is large.
 
-use super::calls::read;
+use super::wrappers::read;
 use covread::ReadFault;
 use std::alloc::Global;
 use std::process::Abort;

@@ -1,6 +1,6 @@
 //! Calls of covline and covread that no session shows: single records, lists, submissions, and the items of a text.
 
-use super::calls::{
+use super::wrappers::{
     append, branch_first, bytes_of, copied_items, copied_sects, copied_submission, copy_of,
     counted_first, cut_first, put_line, read, submission_of, text_of,
 };

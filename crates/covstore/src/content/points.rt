@@ -8,7 +8,7 @@ use covmap::Entries;
 use std::alloc::{Allocator, Global};
 use std::marker::Model;
 
-/// Goes over the functions of a section, ascending by the bytes of their names. Contracts see those that are left.
+/// An iterator over the functions of a section, ascending by the bytes of their names. Contracts see those that are left.
 #[derive(Drop)]
 pub struct Functions<'a, A: Allocator = Global> {
     rest: Entries<'a, FunctionName<A>, FunctionSum, A>,
@@ -56,7 +56,7 @@ impl<'a, A: Allocator> Iterator for Functions<'a, A> {
     }
 }
 
-/// Goes over the branches of a section, ascending by line, block and number. Contracts see those that are left.
+/// An iterator over the branches of a section, ascending by line, block and number. Contracts see those that are left.
 #[derive(Drop)]
 pub struct Branches<'a, A: Allocator = Global> {
     rest: Entries<'a, Branch, BranchSum, A>,
@@ -106,7 +106,7 @@ impl<'a, A: Allocator> Iterator for Branches<'a, A> {
     }
 }
 
-/// Goes over the lines of a section, ascending by number. Contracts see those that are left.
+/// An iterator over the lines of a section, ascending by number. Contracts see those that are left.
 #[derive(Drop)]
 pub struct Lines<'a, A: Allocator = Global> {
     rest: Entries<'a, u64, LineSum, A>,

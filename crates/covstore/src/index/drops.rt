@@ -1,18 +1,18 @@
-//! What is kept of a file where one of its tests goes: each kind by a walk over the points of the test. No memory is taken.
+//! Removes a test from a file's index: for each kind, by a walk over the test's points.
 
 ghost use Rattle.std.specs.Prelude.{◌≡◌};
-ghost use Rattle.covstore.specs.KindIndexDrops.{AreHoldersWith, AreWith, IsTallyWithout, LosesHolders, LosesTest};
+ghost use Rattle.covstore.specs.PointIndexDrops.{AreHoldersWith, AreWith, IsTallyWithout, LosesHolders, LosesTest};
 
 use crate::checksums::Checksums;
 use crate::keys::PointKey;
-use crate::kind_index::{KindIndex, KindTotals};
+use crate::point_index::{KindTotals, PointIndex};
 use crate::sums::{LineSum, PointSum};
 use covmap::StagedMap;
 use std::alloc::Allocator;
 
-/// The test with these points is gone. Nothing else is staged then.
+/// Removes the test that has these points. Nothing is staged afterwards.
 pub(super) fn drop_kind<'a, K: PointKey<'a, A> + Drop, S: PointSum, A: Allocator + Copy>(
-    kept: &mut KindIndex<K, A>,
+    kept: &mut PointIndex<K, A>,
     points: &'a StagedMap<K, S, A>,
 )
     requires { AreWith K.cmp S.above points.now.committed kept.old.committed }
@@ -26,7 +26,7 @@ pub(super) fn drop_kind<'a, K: PointKey<'a, A> + Drop, S: PointSum, A: Allocator
     }
 }
 
-/// The test with these lines is gone, and holds no checksum any more. Nothing else is staged then.
+/// Removes the test that has these lines, so that it holds no checksums. Nothing is staged afterwards.
 pub(super) fn drop_checksums<A: Allocator + Copy>(
     checksums: &mut Checksums<A>,
     lines: &StagedMap<u64, LineSum, A>,
@@ -45,9 +45,9 @@ pub(super) fn drop_checksums<A: Allocator + Copy>(
     }
 }
 
-/// The tally of a kind of points without the test that has these.
+/// The tally of a kind of points without the test that has these points.
 pub(super) fn tally_without<'a, K: PointKey<'a, A>, S: PointSum, A: Allocator>(
-    kept: &KindIndex<K, A>,
+    kept: &PointIndex<K, A>,
     points: &'a StagedMap<K, S, A>,
 ) -> KindTotals
     requires { AreWith K.cmp S.above points.now.committed kept.now.committed }
@@ -56,7 +56,7 @@ pub(super) fn tally_without<'a, K: PointKey<'a, A>, S: PointSum, A: Allocator>(
     let mut walk = kept.walk();
     points.ascends();
     for (key, sum) in points.entries() {
-        walk = kept.pass(walk, key.name(), sum.is_above());
+        walk = kept.subtract(walk, key.name(), sum.is_above());
     }
     walk.tally
 }

@@ -1,8 +1,8 @@
 //! A test that is dropped.
 
-use super::calls::read;
 use super::check_bytes;
 use super::held::{NOTHING, held, store_of};
+use super::wrappers::read;
 use covstore::{Store, Totals};
 use std::test::*;
 

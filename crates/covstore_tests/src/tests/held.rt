@@ -2,7 +2,7 @@
 
 ghost use Rattle.covstore.specs.Totals.{AreTotals};
 
-use super::calls::{put_line, read};
+use super::wrappers::{put_line, read};
 use super::{check_bytes, push_line};
 use covline::{Bytes, Memory, Submission, TraceLine};
 use covstore::{Plan, Refuse, Section, Store, Totals};

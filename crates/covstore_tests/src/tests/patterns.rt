@@ -1,6 +1,6 @@
 //! Patterns of paths, and lists of them.
 
-use super::calls::{add, any_matches, copied_patterns, is_match, repeated};
+use super::wrappers::{add, any_matches, copied_patterns, is_match, repeated};
 use covreport::{PatternFault, Patterns};
 use std::alloc::Global;
 use std::process::Abort;

@@ -1,7 +1,7 @@
 //! Runs of keys with addends, staged at once into a map.
 
 use super::{check_bytes, push_line};
-use covmap::{Addend, StagedMap, Telling};
+use covmap::{Addend, ReportingAddend, StagedMap};
 use std::alloc::{AllocError, Global};
 use std::test::*;
 
@@ -29,12 +29,12 @@ impl Addend<u64> for Flags {
 }
 
 /// A key that had no flags notes those that it has now.
-impl Telling<u64, u64> for Flags {
+impl ReportingAddend<u64, u64> for Flags {
     ghost use Rattle.std.specs.Prelude.{is_some, if◌then◌else◌, Some, None};
 
     ghost told = { λ more before after. if is_some before then None else Some after };
 
-    fn tell(self, before: &Option<u64>, after: &u64) -> Option<u64> {
+    fn report(self, before: &Option<u64>, after: &u64) -> Option<u64> {
         match before {
             Some(_) => None,
             None => Some(*after),

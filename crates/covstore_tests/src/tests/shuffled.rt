@@ -1,8 +1,8 @@
 //! A long section whose lines don't ascend.
 
-use super::calls::read;
 use super::check_bytes;
 use super::held::{held, refused, store_of};
+use super::wrappers::read;
 use std::test::*;
 
 /// How many lines the section has. It is a prime, so the multiples of 1,000 have each remainder once.

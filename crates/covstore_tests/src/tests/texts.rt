@@ -2,9 +2,9 @@
 
 ghost use Rattle.covstore.specs.Totals.{AreTotals};
 
-use super::calls::list_of;
 use super::check_bytes;
 use super::held::{NOTHING, store_of};
+use super::wrappers::list_of;
 use covline::{Bytes, Memory};
 use covreport::{Choice, summary_text, tenths, trace_text};
 use covstore::{Store, Totals};

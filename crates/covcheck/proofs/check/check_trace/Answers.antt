@@ -3,7 +3,7 @@ use Rattle.std.proofs.lemmas.Result.{err_from_is_err_and}
 use Rattle.covline.specs.Row.{SubmissionData}
 use Rattle.covread.specs.declared.fault.ReadFault.{ReadFault}
 use Rattle.covread.specs.declared.fault.ReadFault.TheVariants.{Memory}
-use Rattle.covcheck.specs.Holding.{Tells}
+use Rattle.covcheck.specs.TextSummary.{Tells}
 use Rattle.covcheck.specs.Skipped.{IsSkippedRecord}
 use Rattle.covcheck.proofs.Answered.{same_fault}
 use Rattle.covcheck.proofs.check.check_trace.Goals as goal
@@ -24,11 +24,11 @@ returns-in_err-submission-clause-only g c = λ outcome is.
 
 pub returns-clause-answers : goal.returns-clause-answers
 returns-clause-answers g c =
-    (Ok c.in_ok-submission.submission, c.in_ok-submission.ensures.answers, c.in_ok-submission.ensures.memory, c.holding_of.ensures)
+    (Ok c.in_ok-submission.submission, c.in_ok-submission.ensures.answers, c.in_ok-submission.ensures.memory, c.summary_of.ensures)
 
 pub returns-clause-only : goal.returns-clause-only
 returns-clause-only g c = λ outcome is.
     elim (c.in_ok-submission.ensures.only outcome is) [
       | inl e ↦ absurd cc
-      | inr e ↦ inr (subst (λ (o : Result SubmissionData ReadFault). Tells IsSkippedRecord c.args.text.now o (Ok c.holding_of.result)) (sym e) c.holding_of.ensures)
+      | inr e ↦ inr (subst (λ (o : Result SubmissionData ReadFault). Tells IsSkippedRecord c.args.text.now o (Ok c.summary_of.result)) (sym e) c.summary_of.ensures)
     ]

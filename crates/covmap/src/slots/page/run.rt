@@ -1,4 +1,4 @@
-//! A run of keys with addends, and the slots of one page.
+//! Adds a run of keys with addends to the slots of one page.
 
 ghost use Rattle.std.specs.Prelude.{◌≡◌, ◌<◌, ◌≤◌, ◌++◌, IfOk, OnOk, length, slice_get};
 ghost use Rattle.std.specs.declared.cmp.Ordering.TheVariants.{Equal};
@@ -6,28 +6,28 @@ ghost use Rattle.covmap.specs.Run.{told_one};
 ghost use Rattle.covmap.specs.RunPage.{FirstHere, FitHere, IsAlong, IsNewPage, value_summed};
 ghost use Rattle.covmap.specs.Slots.{IsAscending, order_at, value_in};
 
-use crate::key::{Addend, Key, Query, Telling, Value};
+use crate::key::{Addend, Key, Query, ReportingAddend, Value};
 use crate::slots::PAGE_SLOTS;
 use crate::slots::page::Page;
 use std::alloc::{AllocError, Allocator};
 use std::cmp::Ordering;
 
-/// How many slots a walk along a run passes before it searches on the page.
+/// How many slots are compared with the next key of a run before a search on the page begins.
 const NEAR: usize = 4;
 
 /// How much of a run was added on a page.
 #[derive(Clone, Copy)]
 pub(crate) struct Along {
-    /// How many items.
+    /// The number of items.
     pub(crate) count: usize,
     /// The slot after that of the last item.
     pub(crate) next: usize,
 }
 
 impl<K: Key, V: Value, A: Allocator> Page<K, V, A> {
-    /// Adds a run to the values of a column, from a slot on, as long as the keys of the run have slots here, in their
-    /// order. Slots between them are passed.
-    pub(crate) fn add_along<Q: Query<K, A>, N: Drop, M: Telling<V, N>>(
+    /// Adds a run to the values of a column, from a slot on, as long as the keys of the run have slots on this page, in their
+    /// order. Skips the slots between them.
+    pub(crate) fn add_along<Q: Query<K, A>, N: Drop, M: ReportingAddend<V, N>>(
         &self,
         column: &mut [Option<V>],
         start: usize,
@@ -58,7 +58,7 @@ impl<K: Key, V: Value, A: Allocator> Page<K, V, A> {
         Ok(Along { count, next })
     }
 
-    /// Where to look for the slot of a key: at this slot, at one of the next, or where a search leads.
+    /// Where to look for the slot of a key: this slot, or one of the next, or where a search leads.
     pub(crate) fn near<Q: Query<K, A>>(&self, start: usize, query: Q) -> usize
         requires { IsAscending K.cmp self.now }
         ensures { order_at (λ key. K.cmp key (Q.named query)) (slice_get self.now start) ≡ Equal → result ≡ start }
@@ -74,7 +74,7 @@ impl<K: Key, V: Value, A: Allocator> Page<K, V, A> {
         self.index_of(query)
     }
 
-    /// How the key of a slot stands to what is asked for. Where there is no slot, all keys come before it.
+    /// Compares the key of a slot with the queried key. If there is no slot, the result is `Greater`.
     fn order<Q: Query<K, A>>(&self, index: usize, query: Q) -> Ordering
         ensures { result ≡ order_at (λ key. K.cmp key (Q.named query)) (slice_get self.now index) }
     {
@@ -86,7 +86,7 @@ impl<K: Key, V: Value, A: Allocator> Page<K, V, A> {
 }
 
 impl<K: Drop, V: Value, A: Allocator + Copy> Page<K, V, A> {
-    /// A page of empty slots: the keys at the front of a run, as long as they ascend and fit on one.
+    /// A page of empty slots for the keys at the front of a run, as long as they ascend and fit on one page.
     pub(crate) fn of_run<Q: Query<K, A>, M: Addend<V>>(
         alloc: A,
         run: &[(Q, M)],
@@ -114,8 +114,8 @@ impl<K: Drop, V: Value, A: Allocator + Copy> Page<K, V, A> {
     }
 }
 
-/// Adds an item to the value in its slot of a column, and appends its note, if it has one, to those told.
-fn add_at<V: Drop, A: Allocator, Q: Copy, N: Drop, M: Telling<V, N>>(
+/// Adds an item to the value in its slot of a column. Appends what the addend reports, if anything, to `told`.
+fn add_at<V: Drop, A: Allocator, Q: Copy, N: Drop, M: ReportingAddend<V, N>>(
     column: &mut [Option<V>],
     slot: usize,
     query: Q,
@@ -128,12 +128,12 @@ fn add_at<V: Drop, A: Allocator, Q: Copy, N: Drop, M: Telling<V, N>>(
     ensures told { OnOk result (told.new.items ≡ told.old.items ++ told_one query (M.told addend (value_in (slice_get column.old slot)) (M.sum addend (value_in (slice_get column.old slot))))) }
 {
     let after = addend.plus(&column[slot]);
-    let note = addend.tell(&column[slot], &after);
+    let note = addend.report(&column[slot], &after);
     column[slot] = Some(after);
     push_told(told, query, note)
 }
 
-/// Appends a note, if there is one.
+/// Appends a report, if there is one.
 fn push_told<Q: Copy, N: Drop, A: Allocator>(
     told: &mut Vec<(Q, N), A>,
     query: Q,

@@ -1,4 +1,4 @@
-//! A run of keys with addends, and the staged values of one page.
+//! Adds a run of keys with addends to the staged values of one page.
 
 ghost use Rattle.std.specs.Prelude.{◌≡◌, ◌<◌, ◌≤◌, ◌++◌, IfOk, length, take};
 ghost use Rattle.covmap.specs.Run.{FitRun, summed, told_run};
@@ -6,16 +6,16 @@ ghost use Rattle.covmap.specs.RunPage.{FirstHere};
 ghost use Rattle.covmap.specs.Slots.{filled, page_at, slots_of};
 ghost use Rattle.covmap.specs.Staged.{AreColumnsOf, staged_of};
 
-use crate::key::{Key, Query, Telling, Value};
+use crate::key::{Key, Query, ReportingAddend, Value};
 use crate::slots::page::run::Along;
 use crate::slots::staged::StagedColumns;
 use crate::slots::{SlotIndex, Slots};
 use std::alloc::{AllocError, Allocator};
 
 impl<V: Value, A: Allocator> StagedColumns<V, A> {
-    /// Adds a run to the staged values from a place on, which is that of the first key, as long as the keys of the run
-    /// have slots on its page, in their order.
-    pub(crate) fn add_run<K: Key, Q: Query<K, A>, N: Drop, M: Telling<V, N>>(
+    /// Adds a run to the staged values, from the place of its first key on, as long as the keys of the run have slots on that
+    /// page, in their order.
+    pub(crate) fn add_run<K: Key, Q: Query<K, A>, N: Drop, M: ReportingAddend<V, N>>(
         &mut self,
         alloc: A,
         slots: &Slots<K, V, A>,

@@ -1,7 +1,7 @@
 //! What a gcov text gives, in its order: its sections and their items, a line of text for each.
 
-use crate::tests::calls::annotated;
 use crate::tests::push_line;
+use crate::tests::wrappers::annotated;
 use covline::{Item, Sect};
 use std::alloc::{AllocError, Global};
 use std::process::Abort;

@@ -2,7 +2,7 @@ use Rattle.std.specs.Prelude.{◌≡◌, ◌+◌, ◌≤◌, length}
 use Rattle.std.specs.Io.KnownBytes.{Consumes}
 use Rattle.covrun.proofs.files.read_at_most.Given as goal
 
--- so far all that was read is the text, and each read gave a byte
+-- all bytes that were read so far are in the text, and each read gave at least one byte
 abbrev pub invariant-loop-room : goal.invariant-loop-room
 invariant-loop-room g l = record {
   took : Consumes (g.S.Source.left l.initial.source) (g.S.Source.left l.source) l.text;

@@ -6,7 +6,7 @@ use Rattle.covrun.specs.Folder.{folder_data}
 use Rattle.covrun.specs.Work.{input_of}
 use Rattle.covrun.proofs.inputs.read_files.Given as goal
 
--- the files that were passed are read
+-- the files so far are read
 abbrev pub invariant-loop-name : goal.invariant-loop-name
 invariant-loop-name g l =
     (texts : List (List ℕ)) × AreTexts

@@ -3,6 +3,6 @@ use Rattle.std.specs.String.{string_bytes}
 use Rattle.covrun.specs.Work.{ArePatterns}
 use Rattle.covrun.proofs.work.patterns_of.Given as goal
 
--- the words that were passed are in the list
+-- the words so far are in the list
 abbrev pub invariant-loop-word : goal.invariant-loop-word
 invariant-loop-word l = (l.patterns ≡ map string_bytes (take l.word-index l.words)) × ArePatterns l.patterns

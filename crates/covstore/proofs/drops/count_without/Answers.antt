@@ -10,7 +10,7 @@ use Rattle.covstore.proofs.DropsLoop.{IsCounted, all_sections, all_totals, next_
 use Rattle.covstore.proofs.Settled.{file_name}
 use Rattle.covstore.proofs.drops.count_without.Goals as goal
 
--- a truth as a number
+-- a truth value as a number
 as_number : (b : Bool) → from_bool b ≡ cond {A = ℕ} b 1 0
 as_number true = refl
 as_number false = refl

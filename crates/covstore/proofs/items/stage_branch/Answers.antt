@@ -6,9 +6,9 @@ use Rattle.covstore.proofs.Axis.{room_in}
 use Rattle.covstore.proofs.StepsKept.{keeps_point}
 use Rattle.covstore.proofs.items.stage_branch.Goals as goal
 
-pub stage_at_point-requires : goal.stage_at_point-requires
-stage_at_point-requires g c = room_in Branch _ _ c.requires.room
+pub stage_addend-requires : goal.stage_addend-requires
+stage_addend-requires g c = room_in Branch _ _ c.requires.room
 
 pub returns-clause-counts : goal.returns-clause-counts
 returns-clause-counts g c =
-    keeps_point Branch c.stage_at_point.new.points.staged c.stage_at_point.new.kept.staged (test_staged c.args.test.now) (index_staged c.args.index.now) _ c.in_ok-stage_at_point.ensures.counts refl (λ line. refl) refl
+    keeps_point Branch c.stage_addend.new.points.staged c.stage_addend.new.kept.staged (test_staged c.args.test.now) (index_staged c.args.index.now) _ c.in_ok-stage_addend.ensures.counts refl (λ line. refl) refl

@@ -4,7 +4,7 @@ use Rattle.std.specs.Ordering.{nat_cmp}
 use Rattle.covmap.specs.Puts.{value_of}
 use Rattle.covstore.specs.declared.index.FileIndex.{FileIndex}
 use Rattle.covstore.specs.Checksums.{held_more}
-use Rattle.covstore.specs.KindIndexCounts.{is_above_at}
+use Rattle.covstore.specs.PointIndexCounts.{is_above_at}
 use Rattle.covstore.specs.State.{has_checksum}
 use Rattle.covstore.specs.Sums.{line_with}
 use Rattle.covstore.specs.TestView.{test_staged}
@@ -17,8 +17,8 @@ use Rattle.covstore.proofs.StepsCounts.{line_bare, line_checked}
 use Rattle.covstore.proofs.items.stage_line.Goals as goal
 use Rattle.covstore.proofs.items.stage_line.Goals.{in-Some+in_ok-hold, in_default}
 
-pub stage_at_point-requires : goal.stage_at_point-requires
-stage_at_point-requires g c = room_in Line _ _ c.requires.room
+pub stage_addend-requires : goal.stage_addend-requires
+stage_addend-requires g c = room_in Line _ _ c.requires.room
 
 pub hold-requires-clause-holds : goal.hold-requires-clause-holds
 hold-requires-clause-holds g c = λ is.
@@ -36,8 +36,8 @@ returns-clause-counts g c =
     let before = value_of nat_cmp line test.lines in
     let told = c.in_ok-before.ensures in
     let value = line_with count c.is_some.result before in
-    let points = c.stage_at_point.new.points.staged in
-    let kept = c.stage_at_point.new.kept.staged in
+    let points = c.stage_addend.new.points.staged in
+    let kept = c.stage_addend.new.kept.staged in
     elim c.match-checksum.branch [
       | in-Some+in_ok-hold w ↦
           let some = c.is_some.ensures ∙ ap is_some w.in-Some.is in

@@ -7,10 +7,10 @@ pub loop-item-preserved : goal.loop-item-preserved
 loop-item-preserved g c =
     let kept = c.loop-item.invariant in
     let room = kept.3 in
-    let step = c.in_ok-stage_at_point.ensures in
+    let step = c.in_ok-stage_addend.ensures in
     let parts = c.in-Some.ensures.cases in
     let before = c.loop-item.points.staged in
-    let after = c.stage_at_point.new.points.staged in
+    let after = c.stage_addend.new.points.staged in
     let run = summed g.K.Key.cmp g.Q.Query.named g.M.Addend.sum in (
       step.test_committed ∙ kept.0,
       step.index_committed ∙ kept.1,

@@ -15,16 +15,16 @@ use Rattle.covstore.proofs.RunsKept.{room_as_long}
 use Rattle.covstore.proofs.RunsSums.{summed_as}
 use Rattle.covstore.proofs.runs.stage_runs.Goals as goal
 
-pub stage_at_points-requires : goal.stage_at_points-requires
-stage_at_points-requires g c = room_as_long (length c.deref.result.now) (length c.args.runs.now.lines.items) (ap (λ run. length run) c.deref.ensures.value) (c.requires.room Line)
+pub stage_whole_run-requires : goal.stage_whole_run-requires
+stage_whole_run-requires g c = room_as_long (length c.deref.result.now) (length c.args.runs.now.lines.items) (ap (λ run. length run) c.deref.ensures.value) (c.requires.room Line)
 
 pub stage_one_by_one-requires : goal.stage_one_by_one-requires
 stage_one_by_one-requires g c =
     let run = c.args.runs.now.functions.items in
     room_as_long (length c.deref-2.result.now) (length (runs_seen c.args.runs.now).functions) (ap (λ run. length run) c.deref-2.ensures.value ∙ sym (length-map run (λ pair. (pair.0.now, pair.1)))) (c.requires.room Function)
 
-pub stage_at_points-requires-2 : goal.stage_at_points-requires-2
-stage_at_points-requires-2 g c =
+pub stage_whole_run-requires-2 : goal.stage_whole_run-requires-2
+stage_whole_run-requires-2 g c =
     let run = c.args.runs.now.branches.items in
     room_as_long (length c.deref-3.result.now) (length (runs_seen c.args.runs.now).branches) (ap (λ run. length run) c.deref-3.ensures.value ∙ sym (length-map run (λ pair. (branch_point_data pair.0, pair.1))))
     (c.requires.room Branch)
@@ -33,20 +33,20 @@ pub returns-clause-test : goal.returns-clause-test
 returns-clause-test g c =
     let runs = c.args.runs.now in
     let test = c.args.test.now in
-    let lines = c.stage_at_points.new.points.staged in
+    let lines = c.stage_whole_run.new.points.staged in
     let functions = c.stage_one_by_one.new.points.staged in
-    let branches = c.stage_at_points-2.new.points.staged in
+    let branches = c.stage_whole_run-2.new.points.staged in
     same_test (record { lines = lines; functions = functions; branches = branches }) (with_runs (runs_seen runs) (test_staged test))
-    (c.in_ok-stage_at_points.ensures.test ∙ ap (λ run. points_with Line run test.lines.staged) c.deref.ensures.value)
+    (c.in_ok-stage_whole_run.ensures.test ∙ ap (λ run. points_with Line run test.lines.staged) c.deref.ensures.value)
     (summed_as (slice_cmp nat_cmp) (λ name. name.now) (sum_of Function) runs.functions.items c.deref-2.result.now test.functions.staged functions c.in_ok-stage_one_by_one.ensures.test c.deref-2.ensures.value)
-    (summed_as branch_cmp branch_point_data (sum_of Branch) runs.branches.items c.deref-3.result.now test.branches.staged branches c.in_ok-stage_at_points-2.ensures.test c.deref-3.ensures.value)
+    (summed_as branch_cmp branch_point_data (sum_of Branch) runs.branches.items c.deref-3.result.now test.branches.staged branches c.in_ok-stage_whole_run-2.ensures.test c.deref-3.ensures.value)
 
 pub returns-clause-counts : goal.returns-clause-counts
 returns-clause-counts g c =
     each_kind
     (λ (kind : Kind).
     KeepsCountsOfKind (cmp_of kind) (above_of kind) (at kind (test_staged c.args.test.now))
-    (at {T = PointsOf} kind (record { lines = c.stage_at_points.new.points.staged; functions = c.stage_one_by_one.new.points.staged; branches = c.stage_at_points-2.new.points.staged }))
+    (at {T = PointsOf} kind (record { lines = c.stage_whole_run.new.points.staged; functions = c.stage_one_by_one.new.points.staged; branches = c.stage_whole_run-2.new.points.staged }))
     (at kind (index_staged c.args.index.now).counts)
-    (at {T = CountsOf} kind (record { lines = c.stage_at_points.new.kept.staged; functions = c.stage_one_by_one.new.kept.staged; branches = c.stage_at_points-2.new.kept.staged })))
-    c.in_ok-stage_at_points.ensures.counts c.in_ok-stage_one_by_one.ensures.counts c.in_ok-stage_at_points-2.ensures.counts
+    (at {T = CountsOf} kind (record { lines = c.stage_whole_run.new.kept.staged; functions = c.stage_one_by_one.new.kept.staged; branches = c.stage_whole_run-2.new.kept.staged })))
+    c.in_ok-stage_whole_run.ensures.counts c.in_ok-stage_one_by_one.ensures.counts c.in_ok-stage_whole_run-2.ensures.counts

@@ -1,7 +1,8 @@
-use Rattle.std.proofs.Common.{drop, map, take}
+use Rattle.std.proofs.Common.{map}
+use Rattle.std.specs.Slice.Iter.{chunks_rest}
 use Rattle.covline.specs.Row.{item_data}
-use Rattle.covstore.proofs.AddsLoop.{HasTaken}
+use Rattle.covstore.proofs.RunsAdds.{HasTakenTo}
 use Rattle.covstore.proofs.stage_section.stage_items.Given as goal
 
-abbrev pub invariant-loop-item : goal.invariant-loop-item
-invariant-loop-item g l = HasTaken (map item_data (take l.item-index l.items)) (map item_data (drop l.item-index l.items)) l.initial.test l.initial.index l.test l.index
+abbrev pub invariant-loop-some : goal.invariant-loop-some
+invariant-loop-some g l = HasTakenTo (map item_data) l.items (chunks_rest l.some-iterator) l.initial.test l.initial.index l.test l.index

@@ -15,17 +15,17 @@ loop-last-preserved g c =
     let was = c.loop-last.invariant in
     let last = c.in-Some.last in
     let front = c.pop.new.self.items in
-    let file = c.as_slice.result.now in
+    let file = last.file.items in
     elim c.match-get_mut.branch [
       | in-Some-get_mut w ↦
-          let test = w.as_slice-in-Some-get_mut.result.now in
-          let popped = popped_as touched front last file test c.in-Some.ensures.items c.as_slice.ensures.value w.as_slice-in-Some-get_mut.ensures.value in
+          let test = w.as_slice.result.now in
+          let popped = popped_as touched front last file test c.in-Some.ensures.items refl w.as_slice.ensures.value in
           let after = w.commit.new.self in
           subst (λ (m : BTreeMap (Vec ℕ g.row.A.Denot) (File g.row.A.Denot)). IsSettling file_staged front first m.entries) (sym w.files-is)
           (settling_found file_staged touched front file test popped first now (c.get_mut.follows.lender after).entries was
           w.get_mut-in-Some-get_mut.result.now after c.get_mut.ensures.ordered (c.get_mut.follows.holds after).0 (sym w.in-Some-get_mut.ensures.value ∙ ap Some (sym w.get_mut-in-Some-get_mut.ensures.value)) w.commit.ensures.staged w.commit.ensures.settled)
       | in_default-get_mut w ↦
-          let popped = popped_as touched front last file last.test.items c.in-Some.ensures.items c.as_slice.ensures.value refl in
+          let popped = popped_as touched front last file last.test.items c.in-Some.ensures.items refl refl in
           let same = ap (λ (m : BTreeMap (Vec ℕ g.row.A.Denot) (File g.row.A.Denot)). m.entries) c.get_mut.follows.holds-at-none in
           subst (λ (m : BTreeMap (Vec ℕ g.row.A.Denot) (File g.row.A.Denot)). IsSettling file_staged front first m.entries) (sym w.files-is)
           (settling_unfound file_staged touched front file last.test.items popped first now c.get_mut.follows.lender-at-none.entries was

@@ -12,7 +12,7 @@ use Rattle.covstore.proofs.KeepsMore.{state_stays}
 use Rattle.covstore.proofs.Settled.{file_name, files_with_more}
 use Rattle.covstore.proofs.store.stage_in_new_file.Goals as goal
 
--- the file isn't put in
+-- the file isn't inserted
 
 pub returns-in_err-made-clause-committed : goal.returns-in_err-made-clause-committed
 returns-in_err-made-clause-committed g c = state_stays (files_committed file_name c.args.files.now.entries)
@@ -55,7 +55,7 @@ pub returns-in_err-insert-clause-settled : goal.returns-in_err-insert-clause-set
 returns-in_err-insert-clause-settled g c = λ touched settled.
     subst (AreSettledBut file_name (touched ++ (c.args.file.now, c.args.test.now) ∷ [])) (sym c.in_err-insert.ensures.err) (files_with_more touched c.args.file.now c.args.test.now c.args.files.now.entries settled)
 
--- the file is put in
+-- the file is inserted
 
 pub returns-clause-committed : goal.returns-clause-committed
 returns-clause-committed g c =

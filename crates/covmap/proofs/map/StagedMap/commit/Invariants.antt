@@ -2,7 +2,7 @@ use Rattle.std.proofs.Common.{◌≡◌, length}
 use Rattle.covmap.specs.Staged.{AreColumnsOf, staged_of}
 use Rattle.covmap.proofs.map.StagedMap.commit.Given as goal
 
--- what is staged stays
+-- the staged entries stay
 abbrev pub invariant-loop-number : goal.invariant-loop-number
 invariant-loop-number g l = AreColumnsOf l.self-inside.slots l.self-inside.staged
     × (staged_of l.self-inside.slots l.self-inside.staged ≡ staged_of l.initial.self-inside.slots l.initial.self-inside.staged)

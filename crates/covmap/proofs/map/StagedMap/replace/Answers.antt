@@ -24,7 +24,7 @@ pub returns-in-Ok-clause-staged : goal.returns-in-Ok-clause-staged
 returns-in-Ok-clause-staged g c =
     ap (λ columns. filled (slots_of (staged_of c.write.new.self columns))) c.clear.ensures ∙ ap (λ pages. filled (slots_of pages)) (nothing_staged 0 c.write.new.self)
 
--- what is asked for has a value, so it has a place
+-- the queried key has a value, so it has a place
 pub returns-in_default : goal.returns-in_default
 returns-in_default g c =
     let named = g.Q.Query.named c.args.query in

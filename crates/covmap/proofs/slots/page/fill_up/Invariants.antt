@@ -2,7 +2,7 @@ use Rattle.std.proofs.Common.{◌≡◌, ◌+◌, ◌-◌, ◌≤◌, ◌++◌, 
 use Rattle.covmap.specs.Slots.{empty}
 use Rattle.covmap.proofs.slots.page.fill_up.Given as goal
 
--- this number of empty values was appended, and no more than are wanted
+-- this number of empty values was appended, and no more than needed
 abbrev pub invariant-loop-column : goal.invariant-loop-column
 invariant-loop-column g l = (l.column.items ≡ l.initial.column.items ++ empty (length l.column.items - length l.initial.column.items))
     × (length l.initial.column.items ≤ length l.column.items)

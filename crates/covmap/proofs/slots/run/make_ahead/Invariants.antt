@@ -3,7 +3,7 @@ use Rattle.covmap.specs.Slots.{filled, slots_of}
 use Rattle.covmap.specs.Staged.{AreColumnsOf, staged_of}
 use Rattle.covmap.proofs.slots.run.make_ahead.Given as goal
 
--- empty slots alone are new
+-- only empty slots are new
 abbrev pub invariant-loop-count : goal.invariant-loop-count
 invariant-loop-count g l = AreColumnsOf l.slots l.staged
     × (filled (slots_of l.slots) ≡ filled (slots_of l.fn.slots))

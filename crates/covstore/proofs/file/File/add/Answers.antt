@@ -77,7 +77,7 @@ returns-in-Some-clause-settled g c = λ tests among settled.
     let after = c.stage_items.new.test in
     test_settled tests c.args.test.now among c.args.self.now (record { tests = c.get_mut.follows.lender after; index = c.stage_items.new.index }) after (c.get_mut.follows.holds after).0 settled
 
--- the test is new: the map is as it was
+-- the test is new, so the map is as it was
 
 pub stage_new-requires-clause-new : goal.stage_new-requires-clause-new
 stage_new-requires-clause-new g c =

@@ -17,7 +17,7 @@ use Rattle.covstore.proofs.Orders.{names_order}
 use Rattle.covstore.proofs.Settled.{same_file}
 use Rattle.covstore.proofs.file.File.copy_points.Goals as goal
 
--- both tests are there, and so is the place of the one that is lifted out
+-- the file has both tests, so the one that is taken out has a place
 
 pub unreachable-requires : goal.unreachable-requires
 unreachable-requires g c =
@@ -75,7 +75,7 @@ stage_values-added-requires-clause-holders g c =
     (sym c.in-Some-get.ensures.value ∙ ap Some (sym c.get-2.ensures)) in
     copies_holders old new tests (index_staged c.args.self.now.index) (test_committed source) (test_staged target) its_source (test_value name test_staged new pairs target found) c.requires.room
 
--- and the test is put back
+-- the test is put back
 
 pub returns-clause-committed : goal.returns-clause-committed
 returns-clause-committed g c =

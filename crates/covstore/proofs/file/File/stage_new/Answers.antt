@@ -24,7 +24,7 @@ stage_items-requires g c =
           (few_more c.args.test.now before.tests.entries c.requires.new c.len.ensures.ordered (subst (λ n. n < 2 ^ 63) c.len.ensures.len c.len.ensures.small)) c.requires.room;
     }
 
--- the test isn't put in
+-- the test isn't inserted
 
 pub returns-in_err-stage_items-clause-committed : goal.returns-in_err-stage_items-clause-committed
 returns-in_err-stage_items-clause-committed g c =
@@ -50,7 +50,7 @@ pub returns-in_err-insert-clause-settled : goal.returns-in_err-insert-clause-set
 returns-in_err-insert-clause-settled g c = λ tests among settled.
     tests_stay tests c.args.test.now among c.args.self.now (record { tests = c.insert.new.self; index = c.stage_items.new.index }) c.in_err-insert.ensures.err settled
 
--- the test is put in
+-- the test is inserted
 
 pub returns-clause-committed : goal.returns-clause-committed
 returns-clause-committed g c =

@@ -1,5 +1,5 @@
 use Rattle.std.proofs.Common.{map, refl}
-use Rattle.covstore.specs.KindIndexCounts.{AreCounts}
+use Rattle.covstore.specs.PointIndexCounts.{AreCounts}
 use Rattle.covstore.specs.Kinds.{Branch, CountsOf, Each, Function, Kind, Line, above_of, at, cmp_of}
 use Rattle.covstore.specs.TestView.{test_committed}
 use Rattle.covstore.proofs.Axis.{each_kind}

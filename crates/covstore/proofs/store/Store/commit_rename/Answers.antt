@@ -13,7 +13,7 @@ use Rattle.covstore.proofs.Stores.{store_of}
 use Rattle.covstore.proofs.WithoutStores.{whole_files}
 use Rattle.covstore.proofs.store.Store.commit_rename.Goals as goal
 
--- what is staged is the state of the rows with those that move
+-- the staged files are the state of the rows and the moved rows
 moving : (store inside : StoreData) → inside ≡ store → (old new leaves : List ℕ) (told : Option (List ℕ)) → Some leaves ≡ told → IsMovingIfAny store old new told → IsMoving inside old new leaves
 moving store inside view old new leaves told is given =
     subst (λ (s : StoreData). IsMoving s old new leaves) (sym view) (subst (IsMovingIfAny store old new) (sym is) given)

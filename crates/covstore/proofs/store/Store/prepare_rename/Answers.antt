@@ -31,7 +31,7 @@ returns-then-eq-clause-sections g c = λ table stands.
     ∙ sections_with c.args.old.now inside.members inside.totals (files_committed file_name inside.files.entries) c.self.invariant.0 table
     (ap (λ (store : StoreData). store.sections) c.self.view_is ∙ c.rollback.ensures.sections ∙ stands.content)
 
--- as many names are found as there are sections of the test
+-- there are as many names as sections of the test
 
 pub returns-in_err-names-clause-some : goal.returns-in_err-names-clause-some
 returns-in_err-names-clause-some g c =
@@ -88,3 +88,6 @@ returns-clause-some g c =
     (ap (λ (store : StoreData). store.sections) c.self.view_is ∙ c.rollback.ensures.sections ∙ stands.content) in
     false≢true (sym c.if-is_empty.false ∙ c.is_empty.ensures ∙ ap (λ (n : ℕ). n == 0) (counted ∙ none)) in
     some
+
+pub copy_all-requires-clause-apart : goal.copy_all-requires-clause-apart
+copy_all-requires-clause-apart g c = λ same. false≢true (sym c.if-eq.false ∙ c.eq.ensures ∙ (bytes_eq-Decides c.args.old.now c.args.new.now).1 same)

@@ -14,18 +14,18 @@ loop-touched-preserved g c =
     let was = c.loop-touched.invariant in
     let last = c.in-Some.touched in
     let front = c.pop.new.self.items in
-    let file = c.as_slice.result.now in
+    let file = last.file.items in
     elim c.match-get_mut.branch [
       | in-Some-get_mut w ↦
-          let test = w.as_slice-in-Some-get_mut.result.now in
-          let popped = popped_as now.touched.items front last file test c.in-Some.ensures.items c.as_slice.ensures.value w.as_slice-in-Some-get_mut.ensures.value in
+          let test = w.as_slice.result.now in
+          let popped = popped_as now.touched.items front last file test c.in-Some.ensures.items refl w.as_slice.ensures.value in
           let after = w.rollback.new.self in
           let settling = settling_found file_committed now.touched.items front file test popped first.files.entries now.files.entries (c.get_mut.follows.lender after).entries was.0
           w.get_mut-in-Some-get_mut.result.now after c.get_mut.ensures.ordered (c.get_mut.follows.holds after).0 (sym w.in-Some-get_mut.ensures.value ∙ ap Some (sym w.get_mut-in-Some-get_mut.ensures.value)) w.rollback.ensures.committed w.rollback.ensures.settled in
           subst (λ (i : Inside g.row.A.Denot). IsSettling file_committed i.touched.items first.files.entries i.files.entries × (i.members ≡ first.members) × (i.totals ≡ first.totals))
           (sym w.self-inside-is) (settling, was.1, was.2)
       | in_default-get_mut w ↦
-          let popped = popped_as now.touched.items front last file last.test.items c.in-Some.ensures.items c.as_slice.ensures.value refl in
+          let popped = popped_as now.touched.items front last file last.test.items c.in-Some.ensures.items refl refl in
           let same = ap (λ (m : BTreeMap (Vec ℕ g.row.A.Denot) (File g.row.A.Denot)). m.entries) c.get_mut.follows.holds-at-none in
           let settling = settling_unfound file_committed now.touched.items front file last.test.items popped first.files.entries now.files.entries c.get_mut.follows.lender-at-none.entries was.0
           (sym w.in_default-get_mut.ensures.value) same in

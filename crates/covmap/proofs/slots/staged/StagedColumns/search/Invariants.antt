@@ -3,7 +3,7 @@ use Rattle.std.specs.Prelude.{nat_lt}
 use Rattle.covmap.specs.Slots.{lead}
 use Rattle.covmap.proofs.slots.staged.StagedColumns.search.Given as goal
 
--- the place is between the two
+-- the index is between `low` and `high`
 abbrev pub invariant-loop-low : goal.invariant-loop-low
 invariant-loop-low g l = (l.low ≤ lead (λ column. nat_lt column.0 l.fn.page) l.self) × (lead (λ column. nat_lt column.0 l.fn.page) l.self ≤ l.high) × (l.high ≤ length l.self)
 

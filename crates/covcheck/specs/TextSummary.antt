@@ -1,0 +1,38 @@
+-- What a text that is read holds: its sections, their items, its odd lines, and the lines that aren't read.
+use Rattle.std.specs.Prelude.{◌≡◌, ℕ, List, [], ◌∷◌, length, Option, Some, None, Result, Ok, Err}
+use Rattle.std.specs.List.{enumerate_from}
+use Rattle.covline.specs.Lines.{lines_of}
+use Rattle.covline.specs.Row.{SubmissionData, items_in}
+use Rattle.covread.specs.declared.fault.ReadFault.{ReadFault}
+use Rattle.covcheck.specs.declared.text_summary.TextSummary.{TextSummary}
+use Rattle.covcheck.specs.declared.text_summary.SkippedLine.{SkippedLine}
+use Rattle.covcheck.specs.Skipped.{AreThose, start_of}
+
+-- the lines of a text of which this holds, each with its number; lines are counted from 1, empty ones too
+abbrev pub AreLinesThat : (List ℕ → Type 0) → List ℕ → List (ℕ × List ℕ) → Type 0
+AreLinesThat is_so text lines = AreThose (λ (l : ℕ × List ℕ). is_so l.1) (enumerate_from 1 (lines_of text)) lines
+
+-- the number and the beginning of the first of these lines; none if there is no line
+abbrev pub IsFirstOf : List (ℕ × List ℕ) → Option SkippedLine → Type 0
+IsFirstOf [] None = Unit {0}
+IsFirstOf [] (Some first) = ⊥
+IsFirstOf (line ∷ lines) None = ⊥
+IsFirstOf (line ∷ lines) (Some first) = (first.at ≡ line.0) × (first.start.now ≡ start_of line.1)
+
+-- what the text holds, which is read as this submission; the lines that aren't read are those of which `is_skipped`
+-- holds
+pub record Holds (is_skipped : List ℕ → Type 0) (text : List ℕ) (submission : SubmissionData) (summary : TextSummary) : Type 0 where
+  pub sections : summary.sections ≡ length submission.sects
+  pub items : summary.items ≡ items_in submission.sects
+  pub odd : summary.odd ≡ submission.odd
+  pub lines : List (ℕ × List ℕ)
+  pub those : AreLinesThat is_skipped text lines
+  pub skipped : summary.skipped ≡ length lines
+  pub first : IsFirstOf lines summary.first
+
+-- what a check returns for a text that is read as this: what it holds, or the fault
+abbrev pub Tells : (List ℕ → Type 0) → List ℕ → Result SubmissionData ReadFault → Result TextSummary ReadFault → Type 0
+Tells is_skipped text (Ok submission) (Ok summary) = Holds is_skipped text submission summary
+Tells is_skipped text (Ok submission) (Err told) = ⊥
+Tells is_skipped text (Err fault) (Ok summary) = ⊥
+Tells is_skipped text (Err fault) (Err told) = told ≡ fault

@@ -1,0 +1,57 @@
+use Rattle.std.proofs.Common.{◌∙◌, List, Option, sym, ap, subst, map}
+use Rattle.std.proofs.lemmas.Result.{IfOk-weaker}
+use Rattle.std.specs.Result.{IfOk}
+use Rattle.std.specs.String.{string_bytes}
+use Rattle.clap.specs.Simple.{App, is_simple, subcommand_of}
+use Rattle.clap.specs.Walk.{Row, Text}
+use Rattle.clap.specs.Words.{fault_of, found_of, rows_of, subcommand_rows_of, takes}
+use Rattle.clap.specs.Faults.{is_simple_and_free}
+use Rattle.clap.specs.Kinds.{HasKind}
+use Rattle.covcommand.specs.Asked.{AsksFor}
+use Rattle.covcommand.specs.CommandLine.{covcollect}
+use Rattle.covcommand.proofs.Told.{both_halves, same_name, told_memory, told_of}
+use Rattle.covcommand.proofs.Fitting.{fits}
+use Rattle.covcommand.proofs.Simple.{simple, simple_and_free}
+use Rattle.covcommand.proofs.parsing.command.Goals as goal
+
+pub returns-in-Err-clause-takes : goal.returns-in-Err-clause-takes
+returns-in-Err-clause-takes c taken =
+    told_memory _ _ c.of.ensures (c.in-Err.ensures.passes (ap (λ (a : App). takes a (map string_bytes c.args.words.now)) c.in_ok-described.ensures ∙ taken))
+
+pub returns-in-Err-clause-told : goal.returns-in-Err-clause-told
+returns-in-Err-clause-told c =
+    let words = map string_bytes c.args.words.now in
+    let has = c.in-Err.ensures.kinds (ap is_simple_and_free c.in_ok-described.ensures ∙ simple_and_free) in
+    let among = subst (λ (a : App). HasKind (fault_of a words) c.in-Err.error) c.in_ok-described.ensures has in
+    told_of _ (fault_of covcollect words) _ c.of.ensures among
+
+pub returns-clause-fits : goal.returns-clause-fits
+returns-clause-fits c =
+    ap (λ (a : App). fault_of a (map string_bytes c.args.words.now)) (sym c.in_ok-described.ensures)
+    ∙ c.in-Ok.ensures.kinds (ap is_simple_and_free c.in_ok-described.ensures ∙ simple_and_free)
+
+pub command_from-requires : goal.command_from-requires
+command_from-requires c =
+    let words = map string_bytes c.args.words.now in
+    let none = ap (λ (a : App). fault_of a words) (sym c.in_ok-described.ensures)
+    ∙ c.in-Ok.ensures.kinds (ap is_simple_and_free c.in_ok-described.ensures ∙ simple_and_free) in
+    let met = (c.in-Ok.ensures.matches (ap is_simple c.in_ok-described.ensures ∙ simple)).1
+    ∙ ap (λ (a : App). subcommand_of a words) c.in_ok-described.ensures in
+    let rows = rows_of (found_of c.in-Some.found.now) in
+    fits words c.in-Some.name.now rows none (sym met ∙ both_halves (subcommand_rows_of c.in-Ok.matches) c.in-Some.name.now rows (c.in-Some.ensures.name ∙ same_name c.in-Ok.matches) c.in-Some.ensures.rows)
+
+pub returns-in-Some-clause-asks : goal.returns-in-Some-clause-asks
+returns-in-Some-clause-asks c =
+    let words = map string_bytes c.args.words.now in
+    let met = (c.in-Ok.ensures.matches (ap is_simple c.in_ok-described.ensures ∙ simple)).1
+    ∙ ap (λ (a : App). subcommand_of a words) c.in_ok-described.ensures in
+    let rows = rows_of (found_of c.in-Some.found.now) in
+    let is = sym met ∙ both_halves (subcommand_rows_of c.in-Ok.matches) c.in-Some.name.now rows (c.in-Some.ensures.name ∙ same_name c.in-Ok.matches) c.in-Some.ensures.rows in
+    subst (λ (m : Option (Text × List Row)). IfOk c.command_from.result (AsksFor m)) (sym is) c.command_from.ensures.asks
+
+pub returns-in-Some-clause-fits : goal.returns-in-Some-clause-fits
+returns-in-Some-clause-fits c =
+    let words = map string_bytes c.args.words.now in
+    let none = ap (λ (a : App). fault_of a words) (sym c.in_ok-described.ensures)
+    ∙ c.in-Ok.ensures.kinds (ap is_simple_and_free c.in_ok-described.ensures ∙ simple_and_free) in
+    IfOk-weaker c.command_from.result _ _ (λ _ _. none) c.command_from.ensures.asks

@@ -1,0 +1,39 @@
+-- Lines that ascend from a least one.
+use Rattle.std.proofs.Common.{◌≡◌, ℕ, ◌+◌, ◌≤◌, ◌<◌, List, [], ◌∷◌, ◌++◌, sym, subst, arith}
+use Rattle.std.specs.declared.cmp.Ordering.TheVariants.{Less}
+use Rattle.std.specs.List.Sorted.{IsStrictlySortedBy}
+use Rattle.std.specs.Ordering.{nat_cmp}
+use Rattle.std.proofs.lemmas.Bool.{cond-true, lt-ltb}
+use Rattle.covline.specs.Row.{ItemData}
+use Rattle.covstore.specs.Texts.{AscendFrom, checked_line, checked_lines}
+use Rattle.covstore.proofs.Ascend.{All-weaker}
+
+less_of : (x y : ℕ) → x < y → nat_cmp x y ≡ Less
+less_of x y lt = cond-true _ Less _ (lt-ltb x y lt)
+
+-- one line before others that ascend from the next
+pub ascend_one : (line least next : ℕ) → least ≤ line → next ≡ line + 1 → (lines : List ℕ) → AscendFrom next lines → AscendFrom least (line ∷ lines)
+unfolding IsStrictlySortedBy
+ascend_one line least next from is lines ascend = record {
+  above = (from, All-weaker (λ other. next ≤ other) (λ other. least ≤ other) lines (λ other le. omega (arith, le, is, from)) ascend.above);
+  sorted = (All-weaker (λ other. next ≤ other) (λ other. nat_cmp line other ≡ Less) lines (λ other le. less_of line other (omega (arith, le, is))) ascend.above, ascend.sorted);
+}
+
+pub ascend_none : (least : ℕ) → AscendFrom least []
+unfolding IsStrictlySortedBy
+ascend_none least = record { above = tt; sorted = tt }
+
+-- what is known so far: where the lines that are left ascend from the least, all do
+abbrev pub AscendWith : List ItemData → List ItemData → ℕ → Type 0
+AscendWith all left least = AscendFrom least (checked_lines left) → IsStrictlySortedBy nat_cmp (checked_lines all)
+
+pub ascend_start : (all : List ItemData) → AscendWith all all 0
+ascend_start all ascend = ascend.sorted
+
+pub ascend_next : (all left rest : List ItemData) (item : ItemData) (least next : ℕ) → left ≡ item ∷ rest → ((lines : List ℕ) → AscendFrom next lines → AscendFrom least (checked_line item ++ lines))
+    → AscendWith all left least → AscendWith all rest next
+ascend_next all left rest item least next is follows with_left ascend =
+    with_left (subst (λ (items : List ItemData). AscendFrom least (checked_lines items)) (sym is) (follows (checked_lines rest) ascend))
+
+pub ascend_end : (all left : List ItemData) (least : ℕ) → left ≡ [] → AscendWith all left least → IsStrictlySortedBy nat_cmp (checked_lines all)
+ascend_end all left least none with_left = with_left (subst (λ (items : List ItemData). AscendFrom least (checked_lines items)) (sym none) (ascend_none least))

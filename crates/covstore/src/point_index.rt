@@ -1,0 +1,256 @@
+//! For each point of a kind, how many tests of a file have it; and the tally of all these points.
+
+ghost use Rattle.std.specs.Prelude.{◌≡◌, ◌+◌, ◌<◌, ◌≤◌, ◌^◌, [], IfSome, OnOk, length};
+ghost use Rattle.covstore.specs.PointIndex.{changed};
+ghost use Rattle.covstore.specs.PointIndexCounts.{found_of, hit_of, tests_fit, tests_with};
+ghost use Rattle.covmap.specs.Puts.{ArePairs, value_of};
+ghost use Rattle.covmap.specs.Run.{FitRun, summed};
+
+use crate::sums::{Tests, TestsAddend};
+use covmap::{Key, Query, SlotIndex, StagedMap};
+use std::alloc::{AllocError, Allocator};
+use std::marker::Model;
+
+/// How many points are found, and how many of them are hit.
+#[derive(Clone, Copy)]
+pub(crate) struct KindTotals {
+    pub found: u64,
+    pub hit: u64,
+}
+
+impl KindTotals {
+    ghost use Rattle.std.specs.Prelude.{nat_lt, count_by};
+    ghost use Rattle.covstore.specs.PointIndexCounts.{is_above_at, is_new, one_if};
+    ghost use Rattle.covstore.specs.PointIndexDrops.{CanBeLess, IsLess};
+
+    /// The tally after a point's numbers grow. The point is newly found if it had no numbers, and newly hit if it wasn't hit
+    /// before.
+    fn more(self, before: &Option<Tests>, after: &Tests) -> KindTotals
+        requires found { self.found < 2 ^ 63 }
+        requires hit { self.hit < 2 ^ 63 }
+        requires rises { IfSome before.now (λ numbers. numbers.hit ≤ after.now.hit) }
+        ensures found { result.found ≡ self.found + one_if (is_new before.now) }
+        ensures hit { result.hit + one_if (is_above_at (λ numbers. nat_lt 0 numbers.hit) before.now) ≡ self.hit + one_if (nat_lt 0 after.now.hit) }
+    {
+        let was_hit = Tests::is_hit(before);
+        let is_new = before.is_none();
+        KindTotals {
+            found: self.found + u64::from(is_new),
+            hit: self.hit + u64::from(after.hit.get() > 0 && !was_hit),
+        }
+    }
+
+    /// The tally after the numbers of a run of points grow. `told` says of each point whether it is newly found or newly hit.
+    fn with_told<Q>(self, told: &[(Q, TestsAddend)]) -> KindTotals
+        requires found { self.found + length told.now ≤ 2 ^ 63 }
+        requires hit { self.hit + length told.now ≤ 2 ^ 63 }
+        ensures found { result.found ≡ self.found + count_by (λ item. item.1.is_new) told.now }
+        ensures hit { result.hit ≡ self.hit + count_by (λ item. item.1.is_hit) told.now }
+    {
+        let mut tally = self;
+        for item in told {
+            tally.found += u64::from(item.1.is_new);
+            tally.hit += u64::from(item.1.is_hit);
+        }
+        tally
+    }
+
+    /// The tally after a point's numbers fall: without the point, if it isn't found any more, and without its hit, if it isn't
+    /// hit any more.
+    fn less(self, before: &Tests, after: &Option<Tests>) -> KindTotals
+        requires { CanBeLess self before.now after.now }
+        ensures { IsLess self before.now after.now result }
+    {
+        // A fall never makes a point hit. So if the two differ, the point isn't hit any more.
+        let stays = after.is_some();
+        let stays_hit = (before.hit.get() > 0) == Tests::is_hit(after);
+        KindTotals {
+            found: if stays { self.found } else { self.found - 1 },
+            hit: if stays_hit { self.hit } else { self.hit - 1 },
+        }
+    }
+}
+
+/// A walk over the points of a test: the tally without the points passed so far, and the place of the last of them.
+#[derive(Clone, Copy)]
+pub(crate) struct TallyWalk {
+    pub tally: KindTotals,
+    place: SlotIndex,
+}
+
+/// For each point of a kind, how many tests of a file have it, committed and staged. Contracts see the points with these numbers.
+#[derive(Drop)]
+pub(crate) struct PointIndex<K: Key, A: Allocator> {
+    counts: StagedMap<K, Tests, A>,
+    totals: KindTotals,
+    staged_totals: KindTotals,
+}
+
+impl<K: Key, A: Allocator> Model for PointIndex<K, A> {
+    ghost use Rattle.covstore.specs.declared.sums.Tests.{Tests};
+    ghost use Rattle.covmap.specs.MapData.{MapData};
+    ghost use Rattle.covstore.specs.PointIndex.{IsTallyOf};
+
+    ghost Value = { MapData K Tests };
+
+    ghost view = { λ k. k.counts };
+
+    ghost invariant = { λ k. IsTallyOf k.counts.committed k.totals × IsTallyOf k.counts.staged k.staged_totals };
+}
+
+impl<K: Key + Drop, A: Allocator + Copy> PointIndex<K, A> {
+    /// No points.
+    pub(crate) fn new(alloc: A) -> PointIndex<K, A>
+        ensures committed { result.committed ≡ [] }
+        ensures staged { result.staged ≡ [] }
+    {
+        let none = KindTotals { found: 0, hit: 0 };
+        PointIndex {
+            counts: StagedMap::new(alloc),
+            totals: none,
+            staged_totals: none,
+        }
+    }
+
+    /// Adds a test's change, if there is one, to a point's numbers. Costs no search if the guess is the point's place. This is so
+    /// while no other test of the file has other points, since the pages of both maps are then split alike.
+    pub(crate) fn add<Q: Query<K, A>>(
+        &mut self,
+        alloc: A,
+        query: Q,
+        change: Option<TestsAddend>,
+        guess: SlotIndex,
+    ) -> Result<(), AllocError>
+        requires few { length self.old.staged < 2 ^ 63 }
+        requires room { IfSome (value_of K.cmp (Q.named query) self.old.staged) (λ numbers. (numbers.tests ≤ 2 ^ 63) × (numbers.hit ≤ 2 ^ 63)) }
+        ensures committed { self.new.committed ≡ self.old.committed }
+        ensures ok { OnOk result (self.new.staged ≡ changed K.cmp (Q.named query) change self.old.staged) }
+    {
+        let Some(more) = change else {
+            return Ok(());
+        };
+        let added = match self.counts.stage_sum(alloc, query, more, guess) {
+            Ok(added) => added,
+            Err(refused) => {
+                self.counts.rollback();
+                self.staged_totals = self.totals;
+                return Err(refused);
+            }
+        };
+        self.staged_totals = self.staged_totals.more(&added.before, &added.after);
+        Ok(())
+    }
+
+    /// Adds a test's changes to the numbers of a run of points.
+    pub(crate) fn add_run<Q: Query<K, A>>(
+        &mut self,
+        alloc: A,
+        changes: &[(Q, TestsAddend)],
+    ) -> Result<(), AllocError>
+        requires few { length self.old.staged + length changes.now ≤ 2 ^ 63 }
+        requires ascending { ArePairs K.cmp self.old.staged }
+        requires fits { FitRun K.cmp Q.named tests_fit tests_with changes.now self.old.staged }
+        ensures committed { self.new.committed ≡ self.old.committed }
+        ensures ok { OnOk result (self.new.staged ≡ summed K.cmp Q.named tests_with changes.now self.old.staged) }
+    {
+        if changes.is_empty() {
+            return Ok(());
+        }
+        let mut told = Vec::with_capacity(alloc, changes.len())?;
+        if let Err(refused) = self.counts.stage_run(alloc, changes, &mut told) {
+            self.counts.rollback();
+            self.staged_totals = self.totals;
+            return Err(refused);
+        }
+        self.staged_totals = self.staged_totals.with_told(told.as_slice());
+        Ok(())
+    }
+
+    /// Commits what is staged.
+    pub(crate) fn commit(&mut self)
+        ensures committed { self.new.committed ≡ self.old.staged }
+        ensures staged { self.new.staged ≡ self.old.staged }
+    {
+        self.counts.commit();
+        self.totals = self.staged_totals;
+    }
+
+    /// Forgets what is staged.
+    pub(crate) fn rollback(&mut self)
+        ensures committed { self.new.committed ≡ self.old.committed }
+        ensures staged { self.new.staged ≡ self.old.committed }
+    {
+        self.counts.rollback();
+        self.staged_totals = self.totals;
+    }
+
+    /// How many points are staged, and how many of them hit.
+    pub(crate) fn staged(&self) -> KindTotals
+        ensures found { result.found ≡ found_of self.now.staged }
+        ensures hit { result.hit ≡ hit_of self.now.staged }
+    {
+        self.staged_totals
+    }
+
+    /// How many points are committed, and how many of them hit.
+    pub(crate) fn committed(&self) -> KindTotals
+        ensures found { result.found ≡ found_of self.now.committed }
+        ensures hit { result.hit ≡ hit_of self.now.committed }
+    {
+        self.totals
+    }
+}
+
+impl<K: Key, A: Allocator> PointIndex<K, A> {
+    ghost use Rattle.std.specs.Prelude.{List};
+    ghost use Rattle.covstore.specs.declared.sums.Tests.{Tests};
+    ghost use Rattle.covstore.specs.PointIndex.{IsTallyOf};
+    ghost use Rattle.covstore.specs.PointIndexDrops.{CanLose, IsTallyAt, counts_without};
+
+    /// Takes one test off a point's numbers; it had the point above 0 or not. Nothing is staged afterwards.
+    pub(crate) fn remove<Q: Query<K, A>>(&mut self, query: Q, was_above: bool)
+        requires { CanLose was_above (value_of K.cmp (Q.named query) self.old.committed) }
+        ensures committed { self.new.committed ≡ counts_without K.cmp (Q.named query) was_above self.old.committed }
+        ensures staged { self.new.staged ≡ self.new.committed }
+    {
+        if let Some(before) = self.counts.lookup(query) {
+            let after = before.fewer(was_above);
+            self.totals = self.totals.less(&before, &after);
+            self.staged_totals = self.totals;
+            self.counts.replace(query, after);
+        }
+    }
+
+    /// A walk that hasn't passed any point.
+    pub(crate) fn walk(&self) -> TallyWalk
+        ensures { IsTallyOf self.now.committed result.tally }
+    {
+        TallyWalk {
+            tally: self.totals,
+            place: SlotIndex::first(),
+        }
+    }
+
+    /// Passes a point: from then on the walk's tally is without one test that has the point. Reads the numbers that the point has
+    /// now.
+    pub(crate) fn subtract<Q: Query<K, A>>(
+        &self,
+        walk: TallyWalk,
+        query: Q,
+        was_above: bool,
+    ) -> TallyWalk
+        requires lose { CanLose was_above (value_of K.cmp (Q.named query) self.now.committed) }
+        requires at { (others : List (K × Tests)) × IsTallyAt K.cmp (Q.named query) self.now.committed others walk.tally }
+        ensures { (others : List (K × Tests)) → IsTallyAt K.cmp (Q.named query) self.now.committed others walk.tally → IsTallyOf (counts_without K.cmp (Q.named query) was_above others) result.tally }
+    {
+        let (numbers, place) = self.counts.lookup_at(query, walk.place);
+        let Some(before) = numbers else {
+            return walk;
+        };
+        let after = before.fewer(was_above);
+        TallyWalk {
+            tally: walk.tally.less(&before, &after),
+            place,
+        }
+    }
+}

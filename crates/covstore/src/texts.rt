@@ -1,0 +1,104 @@
+//! The checksums of a section's items, held at once for their test, before what the items add up to is staged.
+
+ghost use Rattle.std.specs.Prelude.{◌≡◌, List, ◌++◌, ◌∷◌, map, IfErr, IfSome, IsTrue, OnOk, ℕ};
+ghost use Rattle.std.specs.List.Sorted.{IsStrictlySortedBy};
+ghost use Rattle.std.specs.Ordering.{nat_cmp};
+ghost use Rattle.covline.specs.Row.{item_data};
+ghost use Rattle.covstore.specs.FileIndexView.{KeepsCommitted, index_staged};
+ghost use Rattle.covstore.specs.Items.{HasRoom, IsClashOf};
+ghost use Rattle.covstore.specs.Section.{Clashes};
+ghost use Rattle.covstore.specs.TestView.{test_staged};
+ghost use Rattle.covstore.specs.Texts.{AscendFrom, HasRoomToHold, HoldsText, HoldsTexts, checked_line, checked_lines};
+
+use crate::index::FileIndex;
+use crate::stage_fault::StageFault;
+use crate::sums::LineSum;
+use crate::test::Test;
+use covline::Item;
+use std::alloc::Allocator;
+
+/// Whether the lines of which items have a checksum ascend, each once.
+pub(crate) fn checked_lines_ascend<A: Allocator>(items: &[Item<A>]) -> bool
+    ensures { IsTrue result → IsStrictlySortedBy nat_cmp (checked_lines (map item_data items.now)) }
+{
+    let mut least = 0;
+    for item in items {
+        let Some(next) = least_after(item, least) else {
+            return false;
+        };
+        least = next;
+    }
+    true
+}
+
+/// The least line of which an item after this one may have a checksum, and none where this one has a checksum of a line
+/// below the least.
+fn least_after<A: Allocator>(item: &Item<A>, least: u64) -> Option<u64>
+    ensures { IfSome result (λ next. (lines : List ℕ) → AscendFrom next lines → AscendFrom least (checked_line (item_data item.now) ++ lines)) }
+{
+    match item {
+        Item::Line {
+            line,
+            checksum: Some(_),
+            ..
+        } => line_after(*line, least),
+        Item::Line { checksum: None, .. } | Item::Func { .. } | Item::Branch { .. } => Some(least),
+    }
+}
+
+/// The line after this one, and none where this one is below the least, or the last of all.
+fn line_after(line: u64, least: u64) -> Option<u64>
+    ensures { IfSome result (λ next. (lines : List ℕ) → AscendFrom next lines → AscendFrom least (line ∷ lines)) }
+{
+    if line < least || line == u64::MAX {
+        return None;
+    }
+    Some(line + 1)
+}
+
+/// Stages that the test holds the checksums of the items, up to the first that clashes: of items whose lines with a
+/// checksum ascend, so that what the test held before tells for each item whether it holds one of its line.
+pub(crate) fn hold_texts<A: Allocator + Copy>(
+    test: &mut Test<A>,
+    index: &mut FileIndex<A>,
+    alloc: A,
+    items: &[Item<A>],
+) -> Result<(), StageFault<A>>
+    requires room { HasRoom (test_staged test.old) (index_staged index.old) }
+    requires ascend { IsStrictlySortedBy nat_cmp (checked_lines (map item_data items.now)) }
+    ensures test { test.new ≡ test.old }
+    ensures index_committed { KeepsCommitted index.old index.new }
+    ensures ok { OnOk result (HoldsTexts (map item_data items.now) (test_staged test.old) (index_staged index.old) (index_staged index.new)) }
+    ensures clash { IfErr result (Clashes (map item_data items.now) (test_staged test.old) (index_staged index.old)) }
+{
+    for item in items {
+        hold_text(test, index, alloc, item)?;
+    }
+    Ok(())
+}
+
+/// Stages that the test holds the checksum of an item, where the item has one.
+fn hold_text<A: Allocator + Copy>(
+    test: &mut Test<A>,
+    index: &mut FileIndex<A>,
+    alloc: A,
+    item: &Item<A>,
+) -> Result<(), StageFault<A>>
+    requires room { HasRoomToHold (item_data item.now) (test_staged test.old) (index_staged index.old) }
+    ensures test { test.new ≡ test.old }
+    ensures index_committed { KeepsCommitted index.old index.new }
+    ensures ok { OnOk result (HoldsText (item_data item.now) (test_staged test.old) (index_staged index.old) (index_staged index.new)) }
+    ensures clash { IfErr result (IsClashOf (item_data item.now) (index_staged index.old)) }
+{
+    if let Item::Line {
+        line,
+        checksum: Some(text),
+        ..
+    } = item
+    {
+        let before = test.lines.lookup_staged(*line);
+        let is_held = LineSum::is_checked(&before);
+        index.checksums.hold(alloc, *line, text.get(), is_held)?;
+    }
+    Ok(())
+}

@@ -1,0 +1,2 @@
+mod StandsStill
+mod Counted

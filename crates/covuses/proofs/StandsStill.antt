@@ -1,0 +1,13 @@
+-- A store stands for what it stood for before, if only what is staged differs.
+use Rattle.std.proofs.Common.{◌∙◌}
+use Rattle.covstore.specs.Store.{StoreData, SameContent, StandsFor}
+use Rattle.covstore.specs.Table.{Table}
+
+pub stands_still : (before after : StoreData) (table : Table) → SameContent before after → StandsFor before table → StandsFor after table
+stands_still before after table same stands = record {
+  content = same.sections ∙ stands.content;
+  members = same.members ∙ stands.members;
+  agree = stands.agree;
+  few = stands.few;
+  small = stands.small;
+}

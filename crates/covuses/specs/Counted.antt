@@ -1,0 +1,22 @@
+-- The counted lines of a tracefile.
+use Rattle.std.specs.Prelude.{◌≡◌, ℕ, List, []}
+use Rattle.std.specs.List.{flat_map}
+use Rattle.covline.specs.Spells.{LineData, Test, Path, FuncStart, FuncCount, Branch, Line, Total, End, Skip}
+use Rattle.covline.specs.Printed.{printed}
+use Rattle.covread.specs.Reads.{AllSpell}
+
+-- what is printed of a record: the line of a count, and nothing of any other
+abbrev pub if_counted : LineData → List ℕ
+if_counted (Line number count checksum) = printed (Line number count checksum)
+if_counted (Test name) = []
+if_counted (Path path) = []
+if_counted (FuncStart number name) = []
+if_counted (FuncCount count name) = []
+if_counted (Branch number block branch taken) = []
+if_counted (Total kind value) = []
+if_counted End = []
+if_counted Skip = []
+
+-- each line says a record, and the text has what is printed of these
+abbrev pub AreCounted : List (List ℕ) → List ℕ → Type 0
+AreCounted lines text = (records : List LineData) × AllSpell lines records × (text ≡ flat_map if_counted records)

@@ -1,0 +1,37 @@
+//! Uses of covread and covcheck.
+
+ghost use Rattle.std.specs.Prelude.{◌⊎◌, ◌≡◌, IfOk, Ok};
+ghost use Rattle.covread.specs.Outcome as trace;
+ghost use Rattle.covread.specs.GcovOutcome as gcov;
+ghost use Rattle.covline.specs.Row.{SubmissionData};
+ghost use Rattle.covcheck.specs.declared.text_summary.TextSummary.{TextSummary as SummaryData};
+ghost use Rattle.covcheck.specs.TextSummary.{Holds};
+ghost use Rattle.covcheck.specs.Skipped.{IsSkippedRecord};
+ghost use Rattle.covcheck.specs.Told.{summary_text};
+
+use covcheck::{check_trace, summary_line};
+use covline::Submission;
+use covread::{ReadFault, read_gcov, read_trace};
+use std::alloc::Global;
+
+/// What a text says: a tracefile, or else gcov's annotated source, whose counts are this test's. A text of gcov's has no line
+/// that a tracefile has, so it is read as a tracefile without items.
+pub fn read_either(alloc: Global, test: &[u8], text: &[u8]) -> Result<Submission, ReadFault>
+    ensures { IfOk result (λ s. trace.IsOutcome text.now (Ok s) ⊎ gcov.IsOutcome test.now text.now (Ok s)) }
+{
+    let submission = read_trace(alloc, text)?;
+    if submission.items() > 0 {
+        return Ok(submission);
+    }
+    read_gcov(alloc, test, text)
+}
+
+/// The line that says what a tracefile holds.
+pub fn check_line(alloc: Global, text: &[u8]) -> Result<Vec<u8>, ReadFault>
+    ensures { IfOk result (λ line. (summary : SummaryData) × (read : SubmissionData) × trace.IsOutcome text.now (Ok read)
+        × Holds IsSkippedRecord text.now read summary × (line.items ≡ summary_text summary)) }
+{
+    let summary = check_trace(alloc, text)?;
+    let line = summary_line(alloc, &summary)?;
+    Ok(line)
+}

@@ -1,0 +1,34 @@
+//! A use of covline.
+
+ghost use Rattle.std.specs.Prelude.{IfOk};
+ghost use Rattle.covline.specs.Lines.{lines_of};
+ghost use Rattle.covuses.specs.Counted.{AreCounted};
+
+use covline::{Bytes, LineFault, Memory, TraceLine, lines, put_line, read_line};
+use std::alloc::Global;
+use thiserror::Error;
+
+/// Why a tracefile isn't printed again.
+#[derive(Clone, Copy, Debug, PartialEq, Eq, Error)]
+pub enum PrintFault {
+    /// A line can't be read.
+    #[error("{0}")]
+    Line(#[from] LineFault),
+    /// A growth was refused.
+    #[error("{0}")]
+    Memory(#[from] Memory),
+}
+
+/// The counted lines of a tracefile, printed again.
+pub fn counted_lines(alloc: Global, text: &[u8]) -> Result<Bytes, PrintFault>
+    ensures { IfOk result (λ t. AreCounted (lines_of text.now) t) }
+{
+    let mut printed = Bytes::new(alloc);
+    for line in lines(text) {
+        let record = read_line(line)?;
+        if let TraceLine::Line { .. } = record {
+            put_line(&record, &mut printed)?;
+        }
+    }
+    Ok(printed)
+}

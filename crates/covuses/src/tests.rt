@@ -1,0 +1,146 @@
+//! Each use with a small text. What is wanted was worked out by hand from the formats (geninfo(1), section FILES; lcov(1),
+//! `--summary`; gcov(1)), never taken from an output.
+
+use crate::books::answers;
+use crate::counts::add_counts;
+use crate::reading::{check_line, read_either};
+use crate::records::{PrintFault, counted_lines};
+use crate::reports::reports;
+use crate::sessions::answers_to;
+use crate::stores::merged;
+use covbook::Answer;
+use covline::{LineFault, Submission};
+use covmap::StagedMap;
+use covread::read_trace;
+use covstore::Store;
+use std::alloc::Global;
+use std::process::Abort;
+use std::test::*;
+
+const FIRST: &[u8] = b"TN:unit\nSF:/src/a.c\nDA:1,2\nDA:3,0\nend_of_record\n";
+
+const SECOND: &[u8] =
+    b"TN:unit\nSF:/src/a.c\nDA:1,5\nDA:2,1\nend_of_record\nSF:/lib/b.c\nDA:9,0\nend_of_record\n";
+
+const MERGED: &[u8] = b"TN:unit\nSF:/src/a.c\nDA:1,7\nDA:2,1\nDA:3,0\nLF:3\nLH:2\nend_of_record\n";
+
+const SUMMARY: &[u8] = b"\
+Summary coverage rate:
+  lines......: 50.0% (2 of 4 lines)
+  functions..: no data found
+  branches...: no data found
+";
+
+/// Checks that the bytes are as wanted.
+fn check_bytes(rt: &impl Abort, given: &[u8], wanted: &[u8]) {
+    assert_eq!(rt; given, wanted);
+}
+
+#[test]
+fn lines_with_counts(rt: HostRuntime) -> Result<(), Fail> {
+    let printed = counted_lines(
+        rt.alloc(),
+        b"SF:/a.c\nDA:01,2\nFN:1,f\nDA:3,-4,abc\r\nLF:2\nend_of_record\n",
+    )?;
+    check_bytes(&rt, printed.get(), b"DA:1,2\nDA:3,0,abc\n");
+    let fault = counted_lines(rt.alloc(), b"DA:1\n").err();
+    assert_eq!(rt; fault, Some(PrintFault::Line(LineFault::BadLine)));
+    Ok(())
+}
+
+#[test]
+fn both_formats(rt: HostRuntime) -> Result<(), Fail> {
+    let trace = read_either(rt.alloc(), b"unit", FIRST)?;
+    assert_eq!(rt; (trace.sects().len(), trace.items()), (1, 2));
+    let source =
+        b"        -:    0:Source:a.c\n        3:    1:int f(void)\n    #####:    2:  return 0;\n        -:    3:}\n";
+    let annotated = read_either(rt.alloc(), b"unit", source)?;
+    assert_eq!(rt; (annotated.sects().len(), annotated.items()), (1, 2));
+    Ok(())
+}
+
+#[test]
+fn what_a_text_holds(rt: HostRuntime) -> Result<(), Fail> {
+    let line = check_line(
+        rt.alloc(),
+        b"FNL:0,1\nSF:/a.c\nDA:1,2\nDA:3,0\nLF:5\nend_of_record\n",
+    )?;
+    check_bytes(
+        &rt,
+        line.as_slice(),
+        b"sections 1 items 2 odd 1 skipped 1 first FNL at 1\n",
+    );
+    Ok(())
+}
+
+#[test]
+fn added_counts(rt: HostRuntime) -> Result<(), Fail> {
+    let mut lines = StagedMap::new(rt.alloc());
+    add_counts(rt.alloc(), &mut lines, &[(1, 2), (3, 0)])?;
+    add_counts(rt.alloc(), &mut lines, &[(1, 5), (2, 1), (1, 1)])?;
+    assert_eq!(rt;
+        (lines.lookup(1), lines.lookup(2), lines.lookup(3)),
+        (Some(8), Some(1), Some(0))
+    );
+    Ok(())
+}
+
+/// The store of both tracefiles.
+fn store_of(rt: &(impl Abort + AllocGlobal)) -> Result<Store, Fail> {
+    let first = read_trace(rt.alloc(), FIRST)?;
+    let second = read_trace(rt.alloc(), SECOND)?;
+    match merged(rt.alloc(), &first, &second) {
+        Ok(store) => Ok(store),
+        Err(_refuse) => panic!(rt; "the submissions aren't held"),
+    }
+}
+
+#[test]
+fn merged_reports(rt: HostRuntime) -> Result<(), Fail> {
+    let store = store_of(&rt)?;
+    let (tracefile, summary) = reports(rt.alloc(), &store, b"/src/*.c")?;
+    check_bytes(&rt, tracefile.get(), MERGED);
+    check_bytes(&rt, summary.get(), SUMMARY);
+    Ok(())
+}
+
+/// The text of an answer.
+fn text_of(answer: &Answer) -> &[u8] {
+    match answer {
+        Answer::Text(text) => text.get().get(),
+        _ => b"",
+    }
+}
+
+#[test]
+fn answers_of_a_book(rt: HostRuntime) -> Result<(), Fail> {
+    let (first, second) = answers(rt.alloc(), read_trace(rt.alloc(), FIRST)?)?;
+    assert!(rt;
+        matches!(
+            first,
+            Answer::Accepted {
+                number: 1,
+                items: 2,
+                odd: 0
+            }
+        )
+    );
+    check_bytes(
+        &rt,
+        text_of(&second),
+        b"TN:unit\nSF:/src/a.c\nDA:1,2\nDA:3,0\nLF:2\nLH:1\nend_of_record\n",
+    );
+    Ok(())
+}
+
+#[test]
+fn answers_of_a_session(rt: HostRuntime) -> Result<(), Fail> {
+    let commands = b"trace\nSF:/src/a.c\nDA:1,2\nend_of_record\n.\nextract /lib/*\nforget\n";
+    let answers = answers_to(rt.alloc(), commands)?;
+    check_bytes(
+        &rt,
+        answers.as_slice(),
+        b"accepted 1 items 1 odd 0\n.\nunknown\n",
+    );
+    Ok(())
+}
