@@ -1,7 +1,7 @@
 //! A job of the shared book.
 
-use crate::asked::random_op;
 use crate::random::Random;
+use crate::random_op::random_op;
 use covbook::{JobLog, Op, Readings, Receipts};
 use covjobs::{Live, Name, News, Seat, Shared};
 use std::alloc::Global;

@@ -18,10 +18,10 @@
 #![tactic(auto)]
 
 mod alone;
-mod asked;
 mod job;
 mod pace;
 mod random;
+mod random_op;
 mod round;
 mod soak;
 mod wrappers;

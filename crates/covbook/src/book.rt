@@ -19,7 +19,7 @@ pub enum BookFault {
     /// The history has 1,048,576 entries. This is tested first.
     #[error("book full")]
     Full = 1,
-    /// A growth was refused.
+    /// Memory was refused.
     #[error("out of memory")]
     Memory = 2,
 }

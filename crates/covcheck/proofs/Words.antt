@@ -4,7 +4,7 @@ use Rattle.std.specs.Prelude.{◌&&◌, nat_lt}
 use Rattle.std.proofs.lemmas.Bool.{cases_Bool, and_parts, ltb-true}
 use Rattle.std.proofs.lemmas.List.{length-take}
 use Rattle.covcheck.specs.Skipped.{is_cut, word_at, beginning_of, start_of}
-use Rattle.covcheck.specs.Told.{shown}
+use Rattle.covcheck.specs.SummaryLine.{shown}
 
 word_few : (text : List ℕ) → length (word_at text) ≤ length text
 word_few [] = omega arith

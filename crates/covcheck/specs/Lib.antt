@@ -1,4 +1,4 @@
 pub mod Skipped
 pub mod TextSummary
-pub mod Told
+pub mod SummaryLine
 pub mod CheckSteps

@@ -3,7 +3,7 @@
 ghost use Rattle.std.specs.Prelude.{◌≡◌, ◌≢◌, ◌<◌, ◌≤◌, ℕ, [], List, length};
 ghost use Rattle.covcheck.specs.TextSummary.{AreLinesThat};
 ghost use Rattle.covcheck.specs.Skipped.{start_of, IsSkippedGcov, IsSkippedRecord};
-ghost use Rattle.covcheck.specs.Told.{shown};
+ghost use Rattle.covcheck.specs.SummaryLine.{shown};
 
 /// There is only one list of the lines that aren't read, so their number and the first of them are determined.
 pub fn skipped_lines_are_unique()

@@ -1,7 +1,7 @@
 //! The line that says what a text holds.
 
 ghost use Rattle.std.specs.Prelude.{◌≡◌, ◌++◌, IfOk, OnOk, decimal, map};
-ghost use Rattle.covcheck.specs.Told.{first_text, summary_text, shown};
+ghost use Rattle.covcheck.specs.SummaryLine.{first_text, summary_text, shown};
 
 use crate::text_summary::{SkippedLine, TextSummary};
 use covline::Memory;

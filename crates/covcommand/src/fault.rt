@@ -14,7 +14,7 @@ pub enum CommandFault {
     /// Fault 2: the words don't fit. This says why, and how to call, for standard error.
     #[error("{0}")]
     Line(String),
-    /// Fault 3: a growth was refused.
+    /// Fault 3: memory was refused.
     #[error("out of memory")]
     Memory,
     /// Fault 4: the version was asked for. This is its text, for standard output.

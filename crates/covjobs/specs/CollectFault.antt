@@ -2,8 +2,8 @@
 use Rattle.std.specs.Prelude.{ℕ}
 use Rattle.covbook.specs.declared.book.BookFault.{BookFault}
 use Rattle.covbook.specs.declared.book.BookFault.TheVariants as book
-use Rattle.covlock.specs.declared.name.OpenFault.{OpenFault}
-use Rattle.covlock.specs.declared.name.OpenFault.TheVariants as open_faults
+use Rattle.covlock.specs.declared.start.OpenFault.{OpenFault}
+use Rattle.covlock.specs.declared.start.OpenFault.TheVariants as open_faults
 use Rattle.covjobs.specs.declared.collect_fault.CollectFault.{CollectFault}
 use Rattle.covjobs.specs.declared.collect_fault.CollectFault.TheVariants.{BadJobs, Full, Memory, Gather, NotLast}
 

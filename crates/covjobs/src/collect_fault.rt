@@ -15,7 +15,7 @@ pub enum CollectFault {
     /// Fault 2: the history has 1,048,576 entries.
     #[error("book full")]
     Full,
-    /// Fault 3: a growth was refused, or a worker couldn't be started.
+    /// Fault 3: memory was refused, or a worker couldn't be started.
     #[error("out of memory")]
     Memory,
     /// Fault 4: the history isn't gathered from the jobs' logs: it is no merge of them, or a reading is wrong.

@@ -16,15 +16,15 @@
 //! `covjobs` re-exports all of this: a user of it lists that crate alone. Its page has a sketch.
 #![tactic(auto)]
 
-mod name;
 mod seat;
 mod seat_list;
 mod shared;
 mod shared_state;
+mod start;
 
 pub use covbook::Reading;
 pub use covnews::{Live, Name, News, ReaderFault};
-pub use name::{MAX_JOBS, OpenFault, Start};
 pub use seat::Seat;
 pub use seat_list::Seats;
 pub use shared::{CloseFault, Done, MAX_READERS, Shared, open_book};
+pub use start::{MAX_JOBS, OpenFault, Start};

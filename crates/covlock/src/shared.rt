@@ -1,9 +1,9 @@
 //! The book that threads share.
 
-use crate::name::Start;
 use crate::seat::Seat;
 use crate::seat_list::{Seats, seats_for};
 use crate::shared_state::SharedState;
+use crate::start::Start;
 use covbook::{BookFault, Entries, Op, Receipt};
 use covline::Memory;
 use covnews::{Live, Name, News, Publisher, ReaderFault};
@@ -89,7 +89,7 @@ impl<L: Name, A: Allocator + Copy> Shared<L, A> {
     ghost use Rattle.std.specs.Prelude.{◌≡◌, ◌≤◌, IfOk, MatchResult};
     ghost use Rattle.covbook.specs.View.{op_data};
     ghost use Rattle.covbook.specs.EntryView.{receipt_data};
-    ghost use Rattle.covlock.specs.Call.{IsTold, IsNewsOf};
+    ghost use Rattle.covlock.specs.Call.{IsReceiptFor, IsNewsOf};
     ghost use Rattle.covlock.specs.Seat.{after_call};
 
     /// Takes one step of the book for the seat's job, answered as the table answers it after a legal history. The news
@@ -105,7 +105,7 @@ impl<L: Name, A: Allocator + Copy> Shared<L, A> {
         op: &Op<A>,
     ) -> Result<Done<L, A>, BookFault>
         ensures asked { IfOk result (λ d. op_data d.receipt.op ≡ op_data op.now) }
-        ensures told { IfOk result (λ d. IsTold (op_data op.now) (receipt_data d.receipt)) }
+        ensures told { IfOk result (λ d. IsReceiptFor (op_data op.now) (receipt_data d.receipt)) }
         ensures news { IfOk result (λ d. IsNewsOf seat.old.job (op_data op.now) (receipt_data d.receipt) d.news) }
         ensures seen { IfOk result (λ d. seat.old.seen ≤ d.receipt.place) }
         ensures seat { MatchResult result (λ d. seat.new ≡ after_call seat.old d.receipt.place) (λ _. seat.new ≡ seat.old) }

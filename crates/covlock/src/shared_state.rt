@@ -37,7 +37,7 @@ impl<L: Name, A: Allocator + Copy> SharedState<L, A> {
     ghost use Rattle.covbook.specs.View.{op_data};
     ghost use Rattle.covbook.specs.EntryView.{receipt_data};
     ghost use Rattle.covbook.specs.Step.{next_entry, max_entries};
-    ghost use Rattle.covlock.specs.Call.{IsToldAfter, IsNewsOf};
+    ghost use Rattle.covlock.specs.Call.{IsReceiptAfter, IsNewsOf};
     ghost use Rattle.covlock.specs.Seat.{after_call};
 
     /// An empty book: no call is counted yet, and nothing is published.
@@ -73,7 +73,7 @@ impl<L: Name, A: Allocator + Copy> SharedState<L, A> {
         seat: &mut Seat<L>,
         op: &Op<A>,
     ) -> Result<(Receipt<A>, News<L>), BookFault>
-        ensures told { IfOk result (λ r. IsToldAfter self.old (op_data op.now) (receipt_data r.0)) }
+        ensures told { IfOk result (λ r. IsReceiptAfter self.old (op_data op.now) (receipt_data r.0)) }
         ensures entry { OnOk result (self.new ≡ self.old ++ next_entry self.old seat.old.job (op_data op.now) ∷ []) }
         ensures news { IfOk result (λ r. IsNewsOf seat.old.job (op_data op.now) (receipt_data r.0) r.1) }
         ensures published { IfOk result (λ r. r.1 ≡ self.new) }

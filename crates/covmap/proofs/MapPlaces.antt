@@ -45,7 +45,7 @@ append_nil : {X : Type 0} (xs : List X) → xs ++ [] ≡ xs
 append_nil [] = refl
 append_nil (x ∷ xs) = ap (λ rest. x ∷ rest) (append_nil xs)
 
--- a key with a gap has no slot
+-- a key that belongs in a gap has no slot
 pub gap_absent : {K V : Type 0} (order : K → Ordering) (pages : List (List (K × Option V))) (i j : ℕ) → IsGap order pages (i, j) → has_slot order (keys_of (slots_of pages)) ≡ false
 gap_absent order pages i j gap =
     ap (λ slots. has_slot order (keys_of slots)) (whole pages i j)

@@ -16,7 +16,7 @@ set_after : {X : Type 0} (front : List X) (x y : X) (back : List X) → set (fro
 set_after [] x y back = refl
 set_after (z ∷ front) x y back = ap (λ rest. z ∷ rest) (set_after front x y back)
 
--- a column in the code, and the columns after a write to it
+-- a column as plain data, and the columns after a write to it
 module _ {V P : Type 0} (seen : P → ℕ × List (Option V)) (ps : List P) (columns front : List (ℕ × List (Option V))) (x : ℕ × List (Option V)) (back : List (ℕ × List (Option V))) (index : ℕ)
     (view : map seen ps ≡ columns) (is : columns ≡ front ++ x ∷ back) (at : index ≡ length front) where
   pub index_within : index < length ps

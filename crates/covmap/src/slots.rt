@@ -288,7 +288,7 @@ impl<K: Key, V: Value, A: Allocator> Slots<K, V, A> {
         self.pages[number].fill(column);
     }
 
-    /// Replaces the value in the slot at a place, which has one, by this value or by none.
+    /// Replaces the value in the slot at a place by this value, or by none. The slot must have a value.
     pub(crate) fn write(&mut self, place: SlotIndex, value: Option<V>)
         requires page { place.page < length self.old }
         requires slot { is_some (value_at self.old (at place)) ≡ true }

@@ -10,7 +10,7 @@ pub enum ReaderFault {
     /// As many readers were made as there can be. It may also come earlier, if no free place is found.
     #[error("NoPlace")]
     NoPlace = 1,
-    /// A growth was refused. No call returns it today, as a reader takes no memory.
+    /// Memory was refused. No call returns it today, as a reader takes no memory.
     #[error("out of memory")]
     Memory = 2,
 }

@@ -49,7 +49,7 @@ pub enum ReadFault {
     /// Fault 12: a tracefile can't hold the test's name. This is tested after the text's length.
     #[error("BadTest")]
     BadTest,
-    /// Fault 13: a growth was refused.
+    /// Fault 13: memory was refused.
     #[error("out of memory")]
     Memory,
 }

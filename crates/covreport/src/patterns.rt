@@ -21,7 +21,7 @@ pub enum PatternFault {
     /// The pattern has more than 1,024 bytes.
     #[error("TooLong")]
     TooLong = 2,
-    /// A growth was refused.
+    /// Memory was refused.
     #[error("out of memory")]
     Memory = 3,
 }

@@ -14,7 +14,7 @@ use Rattle.covrun.specs.WorkFault.{IsRefusal, of_work}
 use Rattle.covrun.specs.declared.work.WorkFault.{WorkFault}
 use Rattle.covrun.specs.declared.work.WorkFault.TheVariants.{Words, Memory}
 use Rattle.covcommand.specs.declared.fault.CommandFault.{CommandFault}
-use Rattle.covrun.specs.Call.{StopsEarly, AreTexts, WorkEnds, TaskTold, IsTold, of_line}
+use Rattle.covrun.specs.Call.{StopsEarly, AreTexts, WorkEnds, IsTaskDone, IsEndingPrinted, of_line}
 use Rattle.covrun.specs.Check.{IsCheck}
 use Rattle.covrun.specs.Folder.{FolderData}
 use Rattle.covrun.specs.Streams.{SourceData, SinksData, sinks}
@@ -44,21 +44,21 @@ ends_uncollected folder work files named inputs fault ending (texts, are, from) 
 
 -- the ending of the work is reported
 pub told_work : (folder : FolderData) (work : WorkData) (task : TaskData) (ending : EndingData) (status : ℕ) (before after : SourceData) (old new : SinksData)
-    → after ≡ before → Collects work ≡ task → WorkEnds folder work ending → IsTold ending status old new → TaskTold folder task status before after old new
+    → after ≡ before → Collects work ≡ task → WorkEnds folder work ending → IsEndingPrinted ending status old new → IsTaskDone folder task status before after old new
 told_work folder work task ending status before after old new unread is ends told =
-    subst (λ (t : TaskData). TaskTold folder t status before after old new) is (unread, ending, ends, told)
+    subst (λ (t : TaskData). IsTaskDone folder t status before after old new) is (unread, ending, ends, told)
 
 -- files were checked
 pub told_check : (folder : FolderData) (format : TextFormat) (files named : List (List ℕ)) (task : TaskData) (status : ℕ) (before after : SourceData) (old new : SinksData)
-    → after ≡ before → named ≡ files → Checks format files ≡ task → IsCheck folder format named status old new → TaskTold folder task status before after old new
+    → after ≡ before → named ≡ files → Checks format files ≡ task → IsCheck folder format named status old new → IsTaskDone folder task status before after old new
 told_check folder format files named task status before after old new unread same is checked =
-    subst (λ (t : TaskData). TaskTold folder t status before after old new) is
+    subst (λ (t : TaskData). IsTaskDone folder t status before after old new) is
     (unread, subst (λ (fs : List (List ℕ)). IsCheck folder format fs status old new) same checked)
 
 -- the words form no command
-pub told_line : (fault : CommandFault) (ending : EndingData) → ending ≡ of_line fault → (status : ℕ) (old new : SinksData) → IsTold ending status old new
-    → IsTold (of_line fault) status old new
-told_line fault ending is status old new told = subst (λ (e : EndingData). IsTold e status old new) is told
+pub told_line : (fault : CommandFault) (ending : EndingData) → ending ≡ of_line fault → (status : ℕ) (old new : SinksData) → IsEndingPrinted ending status old new
+    → IsEndingPrinted (of_line fault) status old new
+told_line fault ending is status old new told = subst (λ (e : EndingData). IsEndingPrinted e status old new) is told
 
 -- the work doesn't begin
 pub stops_early : (command : Command) (fault : WorkFault) (ending : EndingData) → ending ≡ of_work fault → IsRefusal command fault → StopsEarly command ending
@@ -69,7 +69,7 @@ stops_early command Memory ending is refused = inl is
 pub told_unreadable : (asked : EndingData) (name : List ℕ) → asked ≡ Unreadable name → (status : ℕ) → status ≡ 1
     → (output : Option (List ℕ)) (failed_output : ℕ) (before after : Option (List ℕ)) (fails fails_after : ℕ) (words : List ℕ)
     → words ≡ name ++ said (codes ": can't read") → (fails_after ≡ fails → Appends before after words)
-    → IsTold asked status (sinks output failed_output before fails) (sinks output failed_output after fails_after)
+    → IsEndingPrinted asked status (sinks output failed_output before fails) (sinks output failed_output after fails_after)
 told_unreadable asked name is status one output failed_output before after fails fails_after words spelled complained =
-    subst (λ (e : EndingData). IsTold e status (sinks output failed_output before fails) (sinks output failed_output after fails_after)) (sym is)
+    subst (λ (e : EndingData). IsEndingPrinted e status (sinks output failed_output before fails) (sinks output failed_output after fails_after)) (sym is)
     (one, (refl, refl), λ good. subst (λ (ws : List ℕ). Appends before after ws) spelled (complained good))

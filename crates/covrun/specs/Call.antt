@@ -79,12 +79,12 @@ of_line line.Memory = Stopped faults.Memory
 
 -- how an ending is reported. A text is written to the output; if a write of it failed, the output has a beginning of it, and the
 -- failure is reported. For any other ending nothing goes to the output, and the ending's status and words are reported
-abbrev pub IsTold : EndingData → (status : ℕ) → SinksData → SinksData → Type 0
-IsTold (Prints text) status old new =
+abbrev pub IsEndingPrinted : EndingData → (status : ℕ) → SinksData → SinksData → Type 0
+IsEndingPrinted (Prints text) status old new =
     ((status ≡ status_of (Prints text)) × Delivers text old new)
     ⊎ ((status ≡ fault_status faults.Write) × (new.failed_output ≡ suc old.failed_output) × HasBegun old.output new.output text
     × Complains (said (words_of_fault faults.Write)) old new)
-IsTold ending status old new = (status ≡ status_of ending) × Withholds old new × Complains (complaint ending) old new
+IsEndingPrinted ending status old new = (status ≡ status_of ending) × Withholds old new × Complains (complaint ending) old new
 
 -- what covcommand makes of the words: this command, or this fault
 pub record AreParsed (words : List (List ℕ)) (parsed : Result Command CommandFault) : Type 0 where
@@ -96,28 +96,28 @@ pub record AreParsed (words : List (List ℕ)) (parsed : Result Command CommandF
 
 -- what a call does for its task. A session reads the input; the other tasks don't. Collecting files has an ending, which is
 -- reported. Checking files reports each file
-abbrev pub TaskTold : FolderData → TaskData → (status : ℕ) → (before after : SourceData) → SinksData → SinksData → Type 0
-TaskTold folder Serves status before after old new =
+abbrev pub IsTaskDone : FolderData → TaskData → (status : ℕ) → (before after : SourceData) → SinksData → SinksData → Type 0
+IsTaskDone folder Serves status before after old new =
     TellsSession status before.left after.left old.output new.output old.faults new.faults
     (calls before.reads before.failed_reads old.failed_output) (calls after.reads after.failed_reads new.failed_output)
     old.failed_faults new.failed_faults
-TaskTold folder (Collects work) status before after old new =
-    (after ≡ before) × (ending : EndingData) × WorkEnds folder work ending × IsTold ending status old new
-TaskTold folder (Checks format files) status before after old new = (after ≡ before) × IsCheck folder format files status old new
+IsTaskDone folder (Collects work) status before after old new =
+    (after ≡ before) × (ending : EndingData) × WorkEnds folder work ending × IsEndingPrinted ending status old new
+IsTaskDone folder (Checks format files) status before after old new = (after ≡ before) × IsCheck folder format files status old new
 
 -- a command ends early, and the input isn't read; or its words are accepted, and its task is done
-abbrev pub CommandTold : FolderData → Command → (status : ℕ) → (before after : SourceData) → SinksData → SinksData → Type 0
-CommandTold folder command status before after old new =
-    ((after ≡ before) × (ending : EndingData) × StopsEarly command ending × IsTold ending status old new)
-    ⊎ (AreTaken command × TaskTold folder (task_of command) status before after old new)
+abbrev pub IsCommandDone : FolderData → Command → (status : ℕ) → (before after : SourceData) → SinksData → SinksData → Type 0
+IsCommandDone folder command status before after old new =
+    ((after ≡ before) × (ending : EndingData) × StopsEarly command ending × IsEndingPrinted ending status old new)
+    ⊎ (AreTaken command × IsTaskDone folder (task_of command) status before after old new)
 
 -- the command is done. If the words form none, the fault is reported, and the input isn't read
-abbrev pub CallTold : FolderData → Result Command CommandFault → (status : ℕ) → (before after : SourceData) → SinksData → SinksData → Type 0
-CallTold folder (Ok command) status before after old new = CommandTold folder command status before after old new
-CallTold folder (Err fault) status before after old new = (after ≡ before) × IsTold (of_line fault) status old new
+abbrev pub IsCallDone : FolderData → Result Command CommandFault → (status : ℕ) → (before after : SourceData) → SinksData → SinksData → Type 0
+IsCallDone folder (Ok command) status before after old new = IsCommandDone folder command status before after old new
+IsCallDone folder (Err fault) status before after old new = (after ≡ before) × IsEndingPrinted (of_line fault) status old new
 
 -- one call of the program: the folder whose files it reads, its words, its exit status, its input before and after, and its two
 -- output streams before and after
 abbrev pub IsCall : FolderData → (words : List (List ℕ)) → (status : ℕ) → (before after : SourceData) → SinksData → SinksData → Type 0
 IsCall folder words status before after old new =
-    (parsed : Result Command CommandFault) × AreParsed words parsed × CallTold folder parsed status before after old new
+    (parsed : Result Command CommandFault) × AreParsed words parsed × IsCallDone folder parsed status before after old new

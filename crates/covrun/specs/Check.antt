@@ -4,7 +4,7 @@ use Rattle.std.specs.List.{AllByRecursion, flat_map, list_any, zip}
 use Rattle.std.specs.Prelude.{◌≡◌, ◌⊎◌, ◌<◌, ◌≤◌, ℕ, suc, List, [], ◌∷◌, ◌++◌, length, Option, Bool, true, false, if◌then◌else◌, nat_lt, Result, Ok, Err, codes}
 use Rattle.covcheck.specs.TextSummary.{Tells}
 use Rattle.covcheck.specs.Skipped.{IsSkippedGcov, IsSkippedRecord}
-use Rattle.covcheck.specs.Told.{summary_text}
+use Rattle.covcheck.specs.SummaryLine.{summary_text}
 use Rattle.covcheck.specs.declared.text_summary.TextSummary.{TextSummary}
 use Rattle.covcommand.specs.declared.asked.TextFormat.{TextFormat}
 use Rattle.covcommand.specs.declared.asked.TextFormat.TheVariants.{Tracefile, Gcov}
@@ -33,18 +33,18 @@ IsTextOutcome Tracefile text answer =
 IsTextOutcome Gcov text answer =
     (read : Result SubmissionData ReadFault) × gcov.IsOutcome [] text read × Tells IsSkippedGcov text read answer
 
--- this is the result of checking a text with at most one byte more than the limit. If the folder knows the file's bytes (`held`),
--- the text is those bytes, up to that length
+-- this is the result of checking the file's text. If the folder knows the file's bytes (`held`), the text is those bytes; of a file
+-- longer than the limit it is the first ones, one more than the limit
 abbrev pub IsAnswered : Option (List ℕ) → TextFormat → Result TextSummary ReadFault → Type 0
 IsAnswered held format answer = (text : List ℕ) × (length text ≤ suc max_bytes) × IsTextOf held text × IsTextOutcome format text answer
 
--- the outcome is possible for this file
+-- this can be the outcome for the file
 abbrev pub IsOutcome : FolderData → TextFormat → (file : List ℕ) → OutcomeData → Type 0
 IsOutcome folder format file Unread = folder.MayFail file
 IsOutcome folder format file (Refused fault) = IsAnswered (folder.holds file) format (Err fault)
 IsOutcome folder format file (Held summary) = IsAnswered (folder.holds file) format (Ok summary)
 
--- each outcome is possible for the file at the same index
+-- each outcome can be that of the file at the same index
 abbrev pub AreOutcomes : FolderData → TextFormat → (files : List (List ℕ)) → List OutcomeData → Type 0
 AreOutcomes folder format files outcomes =
     AllByRecursion (λ (f : List ℕ × OutcomeData). IsOutcome folder format f.0 f.1) (zip files outcomes)

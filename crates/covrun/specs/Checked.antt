@@ -59,16 +59,16 @@ Says most words old new =
     Complains words old new × (old.failed_faults ≤ new.failed_faults) × (new.failed_faults ≤ old.failed_faults + most)
 
 -- how a file's outcome is reported. If memory ran out, nothing was written
-abbrev pub TellsFile : (file : List ℕ) → OutcomeData → Result Verdict SessionFault → SinksData → SinksData → Type 0
-TellsFile file outcome (Ok verdict) old new =
+abbrev pub ReportsFile : (file : List ℕ) → OutcomeData → Result Verdict SessionFault → SinksData → SinksData → Type 0
+ReportsFile file outcome (Ok verdict) old new =
     (verdict ≡ verdict_of outcome) × Appends old.output new.output (outcome_line file outcome)
     × (new.failed_output ≡ old.failed_output) × Says 1 (outcome_complaint file outcome) old new
-TellsFile file outcome (Err faults.Write) old new =
+ReportsFile file outcome (Err faults.Write) old new =
     HasBegun old.output new.output (outcome_line file outcome)
     × (new.failed_output ≡ suc old.failed_output) × Says 1 (outcome_complaint file outcome) old new
-TellsFile file outcome (Err faults.Memory) old new = new ≡ old
-TellsFile file outcome (Err faults.Read) old new = ⊥
-TellsFile file outcome (Err faults.Full) old new = ⊥
+ReportsFile file outcome (Err faults.Memory) old new = new ≡ old
+ReportsFile file outcome (Err faults.Read) old new = ⊥
+ReportsFile file outcome (Err faults.Full) old new = ⊥
 
 -- the outcome of a file that has this text
 abbrev pub IsOutcomeOfText : TextFormat → (text : List ℕ) → OutcomeData → Type 0
@@ -80,13 +80,13 @@ IsOutcomeOfText format text (Held summary) = IsTextOutcome format text (Ok summa
 abbrev pub TellsText : TextFormat → (file text : List ℕ) → Result Verdict SessionFault → SinksData → SinksData → Type 0
 TellsText format file text answer old new =
     ((answer ≡ Err faults.Memory) × (new ≡ old))
-    ⊎ ((outcome : OutcomeData) × IsOutcomeOfText format text outcome × TellsFile file outcome answer old new)
+    ⊎ ((outcome : OutcomeData) × IsOutcomeOfText format text outcome × ReportsFile file outcome answer old new)
 
 -- how one file is reported. If memory ran out, nothing was written
 abbrev pub TellsOne : FolderData → TextFormat → (file : List ℕ) → Result Verdict SessionFault → SinksData → SinksData → Type 0
 TellsOne folder format file answer old new =
     ((answer ≡ Err faults.Memory) × (new ≡ old))
-    ⊎ ((outcome : OutcomeData) × IsOutcome folder format file outcome × TellsFile file outcome answer old new)
+    ⊎ ((outcome : OutcomeData) × IsOutcome folder format file outcome × ReportsFile file outcome answer old new)
 
 -- how files with these outcomes are reported. If memory ran out, the last files weren't checked and have no outcome
 abbrev pub TellsAll : TextFormat → (files : List (List ℕ)) → List OutcomeData → Result Verdict SessionFault → SinksData → SinksData → Type 0

@@ -4,7 +4,7 @@ ghost use Rattle.std.specs.Prelude.{◌≡◌, ◌<◌, ◌≤◌, ◌^◌, ◌+
 ghost use Rattle.std.specs.Io.KnownBytes.{Appends};
 ghost use Rattle.std.specs.String.{string_bytes};
 ghost use Rattle.covrun.specs.Check.{Refused, Held, outcome_complaint, IsCheck};
-ghost use Rattle.covrun.specs.Checked.{verdict_of_summary, AnswersText, TellsFile, TellsText, TellsOne, TellsEach};
+ghost use Rattle.covrun.specs.Checked.{verdict_of_summary, AnswersText, ReportsFile, TellsText, TellsOne, TellsEach};
 ghost use Rattle.covrun.specs.Folder.{folder_data};
 ghost use Rattle.covrun.specs.Streams.{sinks};
 ghost use Rattle.covsession.specs.declared.session.fault.SessionFault.TheVariants as session_faults;
@@ -110,7 +110,7 @@ fn check_text<O: Sink, E: Sink>(
     match answer(alloc, format, text) {
         Ok(summary) => report_text_summary(alloc, name, &summary, output, faults),
         Err(ReadFault::Memory) => Err(SessionFault::Memory),
-        Err(fault) => tell_refusal(alloc, name, fault, output, faults),
+        Err(fault) => print_refusal(alloc, name, fault, output, faults),
     }
 }
 
@@ -134,7 +134,7 @@ fn report_text_summary<O: Sink, E: Sink>(
 ) -> Result<Verdict, SessionFault>
     requires output { O.failed_writes output.old < 2 ^ 62 }
     requires faults { E.failed_writes faults.old < 2 ^ 63 }
-    ensures { TellsFile name.now (Held summary.now) result
+    ensures { ReportsFile name.now (Held summary.now) result
         (sinks (O.written output.old) (O.failed_writes output.old) (E.written faults.old) (E.failed_writes faults.old))
         (sinks (O.written output.new) (O.failed_writes output.new) (E.written faults.new) (E.failed_writes faults.new)) }
 {
@@ -162,7 +162,7 @@ fn judge<E: Sink>(name: &str, summary: &TextSummary<'_>, faults: &mut E) -> Verd
 }
 
 /// Reports why a file is refused.
-fn tell_refusal<O: Sink, E: Sink>(
+fn print_refusal<O: Sink, E: Sink>(
     alloc: Global,
     name: &str,
     fault: ReadFault,
@@ -171,7 +171,7 @@ fn tell_refusal<O: Sink, E: Sink>(
 ) -> Result<Verdict, SessionFault>
     requires output { O.failed_writes output.old < 2 ^ 62 }
     requires faults { E.failed_writes faults.old < 2 ^ 63 }
-    ensures { TellsFile name.now (Refused fault) result
+    ensures { ReportsFile name.now (Refused fault) result
         (sinks (O.written output.old) (O.failed_writes output.old) (E.written faults.old) (E.failed_writes faults.old))
         (sinks (O.written output.new) (O.failed_writes output.new) (E.written faults.new) (E.failed_writes faults.new)) }
 {

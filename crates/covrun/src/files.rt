@@ -22,7 +22,7 @@ const MAX_KEPT: usize = MAX_BYTES + 1;
 pub(crate) enum FileFault<'a> {
     /// The file of this name can't be opened, or a read of it failed.
     Unreadable(&'a str),
-    /// A growth was refused.
+    /// Memory was refused.
     Memory,
 }
 

@@ -2,7 +2,7 @@
 //!
 //! `run` parses the command line (covcommand), and a command becomes a `Task`. Without a subcommand, it is a session
 //! (covsession). For `check`, each file is read and reported by itself (`checked`). Any other subcommand is `Work`: its files are
-//! read (`files`) and collected by covjobs, and the result becomes an `Ending`, which `tell` reports by an exit status and on the
+//! read (`files`) and collected by covjobs, and the result becomes an `Ending`, which `print_ending` reports by an exit status and on the
 //! two streams. Files come from a `Folder`; `FromFiles` makes one of std's.
 //!
 //! A sketch: the program's main function.

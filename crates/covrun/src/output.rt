@@ -3,7 +3,7 @@
 ghost use Rattle.std.specs.Prelude.{◌≡◌, ◌<◌, ◌≤◌, ◌^◌, ◌++◌, IfErr, OnOk, OnErr, suc};
 ghost use Rattle.std.specs.Io.KnownBytes.{Appends};
 ghost use Rattle.covsession.specs.Fault.{HasBegun};
-ghost use Rattle.covrun.specs.Call.{IsTold};
+ghost use Rattle.covrun.specs.Call.{IsEndingPrinted};
 ghost use Rattle.covrun.specs.Ending.{Prints};
 ghost use Rattle.covrun.specs.Streams.{sinks};
 ghost use Rattle.covrun.specs.View.{ending_data};
@@ -13,10 +13,14 @@ use crate::ending::Ending;
 use covsession::{SessionFault, Sink, line_of, put_bytes, status_of};
 
 /// Reports the ending, and returns its exit status.
-pub(crate) fn tell<O: Sink, E: Sink>(ending: &Ending<'_>, output: &mut O, faults: &mut E) -> u8
+pub(crate) fn print_ending<O: Sink, E: Sink>(
+    ending: &Ending<'_>,
+    output: &mut O,
+    faults: &mut E,
+) -> u8
     requires output { O.failed_writes output.old < 2 ^ 62 }
     requires faults { E.failed_writes faults.old < 2 ^ 62 }
-    ensures { IsTold (ending_data ending.now) result
+    ensures { IsEndingPrinted (ending_data ending.now) result
         (sinks (O.written output.old) (O.failed_writes output.old) (E.written faults.old) (E.failed_writes faults.old))
         (sinks (O.written output.new) (O.failed_writes output.new) (E.written faults.new) (E.failed_writes faults.new)) }
 {
@@ -36,7 +40,7 @@ pub(crate) fn tell<O: Sink, E: Sink>(ending: &Ending<'_>, output: &mut O, faults
 fn print<O: Sink, E: Sink>(text: &[u8], output: &mut O, faults: &mut E) -> u8
     requires output { O.failed_writes output.old < 2 ^ 62 }
     requires faults { E.failed_writes faults.old < 2 ^ 62 }
-    ensures { IsTold (Prints text.now) result
+    ensures { IsEndingPrinted (Prints text.now) result
         (sinks (O.written output.old) (O.failed_writes output.old) (E.written faults.old) (E.failed_writes faults.old))
         (sinks (O.written output.new) (O.failed_writes output.new) (E.written faults.new) (E.failed_writes faults.new)) }
 {

@@ -2,7 +2,7 @@
 
 ghost use Rattle.std.specs.Prelude.{◌≡◌, ◌<◌, ◌^◌, map};
 ghost use Rattle.std.specs.String.{string_bytes};
-ghost use Rattle.covrun.specs.Call.{of_line, IsCall, IsTold, CommandTold};
+ghost use Rattle.covrun.specs.Call.{of_line, IsCall, IsEndingPrinted, IsCommandDone};
 ghost use Rattle.covrun.specs.Folder.{folder_data};
 ghost use Rattle.covrun.specs.Streams.{sinks, source};
 
@@ -10,7 +10,7 @@ use crate::checked::check_files;
 use crate::collecting::ending_of;
 use crate::ending::{ending_of_line, ending_of_work};
 use crate::folder::Folder;
-use crate::output::tell;
+use crate::output::print_ending;
 use crate::work::{Task, task_for};
 use covcommand::{Command, CommandFault, command};
 use covsession::{Sink, Source, run_session};
@@ -54,7 +54,7 @@ pub fn run<R: AllocGlobal + Threads + Wait + Sync, F: Folder, I: Source, O: Sink
     let alloc = rt.alloc();
     match command(alloc, words) {
         Ok(asked) => run_command(rt, folder, alloc, asked, input, output, faults),
-        Err(fault) => tell(&ending_of_line(fault), output, faults),
+        Err(fault) => print_ending(&ending_of_line(fault), output, faults),
     }
 }
 
@@ -72,18 +72,22 @@ fn run_command<R: Threads + Wait + Sync, F: Folder, I: Source, O: Sink, E: Sink>
     requires failed_reads { I.failed_reads input.old < 2 ^ 62 }
     requires failed_writes { O.failed_writes output.old < 2 ^ 62 }
     requires failed_words { E.failed_writes faults.old < 2 ^ 62 }
-    ensures { CommandTold (folder_data (F.holds folder.now) (F.may_refuse folder.now) F.File.left F.File.failed_reads)
+    ensures { IsCommandDone (folder_data (F.holds folder.now) (F.may_refuse folder.now) F.File.left F.File.failed_reads)
         asked result (source (I.left input.old) (I.reads input.old) (I.failed_reads input.old)) (source (I.left input.new) (I.reads input.new) (I.failed_reads input.new))
         (sinks (O.written output.old) (O.failed_writes output.old) (E.written faults.old) (E.failed_writes faults.old))
         (sinks (O.written output.new) (O.failed_writes output.new) (E.written faults.new) (E.failed_writes faults.new)) }
 {
     match task_for(alloc, asked) {
         Ok(Task::Session) => run_session(alloc, input, output, faults),
-        Ok(Task::Collect(work)) => tell(&ending_of(rt, folder, alloc, &work), output, faults),
+        Ok(Task::Collect(work)) => print_ending(
+            &ending_of(rt, folder, alloc, &work),
+            output,
+            faults,
+        ),
         Ok(Task::Check { format, files }) => {
             check_files(folder, alloc, format, files.get(), output, faults)
         }
-        Err(fault) => tell(&ending_of_work(fault), output, faults),
+        Err(fault) => print_ending(&ending_of_work(fault), output, faults),
     }
 }
 
@@ -91,9 +95,9 @@ fn run_command<R: Threads + Wait + Sync, F: Folder, I: Source, O: Sink, E: Sink>
 pub fn refuse<O: Sink, E: Sink>(fault: CommandFault, output: &mut O, faults: &mut E) -> u8
     requires failed_writes { O.failed_writes output.old < 2 ^ 62 }
     requires failed_words { E.failed_writes faults.old < 2 ^ 62 }
-    ensures { IsTold (of_line fault) result
+    ensures { IsEndingPrinted (of_line fault) result
         (sinks (O.written output.old) (O.failed_writes output.old) (E.written faults.old) (E.failed_writes faults.old))
         (sinks (O.written output.new) (O.failed_writes output.new) (E.written faults.new) (E.failed_writes faults.new)) }
 {
-    tell(&ending_of_line(fault), output, faults)
+    print_ending(&ending_of_line(fault), output, faults)
 }

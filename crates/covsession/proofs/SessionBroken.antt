@@ -14,7 +14,7 @@ use Rattle.covsession.specs.Run.{IsDone, IsRun, IsSoFar}
 use Rattle.covsession.specs.Session.{answer_text, said, text_after}
 use Rattle.covsession.specs.Streams.{InputData, OutputData, EndsAs, Moment, Says, TakesLine, TakesPieces, line_pieces, moment, unread}
 use Rattle.covread.specs.declared.fault.ReadFault.{ReadFault}
-use Rattle.covsession.specs.Text.{IsAnsweredAs, IsTaken, IsToldAnswer, asked_for}
+use Rattle.covsession.specs.Text.{IsAnsweredAs, IsTaken, IsReported, asked_for}
 use Rattle.covsession.specs.declared.session.command.word.Word.{Word}
 use Rattle.covsession.specs.declared.session.fault.SessionFault.{SessionFault}
 use Rattle.covsession.specs.declared.session.fault.SessionFault.TheVariants.{Read, Write, Memory, Full}
@@ -68,11 +68,11 @@ module _ (o p : OutputData) (before : List OpData) where
 
   pub err_read : (read : Result SubmissionData ReadFault) (given submission : SubmissionData) (r : Result (Unit {0}) SessionFault) → read ≡ Ok submission → given ≡ submission
       → IfErr r (λ f. Breaks o p f (answer_text (answer_of (table_of before) (SubmitOp given))))
-      → IfErr r (λ f. (Breaks o p f [] × (f ≢ Full)) ⊎ (IsToldAnswer read × FailsSaying o p before (asked_for read) f))
+      → IfErr r (λ f. (Breaks o p f [] × (f ≢ Full)) ⊎ (IsReported read × FailsSaying o p before (asked_for read) f))
   err_read read given submission (Ok x) is same h = tt
   err_read read given submission (Err f) is same h =
       let P : SubmissionData → Type 0 = λ s. Breaks o p f (answer_text (answer_of (table_of before) (SubmitOp s))) in
-      let Q : Result SubmissionData ReadFault → Type 0 = λ u. IsToldAnswer u × FailsSaying o p before (asked_for u) f in
+      let Q : Result SubmissionData ReadFault → Type 0 = λ u. IsReported u × FailsSaying o p before (asked_for u) f in
       inr (subst Q (sym is) (tt, submitting_fails o p before submission f (subst P same h)))
 
   -- memory ran out before the answer was said

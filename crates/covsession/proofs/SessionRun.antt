@@ -15,7 +15,7 @@ use Rattle.covread.specs.Outcome.{IsOrMemory}
 use Rattle.covread.specs.declared.fault.ReadFault.TheVariants as faults
 use Rattle.covsession.specs.Command.{Command, Format, Announces, IsReadAs, Blank, Ask, RefusePattern, Submit, Refuse, Unknown, Unfinished, AsksFor, IsAskingLine, IsTooLong, IsUnknown, IsBody, IsCommand, EndsInput, AreCommands, ops_of}
 use Rattle.covsession.specs.Session.{answer_text, refused_text, refused_pattern_text, said, text_after}
-use Rattle.covsession.specs.Text.{asked_for, AnswersAs, IsTold, IsToldAnswer}
+use Rattle.covsession.specs.Text.{asked_for, AnswersAs, IsNotMemory, IsReported}
 use Rattle.covsession.specs.Run.{IsRun}
 use Rattle.covsession.proofs.SessionWords.{IsSingle, single_unique, not_text, not_rename, text_no_rename, one_format}
 
@@ -424,18 +424,18 @@ told_as fault = Err fault
 same_fault : (x y : ReadFault) → told_as x ≡ told_as y → x ≡ y
 same_fault x y e = cc
 
-not_memory : (fault : ReadFault) → IsTold fault → fault ≡ faults.Memory → ⊥
+not_memory : (fault : ReadFault) → IsNotMemory fault → fault ≡ faults.Memory → ⊥
 not_memory fault told e = false≢true (sym told ∙ ap is_memory e)
 
-not_told : (fault : ReadFault) → IsTold fault → told_as fault ≡ told_as faults.Memory → ⊥
+not_told : (fault : ReadFault) → IsNotMemory fault → told_as fault ≡ told_as faults.Memory → ⊥
 not_told fault told e = not_memory fault told (same_fault fault faults.Memory e)
 
 -- a fault that is passed on is what the text is read as
-told_outcome : (format : Format) (text : List ℕ) (fault : ReadFault) → IsTold fault → AnswersAs format text (Err fault) → IsReadAs format text (Err fault)
+told_outcome : (format : Format) (text : List ℕ) (fault : ReadFault) → IsNotMemory fault → AnswersAs format text (Err fault) → IsReadAs format text (Err fault)
 told_outcome format text fault told (inl none) = absurd (not_told fault told none)
 told_outcome format text fault told (inr h) = h
 
-told_only : (fault : ReadFault) (outcome : Result SubmissionData ReadFault) → IsTold fault → IsOrMemory (Err fault) outcome → outcome ≡ Err fault
+told_only : (fault : ReadFault) (outcome : Result SubmissionData ReadFault) → IsNotMemory fault → IsOrMemory (Err fault) outcome → outcome ≡ Err fault
 told_only fault outcome told (inl none) = absurd (not_told fault told none)
 told_only fault outcome told (inr h) = h
 
@@ -455,10 +455,10 @@ ok_only submission outcome (inl none) = absurd (ok_no_fault submission none)
 ok_only submission outcome (inr h) = h
 
 -- an answer that is passed on is what the text is read as, and the only one
-pub answer_outcome : (format : Format) (text : List ℕ) (answer : Result SubmissionData ReadFault) → IsToldAnswer answer → AnswersAs format text answer → IsReadAs format text answer
+pub answer_outcome : (format : Format) (text : List ℕ) (answer : Result SubmissionData ReadFault) → IsReported answer → AnswersAs format text answer → IsReadAs format text answer
 answer_outcome format text (Ok submission) told h = ok_outcome format text submission h
 answer_outcome format text (Err fault) told h = told_outcome format text fault told h
 
-pub answer_only : (answer outcome : Result SubmissionData ReadFault) → IsToldAnswer answer → IsOrMemory answer outcome → outcome ≡ answer
+pub answer_only : (answer outcome : Result SubmissionData ReadFault) → IsReported answer → IsOrMemory answer outcome → outcome ≡ answer
 answer_only (Ok submission) outcome told h = ok_only submission outcome h
 answer_only (Err fault) outcome told h = told_only fault outcome told h

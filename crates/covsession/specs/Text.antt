@@ -77,17 +77,17 @@ asked_for (Ok submission) = Submit submission ∷ []
 asked_for (Err fault) = Refuse fault ∷ []
 
 -- a fault that is answered for a text: memory that ran out isn't one
-abbrev pub IsTold : ReadFault → Type 0
-IsTold fault = is_memory fault ≡ false
+abbrev pub IsNotMemory : ReadFault → Type 0
+IsNotMemory fault = is_memory fault ≡ false
 
 -- the answer of a reader is what the text is read as, or memory ran out
 abbrev pub AnswersAs : Format → List ℕ → Result SubmissionData ReadFault → Type 0
 AnswersAs format text answer = (answer ≡ Err faults.Memory) ⊎ IsReadAs format text answer
 
 -- a reader's answer that is passed on: not that memory ran out
-abbrev pub IsToldAnswer : Result SubmissionData ReadFault → Type 0
-IsToldAnswer (Ok submission) = Unit {0}
-IsToldAnswer (Err fault) = IsTold fault
+abbrev pub IsReported : Result SubmissionData ReadFault → Type 0
+IsReported (Ok submission) = Unit {0}
+IsReported (Err fault) = IsNotMemory fault
 
 -- what was taken of a text of this format is these commands
 abbrev pub IsAnsweredAs : {A : Type 0} → Format → CollectedText A → List Command → Type 0

@@ -69,7 +69,7 @@ sections_kind = record {
 pub sections_same : (rows others : List Row) → content_of rows ≡ content_of others → (key : Key) → section_of rows key ≡ section_of others key
 sections_same rows others e key = same_values key_cmp (map key_of_row) section_of (λ (s : SectionData). s.key) sections_kind rows others e key
 
--- and the same value for each line
+-- lists of rows with the same content have the same value for each line of each key
 pub lines_same : (rows others : List Row) → content_of rows ≡ content_of others → (key : Key) (line : ℕ) → line_at (items_at key rows) line ≡ line_at (items_at key others) line
 lines_same rows others e key line =
     same_values nat_cmp line_points line_at (λ (v : LineValueData). v.line) lines_kind (items_at key rows) (items_at key others)

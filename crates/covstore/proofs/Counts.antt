@@ -20,7 +20,7 @@ same_tests {others = others} {hit = hit} e f = ap (λ (n : ℕ). tests_of n hit)
 
 -- ---- one test among others
 
--- the numbers with one more test, which has this value at the point
+-- the numbers of a point with a test added that has this value there
 abbrev pub tests_among : {V : Type 0} → (V → Bool) → ℕ → ℕ → Option V → Option Tests
 tests_among is_above tests hit value = tests_of (tests + one_if (is_some value)) (hit + one_if (is_above_at is_above value))
 

@@ -17,7 +17,7 @@ use Rattle.covstore.proofs.DropsTests.{IsBetween, between, others_ascend, others
 use Rattle.covstore.proofs.Axis.{map_between, order_of, same_each}
 use Rattle.covstore.proofs.Fewer.{one_rest}
 
--- ---- the test first
+-- ---- one test moved to the front
 
 counts_first : {K V : Type 0} (cmp : K → K → Ordering) (is_above : V → Bool) (front : List (List (K × V))) (pairs : List (K × V)) (back : List (List (K × V))) (counts : List (K × Tests))
     → AreCounts cmp is_above (front ++ pairs ∷ back) counts → AreCounts cmp is_above (pairs ∷ front ++ back) counts

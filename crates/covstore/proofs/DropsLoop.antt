@@ -28,7 +28,7 @@ totals_taken totals pair files =
     (one_more (found_at Function) pair files totals.ff) (one_more (hit_at Function) pair files totals.fh)
     (one_more (found_at Branch) pair files totals.bf) (one_more (hit_at Branch) pair files totals.bh)
 
--- a part fits, if all of it fits together
+-- if the sum of all totals fits, the sum of a part fits too
 pub part_fits : (totals own rest whole : Totals) → together (together totals own) rest ≡ whole → FitTotals whole → FitTogether own totals
 part_fits totals own rest whole sum fit = record {
   lf = omega (arith, fit.lf, ap (λ (t : Totals). t.lf) sum);

@@ -83,7 +83,7 @@ module _ (test : List ℕ) where
       ∙ ap (λ (b : Bool). b || list_any (of_test test) (sections_of files)) (any_in_file pair whole.0)
       ∙ ap (λ (b : Bool). has_points_of test pair.1 || b) (any_in_files files whole.1)
 
--- ---- in the code
+-- ---- from the code's values to plain data
 
 -- the files of a map, seen as plain data
 pub any_named : {K X Y : Type 0} (p : Y → Bool) (f : X → Y) (name : K → List ℕ) (pairs : List (K × X)) → list_any (λ x. p (f x)) (values_of pairs) ≡ list_any (λ pair. p pair.1) (names_with name f pairs)

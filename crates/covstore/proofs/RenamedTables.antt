@@ -46,7 +46,7 @@ rows_stay old new (row ∷ rows) all = ap (λ (r : Row). r ∷ map (renamed_row 
 
 -- ---- rows
 
--- the checksums don't depend on tests
+-- renaming a test keeps the checksums of the rows
 pub agree_renamed : (old new : List ℕ) (rows : List Row) → checksums_in (map (renamed_row old new) rows) ≡ checksums_in rows
 agree_renamed old new [] = refl
 agree_renamed old new (row ∷ rows) = ap (λ (cs : List Checksum). checksum_of_row row ++ cs) (agree_renamed old new rows)

@@ -39,7 +39,7 @@ not_both : (b : Bool) → (b && false) ≡ false
 not_both true = refl
 not_both false = refl
 
--- picking by two tests, one after the other
+-- picking by two conditions, one after the other
 pub picked_both : {X : Type 0} (p q : X → Bool) (xs : List X) → filter q (filter p xs) ≡ filter (λ x. p x && q x) xs
 picked_both p q [] = refl
 picked_both {X} p q (x ∷ xs) = by (p x) (picked_both p q xs)
@@ -49,7 +49,7 @@ picked_both {X} p q (x ∷ xs) = by (p x) (picked_both p q xs)
     by true rest = ap (λ (ys : List X). cond (q x) (x ∷ ys) ys) rest
     by false rest = rest
 
--- tests that agree pick the same
+-- conditions that agree pick the same
 pub same_picked : {X : Type 0} (p q : X → Bool) → ((x : X) → p x ≡ q x) → (xs : List X) → filter p xs ≡ filter q xs
 same_picked p q same xs = λ i. filter (λ x. same x i) xs
 
@@ -57,7 +57,7 @@ none_picked : {X : Type 0} (xs : List X) → filter (λ x. false) xs ≡ []
 none_picked [] = refl
 none_picked (x ∷ xs) = none_picked xs
 
--- what is picked from rows made of items is all of them, or none
+-- a condition that holds of all rows made of items picks all of the items, and one that holds of none picks none
 kept_all : (p : Row → Bool) (f : ItemData → Row) (b : Bool) → ((item : ItemData) → p (f item) ≡ b) → ((item : ItemData) → (f item).item ≡ item) → (items : List ItemData)
     → map (λ row. row.item) (filter p (map f items)) ≡ cond b items []
 kept_all p f true same its [] = refl
@@ -154,7 +154,7 @@ module _ (old new : List ℕ) where
           (λ row. other_test (bytes_eq row.test old) (bytes_eq row.file key.file) new row.test key.test e) rows
           ∙ none_picked rows)
 
-  -- their checksums are checksums of the rows
+  -- the moved rows add no new checksums
   pub held_in_moved : (rows : List Row) (checksum : Checksum) → In checksum (checksums_in (rows ++ moved_rows old new rows)) → In checksum (checksums_in rows)
   held_in_moved rows checksum i =
       ⊎_elim {C = In checksum (checksums_in rows)}

@@ -84,7 +84,7 @@ run_sums kind (item ∷ items) test = twice kind ∙ ap (points_with kind (flat_
 pub runs_sum : (items : List ItemData) (test : TestData) → with_runs (runs_of items) test ≡ with_items items test
 runs_sum items test = λ i. record { lines = run_sums Line items test i; functions = run_sums Function items test i; branches = run_sums Branch items test i }
 
--- ---- queries for points in the code
+-- ---- queries for points, from the code's values to plain data
 
 pub summed_named : {K V Q M : Type 0} (cmp : K → K → Ordering) (named : Q → K) (sum : M → Option V → V) (run : List (Q × M)) (pairs : List (K × V))
     → summed cmp named sum run pairs ≡ summed cmp (λ key. key) sum (map (λ pair. (named pair.0, pair.1)) run) pairs

@@ -66,7 +66,7 @@ module _ {A : Type 0} (tests : List (List ℕ)) (test : List ℕ) (before after 
 pub same_file : {tests others : List (List ℕ × TestData)} {index more : FileIndexData} → tests ≡ others → index ≡ more → file_with tests index ≡ file_with others more
 same_file {tests} {others} {index} {more} same equal = ap (λ (xs : List (List ℕ × TestData)). file_with xs index) same ∙ ap (λ (m : FileIndexData). file_with others m) equal
 
--- if the visible part of a test stays, the tests look the same
+-- a test whose data stays may be replaced: the list of tests has the same data
 pub tests_written : {A : Type 0} (seen : Test A → TestData) (test : List ℕ) (before after : List (Vec ℕ A × Test A)) (v w : Test A)
     → after ≡ set_value (λ (k : Vec ℕ A). is_eq (slice_cmp nat_cmp test k.items)) before w → lookup (λ (k : Vec ℕ A). is_eq (slice_cmp nat_cmp test k.items)) before ≡ Some v → seen w ≡ seen v
     → names_with (λ (k : Vec ℕ A). k.items) seen after ≡ names_with (λ (k : Vec ℕ A). k.items) seen before
@@ -89,7 +89,7 @@ tests_of_last name front file test same e =
         one_of true = refl
         one_of false = refl
 
--- the name of a file in the code
+-- a file's name as plain data
 abbrev pub file_name : {A : Type 0} → Vec ℕ A → List ℕ
 file_name k = k.items
 
@@ -145,7 +145,7 @@ module _ {A : Type 0} (seen : File A → FileData) (touched front : List (Touche
         (All-unfound file_name file (IsSettledFile (touched_data front ++ (file, test) ∷ [])) (IsSettledFile (touched_data front)) before none others_settled settled_before);
   }
 
--- ---- nothing is left
+-- ---- nothing is staged any more
 
 test_settled : {A : Type 0} (pairs : List (Vec ℕ A × Test A)) → AllByRecursion (IsSettledTest []) pairs → names_with file_name test_staged pairs ≡ names_with file_name test_committed pairs
 test_settled [] all = refl

@@ -1,4 +1,5 @@
--- Items whose checksums are held, and then their runs staged: they are added. Where a checksum differs, the first one clashes.
+-- Items are added in two steps: first their checksums are held, then their runs are staged. The first item whose checksum
+-- differs from the held one is the clash.
 use Rattle.std.proofs.Common.{◌≡◌, ℕ, true, false, Option, Some, None, List, ◌∷◌, ◌++◌, length, map, refl, sym, ap, ◌∙◌, subst, inl, ⊎_elim}
 use Rattle.std.specs.Prelude.{Contains}
 use Rattle.std.specs.Cmp.Lexicographic.{slice_cmp}

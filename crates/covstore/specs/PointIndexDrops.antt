@@ -14,7 +14,8 @@ use Rattle.covmap.specs.Puts.{ArePairs, value_of}
 use Rattle.covstore.specs.State.{holders_at}
 use Rattle.covstore.specs.Sums.{TestData}
 
--- the point's numbers without one test that had it, above 0 or not; none if it was the only test
+-- the point's numbers without one test that had it; none if it was the only test. `was_above` tells whether the test had the
+-- point above 0
 abbrev pub fewer_tests : Bool → Tests → Option Tests
 fewer_tests was_above numbers = if nat_lt 1 numbers.tests then Some (record { tests = numbers.tests - 1; hit = numbers.hit - one_if was_above }) else None
 

@@ -267,7 +267,7 @@ impl Tests {
         }
     }
 
-    /// The numbers without one test, which had the point above 0 or not; none if it was the only one.
+    /// The numbers without one test; none if it was the only one. `was_above` tells whether the test had the point above 0.
     pub(crate) fn fewer(&self, was_above: bool) -> Option<Tests>
         requires { HaveOne was_above self.now }
         ensures { result ≡ fewer_tests was_above self.now }

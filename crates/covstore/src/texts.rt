@@ -17,7 +17,7 @@ use crate::test::Test;
 use covline::Item;
 use std::alloc::Allocator;
 
-/// Whether the lines of which items have a checksum ascend, each once.
+/// Whether the lines of the items with a checksum ascend, each once.
 pub(crate) fn checked_lines_ascend<A: Allocator>(items: &[Item<A>]) -> bool
     ensures { IsTrue result → IsStrictlySortedBy nat_cmp (checked_lines (map item_data items.now)) }
 {
@@ -31,8 +31,8 @@ pub(crate) fn checked_lines_ascend<A: Allocator>(items: &[Item<A>]) -> bool
     true
 }
 
-/// The least line of which an item after this one may have a checksum, and none where this one has a checksum of a line
-/// below the least.
+/// The least line that the next item with a checksum may have. `None` if this item has a checksum, and its line is below
+/// `least` or is the greatest `u64`.
 fn least_after<A: Allocator>(item: &Item<A>, least: u64) -> Option<u64>
     ensures { IfSome result (λ next. (lines : List ℕ) → AscendFrom next lines → AscendFrom least (checked_line (item_data item.now) ++ lines)) }
 {
@@ -46,7 +46,7 @@ fn least_after<A: Allocator>(item: &Item<A>, least: u64) -> Option<u64>
     }
 }
 
-/// The line after this one, and none where this one is below the least, or the last of all.
+/// The line after this one. `None` if this line is below `least`, or is the greatest `u64`.
 fn line_after(line: u64, least: u64) -> Option<u64>
     ensures { IfSome result (λ next. (lines : List ℕ) → AscendFrom next lines → AscendFrom least (line ∷ lines)) }
 {
@@ -56,8 +56,8 @@ fn line_after(line: u64, least: u64) -> Option<u64>
     Some(line + 1)
 }
 
-/// Stages that the test holds the checksums of the items, up to the first that clashes: of items whose lines with a
-/// checksum ascend, so that what the test held before tells for each item whether it holds one of its line.
+/// Stages that the test holds the checksums of the items, up to the first that clashes. The lines of the items with a
+/// checksum ascend, so whether the test holds the checksum of an item's line doesn't depend on the items before it.
 pub(crate) fn hold_texts<A: Allocator + Copy>(
     test: &mut Test<A>,
     index: &mut FileIndex<A>,

@@ -7,7 +7,7 @@ ghost use Rattle.covline.specs.Row.{SubmissionData};
 ghost use Rattle.covcheck.specs.declared.text_summary.TextSummary.{TextSummary as SummaryData};
 ghost use Rattle.covcheck.specs.TextSummary.{Holds};
 ghost use Rattle.covcheck.specs.Skipped.{IsSkippedRecord};
-ghost use Rattle.covcheck.specs.Told.{summary_text};
+ghost use Rattle.covcheck.specs.SummaryLine.{summary_text};
 
 use covcheck::{check_trace, summary_line};
 use covline::Submission;

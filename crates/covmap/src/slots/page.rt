@@ -173,7 +173,7 @@ impl<K, V: Value, A: Allocator> Page<K, V, A> {
         self.values = column;
     }
 
-    /// Replaces the value in a slot, which has one, by this value or by none.
+    /// Replaces the value in a slot by this value, or by none. The slot must have a value.
     pub(crate) fn write(&mut self, index: usize, value: Option<V>)
         requires { is_some (value_in (option_map (λ slot. slot.1) (slice_get self.old index))) ≡ true }
         ensures { self.new ≡ with_column self.old (slice_set (column_of self.old) index value) }

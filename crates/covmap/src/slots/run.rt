@@ -12,7 +12,7 @@ use crate::slots::staged::StagedColumns;
 use crate::slots::{PAGE_SLOTS, SlotIndex, Slots, push};
 use std::alloc::{AllocError, Allocator};
 
-/// A run of fewer keys than this goes to the last page, as long as that has room. A longer one gets pages of its own.
+/// A run of fewer keys than this goes to the last page if that has room. A longer one gets pages of its own.
 const SHORT_RUN: usize = 32;
 
 impl SlotIndex {
@@ -109,8 +109,9 @@ pub(crate) fn make_slots<
     }
 }
 
-/// Inserts empty slots for the keys at the front of a run, as long as these ascend on one page that has room. A page without
-/// staged values gets all slots before it gets a column: after that, each slot would have to be inserted into the column too.
+/// Inserts empty slots for the keys at the front of a run. Stops at the first key that doesn't ascend or belongs to another page,
+/// or when the page is full. A page without staged values gets all slots before it gets a column: after that, each slot would
+/// have to be inserted into the column too.
 fn make_ahead<K: Key + Drop, V: Value, A: Allocator + Copy, Q: Query<K, A>, M: Addend<V>>(
     slots: &mut Slots<K, V, A>,
     staged: &mut StagedColumns<V, A>,

@@ -60,7 +60,7 @@ fn starts_before(function: &Function, line: u64) -> bool
 }
 
 /// Takes a count of the function with this name. Returns `None` if it has no start line.
-pub fn take_count<'a, A: Allocator>(
+pub fn count_function<'a, A: Allocator>(
     functions: &mut Functions<'a, A>,
     name: &'a [u8],
     is_hit: bool,

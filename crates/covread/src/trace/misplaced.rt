@@ -13,7 +13,7 @@ pub enum Misplaced {
     Outside,
     /// A section is open.
     Inside,
-    /// A growth was refused.
+    /// Memory was refused.
     Memory,
 }
 

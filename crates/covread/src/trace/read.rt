@@ -68,7 +68,7 @@ fn take_first<'a, A: Allocator + Copy>(
         × ((inside : List LineData) → IsOpen reader.old.section inside → TakesLine result (held_data reader.old inside) reader.new line at) }
 {
     if let Some(first) = try_count_line(text) {
-        take_count(reader, alloc, at, first.line, first.count, first.checksum)?;
+        take_line_count(reader, alloc, at, first.line, first.count, first.checksum)?;
         return Ok(first.rest);
     }
     if let Some(first) = try_branch_line(text) {
@@ -82,7 +82,7 @@ fn take_first<'a, A: Allocator + Copy>(
 
 /// Takes a line with this number that counts a line of the source file.
 #[inline]
-fn take_count<A: Allocator + Copy>(
+fn take_line_count<A: Allocator + Copy>(
     reader: &mut Reader<'_, A>,
     alloc: A,
     at: u64,

@@ -69,7 +69,7 @@ impl<'a, A: Allocator + Copy> SectionBuilder<'a, A> {
     {
         match line {
             TraceLine::FuncStart { line, name } => self.take_start(alloc, line, name),
-            TraceLine::FuncCount { count, name } => self.take_count(alloc, count, name),
+            TraceLine::FuncCount { count, name } => self.take_function_count(alloc, count, name),
             TraceLine::Branch {
                 line,
                 block,
@@ -105,7 +105,7 @@ impl<'a, A: Allocator + Copy> SectionBuilder<'a, A> {
     }
 
     /// Takes a count of a function.
-    fn take_count(&mut self, alloc: A, count: u128, name: &'a [u8]) -> Result<(), Memory>
+    fn take_function_count(&mut self, alloc: A, count: u128, name: &'a [u8]) -> Result<(), Memory>
         ensures { OnOk result ((inside : List LineData) → IsBuiltOf self.old inside → IsBuiltOf self.new (inside ++ FuncCount count name.now ∷ [])) }
     {
         self.waiting.push(PendingCount {

@@ -7,7 +7,7 @@ ghost use Rattle.covread.specs.TraceFunctions.{AreFunctions};
 ghost use Rattle.covread.specs.TraceSection.{IsBuiltOf, mark};
 ghost use Rattle.covread.specs.TraceSettle.{HavePlaces, IsSettled, left, names_in, starts_with};
 
-use crate::trace::functions::{Functions, take_count};
+use crate::trace::functions::{Functions, count_function};
 use crate::trace::section::{PendingCount, SectionBuilder};
 use crate::trace::tally::{FunctionTotals, SectionPoints, odd_totals};
 use covline::{Items, Memory};
@@ -112,7 +112,7 @@ impl<A: Allocator + Copy> Counts<A> {
         ensures length { OnOk result (length items.new ≡ length items.old) }
         ensures few { OnOk result (self.new.hit ≤ self.old.hit + 1) }
     {
-        let found = match take_count(functions, count.name, count.is_hit) {
+        let found = match count_function(functions, count.name, count.is_hit) {
             Some(found) => found,
             None => {
                 self.unstarted.push(count.at)?;

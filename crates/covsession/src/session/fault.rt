@@ -11,7 +11,7 @@ pub enum SessionFault {
     Read = 1,
     /// A write or a flush failed, or a write took none of some bytes.
     Write = 2,
-    /// A growth was refused.
+    /// Memory was refused.
     Memory = 3,
     /// The history has no room for another entry.
     Full = 4,

@@ -10,7 +10,7 @@ ghost use Rattle.covsession.specs.Command.{Command, format_of, IsBody, IsReadAs}
 ghost use Rattle.covsession.specs.Session.{refused_text, text_after, Asks};
 ghost use Rattle.covsession.specs.Broken.{Breaks, FailsGiven, FailsSaying, FailsTaking, IsPart};
 ghost use Rattle.covsession.specs.Streams.{moment, CanCall, Says, TakesPieces};
-ghost use Rattle.covsession.specs.Text.{asked_for, AnswersAs, IsAnsweredAs, IsTaken, IsTold, IsToldAnswer};
+ghost use Rattle.covsession.specs.Text.{asked_for, AnswersAs, IsAnsweredAs, IsTaken, IsNotMemory, IsReported};
 ghost use Rattle.covsession.specs.declared.session.fault.SessionFault.TheVariants as session_faults;
 
 use crate::session::answers::refused_line;
@@ -57,7 +57,7 @@ pub fn take_text<I: Source, O: Sink, A: Allocator>(
 
 // Out of memory ends the session; other faults of a text are answered.
 fn told(fault: ReadFault) -> Result<(), SessionFault>
-    ensures told { OnOk result (IsTold fault) }
+    ensures told { OnOk result (IsNotMemory fault) }
     ensures fault { IfErr result (λ f. (fault ≡ read_faults.Memory) × (f ≡ session_faults.Memory)) }
 {
     if fault.is_memory() {
@@ -104,12 +104,12 @@ fn submit<O: Sink, A: Allocator + Copy>(
     output: &mut Output<'_, O, A>,
 ) -> Result<(), SessionFault>
     requires { output.old.failed_writes < 2 ^ 63 }
-    ensures told { OnOk result (IsToldAnswer read) }
+    ensures told { OnOk result (IsReported read) }
     ensures asks { OnOk result (Asks (asked_for read) (ops_in book.old.entries) (ops_in book.new.entries)) }
     ensures says { OnOk result (Says output.old output.new (text_after (table_of (ops_in book.old.entries)) (asked_for read))) }
     ensures full { result ≡ Err session_faults.Full → length book.old.entries ≡ max_entries }
     ensures fails { IfErr result (λ f. (Breaks output.old output.new f [] × (f ≢ session_faults.Full))
-        ⊎ (IsToldAnswer read × FailsSaying output.old output.new (ops_in book.old.entries) (asked_for read) f)) }
+        ⊎ (IsReported read × FailsSaying output.old output.new (ops_in book.old.entries) (asked_for read) f)) }
 {
     match read {
         Ok(submission) => {

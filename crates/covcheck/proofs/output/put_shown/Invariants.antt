@@ -1,5 +1,5 @@
 use Rattle.std.proofs.Common.{◌≡◌, ◌++◌, map, take}
-use Rattle.covcheck.specs.Told.{shown}
+use Rattle.covcheck.specs.SummaryLine.{shown}
 use Rattle.covcheck.proofs.output.put_shown.Given as goal
 
 abbrev pub invariant-loop-byte : goal.invariant-loop-byte

@@ -25,8 +25,8 @@ pub(crate) struct Along {
 }
 
 impl<K: Key, V: Value, A: Allocator> Page<K, V, A> {
-    /// Adds a run to the values of a column, from a slot on, as long as the keys of the run have slots on this page, in their
-    /// order. Skips the slots between them.
+    /// Adds the front of a run to the values of a column, from a slot on. Stops at the first key that has no slot on this page
+    /// after the slot of the key before it. Skips the slots between two keys.
     pub(crate) fn add_along<Q: Query<K, A>, N: Drop, M: ReportingAddend<V, N>>(
         &self,
         column: &mut [Option<V>],
@@ -86,7 +86,8 @@ impl<K: Key, V: Value, A: Allocator> Page<K, V, A> {
 }
 
 impl<K: Drop, V: Value, A: Allocator + Copy> Page<K, V, A> {
-    /// A page of empty slots for the keys at the front of a run, as long as they ascend and fit on one page.
+    /// A page of empty slots for the keys at the front of a run. Stops at the first key that doesn't ascend, or when the page is
+    /// full.
     pub(crate) fn of_run<Q: Query<K, A>, M: Addend<V>>(
         alloc: A,
         run: &[(Q, M)],

@@ -32,7 +32,7 @@ loop-last-preserved g c =
           (sym w.in_default-get_mut.ensures.value) same)
     ]
 
--- nothing is left
+-- after the loop, nothing is staged in any file
 settled : (g : _) (c : goal.In_default g) → AreSettledBut file_name [] c.loop-last.files.entries
 settled g c =
     let now = c.loop-last.touched in

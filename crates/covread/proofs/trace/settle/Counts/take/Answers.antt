@@ -24,18 +24,18 @@ overflow_add-self g c = omega (arith, c.requires.fits, c.from-more.ensures, byte
 
 pub returns-in-None-clause-settled : goal.returns-in-None-clause-settled
 returns-in-None-clause-settled g c = λ starts ms before fs h.
-    settled_none starts ms (mark c.args.count.now) _ _ _ before _ (none_was (starts c.args.count.now.name.now) _ (sym c.in-None.is ∙ c.take_count.ensures.found starts (names_in starts ms) fs)) c.in_ok-push-in-None.ensures.items h
+    settled_none starts ms (mark c.args.count.now) _ _ _ before _ (none_was (starts c.args.count.now.name.now) _ (sym c.in-None.is ∙ c.count_function.ensures.found starts (names_in starts ms) fs)) c.in_ok-push-in-None.ensures.items h
 
 pub returns-in-None-clause-functions : goal.returns-in-None-clause-functions
-returns-in-None-clause-functions g c = λ starts ms fs. names_more (λ names functions. AreFunctions functions starts names) _ starts ms (mark c.args.count.now) (c.take_count.ensures.marks starts (names_in starts ms) fs)
+returns-in-None-clause-functions g c = λ starts ms fs. names_more (λ names functions. AreFunctions functions starts names) _ starts ms (mark c.args.count.now) (c.count_function.ensures.marks starts (names_in starts ms) fs)
 
 pub returns-clause-settled : goal.returns-clause-settled
 returns-clause-settled g c = λ starts ms before fs h.
-    settled_some starts ms (mark c.args.count.now) _ c.from-more.result _ before _ _ c.in-Some.found (sym c.in-Some.is ∙ c.take_count.ensures.found starts (names_in starts ms) fs)
+    settled_some starts ms (mark c.args.count.now) _ c.from-more.result _ before _ _ c.in-Some.found (sym c.in-Some.is ∙ c.count_function.ensures.found starts (names_in starts ms) fs)
     (c.from-more.ensures ∙ byte_is c.in-Some.found.is_first_hit) (set_is _ _ _ _ c.requires.place c.set_start.ensures) h
 
 pub returns-clause-functions : goal.returns-clause-functions
-returns-clause-functions g c = λ starts ms fs. names_more (λ names functions. AreFunctions functions starts names) _ starts ms (mark c.args.count.now) (c.take_count.ensures.marks starts (names_in starts ms) fs)
+returns-clause-functions g c = λ starts ms fs. names_more (λ names functions. AreFunctions functions starts names) _ starts ms (mark c.args.count.now) (c.count_function.ensures.marks starts (names_in starts ms) fs)
 
 pub returns-clause-length : goal.returns-clause-length
 returns-clause-length g c = ap length (set_is _ _ _ _ c.requires.place c.set_start.ensures) ∙ length_set _ _ _

@@ -11,7 +11,7 @@ use Rattle.covread.specs.TraceSection.{mark}
 use Rattle.covread.specs.TraceTally.{branch_cmp}
 use Rattle.covread.proofs.TraceFunctions.{starts_same}
 use Rattle.covread.proofs.TraceSection.{items_more, hits_same, marks_more, totals_same}
-use Rattle.covread.proofs.trace.section.SectionBuilder.take_count.Goals as goal
+use Rattle.covread.proofs.trace.section.SectionBuilder.take_function_count.Goals as goal
 
 pub returns : goal.returns
 returns g c = λ inside h.

@@ -2,8 +2,8 @@ use Rattle.std.proofs.Common.{rules, ◌≡◌, ◌||◌, Bool, Some, ap, sym, �
 use Rattle.std.proofs.lemmas.Map.Text.{btree_map_updates_str}
 use Rattle.covread.specs.declared.trace.functions.Function.{Function}
 use Rattle.covread.proofs.TraceFunctions.{count_taken, or_true, or_false}
-use Rattle.covread.proofs.trace.functions.take_count.Goals as goal
-use Rattle.covread.proofs.trace.functions.take_count.Goals.{then-is_hit-2, else-is_hit-2}
+use Rattle.covread.proofs.trace.functions.count_function.Goals as goal
+use Rattle.covread.proofs.trace.functions.count_function.Goals.{then-is_hit-2, else-is_hit-2}
 
 pub returns-after-is_hit-2-clause-marks : goal.returns-after-is_hit-2-clause-marks
 returns-after-is_hit-2-clause-marks g c = λ starts names h.

@@ -17,7 +17,7 @@ pub enum OpenFault {
     /// There are no jobs, or more than 64. This is tested first.
     #[error("BadJobs")]
     BadJobs = 1,
-    /// A growth was refused.
+    /// Memory was refused.
     #[error("out of memory")]
     Memory = 2,
 }
@@ -36,7 +36,7 @@ impl OpenFault {
 
 impl From<Memory> for OpenFault {
     ghost use Rattle.std.specs.Prelude.{◌≡◌};
-    ghost use Rattle.covlock.specs.declared.name.OpenFault.TheVariants as faults;
+    ghost use Rattle.covlock.specs.declared.start.OpenFault.TheVariants as faults;
 
     ghost from_gives = { λ _ e. e ≡ faults.Memory };
 
@@ -67,7 +67,7 @@ impl<A: Allocator> Model for Start<A> {
 
 impl<A: Allocator + Copy> Start<A> {
     ghost use Rattle.std.specs.Prelude.{◌≡◌, ◌↔◌, [], IfOk, Err};
-    ghost use Rattle.covlock.specs.declared.name.OpenFault.TheVariants as faults;
+    ghost use Rattle.covlock.specs.declared.start.OpenFault.TheVariants as faults;
     ghost use Rattle.covlock.specs.Start.{AreJobs};
 
     /// What a book for `jobs` jobs is made of. `BadJobs` if they aren't 1 to 64. Takes no memory yet, so `Memory` isn't

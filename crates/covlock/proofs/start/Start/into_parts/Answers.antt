@@ -1,6 +1,6 @@
 use Rattle.std.proofs.Common.{◌∙◌, ap, subst, ℕ}
 use Rattle.covlock.specs.Start.{StartData, AreJobs}
-use Rattle.covlock.proofs.name.Start.into_parts.Goals as goal
+use Rattle.covlock.proofs.start.Start.into_parts.Goals as goal
 
 pub returns-clause-jobs : goal.returns-clause-jobs
 returns-clause-jobs g c = ap (λ (s : StartData). s.jobs) c.self.view_is
