@@ -97,7 +97,7 @@ least_is least (r ∷ receipts) (suc i) b at = least_is (r.place + 1) receipts i
 above_not : (a b : ℕ) → (b + 1 ≤ a → ⊥) → a ≤ b
 above_not a b h = elim (cases_order a b) [ inl e ↦ omega (arith, e) | inr other ↦ elim other [ inl lt ↦ omega (arith, lt) | inr gt ↦ absurd (h (omega (arith, gt))) ] ]
 
--- a place that is too low isn't above that of the receipt before, and the other way round
+-- a receipt's place is less than the least one allowed exactly if it isn't above that of the receipt before
 too_low : (index : ℕ) (log : LogData) (r : ReceiptData) → slice_get log.receipts index ≡ Some r → (least_after 0 (take index log.receipts) ≤ r.place → ⊥) → IsNotAbove index log r
 too_low zero log r at low = absurd (low (omega arith))
 too_low (suc i) log r at low =

@@ -1,4 +1,5 @@
--- What the steps over logs and receipts return, one after another.
+-- The loops of `gather` over jobs, logs, receipts and readings. After an element that is right, the result is that of the
+-- rest. At the first one that is wrong, the result is its fault.
 use Rattle.std.proofs.Common.{◌≡◌, ℕ, zero, suc, ◌+◌, ◌-◌, ◌<◌, ◌≤◌, Bool, true, eqb, List, [], ◌∷◌, ◌++◌, Option, Some, None, Result, length, get_or, take, drop, map, sym, refl, ap, ◌∙◌, inl, inr, subst, arith}
 use Rattle.std.specs.Prelude.{◌≢◌, ◌↔◌, ◌&&◌, IsTrue, slice_get, IsSomeAnd, option_map}
 use Rattle.std.specs.List.{All, AllByRecursion}
@@ -82,7 +83,7 @@ log_stops {A} entries logs i log f within is fails =
 
 -- ---- receipts
 
--- an entry of the job, with the receipt's operation and answer
+-- a receipt is right if the entry at its place is of the job and fits the receipt, and the place isn't too low
 pub receipt_is : {X : Type 0} (f : X → EntryData) (entries : List X) (entry : X) (job log index least : ℕ) (receipt : ReceiptData) → slice_get entries receipt.place ≡ Some entry
     → (f entry).job ≡ job → receipt_of receipt.place (f entry) ≡ receipt → least ≤ receipt.place → AllHold (claims_of (map f entries) job log index least receipt)
 receipt_is {X} f entries entry job log index least receipt at own same low =
@@ -91,7 +92,7 @@ receipt_is {X} f entries entry job log index least receipt at own same low =
       (subst (λ (o : Option EntryData). IsSomeAnd o (λ (e : EntryData). receipt_of receipt.place e ≡ receipt)) there same, (low, tt)),
     )
 
--- an entry of another job, one that the receipt doesn't fit, and one whose place is too low
+-- the three faults of a receipt: its entry is of another job; the entry doesn't fit it; its place is too low
 pub other_job : {X : Type 0} (f : X → EntryData) (entries : List X) (entry : X) (job log index least : ℕ) (receipt : ReceiptData) → slice_get entries receipt.place ≡ Some entry
     → ((f entry).job ≡ job → ⊥) → FirstFails (claims_of (map f entries) job log index least receipt) (Stranger log index)
 other_job {X} f entries entry job log index least receipt at other =
@@ -148,7 +149,7 @@ pub reading_stops : (entries : List EntryData) (log : ℕ) (readings : List Read
 reading_stops entries log readings i d within wrong =
     subst (λ (rs : List Reading). FirstFails (reading_claims entries log i rs) (BadReading log i)) (sym (rest_at readings i d (get_or readings i d) within refl)) (inl (wrong, refl))
 
--- the totals after the entries up to one
+-- the totals after an entry are the ones that it has
 last_at : (entries : List EntryData) (i : ℕ) (e : EntryData) → slice_get entries i ≡ Some e → last_totals (take (suc i) entries) ≡ e.after
 last_at [] i e at = absurd (no_some e at)
 last_at (x ∷ entries) zero e at = ap (λ (y : EntryData). y.after) (some_is x e at)
@@ -199,7 +200,7 @@ fields_same a b same =
 pub same_totals : (a b : Totals) (same : Bool) → same ≡ same_fields a b → IsTrue same ↔ (a ≡ b)
 same_totals a b same is = ((λ yes. fields_same a b (sym is ∙ yes)), λ e. is ∙ ap (same_fields a) (sym e) ∙ same_itself a)
 
--- a reading with the totals after its number of entries
+-- a reading is right exactly if its totals are those after its number of entries
 pub reading_is : {X : Type 0} (f : X → EntryData) (entries : List X) (reading : Reading) (totals : Totals) (same : Bool) → reading.upto ≤ length entries
     → totals ≡ last_totals (take reading.upto (map f entries)) → IsTrue same ↔ (totals ≡ reading.totals) → IsTrue same ↔ IsReadingOf (map f entries) reading
 reading_is f entries reading totals same within are is = (

@@ -85,7 +85,7 @@ renaming_planned store table old new own_old own_new renaming there same_old sam
       ∙ ap (λ (t : List ℕ). renamed old t table) same_new,
 )
 
--- the test is there, by the step's own copy of the name, in the book's table
+-- if the entries' table has a test of the given name, the book's table has one by the step's own copy of that name
 pub row_there : (store : StoreData) (room : ℕ) (entries : List EntryData) (book : BookData) (own given : List ℕ) → shown store room entries ≡ book → own ≡ given
     → true ≡ has_test (table_of (ops_in entries)) given → has_test (table_of (ops_in book.entries)) own ≡ true
 row_there store room entries book own given view is found =

@@ -1,4 +1,4 @@
--- A word of a call that isn't text, and what is said of it.
+-- A word of a call that isn't UTF-8, and the line that complains about it.
 use Rattle.std.specs.Prelude.{◌≡◌, ◌&&◌, ◌++◌, ℕ, List, codes, decimal, if◌then◌else◌, map, nat_le}
 use Rattle.std.specs.Str.{IsUtf8}
 use Rattle.std.specs.String.{string_bytes}
@@ -9,7 +9,7 @@ use Rattle.covcommand.specs.declared.fault.CommandFault.TheVariants.{Help, Line,
 abbrev pub shown : ℕ → ℕ
 shown byte = if nat_le 32 byte && nat_le byte 126 then byte else 63
 
--- the line about the word at a place
+-- the line that complains about this word at this place
 abbrev pub not_text : (place : ℕ) → (word : List ℕ) → List ℕ
 not_text place word = codes "error: word " ++ decimal place ++ codes " isn't UTF-8: " ++ map shown word ++ codes "\n"
 

@@ -60,7 +60,7 @@ among_both : (rows others whole : List Row) → AreAmong rows whole → AreAmong
 among_both rows others whole left right c i =
     ⊎_elim (left c) (right c) (In-parts (checksums_in rows) (checksums_in others) c (subst (In c) (checksums_joined rows others) i))
 
--- what rows are printed as has none but their checksums
+-- rows that are printed and read back have no checksums but those that they had
 among_shown : (rows : List Row) → AreAmong (rows_of (submission_shown (content_of rows))) rows
 among_shown rows c i =
     let given = checksums_in (rows_of (submission_shown (content_of rows))) in
@@ -93,7 +93,7 @@ agree_back some others agree =
 abbrev pub all_in : List (List SubmissionData) → List SubmissionData
 all_in parts = flat_map (λ part. part) parts
 
--- ---- a part, as what its report is read as
+-- ---- what a part's report is read as
 
 abbrev shown_of : List SubmissionData → SubmissionData
 shown_of part = submission_shown (content_of (rows_in part))
@@ -181,11 +181,11 @@ module _ (taken : AllAreTaken) where
   content_taken submissions agree = ap content_at (taken submissions agree) ∙ ap content_of (flat_map-map (λ (rows : List Row). rows) rows_of submissions)
 
   module _ (spells : PrintedSpells) (behind : OneAfterOther) (one : HasOneReading) where
-    -- the text of a merge is that of what the part adds up to
+    -- the text that a merge is read from is the part's content, printed
     printed_is : (part : List SubmissionData) (merge : SubmissionData) → AreAgreeing part → (is : IsMergeOf part merge) → flat_map section_text (content_of (rows_in part)) ≡ is.text
     printed_is part merge agree is = sym (text_of_all (content_of (rows_in part))) ∙ ap (report_text AllFiles) (sym (content_taken part agree)) ∙ same_text _ is.text is.told
 
-    -- the merge of a part is what the part is shown as
+    -- the merge of a part is its `shown_of`
     merge_is : (part : List SubmissionData) (merge : SubmissionData) → AllByRecursion IsLawful part → AreAgreeing part → IsMergeOf part merge → merge ≡ shown_of part
     merge_is part merge lawful agree is =
         one is.text merge (shown_of part) is.read

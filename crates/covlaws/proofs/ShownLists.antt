@@ -13,7 +13,7 @@ use Rattle.covstore.proofs.Ascend.{IsExactOrder, In-ascending, In-to_ascending}
 use Rattle.covstore.proofs.ContentsKinds.{same_ascending}
 use Rattle.covstore.proofs.Members.{In, All-in}
 
--- ---- nothing
+-- ---- lists in which no member adds anything
 
 pub flat_nothing : {X Y : Type 0} (g : X → List Y) (xs : List X) → ((x : X) → In x xs → g x ≡ []) → flat_map g xs ≡ []
 flat_nothing g [] none = refl
@@ -23,7 +23,7 @@ pub sum_nothing : {X : Type 0} (f : X → ℕ) (xs : List X) → ((x : X) → In
 sum_nothing f [] none = refl
 sum_nothing f (x ∷ xs) none = omega (arith, sum_by-cons f x xs, none x (inl refl), sum_nothing f xs (λ y i. none y (inr i)))
 
--- ---- one member of a strictly ascending list
+-- ---- strictly ascending lists in which only one member adds anything
 
 module _ {P : Type 0} {cmp : P → P → Ordering} (total : IsTotalOrder cmp) where
   less_differs : (p q : P) → cmp p q ≡ Less → q ≡ p → ⊥
@@ -32,7 +32,7 @@ module _ {P : Type 0} {cmp : P → P → Ordering} (total : IsTotalOrder cmp) wh
       let own : cmp p p ≡ Less = subst (λ (z : P). cmp p z ≡ Less) e less in
       cc
 
-  -- no member after the first is the first, and the first is none of them
+  -- no later member equals the first
   after_differs : (p : P) (ps : List P) → IsStrictlySortedBy cmp (p ∷ ps) → (q : P) → In q ps → q ≡ p → ⊥
   unfolding IsStrictlySortedBy
   after_differs p ps up q i = less_differs p q (All-in (λ z. cmp p z ≡ Less) ps q up.0 i)

@@ -474,7 +474,7 @@ pub fn read_line(line: &[u8]) -> Result<TraceLine<'_>, LineFault>
     read_any(line)
 }
 
-/// What follows the key of a counted line.
+/// What follows `DA:`, if the text begins with it.
 fn after_count_key(text: &[u8]) -> Option<&[u8]>
     ensures { option_map (λ rest. rest.now) result ≡ after_key (codes "DA:") text.now }
 {
@@ -484,7 +484,7 @@ fn after_count_key(text: &[u8]) -> Option<&[u8]>
     }
 }
 
-/// What follows a line feed.
+/// What follows a line feed, if the text begins with one.
 fn after_feed(text: &[u8]) -> Option<&[u8]>
     ensures { option_map (λ rest. rest.now) result ≡ after_key (line_feed ∷ []) text.now }
 {

@@ -7,7 +7,7 @@ use Rattle.covbook.specs.Op.{OpData, EntryData, ReceiptData}
 use Rattle.covbook.specs.Step.{ComesNext, IsLegal, answer_of, next_entry, receipt_of, table_of, ops_in, max_entries}
 use Rattle.covlock.specs.Call.{IsNewsOf}
 
--- what follows the history as it was made ready follows the history that was there before
+-- a step is made ready on the history that was there before: so its entry comes right after that history
 pub entry_after : (history ready after : List EntryData) (job asker : ℕ) (op asked : OpData) → ready ≡ history → job ≡ asker → op ≡ asked
     → after ≡ ready ++ next_entry ready job op ∷ [] → after ≡ history ++ next_entry history asker asked ∷ []
 entry_after history ready after job asker op asked same is_job is_op grown =
@@ -15,7 +15,7 @@ entry_after history ready after job asker op asked same is_job is_op grown =
     (subst (λ (j : ℕ). after ≡ ready ++ next_entry ready j asked ∷ []) is_job
     (subst (λ (o : OpData). after ≡ ready ++ next_entry ready job o ∷ []) is_op grown))
 
--- what holds of the history as it was made ready holds of the history that was there before
+-- likewise, its receipt has the place and the answer that follow from that history
 pub told_later : (history ready : List EntryData) (job : ℕ) (op asked : OpData) (told : ReceiptData) → ready ≡ history → op ≡ asked
     → told ≡ receipt_of (length ready) (next_entry ready job op) → told ≡ record { place = length history; op = asked; answer = answer_of (table_of (ops_in history)) asked }
 told_later history ready job op asked told same is_op is_told =
@@ -25,12 +25,12 @@ told_later history ready job op asked told same is_op is_told =
 pub ok_is_no_err : {T E : Type 0} (value : T) (fault : E) → ◌≡◌ {A = Result T E} (Ok value) (Err fault) → ⊥
 ok_is_no_err value fault is = cc
 
--- a history that takes more and is as long as what was seen is no reason for a refusal
+-- there is no reason for a refusal if the history isn't full and has the entries that the seat has seen
 pub takes_more : (entries seen : ℕ) → entries < max_entries → seen ≤ entries → (entries ≡ max_entries) ⊎ (entries < seen) → ⊥
 takes_more entries seen few long (inl is) = omega arith
 takes_more entries seen few long (inr is) = omega arith
 
--- such a history isn't the cause of an answer, and the answer isn't this fault
+-- then an answer other than this fault is right: neither the fault nor its cause is there
 pub is_not_full : {T E : Type 0} (answer : Result T E) (fault : E) (entries seen : ℕ) → (answer ≡ Err fault → ⊥) → entries < max_entries → seen ≤ entries
     → (answer ≡ Err fault → (entries ≡ max_entries) ⊎ (entries < seen)) × ((entries ≡ max_entries) ⊎ (entries < seen) → answer ≡ Err fault)
 is_not_full answer fault entries seen other few long = (λ is. absurd (other is), λ full. absurd (takes_more entries seen few long full))
@@ -38,18 +38,18 @@ is_not_full answer fault entries seen other few long = (λ is. absurd (other is)
 pub no_room_is_not_full : {T : Type 0} → ◌≡◌ {A = Result T BookFault} (Err faults.Memory) (Err faults.Full) → ⊥
 no_room_is_not_full is = cc
 
--- the entry that was made ready comes next in what was noted, which is the history as it was made ready
+-- the noted history is the one that the entry was made ready for, so this entry comes next
 pub comes_next : (noted ready : List EntryData) (entry made : EntryData) → noted ≡ ready → entry ≡ made → made ≡ next_entry ready made.job made.op → ComesNext noted entry
 comes_next noted ready entry made same is_made next =
     subst (λ (e : EntryData). ComesNext noted e) (sym is_made) (subst (λ (h : List EntryData). ComesNext h made) (sym same) next)
 
--- what is noted with it is the history as the step leaves it
+-- with this entry, the noted history is the history after the step
 pub noted_is : (noted ready after news : List EntryData) (entry made : EntryData) → noted ≡ ready → entry ≡ made → made ≡ next_entry ready made.job made.op
     → after ≡ ready ++ next_entry ready made.job made.op ∷ [] → news ≡ noted ++ entry ∷ [] → news ≡ after
 noted_is noted ready after news entry made same is_made next grown is_news =
     is_news ∙ ap (λ (h : List EntryData). h ++ entry ∷ []) same ∙ ap (λ (e : EntryData). ready ++ e ∷ []) (is_made ∙ next) ∙ sym grown
 
--- news of the history as the step leaves it are news of the call
+-- if the news hold the history after the step, they are news of the call
 pub news_of : (job : ℕ) (asked : OpData) (told : ReceiptData) (before after news : List EntryData) → news ≡ after → IsLegal after → after ≡ before ++ next_entry before job asked ∷ []
     → told ≡ record { place = length before; op = asked; answer = answer_of (table_of (ops_in before)) asked } → IsNewsOf job asked told news
 news_of job asked told before after news is_after legal grown is_told =

@@ -60,7 +60,7 @@ staged_absent order pages columns i j gap =
 
 -- ---- a key with a slot
 
--- its staged value is at its place
+-- the key's staged value is at the key's place
 pub staged_found : {K V : Type 0} {cmp : K → K → Ordering} {order : K → Ordering} → IsQuery cmp order → (pages : List (List (K × Option V))) (columns : List (ℕ × List (Option V))) (i j : ℕ)
     → AreSlots cmp pages → IsPlace order pages (i, j) → value_at (staged_of pages columns) (i, j) ≡ lookup (λ key. is_eq (order key)) (filled (slots_of (staged_of pages columns)))
 staged_found {K} {V} {cmp} {order} query pages columns i j slots place =
@@ -72,7 +72,7 @@ staged_found {K} {V} {cmp} {order} query pages columns i j slots place =
     ∙ ap value_in (sym (value_there query after i j ascending found.0 found.1 (sym found.2 ∙ here)))
     ∙ sym (lookup_filled query (slots_of after) ascending)
 
--- writing a value at its place puts it in
+-- to write a value at the key's place is to put it into the map under the key
 pub staged_put : {K V : Type 0} {cmp : K → K → Ordering} → IsTotalOrder cmp → ((x y : K) → cmp x y ≡ Equal → x ≡ y) → (key : K) (value : V) (pages : List (List (K × Option V))) (columns : List (ℕ × List (Option V)))
     (i j : ℕ) → AreSlots cmp pages → IsPlace (λ other. cmp other key) pages (i, j)
     → filled (slots_of (with_value_at (i, j) value (staged_of pages columns))) ≡ put cmp key value (filled (slots_of (staged_of pages columns)))

@@ -167,7 +167,7 @@ accepts_place : (place : Place) (more : List LineData) → IsLawfulPlace place �
 accepts_place Between more h a = a
 accepts_place (Within path inside) more h a = accepts_open more path path [] inside (accepts_after_inside path [] inside more h a)
 
--- what follows in a lawful text is accepted at the place
+-- if a text is lawful, the lines that follow these are accepted where the reader is
 pub stands_then : LineLaw → (lines : List (List ℕ)) (parts : List Part) (place : Place) (more : List (List ℕ)) → Stands lines parts place → IsLawfulText (lines ++ more)
     → (rest : List LineData) × AllSpell more rest × Accepts place rest
 stands_then law lines parts place more s text =
@@ -179,7 +179,7 @@ stands_then law lines parts place more s text =
     let all : Accepts Between (flat_map records_of parts ++ (begun place ++ k.1)) = subst (λ (x : List LineData). Accepts Between x) whole (accepts_parts reads.parts reads.lawful) in
     (k.1, k.4, accepts_place place k.1 s.inside (accepts_after_parts parts (begun place ++ k.1) s.lawful all))
 
--- the line says nothing that is accepted at the place
+-- the line says no record that is accepted where the reader is
 abbrev pub IsStop : Place → List ℕ → Type 0
 IsStop place line = (says : LineData) (more : List LineData) → Spells line says → Accepts place (says ∷ more) → ⊥
 

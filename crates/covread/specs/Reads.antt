@@ -1,5 +1,5 @@
--- What the lines of a tracefile say together (geninfo(1) of LCOV 1.x, FILES): lines outside of sections and closed
--- sections, in turn.
+-- What the lines of a tracefile say together (geninfo(1) of LCOV 1.x, FILES). A tracefile is a list of parts. Each part is
+-- a closed section, or a single line outside of any section.
 use Rattle.std.specs.Prelude.{◌≡◌, ℕ, ◌+◌, Bool, false, ◌==◌, ◌&&◌, nat_eq, not, is_none, List, [], ◌∷◌, ◌++◌, Option, Some, None, filter, count_by, if◌then◌else◌}
 use Rattle.std.specs.Str.{bytes_eq}
 use Rattle.std.specs.List.{flat_map, sum_by, list_any, AllByRecursion}

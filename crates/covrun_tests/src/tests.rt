@@ -202,7 +202,7 @@ fn push_bytes(text: &mut Vec<u8>, words: &str) -> Result<(), Fail> {
     Ok(())
 }
 
-/// A call left these bytes, as wanted.
+/// Checks that what a call wrote is the text `wanted`. If this ends in `...`, only what is before the `...` has to be there.
 fn check_text(
     rt: &(impl Abort + AllocGlobal),
     asked: &str,

@@ -20,8 +20,9 @@ HasBegun written written_after text = (part : List ℕ) × Appends written writt
 abbrev pub MayFollow : Option (List ℕ) → List ℕ → Type 0
 MayFollow left more = (more ≡ []) ⊎ (left ≡ Some more)
 
--- a session that ended in this fault: what it has written is a beginning of the session text of what it has read, and of the
--- whole input. `Full` comes only if both inputs ask the book more than its history has room for
+-- a session that ended in this fault. Its input may be taken to end with what it has read, or to go on with what the source
+-- still has. Either way, what it has written is a beginning of the input's session text. `Full` comes only if, either way, the
+-- input asks for more operations than the history has room for
 pub record IsCutShort (fault : SessionFault) (left left_after written written_after : Option (List ℕ)) : Type 0 where
   pub read : List ℕ
   pub output : List ℕ
@@ -35,9 +36,9 @@ pub record IsCutShort (fault : SessionFault) (left left_after written written_af
 abbrev pub AreFirst : (first all : List Command) → Type 0
 AreFirst first all = (more : List Command) × (all ≡ first ++ more)
 
--- a session that ended in this fault, and not for a write: it has written the answers to some commands, whole and nothing else.
--- They are the first ones of what it has read, and of the whole input. At `Full` they have filled the history, and at `Read` they
--- are all of what it has read, but for the one that it was reading
+-- a session that ended in this fault, and not for a write: it has written the whole answers to some commands, and nothing else.
+-- They are the first commands of its input, which may be taken to end or to go on as above. At `Full` they have filled the
+-- history. At `Read`, at most one command of what it has read is still without an answer
 pub record HasAnswered (fault : SessionFault) (left left_after written written_after : Option (List ℕ)) : Type 0 where
   pub read : List ℕ
   pub answered : List Command

@@ -78,10 +78,11 @@ some_first : {X : Type 0} (xs : List X) (x : X) → In x xs → is_some (first_o
 some_first [] x i = absurd i
 some_first (y ∷ ys) x i = refl
 
--- a line to which an item gives a checksum has a sum with a checksum
+-- the test has a sum of this line, and the sum has a checksum
 abbrev pub HasSum : TestData → ℕ → Type 0
 HasSum test line = (sum : LineSum) × (value_of nat_cmp line test.lines ≡ Some sum) × (sum.has_checksum ≡ true)
 
+-- if an item gives the line a checksum, the test of these items has such a sum
 pub said_sum : (items : List ItemData) (line : ℕ) (said : List ℕ) → In said (flat_map (checksum_said line) items) → HasSum (test_of items) line
 said_sum items line said i = (
   (line_sum items line).1,
@@ -157,7 +158,7 @@ module _ {rows : List Row} {files : List (List ℕ × FileData)} {file name : Li
 
   -- ---- the checksums of the file
 
-  -- a checksum of the rows is the text of its line
+  -- each checksum that the rows give a line of this file is kept as the text of that line
   pub text_kept : (c : Checksum) → In c (checksums_in rows) → file ≡ c.file → value_of nat_cmp c.line index.texts ≡ Some c.checksum
   text_kept c i same =
       ap (λ (found : Option FileData). text_in found c.line) (sym is.its_file) ∙ ap (λ (of : List ℕ). text_in (value_of (slice_cmp nat_cmp) of files) c.line) same
@@ -191,7 +192,7 @@ module _ {rows : List Row} {files : List (List ℕ × FileData)} {file name : Li
       let own : value_of nat_cmp line index.texts ≡ Some said = text_kept (checksum_with file line said) there refl in
       subst (λ (t : List ℕ). In (checksum_with file line t) (checksums_in rows)) (same_Some said text (sym own ∙ kept)) there
 
-  -- conversely, the text of a line with a held checksum is a checksum of the rows
+  -- conversely, if a test holds a checksum of a line, the text kept for the line is a checksum of the rows
   pub held_text : (line : ℕ) (text : List ℕ) → is_some (value_of nat_cmp line index.holders) ≡ true → value_of nat_cmp line index.texts ≡ Some text
       → In (record { file = file; line = line; checksum = text }) (checksums_in rows)
   unfolding checksum_with

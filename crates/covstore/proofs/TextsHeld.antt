@@ -54,7 +54,7 @@ texts_both a b c first second = record {
 abbrev pub AreApart : ℕ → List ItemData → Type 0
 AreApart line items = (other : ℕ) → In other (checked_lines items) → is_eq (nat_cmp other line) ≡ false
 
--- the items before have no checksum of the lines of which the item has one
+-- the items have no checksum of any line of which this item has one
 abbrev pub IsApartFrom : List ItemData → ItemData → Type 0
 IsApartFrom items item = (line : ℕ) → In line (checked_line item) → AreApart line items
 
@@ -127,7 +127,7 @@ item_holders (FuncItem name line count) test holders more moves front back are =
 item_holders (BranchItem line block branch taken) test holders more moves front back are =
     holders_same front test (with_item (BranchItem line block branch taken) test) back holders more (λ other. refl) moves are
 
--- another line's holders stay
+-- any other line has as many holders as before
 other_holders : (item : ItemData) (test : TestData) (holders : List (ℕ × ℕ)) (line : ℕ) → ((other : ℕ) → In other (checked_line item) → is_eq (nat_cmp other line) ≡ false)
     → value_of nat_cmp line (holders_with item test holders) ≡ value_of nat_cmp line holders
 other_holders (LineItem at count (Some checksum)) test holders line apart = by (is_holding at test)
@@ -141,7 +141,7 @@ other_holders (BranchItem at block branch taken) test holders line apart = refl
 
 -- ---- so far
 
--- the texts of these items are held, and the holders of other lines stay
+-- the test holds the checksums of these items, and any other line has as many holders as before
 pub record HasHeld (items : List ItemData) (test : TestData) (before now : FileIndexData) : Type 0 where
   pub held : HoldsTexts items test before now
   pub apart : (line : ℕ) → AreApart line items → value_of nat_cmp line now.holders ≡ value_of nat_cmp line before.holders
@@ -158,7 +158,7 @@ none_held test index = record {
 }
 
 module _ (items : List ItemData) (item : ItemData) (test : TestData) (before now : FileIndexData) (so_far : HasHeld items test before now) (apart : IsApartFrom items item) where
-  -- the test before tells whether it holds a checksum of the item's line
+  -- if there was room before these items, there is room for the next item's checksum
   pub next_room : HasRoom test before → HasRoomToHold item test now
   next_room room = by item apart
     where
@@ -202,7 +202,7 @@ module _ (items : List ItemData) (item : ItemData) (test : TestData) (before now
       by other (inr (inl same)) = subst (λ (x : ItemData). IsTextOf x after) same one.own
       by other (inr (inr none)) = absurd none
 
--- the same of a test and an index of the code, of which nothing else changes
+-- the same for a test and an index as the program has them: the test and all that is committed are unchanged
 pub record HasHeldIn {A : Type 0} (items : List ItemData) (test : Test A) (index : FileIndex A) (test_now : Test A) (index_now : FileIndex A) : Type 0 where
   pub same_test : test_now ≡ test
   pub same_index : KeepsCommitted index index_now

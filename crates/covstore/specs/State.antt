@@ -36,10 +36,11 @@ has_checksum sum = sum.has_checksum
 abbrev pub tests_in : FileData → List TestData
 tests_in file = map (λ pair. pair.1) file.tests
 
--- how many of the tests hold a checksum of the line; and below, none if no test does
+-- how many of the tests hold a checksum of the line
 abbrev pub holding : ℕ → List TestData → ℕ
 holding line tests = count_by (λ test. is_above_at has_checksum (value_of nat_cmp line test.lines)) tests
 
+-- this number, or `None` if it is 0
 abbrev pub holders_at : ℕ → List TestData → Option ℕ
 holders_at line tests = if nat_lt 0 (holding line tests) then Some (holding line tests) else None
 
@@ -70,7 +71,7 @@ function_seen pair = record { line = pair.1.line; name = pair.0; count = pair.1.
 abbrev pub branch_seen : BranchPoint × BranchSum → BranchValueData
 branch_seen pair = record { point = pair.0; taken = pair.1.times }
 
--- the section with a test's points; and below, no section if it has no points
+-- the section of a file and a test, with the test's points
 abbrev pub section_with_points : List ℕ → List (ℕ × List ℕ) → List ℕ → TestData → SectionData
 section_with_points file texts test points = record {
   key = record { file = file; test = test };
@@ -86,6 +87,7 @@ has_none (x ∷ xs) = false
 abbrev pub has_no_points : TestData → Bool
 has_no_points points = has_none points.lines && has_none points.functions && has_none points.branches
 
+-- this section alone, or no section if the test has no points
 abbrev pub section_seen : List ℕ → List (ℕ × List ℕ) → List ℕ → TestData → List SectionData
 section_seen file texts test points = if has_no_points points then [] else section_with_points file texts test points ∷ []
 

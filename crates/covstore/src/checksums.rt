@@ -14,8 +14,8 @@ use std::alloc::Allocator;
 use std::collections::BTreeMap;
 use std::marker::Model;
 
-/// For each line, how many tests hold a checksum of it, committed and staged; and the checksums. Some of these no test holds any
-/// more, so another may take their place. Contracts see both.
+/// For each line, how many tests hold a checksum of it, committed and staged; and the checksums. A checksum may be kept after the
+/// last test that held it is gone. Then another may take its place. Contracts see both.
 #[derive(Drop)]
 pub(crate) struct Checksums<A: Allocator> {
     holders: StagedMap<u64, u64, A>,
@@ -152,7 +152,7 @@ impl<A: Allocator> Checksums<A> {
     }
 }
 
-/// The number of tests without one of them, and none where that was the only one.
+/// This number of tests less one, or `None` if no test is left.
 fn one_less(tests: u64) -> Option<u64>
     ensures { result ≡ one_less tests }
 {

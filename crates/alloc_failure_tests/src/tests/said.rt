@@ -93,7 +93,7 @@ fn put_totals(text: &mut Vec<u8>, totals: &Totals) -> Result<(), AllocError> {
     put_number(text, totals.lh)
 }
 
-/// What was asked and answered, and how many lines are found and hit then.
+/// The operation and its answer, and how many lines are found and hit after it, in words.
 fn told<A: Allocator>(
     alloc: Global,
     op: &Op<A>,
@@ -106,7 +106,7 @@ fn told<A: Allocator>(
     Ok(text)
 }
 
-/// Checks the words on what was asked and answered, and how many lines are found and hit then.
+/// Checks that `told` gives the wanted words of this operation, answer and totals.
 pub(super) fn check_told<A: Allocator>(
     rt: &(impl Abort + AllocGlobal),
     op: &Op<A>,
@@ -121,7 +121,7 @@ pub(super) fn check_told<A: Allocator>(
     );
 }
 
-/// Checks that the entry is this job's, and the words on it.
+/// Checks that there is an entry, that it is this job's, and that `told` gives the wanted words of it.
 pub(super) fn check_entry<A: Allocator>(
     rt: &(impl Abort + AllocGlobal),
     entry: Option<&Entry<A>>,
@@ -135,7 +135,7 @@ pub(super) fn check_entry<A: Allocator>(
     check_told(rt, &entry.op, &entry.answer, &entry.after, wanted);
 }
 
-/// Checks the words on an answer alone.
+/// Checks that `put_answer` gives the wanted words of this answer.
 pub(super) fn check_answer<A: Allocator>(
     rt: &(impl Abort + AllocGlobal),
     answer: &Answer<A>,
@@ -146,10 +146,11 @@ pub(super) fn check_answer<A: Allocator>(
     check_bytes(rt, text.as_slice(), wanted);
 }
 
-/// What a book was asked and answered before a call is tried in it: a text was submitted, two lines of which are found and one is hit.
+/// The entry that a book has before a call is tried in it, in the words of `told`: a text was submitted, with two lines found
+/// and one hit.
 pub(super) const BEGUN: &[u8] = b"submit accepted 1 2 0 | 2 1";
 
-/// What is asked of it then, and after the sign the words on that.
+/// The operations that are tried in such a book. After the `>` are the words that `told` gives of the step.
 pub(super) const STEPS: &[u8] = b"\
 submit>submit accepted 2 2 0 | 2 1
 clash>submit clash /a.c 1 abc abd | 2 1
@@ -162,7 +163,7 @@ extract *.c>extract TN:t;SF:/a.c;DA:1,2,abc;DA:2,0;LF:2;LH:1;end_of_record; | 2 
 remove *.c>remove  | 2 1
 summary>summary Summary coverage rate:;  lines......: 50.0% (1 of 2 lines);  functions..: no data found;  branches...: no data found; | 2 1";
 
-/// A row of what is asked and the words on it.
+/// A row of `STEPS`: the operation that is asked, and the words wanted of the step.
 #[derive(Clone, Copy)]
 pub(super) struct Step<'a> {
     pub(super) asked: &'a [u8],

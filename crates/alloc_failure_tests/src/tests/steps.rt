@@ -18,7 +18,7 @@ fn begun<A: Allocator + Copy>(rt: &impl Abort, alloc: A) -> Book<A> {
     book
 }
 
-/// Checks how many entries the book has, and that the last one is this job's, with these words.
+/// Checks how many entries the book has, and the last one, by `check_entry`. Its totals have to be the book's.
 fn check_book<A: Allocator + Copy>(
     rt: &(impl Abort + AllocGlobal),
     book: &Book<A>,

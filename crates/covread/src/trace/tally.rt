@@ -43,7 +43,8 @@ pub struct SectionPoints {
     pub lines: Points<u64>,
 }
 
-/// A section's own totals. Those of a sort that no line of the section states aren't counted.
+/// A section's own totals. Branches are counted only if a line of the section states a total of branches, and otherwise left
+/// at 0. So are lines.
 #[derive(Clone, Copy)]
 struct OwnTotals {
     functions: FunctionTotals,
@@ -70,7 +71,7 @@ pub fn odd_totals<A: Allocator + Copy>(
     Ok(count_odd(totals, &own))
 }
 
-/// The totals of points, if a line states a total of their sort.
+/// The totals of these points if one of the stated totals is of their sort, else zeros.
 fn stated_totals<P: Point, A: Allocator + Copy>(
     alloc: A,
     totals: &[StatedTotal],
@@ -102,7 +103,7 @@ fn any_states(totals: &[StatedTotal], sort: PointKind) -> bool
 }
 
 impl PointKind {
-    /// Whether a total of this kind counts this.
+    /// Whether a total of this kind counts points of this sort.
     fn has(self, kind: TotalKind) -> bool
         ensures { result ≡ has self kind }
     {

@@ -154,7 +154,7 @@ $ 0 covcollect check ~/mark.info
     )
 }
 
-/// gcov's text is read by `--gcov` alone, and a tracefile without it.
+/// With `--gcov`, gcov's output has items and a tracefile has none. Without it, a tracefile has items and gcov's output has none.
 #[test]
 fn texts_of_gcov(rt: HostRuntime) -> Result<(), Fail> {
     play(

@@ -455,7 +455,7 @@ impl Write for FailsOnce {
     }
 }
 
-/// A call of std that failed, of whatever kind its error is, isn't made again.
+/// A call of std that failed isn't made again, whatever the kind of its error is.
 #[test]
 fn a_failed_call_is_not_made_again(rt: HostRuntime) {
     let mut source = FromRead::new(FailsOnce { failed: false });
@@ -472,7 +472,7 @@ fn a_failed_call_is_not_made_again(rt: HostRuntime) {
     );
 }
 
-/// A reader of a text that is made as it is read: first bytes, `filling` equal ones, and what follows.
+/// A source of a long text, made while it is read: the bytes `before`, then `filling` times `x`, then the bytes `after`.
 #[derive(Drop)]
 struct Long<'a> {
     before: &'a [u8],

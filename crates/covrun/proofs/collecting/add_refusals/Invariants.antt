@@ -4,6 +4,6 @@ use Rattle.std.specs.String.{string_bytes}
 use Rattle.covrun.specs.Ending.{refusal_line}
 use Rattle.covrun.proofs.collecting.add_refusals.Given as goal
 
--- the lines of the inputs so far are appended
+-- the lines of the refused inputs so far are appended
 abbrev pub invariant-loop-input : goal.invariant-loop-input
 invariant-loop-input l = l.lines.items ≡ l.initial.lines.items ++ flat_map (refusal_line (map string_bytes l.files)) (take l.input-index l.refused)
