@@ -1,4 +1,5 @@
--- The index of a file has no more points than there are rows: each is the point of some row, and is there once.
+-- The index of a file has at most as many points of a kind as there are rows: each of these points is in some row, and the index
+-- has it once.
 use Rattle.std.proofs.Common.{◌≡◌, ℕ, ◌≤◌, Bool, Option, Some, List, [], ◌∷◌, length, filter, map, refl, sym, ap, ◌∙◌, subst, inl, inr, ⊎_elim, arith}
 use Rattle.std.specs.Cmp.{IsTotalOrder}
 use Rattle.std.specs.Cmp.Lexicographic.{slice_cmp}
@@ -29,7 +30,7 @@ use Rattle.covstore.proofs.Axis.{each_kind, of_all, order_of}
 
 -- ---- ascending lists, one within the other
 
--- a member after the first isn't the first
+-- an element above the first one is among the others
 not_first : {X : Type 0} {cmp : X → X → Ordering} → IsTotalOrder cmp → (y z : X) (ys : List X) → cmp y z ≡ Less → In z (y ∷ ys) → In z ys
 not_first {X} {cmp} t y z ys less (inl same) = absurd (not_itself t y (subst (λ (w : X). cmp y w ≡ Less) (sym same) less))
 not_first t y z ys less (inr i) = i
@@ -56,7 +57,7 @@ length-within {X} {cmp} t (x ∷ xs) (y ∷ ys) sorted ordered within =
 
 -- ---- the points of one kind
 
--- if all points with numbers are among other points, they are no more than these
+-- if the list `all` has each point of the tests, the counts have at most as many points as this list
 kept_within : {K V : Type 0} {cmp : K → K → Ordering} (o : IsExactOrder cmp) {is_above : V → Bool} (tests : List (List (K × V))) (counts : List (K × Tests)) → AreCounts cmp is_above tests counts → (all : List K)
     → ((key : K) → In key (flat_map points_of tests) → In key all) → length counts ≤ length all
 kept_within {K} {V} {cmp} o tests counts are all within =
@@ -84,7 +85,7 @@ module _ (rows : List Row) (files : List (List ℕ × FileData)) (state : IsStat
             ∙ ap (λ (kept : Option FileData). points_in kept pair.0.0) (sym there) ∙ state.points key,
       )
 
-  -- an item of a key is the item of a row
+  -- a point of a key's items is a point of some row
   row_of : {K : Type 0} (point : ItemData → List K) (key : Key) (k : K) → In k (flat_map point (items_at key rows)) → In k (flat_map (λ row. point row.item) rows)
   row_of {K} point key k i =
       let item = In-unflat point (items_at key rows) k i in

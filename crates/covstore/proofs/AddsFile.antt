@@ -1,4 +1,4 @@
--- Items of a test, seen in the file that has the test.
+-- Items are added to a test. What this needs and does, said of the file that has the test.
 use Rattle.std.proofs.Common.{◌≡◌, ℕ, ◌≤◌, ◌^◌, true, false, Some, None, List, length, option_map, sym, ap, ◌∙◌}
 use Rattle.std.specs.BTreeMap.{is_at}
 use Rattle.std.specs.Cmp.Lexicographic.{slice_cmp}

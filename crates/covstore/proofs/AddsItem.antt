@@ -29,7 +29,7 @@ own_text file (LineItem line count None) index c own i = absurd i
 own_text file (FuncItem name line count) index c own i = absurd i
 own_text file (BranchItem line block branch taken) index c own i = absurd i
 
--- each checksum of the file is the text of its line, where those of the items are
+-- if the new index has the texts of the items' checksums and keeps the held ones, it has the text of each checksum of the file
 module _ (items : List ItemData) (test : TestData) (index index_after : FileIndexData) (own : (item : ItemData) → In item items → IsTextOf item index_after) (texts : KeepsTextsOf index index_after)
     (rows : List Row) (files : List (List ℕ × FileData)) (file name : List ℕ) (tests : List (List ℕ × TestData)) (is : IsIn rows files file name tests test index) where
   abbrev its_rows : List Row
@@ -74,7 +74,8 @@ module _ (items : List ItemData) (test test_after : TestData) (index index_after
         },
       )
 
--- if the index counts the test with the items, and the texts have their checksums, the items are added
+-- if the new index counts the test with the items, has the texts of the items' checksums and keeps the held ones, the items are
+-- added
 pub items_add : (items : List ItemData) (test test_after : TestData) (index index_after : FileIndexData) → test_after ≡ with_items items test → KeepsCounts test test_after index index_after
     → ((item : ItemData) → In item items → IsTextOf item index_after) → KeepsTextsOf index index_after → Adds items test index test_after index_after
 items_add items test test_after index index_after more counts own texts rows files file name tests is =

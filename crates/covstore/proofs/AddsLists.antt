@@ -1,4 +1,4 @@
--- Keys with values, ascending: the place of a key, and a value that replaces another. And first clashes of joined lists.
+-- Ascending keys with values: the place of a key, and a value that replaces another one. And first clashes of joined lists.
 use Rattle.std.proofs.Common.{◌≡◌, cond, Option, Some, None, List, [], ◌∷◌, ◌++◌, length, refl, sym, ap, ◌∙◌, append_assoc, arith}
 use Rattle.std.specs.declared.cmp.Ordering.{Ordering}
 use Rattle.std.specs.declared.cmp.Ordering.TheVariants.{Less, Equal, Greater}
@@ -15,7 +15,7 @@ use Rattle.covstore.proofs.Puts.{length-put, same_pair, value_of_before}
 
 -- ---- the place of a key
 
--- the key is between a front and a back, with its value, and with any other value that replaces it
+-- `pairs` has this key and value between a front and a back. `pairs_with` gives the same list with another value for the key
 pub record IsPlaceOf {K V : Type 0} (key : K) (value : V) (pairs : List (K × V)) (pairs_with : V → List (K × V)) : Type 0 where
   pub front : List (K × V)
   pub back : List (K × V)
@@ -46,7 +46,7 @@ module _ {K V : Type 0} {cmp : K → K → Ordering} (o : IsExactOrder cmp) wher
   place_of key value [] sorted h = absurd (none-some value h)
   place_of key value (pair ∷ pairs) sorted h = place_at key value pair pairs (cmp pair.0 key) refl sorted.0 (place_of key value pairs sorted.1) h
 
-  -- putting the value that is there changes nothing
+  -- putting in the value that a key already has changes nothing
   pub put_there : (key : K) (value : V) (pairs : List (K × V)) → ArePairs cmp pairs → value_of cmp key pairs ≡ Some value → put cmp key value pairs ≡ pairs
   put_there key value pairs sorted h = let is = place_of key value pairs sorted h in is.after value ∙ sym is.place
 
@@ -80,7 +80,7 @@ joined_at : (x : Checksum) (found : Option Checksum) (front whole back : Option 
 joined_at x (Some other) front whole back rest none = absurd (none-some (clash_with x other) (sym none))
 joined_at x None front whole back rest none = rest none
 
--- if the first list doesn't clash, it counts as held
+-- if the first list doesn't clash, the clash of both is that of the second list, with the first one held too
 pub clash_after : (committed xs ys : List Checksum) → first_clash committed xs ≡ None → first_clash committed (xs ++ ys) ≡ first_clash (committed ++ xs) ys
 clash_after committed [] ys none = ap (λ (all : List Checksum). first_clash all ys) (sym (append-nil committed))
 clash_after committed (x ∷ xs) ys none =
@@ -92,7 +92,7 @@ front_at : (x : Checksum) (found : Option Checksum) (front whole : Option ClashD
 front_at x (Some other) front whole clash rest h = h
 front_at x None front whole clash rest h = rest h
 
--- if it clashes, that is the clash of both
+-- if the first list clashes, its clash is the clash of both
 pub clash_before : (committed xs ys : List Checksum) (clash : ClashData) → first_clash committed xs ≡ Some clash → first_clash committed (xs ++ ys) ≡ Some clash
 clash_before committed [] ys clash h = absurd (none-some clash h)
 clash_before committed (x ∷ xs) ys clash h =

@@ -16,7 +16,7 @@ use Rattle.covstore.proofs.AddsMore.{adds_more, adds_none, clash_front, clash_la
 use Rattle.covstore.proofs.AddsRoom.{has_room, room_later, room_of_some}
 use Rattle.covstore.proofs.StepsMore.{held_both}
 
--- these items are staged, and there is room for those that are left
+-- the items taken so far are staged, and there is room for those that are left
 pub record HasTaken {A : Type 0} (taken left : List ItemData) (test : Test A) (index : FileIndex A) (test_now : Test A) (index_now : FileIndex A) : Type 0 where
   pub adds : Adds taken (test_staged test) (index_staged index) (test_staged test_now) (index_staged index_now)
   pub room : HasRoomFor left (test_staged test_now) (index_staged index_now)
@@ -63,7 +63,7 @@ module _ {A : Type 0} (taken : List ItemData) (item : ItemData) (left : List Ite
       clash_later taken (item ∷ left) (test_staged test) (test_staged test_now) (index_staged index) (index_staged index_now) line committed given so_far.adds
       (clash_front (item ∷ []) left (test_staged test_now) (index_staged index_now) line committed given (item_clashes item (test_staged test_now) (index_staged index_now) line committed given clash))
 
--- ---- by index in a list
+-- ---- items left and taken, by the index of the next one
 
 module _ {D E : Type 0} (f : D → E) (items : List D) (i : ℕ) (d : D) (within : i < length items) (is : d ≡ get_or items i d) where
   pub left_at : map f (drop i items) ≡ f d ∷ map f (drop (i + 1) items)

@@ -1,4 +1,4 @@
--- A store's map of files after one of them is written: what is found, what is seen, and what stays.
+-- A store's map of files after one of the files is replaced: what a look-up finds, what contracts see, and what stays.
 use Rattle.std.proofs.Common.{◌≡◌, ℕ, true, Option, Some, None, option_map, List, [], ◌∷◌, ◌++◌, Vec, sym, ap, ◌∙◌, subst}
 use Rattle.std.specs.BTreeMap.{insert_entry, is_at}
 use Rattle.std.specs.Cmp.Lexicographic.{slice_cmp}
@@ -23,13 +23,13 @@ use Rattle.covstore.proofs.Orders.{names_order}
 use Rattle.covstore.proofs.Settled.{file_name, files_with_more}
 use Rattle.covstore.proofs.StoreKept.{All-inserted}
 
--- a name that isn't in the map isn't seen in it
+-- if a look-up in the map finds no key of this name, the files as contracts see them don't have the name
 pub no_place : {K V : Type 0} (name : K → List ℕ) (f : V → FileData) (file : List ℕ) (pairs : List (K × V)) → lookup (is_at (λ other. slice_cmp nat_cmp file (name other))) pairs ≡ None
     → (files : List (List ℕ × FileData)) → seen names_order name f pairs ≡ files → is_some (value_of (slice_cmp nat_cmp) file files) ≡ true → ⊥
 no_place name f file pairs none files is there =
     false≢true (sym (ap is_some (seen_value names_order name f file pairs ∙ ap (option_map f) none)) ∙ ap (λ (all : List (List ℕ × FileData)). is_some (value_of (slice_cmp nat_cmp) file all)) is ∙ there)
 
--- a test that one view has, the other view has too
+-- if one view of the map (`f`) has the test, so has any other (`g`)
 pub test_too : {K V : Type 0} (name : K → List ℕ) (f g : V → TestData) (test : List ℕ) (pairs : List (K × V)) (points : TestData) → value_of (slice_cmp nat_cmp) test (seen names_order name f pairs) ≡ Some points
     → (other : TestData) × (value_of (slice_cmp nat_cmp) test (seen names_order name g pairs) ≡ Some other)
 test_too {K} {V} name f g test pairs points there =
@@ -57,7 +57,7 @@ module _ {K V : Type 0} (name : K → List ℕ) (file : List ℕ) (pairs : List 
     pub kept_written : KeepsIn (f v) (f w) → KeepsState (seen names_order name f pairs) (seen names_order name f after)
     kept_written keeps = subst (KeepsState (seen names_order name f pairs)) (sym file_written) (keeps (seen names_order name f pairs) file ascend (file_value f))
 
--- ---- nothing is staged but in the test that was touched last
+-- ---- nothing is staged but in touched tests, after one more test is touched
 
 pub written_settled : {A : Type 0} (touched : List (List ℕ × List ℕ)) (file test : List ℕ) (v w : File A) (before after : List (Vec ℕ A × File A))
     → lookup (is_at (λ (other : Vec ℕ A). slice_cmp nat_cmp file other.items)) before ≡ Some v → after ≡ set_value (is_at (λ (other : Vec ℕ A). slice_cmp nat_cmp file other.items)) before w
@@ -68,7 +68,8 @@ written_settled touched file test v w before after found written settled all =
     (settled (tests_of file (touched ++ (file, test) ∷ [])) (touched_among file test touched))
     (files_with_more touched file test before all)
 
--- a file is inserted
+-- if the inserted file has something staged in this test at most, nothing is staged but in touched tests, of which this one is
+-- the last
 pub inserted_settled : {A : Type 0} (touched : List (List ℕ × List ℕ)) (file test : List ℕ) (key : Vec ℕ A) (w : File A) (before after : List (Vec ℕ A × File A)) → key.items ≡ file
     → after ≡ insert_entry (λ a b. slice_cmp nat_cmp a.items b.items) before key w → ((tests : List (List ℕ)) → list_any (λ name. bytes_eq name test) tests ≡ true → IsSettledBut tests w)
     → AreSettledBut file_name touched before → AreSettledBut file_name (touched ++ (file, test) ∷ []) after

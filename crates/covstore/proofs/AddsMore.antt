@@ -1,4 +1,4 @@
--- Items one after another: what they do together, and when they clash.
+-- Items that are added one after another: what they do together, and when they clash.
 use Rattle.std.proofs.Common.{◌≡◌, ℕ, Bool, true, false, ◌&&◌, ◌==◌, not, Some, None, List, [], ◌∷◌, ◌++◌, refl, sym, ap, ◌∙◌, subst, append_assoc}
 use Rattle.std.specs.Prelude.{Contains}
 use Rattle.std.specs.Cmp.Lexicographic.{slice_cmp}
@@ -24,7 +24,7 @@ use Rattle.covstore.proofs.Orders.{names_order}
 
 -- ---- no items
 
--- rows, files and tests in a state can be replaced by equal ones
+-- the rows and the files can be replaced by equal ones
 moved : (rows others : List Row) (files list : List (List ℕ × FileData)) (file name : List ℕ) (tests : List (List ℕ × TestData)) (test : TestData) (index : FileIndexData) → rows ≡ others → files ≡ list
     → IsIn rows files file name tests test index → IsIn others list file name tests test index
 moved rows others files list file name tests test index same_rows same_files is =
@@ -53,7 +53,7 @@ pub checksums_joined : (file name : List ℕ) (xs ys : List ItemData)
 checksums_joined file name xs ys =
     ap checksums_in (rows_joined file name xs ys) ∙ flat_map-append checksum_of_row (rows_of_sect (section_of_items file name xs)) (rows_of_sect (section_of_items file name ys))
 
--- after items that don't clash, the others clash as with rows that have these items
+-- if the first items don't clash with the rows, the clash of all is that of the other items with the rows and the first items
 clash_joined : (rows : List Row) (file name : List ℕ) (xs ys : List ItemData) → clash_of rows (rows_of_sect (section_of_items file name xs)) ≡ None
     → clash_of rows (rows_of_sect (section_of_items file name (xs ++ ys))) ≡ clash_of (rows ++ rows_of_sect (section_of_items file name xs)) (rows_of_sect (section_of_items file name ys))
 clash_joined rows file name xs ys none =
@@ -84,7 +84,7 @@ adds_more xs ys a b c m n o first second rows files file name tests is =
 
 -- ---- clashes
 
--- the later items clash, and the earlier ones don't
+-- if the earlier items don't clash, a clash of the later ones is the clash of all
 pub clash_later : (xs ys : List ItemData) (a b : TestData) (m n : FileIndexData) (line : ℕ) (committed given : List ℕ) → Adds xs a m b n → ClashesAt ys b n line committed given → ClashesAt (xs ++ ys) a m line committed given
 clash_later xs ys a b m n line committed given first later rows files file name tests is =
     let one = first rows files file name tests is in
@@ -106,7 +106,7 @@ all_hold true true false first second other = refl
 all_hold true false z first second other = second
 all_hold false y z first second other = first
 
--- two different checksums of one line
+-- checksums of one line that aren't equal are different in the sense of `differs`
 pub two_checksums : (file : List ℕ) (line : ℕ) (given committed : List ℕ) → (committed ≡ given → ⊥) → differs (record { file = file; line = line; checksum = given }) (record { file = file; line = line; checksum = committed }) ≡ true
 two_checksums file line given committed other =
     all_hold (bytes_eq file file) (line == line) (bytes_eq given committed) ((bytes_eq-Decides file file).1 refl) (eq-eqb line line refl) (λ same. other (sym ((bytes_eq-Decides given committed).0 same)))

@@ -1,4 +1,4 @@
--- Items of a test that is new in its file.
+-- Items are added to a test that is new in its file.
 use Rattle.std.proofs.Common.{◌≡◌, ℕ, ◌<◌, ◌≤◌, ◌^◌, Bool, true, false, Some, List, [], Vec, length, sym, ap, ◌∙◌, subst, arith}
 use Rattle.std.specs.BTreeMap.{insert_entry}
 use Rattle.std.specs.Cmp.Lexicographic.{slice_cmp}
@@ -73,7 +73,8 @@ module _ {A : Type 0} (test : List ℕ) (pairs : List (Vec ℕ A × Test A)) (ne
     seen_new f =
         ap (seen names_order file_name f) inserted ∙ seen_insert names_order file_name f key w pairs ∙ ap (λ (t : List ℕ). put (slice_cmp nat_cmp) t (f w) (seen names_order file_name f pairs)) named
 
-    -- the new test has nothing committed
+    -- if the new test has nothing committed, and the index keeps what is committed, the committed files are still the state of
+    -- the same rows
     pub keeps_new : (before index : FileIndex A) → KeepsCommitted before index → test_committed w ≡ test_of []
         → KeepsIn (file_with (seen names_order file_name test_committed pairs) (index_committed before)) (file_with (seen names_order file_name test_committed after) (index_committed index))
     keeps_new before index keeps none =

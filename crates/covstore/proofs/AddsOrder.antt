@@ -1,4 +1,4 @@
--- Items that are staged by their spots, in any order: the result is that of the section's order.
+-- Items that are staged by their spots, in any order. The result is the same as in the order of the section.
 use Rattle.std.proofs.Common.{◌≡◌, ℕ, ◌+◌, ◌<◌, ◌≤◌, ◌^◌, Option, Some, None, List, [], ◌∷◌, ◌++◌, get_or, length, map, take, sym, ap, ◌∙◌, subst, inl, inr, refl}
 use Rattle.std.specs.List.{sum_by}
 use Rattle.std.specs.Option.{option_to_list}
@@ -99,7 +99,7 @@ module _ {D : Type 0} (items : List D) (spots : List Spot) (are : AreSpotsOf ite
       length-flat_map (at_spot items) spots ∙ sum_by-IsPermutation (λ (spot : Spot). length (at_spot items spot)) are.others spots are.permuted
       ∙ sym (length-flat_map (at_spot items) are.others) ∙ ap length are.all
 
--- one more spot, of the next item
+-- if the spots pick the items before the next one, the spots and the next item's spot pick one item more
 pub spot_more : {D : Type 0} (items : List D) (spots : List Spot) (spot : Spot) (item : D) → spot.index < length items → item ≡ get_or items spot.index item → picked items spots ≡ take spot.index items
     → picked items (spots ++ spot ∷ []) ≡ take (spot.index + 1) items
 unfolding at_spot
@@ -128,7 +128,7 @@ module _ {D : Type 0} (items : List D) (spots : List Spot) (k : ℕ) (spot : Spo
       ∙ ap (λ (xs : List D). picked items (take k spots) ++ xs) (append-nil (at_spot items (get_or spots k spot)))
       ∙ ap (λ (o : Option D). picked items (take k spots) ++ option_to_list o) found
 
-  -- the runs with one more item, at a spot; and the same if there is no item
+  -- if there is an item at the next spot, the runs with this item are those of one spot more
   pub run_at_spot : (f : D → ItemData) (item : D) → slice_get items (get_or spots k spot).index ≡ Some item → (runs more : Each RunOf) → runs ≡ runs_of (map f (picked items (take k spots)))
       → more ≡ runs_with (f item) runs → more ≡ runs_of (map f (picked items (take (k + 1) spots)))
   run_at_spot f item found runs more so_far with_it =
@@ -143,7 +143,7 @@ module _ {D : Type 0} (items : List D) (spots : List Spot) (k : ℕ) (spot : Spo
 
 -- ---- the items at spots
 
--- the items at spots
+-- the items at these spots, where `f` gives the item of each element
 abbrev pub said_at : {D : Type 0} → (D → ItemData) → List D → List Spot → List ItemData
 said_at f items spots = map f (picked items spots)
 

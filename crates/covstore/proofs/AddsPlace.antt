@@ -44,7 +44,7 @@ no_difference true true false same = absurd (false≢true (same refl refl))
 no_difference true false z same = refl
 no_difference false y z same = refl
 
--- each checksum is the one text of its line
+-- if each checksum is the text of its line, the checksums agree, since a line has one text
 pub agree_by_text : (text : List ℕ → ℕ → Option (List ℕ)) (committed : List Checksum) → ((c : Checksum) → Contains committed c → text c.file c.line ≡ Some c.checksum) → Agree committed
 agree_by_text text committed own a b i j =
     no_difference (bytes_eq a.file b.file) (eqb a.line b.line) (bytes_eq a.checksum b.checksum)

@@ -26,7 +26,7 @@ has_room items test index room =
       few = λ kind. omega (arith, kept kind, room.few);
     }
 
--- if there is room for two lists of items, there is room for the first, and then for the second
+-- if there is room for two lists of items, there is room for the first, and after it is added, for the second
 module _ (some items : List ItemData) (test : TestData) (index : FileIndexData) (room : HasRoomFor (some ++ items) test index) where
   pub room_of_some : HasRoomFor some test index
   room_of_some = record {

@@ -1,4 +1,4 @@
--- The items of a section, seen in the store that has their file and their test.
+-- The items of a section are added to their file. What this needs and does, said of the files of the store.
 use Rattle.std.proofs.Common.{◌≡◌, ℕ, ◌≤◌, ◌^◌, ◌+◌, Some, List, ◌++◌, length, ap, ◌∙◌, arith}
 use Rattle.std.specs.Cmp.Lexicographic.{slice_cmp}
 use Rattle.std.specs.Ordering.{nat_cmp}

@@ -1,4 +1,5 @@
--- Nothing is staged in a file but in some tests: also after items of one of these are staged, and after a test is prepared.
+-- Nothing is staged in a file but in some of its tests. This stays true after items of one of these tests are staged, and after
+-- one of them is prepared.
 use Rattle.std.proofs.Common.{◌≡◌, ℕ, Bool, true, false, cond, ◌||◌, Some, List, [], ◌∷◌, ◌++◌, Vec, filter, map, refl, sym, ap, ◌∙◌, subst}
 use Rattle.std.specs.BTreeMap.{insert_entry, is_at}
 use Rattle.std.specs.Cmp.Lexicographic.{slice_cmp}
@@ -19,7 +20,7 @@ use Rattle.covstore.specs.TestView.{test_staged, test_committed}
 use Rattle.covstore.proofs.Orders.{names_order}
 use Rattle.covstore.proofs.StoreKept.{All-inserted}
 
--- what all entries satisfy, they still satisfy after one is replaced by a value that satisfies it
+-- if all entries satisfy `P`, they still do after a value is replaced by one that satisfies it
 pub All-set : {K V : Type 0} (P : K × V → Type 0) (here : K → Bool) (w : V) (pairs : List (K × V)) → ((k : K) → here k ≡ true → P (k, w)) → AllByRecursion P pairs → AllByRecursion P (set_value here pairs w)
 All-set P here w [] new all = tt
 All-set {K} {V} P here w (pair ∷ pairs) new all = at (here pair.0) refl (All-set P here w pairs new all.1)
@@ -49,14 +50,14 @@ test_inserted tests cmp before after key w same index written settled = record {
   points = subst (AllByRecursion (IsSettledTest tests)) (sym written) (All-inserted cmp (IsSettledTest tests) key w before.tests.entries (λ e. same) (λ other is e. same) settled.points);
 }
 
--- the tests stay, while items of one of these are staged
+-- if the entries of the tests stay, nothing is staged but in these tests as before, even if the index changes
 pub tests_stay : {A : Type 0} (tests : List (List ℕ)) (test : List ℕ) → list_any (λ name. bytes_eq name test) tests ≡ true → (before after : File A) → after.tests.entries ≡ before.tests.entries → IsSettledBut tests before → IsSettledBut tests after
 tests_stay tests test among before after same settled = record {
   index = λ e. absurd (false≢true (sym (ap (list_any (λ (name : List ℕ). bytes_eq name test)) e) ∙ among));
   points = subst (AllByRecursion (IsSettledTest tests)) (sym same) settled.points;
 }
 
--- one of these tests is inserted
+-- if one of these tests is inserted, nothing is staged but in these tests as before
 pub test_put_in : {A : Type 0} (tests : List (List ℕ)) (test : List ℕ) → list_any (λ name. bytes_eq name test) tests ≡ true → (before after : File A) (key : Vec ℕ A) (w : Test A) → key.items ≡ test
     → after.tests.entries ≡ insert_entry (λ a b. slice_cmp nat_cmp a.items b.items) before.tests.entries key w → IsSettledBut tests before → IsSettledBut tests after
 test_put_in {A} tests test among before after key w named inserted settled =
@@ -79,7 +80,8 @@ found_pair {K} {V} P here v (pair ∷ pairs) found all = at (here pair.0) refl f
     at true e is rest = (pair.0, e, subst (λ (x : V). P (pair.0, x)) (same_Some pair.1 v is) all.0)
     at false e is rest = rest is
 
--- a file is replaced by one in which nothing more is staged
+-- if a file is replaced, and still nothing is staged in it but in touched tests, nothing is staged in any file but in touched
+-- tests
 pub file_settled : {K A : Type 0} (name : K → List ℕ) (touched : List (List ℕ × List ℕ)) (file : List ℕ) (v w : File A) (before after : List (K × File A))
     → lookup (is_at (λ other. slice_cmp nat_cmp file (name other))) before ≡ Some v → after ≡ set_value (is_at (λ other. slice_cmp nat_cmp file (name other))) before w
     → (IsSettledBut (tests_of file touched) v → IsSettledBut (tests_of file touched) w) → AreSettledBut name touched before → AreSettledBut name touched after

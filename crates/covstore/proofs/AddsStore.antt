@@ -39,7 +39,7 @@ rows_added_more xs ys before now later first second = record {
   totals = λ same. second.totals (first.totals same);
 }
 
--- after rows that clash with nothing, the first clash of the others is the clash of all
+-- if the first rows are staged, a clash of the rows after them is the clash of all, whatever rows follow
 pub clashes_later : (xs ys zs : List Row) (before now : StoreData) (refusal : RefuseData) → AddsRows xs before now → ClashesWith ys now refusal → ClashesWith (xs ++ (ys ++ zs)) before refusal
 clashes_later xs ys zs before now MemoryRefuse first later = tt
 clashes_later xs ys zs before now (ClashRefuse clash) first later = λ rows state agree.
@@ -84,7 +84,7 @@ room_then xs ys before now room added =
 
 -- ---- the sections of a submission
 
--- these sections are staged, and there is room for those that are left
+-- the sections taken so far are staged, and there is room for those that are left
 pub record HasTakenSects (taken left : List SectData) (before now : StoreData) : Type 0 where
   pub committed : SameCommitted before now
   pub adds : AddsRows (flat_map rows_of_sect taken) before now

@@ -27,7 +27,7 @@ use Rattle.covstore.proofs.Orders.{names_order}
 use Rattle.covstore.proofs.Puts.{ArePairs-put, value_of-put}
 use Rattle.covstore.proofs.Settled.{file_name}
 
--- both halves of what a call that succeeded ensures
+-- if a call that succeeds ensures `P` and `Q t`, and these give `R t`, it ensures `R t`
 pub totals_of_both : {T E P : Type 0} (r : Result T E) (Q R : T → Type 0) → (P → (t : T) → Q t → R t) → OnOk r P → IfOk r Q → IfOk r R
 totals_of_both (Ok t) Q R more p q = more p t q
 totals_of_both (Err e) Q R more p q = tt
@@ -62,7 +62,7 @@ module _ {A : Type 0} (name test : List ℕ) (items : List ItemData) (pairs : Li
   -- ---- the file is new
 
   module _ (none : lookup (is_at (λ (other : Vec ℕ A). slice_cmp nat_cmp name other.items)) pairs ≡ None) where
-    -- the files with a file without tests
+    -- the files, with a new file that has no tests
     abbrev ready : (File A → FileData) → List (List ℕ × FileData)
     ready f = put (slice_cmp nat_cmp) name no_file (seen names_order file_name f pairs)
 

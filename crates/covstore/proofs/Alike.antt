@@ -1,5 +1,5 @@
--- Lists that are alike: they have the same members, and the same sums over them. A list and its permutation are alike, and so is
--- what is picked from them, mapped from them or collected from their members.
+-- Lists that are alike: they have the same elements, and the same sums over them. A list and its permutation are alike. Lists
+-- that are filtered, mapped or collected from alike lists are alike too.
 use Rattle.std.proofs.Common.{◌≡◌, ℕ, ◌+◌, ◌<◌, ◌≤◌, Bool, true, false, cond, min, Some, List, [], ◌∷◌, map, filter, refl, sym, ap, ◌∙◌, subst, inl, inr, ⊎_elim, arith}
 use Rattle.std.specs.List.{flat_map, sum_by, fold}
 use Rattle.std.specs.List.Sorted.{IsPermutation}
@@ -77,7 +77,7 @@ alike_picked {X} p xs ys alike = record {
 
 -- ---- what alike lists give
 
--- if all members are equal, the first is the same
+-- if all elements of two alike lists are equal, the lists have the same first element, or both are empty
 pub first_alike : {X : Type 0} (xs ys : List X) → AreAlike xs ys → ((x y : X) → In x xs → In y xs → x ≡ y) → first_of xs ≡ first_of ys
 first_alike [] [] alike one = refl
 first_alike [] (y ∷ ys) alike one = absurd (alike.back y (inl refl))

@@ -61,6 +61,6 @@ module _ (rows others : List Row) (alike : AreAlike rows others) (agree : Agree 
       in_rows : (c : Checksum) → Contains (checksums_in others) c → Contains (checksums_in rows) c
       in_rows c k = Contains-from (checksums_in rows) c ((alike_said checksum_of_row rows others alike).back c (In-from (checksums_in others) c k))
 
--- the rows of the same submissions in another order
+-- the rows of a table and of the same table in another order are alike
 pub rows_alike : (table others : Table) → IsPermutation table others → AreAlike (all_rows table) (all_rows others)
 rows_alike table others permuted = alike_said (λ (rows : List Row). rows) table others (alike_permuted table others permuted)

@@ -1,4 +1,4 @@
--- An ascending list: each member is at its place, it has these members and no others, and there is only one such list.
+-- The list that `ascending` gives: it ascends, it has the elements of the given list and no others, and it is the only such list.
 use Rattle.std.proofs.Common.{◌≡◌, ◌+◌, ◌≤◌, List, [], ◌∷◌, length, refl, sym, ap, ◌∙◌, subst, inl, inr, arith}
 use Rattle.std.specs.Prelude.{◌⊎◌}
 use Rattle.std.specs.Cmp.{IsTotalOrder}
@@ -12,12 +12,12 @@ use Rattle.std.proofs.lemmas.Map.Lookups.{CmpEqualImpliesEq}
 use Rattle.covstore.specs.Ascending.{placed, ascending, IsAscendingOf}
 use Rattle.covstore.proofs.Members.{In, In-from, Contains-from, All-in}
 
--- a total order in which only equal things compare as equal
+-- a total order in which only equal values compare as equal
 pub record IsExactOrder {X : Type 0} (cmp : X → X → Ordering) : Type 0 where
   pub total : IsTotalOrder cmp
   pub exact : CmpEqualImpliesEq cmp
 
--- ---- a member put at its place
+-- ---- an element put at its place
 
 pub All-match : {X : Type 0} (P : X → Type 0) (o : Ordering) (a b c : List X) → AllByRecursion P a → AllByRecursion P b → AllByRecursion P c → AllByRecursion P (match_ordering o a b c)
 All-match P Less a b c x y z = x
@@ -54,7 +54,7 @@ unfolding IsStrictlySortedBy
 ascending_sorted t [] = tt
 ascending_sorted {X} {cmp} t (x ∷ xs) = placed_sorted t x (ascending cmp xs) (ascending_sorted t xs)
 
--- ---- its members
+-- ---- its elements
 
 In-placed_at : {X : Type 0} {cmp : X → X → Ordering} → CmpEqualImpliesEq cmp → (z x y : X) (ys zs : List X) (o : Ordering) → cmp x y ≡ o
     → (In z zs → (x ≡ z) ⊎ In z ys) → In z (match_ordering o (x ∷ y ∷ ys) (y ∷ ys) (y ∷ zs)) → (x ≡ z) ⊎ In z (y ∷ ys)
@@ -129,7 +129,7 @@ one_ascending o xs ys zs a b =
     (λ z i. In-from zs z ((b.members z).1 ((a.members z).0 (Contains-from ys z i))))
     (λ z i. In-from ys z ((a.members z).1 ((b.members z).0 (Contains-from zs z i))))
 
--- ---- how many members it has
+-- ---- how many elements it has
 
 length-placed_at : {X : Type 0} (o : Ordering) (x y : X) (ys zs : List X) → length zs ≤ length ys + 1 → length (match_ordering o (x ∷ y ∷ ys) (y ∷ ys) (y ∷ zs)) ≤ length ys + 2
 length-placed_at Less x y ys zs h = omega arith

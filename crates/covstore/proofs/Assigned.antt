@@ -1,4 +1,4 @@
--- A key that loses its value, or gets another: the value of each key, the order of the keys, and sums over the pairs.
+-- A key loses its value, or gets another one: the value of each key, the order of the keys, and sums over the pairs.
 use Rattle.std.proofs.Common.{◌≡◌, ℕ, ◌+◌, Bool, true, false, cond, Option, Some, None, List, [], ◌∷◌, refl, sym, ap, ◌∙◌, subst, ⊎_elim, arith}
 use Rattle.std.specs.declared.cmp.Ordering.{Ordering}
 use Rattle.std.specs.declared.cmp.Ordering.TheVariants.{Less, Equal, Greater}
@@ -12,7 +12,7 @@ use Rattle.covmap.specs.Puts.{ArePairs, value_of}
 use Rattle.covstore.proofs.Ascend.{IsExactOrder}
 use Rattle.covstore.proofs.Puts.{ArePairs-put, at_before, sum_by-put, value_of-put, value_of-put_apart, value_of_before, value_of_later}
 
--- what is true of the changed key, and of those that stay, is true of each key
+-- what is true of one key, and of all that compare as different from it, is true of each key
 pub any_key : {K : Type 0} {cmp : K → K → Ordering} → IsExactOrder cmp → (P : K → Type 0) (key : K) → P key → ((other : K) → is_eq (cmp key other) ≡ false → P other) → (other : K) → P other
 any_key {K} {cmp} o P key own apart other =
     ⊎_elim (λ (e : is_eq (cmp key other) ≡ true). subst P (tells_apart o.exact key other e) own) (λ (e : is_eq (cmp key other) ≡ false). apart other e) (cases_Bool (is_eq (cmp key other)))
@@ -88,7 +88,7 @@ module _ {K V : Type 0} {cmp : K → K → Ordering} (o : IsExactOrder cmp) wher
   sum_without f key [] sorted = omega arith
   sum_without f key (pair ∷ pairs) sorted = sum_without_at f key pair pairs (without cmp key pairs) (cmp pair.0 key) refl sorted.0 (sum_without f key pairs sorted.1)
 
-  -- the key's old part is subtracted, and its new part added
+  -- in a sum over the pairs, what the key's old value adds is replaced by what its new one adds. A key without a value adds 0
   pub sum_assigned : (f : K × V → ℕ) (key : K) (value : Option V) (pairs : List (K × V)) → ArePairs cmp pairs
       → sum_by f (assigned cmp key value pairs) + at_before f key (value_of cmp key pairs) ≡ sum_by f pairs + at_before f key value
   sum_assigned f key None pairs sorted = omega (arith, sum_without f key pairs sorted)

@@ -1,4 +1,4 @@
--- Statements for each kind of points, and what stays when one kind changes.
+-- Statements about each kind of points, and what stays when the points of one kind change.
 use Rattle.std.proofs.Common.{◌≡◌, List, ◌∷◌, ◌++◌, length, map, sym, ap, subst, arith, ℕ}
 use Rattle.std.proofs.lemmas.List.{length-map, map-append}
 use Rattle.covstore.specs.FileIndex.{FileIndexData, counts_totals}
@@ -14,7 +14,7 @@ use Rattle.covstore.proofs.Ascend.{IsExactOrder}
 use Rattle.covstore.proofs.Orders.{branches_order, lines_order, names_order}
 use Rattle.std.specs.List.{sum_by}
 
--- ---- by cases: everything else is said of any kind
+-- ---- by cases, for each kind. Other files state and prove things of any kind at once
 
 pub each_kind : (P : Kind → Type 0) → P Line → P Function → P Branch → (kind : Kind) → P kind
 each_kind P line function branch Line = line
@@ -63,7 +63,7 @@ room_in own test index room = record {
   few = room.few own;
 }
 
--- if the counts are kept while the points of one kind change, they are kept for all kinds
+-- if the counts of one kind stay right while the test's points of this kind change, the counts of all kinds stay right
 pub keeps_added : (own : Kind) (after : PointsOf own) (more : CountsOf own) (test : TestData) (index : FileIndexData) → KeepsCountsOfKind (cmp_of own) (above_of own) (at own test) after (at own index.counts) more
     → (front back : List TestData) → IsIndexOf (front ++ test ∷ back) index → (kind : Kind)
     → AreCounts (cmp_of kind) (above_of kind) (map (at kind) (front ++ with_at own after test ∷ back)) (at kind (with_at own more index.counts))

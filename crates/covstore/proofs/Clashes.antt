@@ -48,7 +48,7 @@ find_none : {X : Type 0} (p : X → Bool) (xs : List X) → ((x : X) → In x xs
 find_none p [] all = refl
 find_none p (y ∷ ys) all = cond-false (p y) (Some y) (find p ys) (all y (inl refl)) ∙ find_none p ys (λ x i. all x (inr i))
 
--- no held checksum differs from this one, so they agree with it too
+-- if held checksums agree, and none of them differs from this one, they all agree together with it
 agree_more : (held : List Checksum) (x : Checksum) → Agree held → find (differs x) held ≡ None → Agree (held ++ x ∷ [])
 agree_more held x agree none a b i j =
     let own : (c : Checksum) → Contains held c → differs x c ≡ false = λ c k. not_found (differs x) held c none (In-from held c k) in

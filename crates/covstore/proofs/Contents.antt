@@ -1,4 +1,4 @@
--- What rows add up to: which tests it has, how large it gets, and that equal contents stay equal when the same rows are added.
+-- The content of rows: which tests it has, how large it is, and that equal contents stay equal after the same rows are added.
 use Rattle.std.proofs.Common.{◌≡◌, ◌≤◌, ℕ, List, ◌++◌, length, map, filter, ◌∙◌, arith}
 use Rattle.std.specs.declared.cmp.Ordering.{Ordering}
 use Rattle.std.specs.Str.{bytes_eq}
@@ -49,10 +49,10 @@ points_few rows key =
 
 -- ---- equal contents
 
--- if rows have the same content, they still have after the same rows are added
+-- if two lists of rows have the same content, they still do after the same rows are added to both
 pub content-append : (rows others more : List Row) → content_of rows ≡ content_of others → content_of (rows ++ more) ≡ content_of (others ++ more)
 content-append rows others more same = same_with_more key_cmp (map key_of_row) section_of (λ (s : SectionData). s.key) sections_kind rows others same more
 
--- for rows whose checksums agree, the content decides the clash
+-- lists of rows whose checksums agree, and which have the same content, have the same clash with given rows
 pub clash_by_content : (rows others given : List Row) → Agree (checksums_in rows) → Agree (checksums_in others) → content_of rows ≡ content_of others → clash_of rows given ≡ clash_of others given
 clash_by_content rows others given agree agrees same = same_checksums_clash rows others (checksums_in given) agree agrees same

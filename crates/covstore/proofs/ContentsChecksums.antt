@@ -36,7 +36,7 @@ said_of_line file line said (LineItem at count None) i = absurd i
 said_of_line file line said (FuncItem name start count) i = absurd i
 said_of_line file line said (BranchItem at block branch taken) i = absurd i
 
--- and conversely
+-- conversely, a checksum that an item gives in a file is of this file, and the item gives it for the checksum's line
 pub line_of_said : (file : List ℕ) (c : Checksum) (item : ItemData) → In c (checksum_of file item) → (file ≡ c.file) × In c.checksum (checksum_said c.line item)
 line_of_said file c (LineItem at count (Some checksum)) (inl is) = (
   ap (λ (d : Checksum). d.file) is,
@@ -50,7 +50,7 @@ line_of_said file c (BranchItem at block branch taken) i = absurd i
 said_at : Key → ℕ → List Row → List (List ℕ)
 said_at key line rows = flat_map (checksum_said line) (items_at key rows)
 
--- a checksum given for a line in a file and a test is among the checksums
+-- a checksum that is given for a line in a file and a test is among the checksums of the rows
 said_among : (rows : List Row) (key : Key) (line : ℕ) (said : List ℕ) → In said (said_at key line rows) → In (checksum_with key.file line said) (checksums_in rows)
 unfolding said_at
 said_among rows key line said i =
@@ -86,7 +86,7 @@ first_in : {X : Type 0} (xs : List X) (x : X) → first_of xs ≡ Some x → In 
 first_in [] x e = absurd (none-some x e)
 first_in (y ∷ ys) x e = inl (same_Some y x e)
 
--- the checksum of a line that items of a file and a test give is among the checksums
+-- if the items of a file and a test give a line a checksum, it is among the checksums of the rows
 pub line_checksum_held : (rows : List Row) (key : Key) (line : ℕ) (said : List ℕ) → line_checksum line (items_at key rows) ≡ Some said
     → In (record { file = key.file; line = line; checksum = said }) (checksums_in rows)
 unfolding checksum_with said_at
@@ -97,7 +97,7 @@ unfolding checksum_with
 one_checksum file line a b e =
     (bytes_eq-Decides a b).0 (last_true (bytes_eq file file) (eqb line line) (bytes_eq a b) ((bytes_eq-Decides file file).1 refl) (eq-eqb line line refl) e)
 
--- if checksums agree, the items of a file and a test give one checksum for a line
+-- if the checksums agree, the items of a file and a test give a line at most one checksum
 pub one_said : (rows : List Row) → Agree (checksums_in rows) → (key : Key) (line : ℕ) (a b : List ℕ) → In a (flat_map (checksum_said line) (items_at key rows))
     → In b (flat_map (checksum_said line) (items_at key rows)) → a ≡ b
 unfolding checksum_with said_at
@@ -122,7 +122,7 @@ checksums_there rows others agree same c i =
     one_checksum c.file c.line first.0 c.checksum (agree (checksum_with c.file c.line first.0) c (Contains-from (checksums_in rows) (checksum_with c.file c.line first.0) committed) (Contains-from (checksums_in rows) c i)) in
     subst (λ (d : Checksum). In d (checksums_in others)) (ap (λ (file : List ℕ). checksum_with file c.line first.0) said.1 ∙ ap (checksum_with c.file c.line) is) there
 
--- ---- a clash is decided by the members of the held checksums
+-- ---- a clash depends on which checksums are held, and not on their order
 
 module _ (held others : List Checksum) (there : (c : Checksum) → In c held → In c others) (back : (c : Checksum) → In c others → In c held) where
   agree_there : (more : List Checksum) → Agree (held ++ more) → Agree (others ++ more)

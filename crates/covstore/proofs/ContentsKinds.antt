@@ -16,7 +16,7 @@ pub record IsKind {I P V : Type 0} (cmp : P → P → Ordering) (points : List I
   pub absent : (xs : List I) (p : P) → (In p (points xs) → ⊥) → value xs p ≡ value [] p
   pub extends : (xs ys zs : List I) (p : P) → value xs p ≡ value ys p → (In p (points xs) → In p (points ys)) → (In p (points ys) → In p (points xs)) → value (xs ++ zs) p ≡ value (ys ++ zs) p
 
--- lists with the same members have one ascending list
+-- lists with the same elements have the same ascending list
 pub same_ascending : {X : Type 0} (cmp : X → X → Ordering) → IsExactOrder cmp → (xs ys : List X) → ((x : X) → In x xs → In x ys) → ((x : X) → In x ys → In x xs) → ascending cmp xs ≡ ascending cmp ys
 same_ascending cmp order xs ys there back =
     let left = ascending_is order xs in
@@ -31,7 +31,7 @@ pub map_same : {P V : Type 0} (f g : P → V) (ps : List P) → ((p : P) → f p
 map_same f g [] same = refl
 map_same {P} {V} f g (p ∷ ps) same = let here : f p ≡ g p = same p in let others : map f ps ≡ map g ps = map_same f g ps same in cc
 
--- if two maps give the same list, they give the same at each member
+-- if two functions map a list to equal lists, they give the same for each element of the list
 same_at : {P V : Type 0} (f g : P → V) (ps : List P) (p : P) → map f ps ≡ map g ps → In p ps → f p ≡ g p
 same_at f g [] p e i = absurd i
 same_at {P} {V} f g (q ∷ ps) p e (inl is) = let here : f q ≡ g q = cc in ap f (sym is) ∙ here ∙ ap g is

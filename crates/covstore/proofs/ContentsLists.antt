@@ -1,4 +1,4 @@
--- Lists: members of joined or picked parts, tests on members, and the length of a list of points.
+-- Lists: elements of joined and filtered lists, conditions on elements, and the length of a list of points.
 use Rattle.std.proofs.Common.{◌≡◌, Bool, true, false, ◌||◌, cond, List, [], ◌∷◌, map, filter, refl, sym, ap, ◌∙◌, subst, inl, inr, ⊎_elim}
 use Rattle.std.specs.Prelude.{◌⊎◌}
 use Rattle.std.specs.declared.cmp.Ordering.{Ordering}
@@ -9,9 +9,9 @@ use Rattle.std.proofs.lemmas.Cmp.{tied_itself}
 use Rattle.covstore.proofs.Ascend.{IsExactOrder}
 use Rattle.covstore.proofs.Members.{In, In-joined, In-parts}
 
--- ---- members
+-- ---- elements
 
--- what a member of another list contributes to the joined list
+-- what `f` gives for an element of a list is in the joined list
 pub In-flat : {X Y : Type 0} (f : X → List Y) (xs : List X) (x : X) (y : Y) → In x xs → In y (f x) → In y (flat_map f xs)
 In-flat f [] x y i j = absurd i
 In-flat {X} {Y} f (z ∷ xs) x y (inl e) j = In-joined (f z) (flat_map f xs) y (inl (subst (λ (w : X). In y (f w)) (sym e) j))
@@ -47,7 +47,7 @@ In-unfilter {X} p (y ∷ ys) x i = by (p y) refl (λ j. In-unfilter p ys x j)
     by true is others = passed is others (subst (In x) (cond-true (p y) (y ∷ filter p ys) (filter p ys) is) i)
     by false is others = let found = others (subst (In x) (cond-false (p y) (y ∷ filter p ys) (filter p ys) is) i) in (inr found.0, found.1)
 
--- in an exact order, it is decided whether something is a member
+-- in an exact order, a value is an element of a list, or it isn't
 module _ {X : Type 0} (cmp : X → X → Ordering) (order : IsExactOrder cmp) where
   pub same_or_not : (x y : X) (o : Ordering) → cmp x y ≡ o → (x ≡ y) ⊎ (x ≡ y → ⊥)
   same_or_not x y Less e = inr (λ (is : x ≡ y). let tied = tied_itself order.total x in let less : cmp x x ≡ Less = subst (λ (z : X). cmp x z ≡ Less) (sym is) e in cc)
@@ -63,7 +63,7 @@ module _ {X : Type 0} (cmp : X → X → Ordering) (order : IsExactOrder cmp) wh
       by (inr other) (inl there) = inl (inr there)
       by (inr other) (inr none) = inr (λ i. ⊎_elim other none i)
 
--- ---- tests on members
+-- ---- conditions on elements
 
 pub any_from_in : {X : Type 0} (p : X → Bool) (xs : List X) (x : X) → In x xs → p x ≡ true → list_any p xs ≡ true
 any_from_in p [] x i h = absurd i
@@ -83,7 +83,7 @@ same_truth true b to from = sym (to refl)
 same_truth false true to from = from refl
 same_truth false false to from = refl
 
--- a test on lists with the same members
+-- if two lists have the same elements, a condition that some element of one list meets is met by some element of the other
 pub any_members : {X : Type 0} (p : X → Bool) (xs ys : List X) → ((x : X) → In x xs → In x ys) → ((x : X) → In x ys → In x xs) → list_any p xs ≡ list_any p ys
 any_members p xs ys f g =
     same_truth (list_any p xs) (list_any p ys)

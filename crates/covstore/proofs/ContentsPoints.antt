@@ -1,4 +1,5 @@
--- Lines, functions and branches with their values are such kinds: a new value is decided by the old one and the added items.
+-- Lines, functions and branches with their values satisfy `IsKind` of `ContentsKinds`: a new value is decided by the old value
+-- and the added items.
 use Rattle.std.proofs.Common.{◌≡◌, ℕ, ◌+◌, Bool, true, false, ◌&&◌, eqb, min, Option, Some, None, unwrap_or, List, [], ◌∷◌, ◌++◌, refl, sym, ap, ◌∙◌, subst, inl, inr, ⊎_elim, arith}
 use Rattle.std.specs.Cmp.Lexicographic.{slice_cmp}
 use Rattle.std.specs.List.{flat_map, sum_by, fold}
@@ -76,7 +77,7 @@ checksum_unsaid line (BranchItem at block branch taken) none = refl
 pub same_line : (line : ℕ) (xs ys : List ItemData) → line_value line xs ≡ line_value line ys → line_checksum line xs ≡ line_checksum line ys → line_at xs line ≡ line_at ys line
 same_line line xs ys count checksum = λ i. record { line = line; count = count i; checksum = checksum i }
 
--- adding to a bounded sum depends only on the bounded sum
+-- if two numbers are equal once bounded, they are so after the same number is added to both
 pub bounded_more : (a b n : ℕ) → bounded a ≡ bounded b → bounded (a + n) ≡ bounded (b + n)
 bounded_more a b n e = omega (arith, e)
 
@@ -149,7 +150,8 @@ least_more (x ∷ xs) (y ∷ ys) zs e =
     ap (λ (n : ℕ). Some n)
     (fold-append min x xs zs ∙ ap (λ (n : ℕ). fold min n zs) (same_Some (fold min x xs) (fold min y ys) e) ∙ sym (fold-append min y ys zs))
 
--- 0 is a start line too, so the names decide whether there is one
+-- `function_start` is 0 if no item gives a start line, but an item may also give 0. If both lists have the function or neither
+-- does, the least start lines are equal too
 same_least : (name : List ℕ) (xs ys : List ItemData) → function_start name xs ≡ function_start name ys → (In name (func_points xs) → In name (func_points ys)) → (In name (func_points ys) → In name (func_points xs))
     → least (flat_map (start_said name) xs) ≡ least (flat_map (start_said name) ys)
 same_least name xs ys e there back =

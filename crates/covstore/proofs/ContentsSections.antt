@@ -1,4 +1,4 @@
--- Files and tests with their sections are a kind, too.
+-- Keys (files and tests) with their sections satisfy `IsKind` of `ContentsKinds` too.
 use Rattle.std.proofs.Common.{◌≡◌, ℕ, Bool, true, false, ◌&&◌, List, [], ◌∷◌, ◌++◌, map, filter, refl, sym, ap, ◌∙◌, inl, inr}
 use Rattle.std.specs.Cmp.Lexicographic.{slice_cmp}
 use Rattle.std.specs.Ordering.{nat_cmp}
@@ -26,7 +26,7 @@ both true true e = (refl, refl)
 both true false e = absurd (false≢true e)
 both false y e = absurd (false≢true e)
 
--- the row has this key if the test says so
+-- if `has_key` is true of a row, this is the row's key
 pub own_key : (key : Key) (row : Row) → has_key key row ≡ true → key_of_row row ≡ key
 own_key key row e =
     let same = both (bytes_eq row.file key.file) (bytes_eq row.test key.test) e in

@@ -1,4 +1,4 @@
--- The values of a test, added as items to another test of its file; and the file itself.
+-- The values of a test are added as items to another test of its file: the room for this, and the file afterwards.
 use Rattle.std.proofs.Common.{◌≡◌, ℕ, ◌≤◌, ◌^◌, Some, List, ◌++◌, length, ap, subst, ⊎_elim, arith}
 use Rattle.std.specs.Prelude.{Contains}
 use Rattle.std.specs.Cmp.Lexicographic.{slice_cmp}
@@ -20,7 +20,7 @@ use Rattle.covstore.proofs.Members.{Contains-from, In, In-from, In-parts}
 use Rattle.covstore.proofs.RenamedValues.{few_values, values_of}
 use Rattle.covstore.proofs.RenamedValuesState.{checksums_copied, copied_state, holders_are, values_are}
 
--- rows with copied ones have the checksums of the rows, so they agree
+-- if the checksums of the rows agree, they do with the copied rows too, which add no other checksums
 agree_copied : (rows : List Row) (name old new : List ℕ) → Agree (checksums_in rows) → Agree (checksums_in (rows ++ copied_rows name old new rows))
 agree_copied rows name old new agree a b of_a of_b = agree a b (there a of_a) (there b of_b)
   where
@@ -33,7 +33,8 @@ agree_copied rows name old new agree a b of_a of_b = agree a b (there a of_a) (t
 
 module _ (old new : List ℕ) (tests : List (List ℕ × TestData)) (index : FileIndexData) (source target : TestData)
     (its_source : value_of (slice_cmp nat_cmp) old tests ≡ Some source) (its_target : value_of (slice_cmp nat_cmp) new tests ≡ Some target) where
-  -- there is room for the values, and each line with a checksum has a held one
+  -- if there is room to copy in the file, there is room for the values of the source. Of each line that has a checksum there, the
+  -- index holds a checksum
   module _ (room : HasRoomToCopyIn old (file_with tests index)) where
     its_values : items_of_test index.texts source ≡ values_of (items_at (key_of room.name old) room.rows)
     its_values = values_are room.rows room.files room.stands.state room.name old (file_with tests index) source room.stands.there its_source

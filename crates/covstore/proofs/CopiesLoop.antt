@@ -1,4 +1,4 @@
--- The values of a test, added one after another as items of another test of its file.
+-- The values of a test are added one after another, as items of another test of its file.
 use Rattle.std.proofs.Common.{◌≡◌, ℕ, Bool, true, false, List, [], ◌∷◌, ◌++◌, map, refl, sym, ap, ◌∙◌, append_assoc, subst, arith}
 use Rattle.std.specs.Cmp.Lexicographic.{slice_cmp}
 use Rattle.std.specs.Option.{is_some}
@@ -84,7 +84,7 @@ module _ {A D : Type 0} (f : D → ItemData) (all : List D) (test : Test A) (ind
     pub copying_room : HasRoom (test_staged test_now) (index_staged index_now)
     copying_room = next_has_room (map f is.taken) (f d) (map f rest) test index test_now index_now takes_next
 
-    -- the item that was added is that of the value
+    -- after the item of the next value is added, the values so far and this one are staged
     pub copying_more : (item : ItemData) → item ≡ f d → (test_later : Test A) (index_later : FileIndex A) → test_committed test_later ≡ test_committed test_now → KeepsCommitted index_now index_later
         → test_staged test_later ≡ with_item item (test_staged test_now) → KeepsCounts (test_staged test_now) (test_staged test_later) (index_staged index_now) (index_staged index_later)
         → IsTextOf item (index_staged index_later) → KeepsTextsOf (index_staged index_now) (index_staged index_later) → IsCopying f all rest test index test_later index_later
@@ -98,12 +98,13 @@ module _ {A D : Type 0} (f : D → ItemData) (all : List D) (test : Test A) (ind
 
 -- ---- the lines
 
--- the texts of lines with a held checksum are those of before
+-- if a line with a checksum keeps its text, its checksum is seen as before
 text_same : (texts others : List (ℕ × List ℕ)) (line : ℕ) (flag : Bool) → (flag ≡ true → value_of nat_cmp line others ≡ value_of nat_cmp line texts) → text_at others line flag ≡ text_at texts line flag
 text_same texts others line true same = same refl
 text_same texts others line false same = refl
 
--- the lines that are left ascend, and those with a checksum hold it
+-- the lines before those that are left are staged. The lines that are left ascend, the index holds a checksum of each of them
+-- that has one, and held checksums keep their texts
 pub record IsCopyingLines {A : Type 0} (all left : List (ℕ × LineSum)) (test : Test A) (index : FileIndex A) (test_now : Test A) (index_now : FileIndex A) : Type 0 where
   pub copying : IsCopying (line_item (index_staged index).texts) all left test index test_now index_now
   pub sorted : ArePairs nat_cmp left

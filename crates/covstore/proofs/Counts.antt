@@ -20,18 +20,18 @@ same_tests {others = others} {hit = hit} e f = ap (λ (n : ℕ). tests_of n hit)
 
 -- ---- one test among others
 
--- the numbers of a point with a test added that has this value there
+-- the numbers of a point after a test is added to this many tests and hits. The test has this value at the point, if any
 abbrev pub tests_among : {V : Type 0} → (V → Bool) → ℕ → ℕ → Option V → Option Tests
 tests_among is_above tests hit value = tests_of (tests + one_if (is_some value)) (hit + one_if (is_above_at is_above value))
 
 pub sum_by-between : {X : Type 0} (f : X → ℕ) (front : List X) (x : X) (back : List X) → sum_by f (front ++ x ∷ back) ≡ sum_by f (front ++ back) + f x
 sum_by-between f front x back = omega (arith, sum_by-append f front (x ∷ back), sum_by-append f front back, sum_by-cons f x back)
 
--- a count with this member among the others
+-- the count over a list is that over its other elements, and 1 more if `p` is true of x
 pub count_by-between : {X : Type 0} (p : X → Bool) (front : List X) (x : X) (back : List X) → count_by p (front ++ x ∷ back) ≡ count_by p (front ++ back) + one_if (p x)
 count_by-between p front x back = omega (arith, sum_by-between (λ y. cond (p y) 1 0) front x back, counted_one (p x))
 
--- no more tests have a point above 0 than have it
+-- a test that has a point above 0 has the point
 above_is_with : {V : Type 0} (is_above : V → Bool) (value : Option V) → cond {A = ℕ} (is_above_at is_above value) 1 0 ≤ cond {A = ℕ} (is_some value) 1 0
 above_is_with is_above None = omega arith
 above_is_with is_above (Some value) = by (is_above value)
@@ -72,7 +72,8 @@ module _ {K V : Type 0} (cmp : K → K → Ordering) (is_above : V → Bool) whe
 
 -- ---- how large the numbers are
 
--- numbers of a point: some test has it, no more have it above 0, and no more than all tests have it
+-- bounds of a point's numbers: at least one test has the point, no more tests have it above 0 than have it, and no more have it
+-- than there are tests
 pub record IsWithin (committed : Tests) (tests : ℕ) : Type 0 where
   pub some : 0 < committed.tests
   pub hit : committed.hit ≤ committed.tests

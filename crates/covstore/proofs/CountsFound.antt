@@ -22,7 +22,7 @@ use Rattle.covstore.proofs.Puts.{pair_in, some_in, value_of_before, value_of_pai
 use Rattle.covstore.proofs.ContentsLists.{In-flat, In-unflat, any_from_in, in_from_any}
 use Rattle.covstore.proofs.TotalsRows.{any_agree, sum_above}
 
--- ---- a count is above 0 if some member passes
+-- ---- a count is above 0 exactly if the condition is true of some element
 
 above_one : (b : Bool) → nat_lt 0 (cond {A = ℕ} b 1 0) ≡ b
 above_one true = refl
@@ -55,7 +55,7 @@ abbrev pub points_of : {K V : Type 0} → List (K × V) → List K
 points_of pairs = map (λ pair. pair.0) pairs
 
 module _ {K V : Type 0} {cmp : K → K → Ordering} (o : IsExactOrder cmp) {is_above : V → Bool} (tests : List (List (K × V))) (counts : List (K × Tests)) (are : AreCounts cmp is_above tests counts) where
-  -- the numbers of a point that is counted
+  -- a counted point is in at least one test, and as many tests have it above 0 as its numbers say
   numbers_kept : (pair : K × Tests) → In pair counts → (nat_lt 0 (count_with cmp pair.0 tests) ≡ true) × (count_above cmp is_above pair.0 tests ≡ pair.1.hit)
   numbers_kept pair i =
       let found = cond_some (nat_lt 0 (count_with cmp pair.0 tests)) (record { tests = count_with cmp pair.0 tests; hit = count_above cmp is_above pair.0 tests }) pair.1
@@ -123,7 +123,7 @@ module _ {K Y : Type 0} {cmp : K → K → Ordering} (o : IsExactOrder cmp) (at 
       sym (any_here (test y) (is_eq (cmp (at y) key)) (above y) (list_any test ys) (is y) (ap is_eq e) (sym rest ∙ ap (is_above_at above) none))
   above_at Greater y ys e following rest = rest ∙ sym (ap (λ (b : Bool). b || list_any test ys) (is y ∙ ap (λ (order : Ordering). is_eq order && above y) e))
 
-  -- a test has the point above 0 if a member of its list is the point, above 0
+  -- a list gives the point a value above 0 exactly if one of its elements is the point with a value above 0
   pub above_in : (ys : List Y) → ArePairs cmp (map (λ y. (at y, y)) ys) → is_above_at above (value_of cmp key (map (λ y. (at y, y)) ys)) ≡ list_any test ys
   above_in [] sorted = refl
   above_in (y ∷ ys) sorted = above_at (cmp (at y) key) y ys refl sorted.0 (above_in ys sorted.1)

@@ -59,14 +59,14 @@ is_at Line line l = l.line == line
 is_at Function name f = bytes_eq f.name name
 is_at Branch point b = is_branch point b.point.line b.point.block b.point.branch
 
--- the points of sections, each once; and below, those that some section has above 0
+-- the points of a kind in sections, each once, ascending
 abbrev pub found_in : (kind : Kind) → List SectionData → List (KeyOf kind)
 found_in kind sections = ascending (cmp_of kind) (flat_map (λ s. map (key_in kind) (values_in kind s)) sections)
 
 abbrev pub is_hit_in : (kind : Kind) → List SectionData → KeyOf kind → Bool
 is_hit_in kind sections key = list_any (λ s. list_any (λ v. is_at kind key v && above_in kind v) (values_in kind s)) sections
 
--- a test for equality agrees with the order
+-- a function that decides equality agrees with the order
 same_test : {X : Type 0} {cmp : X → X → Ordering} → IsExactOrder cmp → (equal : X → X → Bool) → ((x y : X) → equal x y ≡ true → x ≡ y) → ((x : X) → equal x x ≡ true)
     → (x y : X) → equal x y ≡ is_eq (cmp x y)
 same_test {X} {cmp} o equal to self x y =

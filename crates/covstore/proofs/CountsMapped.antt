@@ -1,4 +1,4 @@
--- Values of another type have the same counts, if they are above 0 at the same places.
+-- If the values are replaced by values of another type that are above 0 for the same points, the counts stay.
 use Rattle.std.proofs.Common.{◌≡◌, ℕ, Bool, true, false, cond, Option, Some, List, [], ◌∷◌, map, refl, sym, ap, ◌∙◌, arith}
 use Rattle.std.specs.declared.cmp.Ordering.{Ordering}
 use Rattle.std.specs.List.{count_by}
@@ -43,7 +43,7 @@ module _ {K V W : Type 0} (cmp : K → K → Ordering) (is_above : V → Bool) (
       same_tests (count_by-map (λ (pairs : List (K × V)). is_some (value_of cmp key pairs)) (λ (pairs : List (K × W)). is_some (value_of cmp key pairs)) mapped (mapped_some key) tests)
       (count_by-map (λ (pairs : List (K × V)). is_above_at is_above (value_of cmp key pairs)) (λ (pairs : List (K × W)). is_above_at is_other (value_of cmp key pairs)) mapped (mapped_above key) tests)
 
-  -- by a function of a point and its value
+  -- the values are replaced by what `f` gives for the point and its value
   pub counts_mapped_at : (tests : List (List (K × V))) (counts : List (K × Tests)) → AreCounts cmp is_above tests counts
       → AreCounts cmp is_other (map (map (λ pair. (pair.0, f pair.0 pair.1))) tests) counts
   counts_mapped_at tests counts are = record { ascending = are.ascending; counted = λ key. are.counted key ∙ sym (tests_at-mapped key tests) }

@@ -1,4 +1,4 @@
--- The index of a file counts its tests in any order; and the file without one of its tests.
+-- The index of a file counts its tests, whatever their order. And a file without one of its tests.
 use Rattle.std.proofs.Common.{◌≡◌, ℕ, Bool, nat_lt, if◌then◌else◌, Some, None, List, [], ◌∷◌, ◌++◌, map, refl, sym, ap, ◌∙◌, subst}
 use Rattle.std.specs.Cmp.Lexicographic.{slice_cmp}
 use Rattle.std.specs.declared.cmp.Ordering.{Ordering}
@@ -40,7 +40,7 @@ kept_first front test back index kept = record {
   holders = λ line. kept.holders line ∙ holders_first line front test back;
 }
 
--- ---- an index is decided by the tests
+-- ---- the tests decide the totals of their index
 
 pub one_totals : (tests : List TestData) (index other : FileIndexData) → IsIndexOf tests index → IsIndexOf tests other → index_totals index ≡ index_totals other
 one_totals tests index other kept also =
@@ -57,7 +57,7 @@ module _ (name : List ℕ) (points : TestData) (tests : List (List ℕ × TestDa
   place : IsBetween name points tests
   place = between name points tests whole.ascending found
 
-  -- the index counts this test and the others
+  -- the index counts the test's points together with the points of the other tests
   pub index_first : IsIndexOf (points ∷ points_of_all (tests_without name tests)) index
   index_first =
       let front = points_of_all place.front in
@@ -77,7 +77,7 @@ module _ (name : List ℕ) (points : TestData) (tests : List (List ℕ × TestDa
 pub index_after : (name : List ℕ) (before after : FileData) → IsWithoutTest name before after → IsIndexOf (points_of_all (tests_without name before.tests)) after.index
 index_after name before after is = subst (λ (tests : List (List ℕ × TestData)). IsIndexOf (points_of_all tests) after.index) is.tests is.whole.kept
 
--- the file doesn't have the test
+-- a file that doesn't have the test is the same without it
 module _ (name : List ℕ) (file : FileData) (whole : IsConsistentFile file) (none : value_of (slice_cmp nat_cmp) name file.tests ≡ None) where
   pub without_unfound : IsWithoutTest name file file
   without_unfound = record { tests = sym (others_of_none name file.tests none); texts = refl; whole = whole }

@@ -17,7 +17,7 @@ no_totals_more totals = same_totals (together no_totals totals) totals (omega ar
 pub no_totals_after : (totals : Totals) → together totals (totals_in []) ≡ totals
 no_totals_after totals = same_totals (together totals (totals_in [])) totals (omega arith) (omega arith) (omega arith) (omega arith) (omega arith) (omega arith)
 
--- the first of the files that are left is counted
+-- counting the first of the files that are left doesn't change the sum of what is counted and what is left
 one_more : (f : List ℕ × FileData → ℕ) (pair : List ℕ × FileData) (files : List (List ℕ × FileData)) (n : ℕ) → (n + f pair) + sum_by f files ≡ n + sum_by f (pair ∷ files)
 one_more f pair files n = omega (arith, sum_by-cons f pair files)
 
@@ -45,7 +45,8 @@ module _ (test : List ℕ) (all : List (List ℕ × FileData)) where
   abbrev has_points : List ℕ × FileData → Bool
   has_points pair = has_points_of test pair.1
 
-  -- what is counted so far, and the files that are left, are all of it
+  -- what is counted so far, and what is still to be counted in the files that are left, make up what all files give without the
+  -- test
   pub record IsCounted (left : List (List ℕ × FileData)) (sections : ℕ) (totals : Totals) : Type 0 where
     pub counted : sections + count_by has_points left ≡ count_by has_points all
     pub whole : AllByRecursion (λ pair. IsConsistentFile pair.1) left

@@ -13,7 +13,8 @@ use Rattle.covstore.specs.TestView.{test_staged, test_committed}
 use Rattle.covstore.proofs.DropsRetain.{AreWritten}
 use Rattle.covstore.proofs.Members.{All-in, In-joined}
 
--- a file is replaced by one without the test. If nothing was staged in a test, nothing is
+-- what is committed of the second file is that of the first one without the test. Where nothing was staged in the first file,
+-- nothing is staged in the second
 abbrev pub IsWritten : {A : Type 0} → List ℕ → File A → File A → Type 0
 IsWritten test before after = IsWithoutTest test (file_committed before) (file_committed after) × ((tests : List (List ℕ)) → IsSettledBut tests before → IsSettledBut tests after)
 
@@ -36,7 +37,7 @@ module _ {K A : Type 0} (name : K → List ℕ) where
 pub All-between : {X : Type 0} (P : X → Type 0) (before : List X) (x : X) (after all : List X) → AllByRecursion P all → all ≡ before ++ x ∷ after → P x
 All-between P before x after all holds is = All-in P (before ++ x ∷ after) x (subst (AllByRecursion P) is holds) (In-joined before (x ∷ after) x (inr (inl refl)))
 
--- and of those that are left after one is removed
+-- what is true of all entries is true of those that are left after one is removed
 pub All-removed : {K X : Type 0} (P : K × X → Type 0) (here : K → Bool) (entries : List (K × X)) → AllByRecursion P entries → AllByRecursion P (remove_entry here entries)
 All-removed P here [] all = tt
 All-removed {K} {X} P here (entry ∷ entries) all = by (here entry.0) (All-removed P here entries all.1)
@@ -49,7 +50,7 @@ All-removed {K} {X} P here (entry ∷ entries) all = by (here entry.0) (All-remo
 abbrev IsSettledTest : {A : Type 0} → List (List ℕ) → Vec ℕ A × Test A → Type 0
 IsSettledTest tests pair = list_any (λ test. bytes_eq test pair.0.items) tests ≡ false → test_staged pair.1 ≡ test_committed pair.1
 
--- nothing is staged in the file's index, and in its tests, one of which is removed, no more than before
+-- one of the file's tests is removed, and nothing is staged in its index. Then nothing is staged but in these tests, as before
 pub removed_settled : {A : Type 0} (tests : List (List ℕ)) (here : Vec ℕ A → Bool) (before after : File A) → index_staged after.index ≡ index_committed after.index
     → after.tests.entries ≡ remove_entry here before.tests.entries → IsSettledBut tests before → IsSettledBut tests after
 removed_settled {A} tests here before after index left settled = record {

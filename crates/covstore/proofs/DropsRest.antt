@@ -51,7 +51,7 @@ module _ {K V : Type 0} (again : K → Option V) where
         by None following rest = rest
         by (Some value) following rest = (following, rest)
 
-    -- a key has its new value, if it had one before
+    -- the new value of a key that had a value, and `None` for a key that had none
     abbrev again_at : K → Option V → Option V
     again_at key None = None
     again_at key (Some value) = again key
@@ -84,7 +84,7 @@ module _ {K V : Type 0} (again : K → Option V) where
             later_again key pair pairs (again pair.0) same rest
             ∙ sym (ap (again_at key) (cond-false (is_eq (cmp pair.0 key)) (Some pair.1) (value_of cmp key pairs) same))
 
-    -- so each key has its new value, if only keys with a value get one
+    -- if a key without a value gets none, each key has the value that `again` gives
     renewed_is : (key : K) (pairs : List (K × V)) → (value_of cmp key pairs ≡ None → again key ≡ None) → value_of cmp key (renewed pairs) ≡ again key
     renewed_is key pairs few = renewed_value key pairs ∙ by (value_of cmp key pairs) refl
       where
@@ -103,7 +103,7 @@ none_counted {X} n x none = ⊎_elim {C = n ≤ 0}
 counted_none : {X : Type 0} (n : ℕ) (x : X) → n ≤ 0 → (if nat_lt 0 n then Some x else None) ≡ None
 counted_none n x few = cond-false (nat_lt 0 n) (Some x) None (le-ltb 0 n few)
 
--- if no test has it, no other test has it
+-- if the number of all tests is `None`, so is that of all but the first
 none_of_others : {X Y : Type 0} (p : Y → Bool) (first : Y) (others : List Y) (x z : X) → (if nat_lt 0 (count_by p (first ∷ others)) then Some x else None) ≡ None
     → (if nat_lt 0 (count_by p others) then Some z else None) ≡ None
 none_of_others p first others x z none =

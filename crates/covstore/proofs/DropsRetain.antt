@@ -1,4 +1,4 @@
--- What `retain` leaves if its closure keeps every entry, replaces each value, and stays the same itself.
+-- What `retain` leaves if its closure keeps every entry, may change each value, and keeps its own state.
 use Rattle.std.proofs.Common.{◌≡◌, Bool, true, cond, List, [], ◌∷◌, refl, sym, ap, ◌∙◌, subst}
 use Rattle.std.specs.List.{AllByRecursion}
 use Rattle.std.specs.Map.Calls.{RetainsPairs}

@@ -92,7 +92,7 @@ module _ (name : List ℕ) {V : Type 0} where
           others_later pair pairs e
           ∙ ap (λ (ps : List (List ℕ × V)). pair ∷ ps) (rest (sym (value_of_later names_order name pair pairs (is_eq-slice_cmp pair.0 name ∙ e)) ∙ none))
 
-  -- the name isn't there again after its pair
+  -- in ascending pairs, the name isn't in the pairs after its own
   none_after : (pair : List ℕ × V) (pairs : List (List ℕ × V)) → ArePairs (slice_cmp nat_cmp) (pair ∷ pairs) → bytes_eq pair.0 name ≡ true → none_at pairs
   none_after pair pairs sorted e =
       subst (λ (n : List ℕ). value_of (slice_cmp nat_cmp) n pairs ≡ None) ((bytes_eq-Decides pair.0 name).0 e) (value_of_before names_order pair.0 pairs sorted.0)

@@ -10,7 +10,7 @@ use Rattle.covstore.proofs.DropsLoop.{no_totals_after, no_totals_more, part_fits
 -- ---- totals
 
 module _ (all : List (List ℕ × FileData)) where
-  -- what is added up so far, and the files that are left, are all of it
+  -- the totals added up so far and the totals of the files that are left are together those of all files
   abbrev pub IsAddedUp : List (List ℕ × FileData) → Totals → Type 0
   IsAddedUp left totals = together totals (totals_in left) ≡ totals_in all
 

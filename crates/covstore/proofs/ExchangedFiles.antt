@@ -1,4 +1,4 @@
--- The totals of all files after one of them is replaced: they fit, and are those of the files afterwards.
+-- The totals of all files after one of them is replaced: they fit in 64 bits, and `exchanged` gives them.
 use Rattle.std.proofs.Common.{◌≡◌, ℕ, ◌+◌, ◌-◌, ◌≤◌, ◌^◌, Some, List, [], ◌∷◌, length, map, sym, ap, ◌∙◌, subst, arith, inl, inr}
 use Rattle.std.specs.Cmp.Lexicographic.{slice_cmp}
 use Rattle.std.specs.List.{sum_by}

@@ -1,4 +1,4 @@
--- A section has fewer than 2^64 points.
+-- An item has at most one point of each kind, so items have at most as many points as there are items.
 use Rattle.std.proofs.Common.{◌≤◌, List, [], ◌∷◌, length, arith}
 use Rattle.std.specs.List.{flat_map}
 use Rattle.std.proofs.lemmas.List.{length-append}

@@ -32,7 +32,7 @@ fewer_by above tests hit false e =
     cond-false (nat_lt 1 (tests + 1)) (Some (numbers (tests + 1 - 1) (hit + one_if above - one_if above))) None (ap (λ (n : ℕ). nat_lt 1 (n + 1)) none)
     ∙ sym (cond-false (nat_lt 0 tests) (Some (numbers tests hit)) None e)
 
--- one less than one more
+-- one more test and then one less leaves the numbers as they were
 fewer_more : (above : Bool) (tests hit : ℕ) → fewer_of above (tests_of (tests + 1) (hit + one_if above)) ≡ tests_of tests hit
 fewer_more above tests hit = ap (fewer_of above) (some_tests (tests + 1) (hit + one_if above) (omega arith)) ∙ fewer_by above tests hit (nat_lt 0 tests) refl
 
@@ -55,13 +55,13 @@ module _ {K V : Type 0} {cmp : K → K → Ordering} (o : IsExactOrder cmp) {is_
       subst (CanLose (is_above value)) (sym (numbers_with points others counts are key (Some value) e))
       (can_more (is_above value) (count_with cmp key others) (count_above cmp is_above key others) (above_le_with cmp is_above key others))
 
-  -- a point has the same numbers, if a test has the same value at it
+  -- a point has the same numbers in two counts if the only test that differs has the same value at the point
   pub same_numbers : (points left : List (K × V)) (others : List (List (K × V))) (counts fewer : List (K × Tests)) → AreCounts cmp is_above (points ∷ others) counts → AreCounts cmp is_above (left ∷ others) fewer
       → (key : K) (value : V) → value_of cmp key points ≡ Some value → value_of cmp key left ≡ Some value → value_of cmp key fewer ≡ value_of cmp key counts
   same_numbers points left others counts fewer are own key value e f =
       numbers_with left others fewer own key (Some value) f ∙ sym (numbers_with points others counts are key (Some value) e)
 
-  -- the first point of the test is removed
+  -- the test loses its first point
   module _ (key : K) (value : V) (left : List (K × V)) (sorted : ArePairs cmp ((key, value) ∷ left)) (others : List (List (K × V))) (counts : List (K × Tests)) (are : AreCounts cmp is_above (((key, value) ∷ left) ∷ others) counts) where
     fewer_own : value_of cmp key (counts_without cmp key (is_above value) counts) ≡ tests_at cmp is_above key (left ∷ others)
     fewer_own =
@@ -88,6 +88,6 @@ module _ {K V : Type 0} {cmp : K → K → Ordering} (o : IsExactOrder cmp) {is_
 
   -- ---- a whole test
 
-  -- the counts of the others are decided
+  -- the other tests have only one list of counts
   pub one_rest : (others : List (List (K × V))) (rest counts : List (K × Tests)) → AreCounts cmp is_above others rest → AreCounts cmp is_above others counts → rest ≡ counts
   one_rest others rest counts left right = same_pairs o rest counts left.ascending right.ascending (λ key. left.counted key ∙ sym (right.counted key))

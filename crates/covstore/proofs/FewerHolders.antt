@@ -59,13 +59,13 @@ module _ (line : ℕ) (value : LineSum) (left : List (ℕ × LineSum)) (sorted :
       are other ∙ holders_with ((line, value) ∷ left) others other (value_of nat_cmp other left) (value_of_later lines_order other (line, value) left apart)
       ∙ sym (holders_with left others other (value_of nat_cmp other left) refl)
 
-  -- the test holds no checksum of the first line
+  -- if the test holds no checksum of its first line, the numbers are right without this line too
   pub holders_stay : value.has_checksum ≡ false → AreHolders (with_lines left ∷ others) holders
   holders_stay none =
       any_key lines_order (λ (l : ℕ). value_of nat_cmp l holders ≡ holders_at l (with_lines left ∷ others)) line
       (own_with false none ∙ no_more (holding line others) ∙ sym own_left) apart_with
 
-  -- the test holds a checksum of the first line
+  -- if the test holds a checksum of its first line, the line has a number
   pub is_released : value.has_checksum ≡ true → is_some (value_of nat_cmp line holders) ≡ true
   is_released holds = ap is_some (own_with true holds ∙ some_is (holding line others + 1) (omega arith))
 
@@ -75,12 +75,12 @@ module _ (line : ℕ) (value : LineSum) (left : List (ℕ × LineSum)) (sorted :
       (own_assigned lines_order line (less_of (value_of nat_cmp line holders)) holders ∙ ap less_of (own_with true holds) ∙ less_more (holding line others) ∙ sym own_left)
       (λ other apart. apart_assigned lines_order line other (less_of (value_of nat_cmp line holders)) holders apart ∙ apart_with other apart)
 
--- only the lines of a test matter here
+-- numbers that are right for a test are right for a test with only its lines
 pub holders_of_lines : (test : TestData) (others : List TestData) (holders : List (ℕ × ℕ)) → AreHolders (test ∷ others) holders → AreHolders (with_lines test.lines ∷ others) holders
 holders_of_lines test others holders are line =
     are line ∙ ap some_above (count_by-between (is_holding line) [] test others) ∙ sym (holders_with test.lines others line (value_of nat_cmp line test.lines) refl)
 
--- if one test no longer holds the checksum of this line, the lines with a held checksum are among those before
+-- after one test no longer holds the checksum of this line, each line with a held checksum is one that had one before
 pub some_before : (line : ℕ) (value : Option ℕ) (holders fewer : List (ℕ × ℕ)) → fewer ≡ assigned nat_cmp line value holders → is_some (value_of nat_cmp line holders) ≡ true → (other : ℕ)
     → is_some (value_of nat_cmp other fewer) ≡ true → is_some (value_of nat_cmp other holders) ≡ true
 some_before line value holders fewer moved there =

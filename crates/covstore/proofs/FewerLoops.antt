@@ -19,7 +19,8 @@ pub record IsLosing {K V : Type 0} (cmp : K → K → Ordering) (is_above : V �
   pub sorted : ArePairs cmp left
   pub counted : (others : List (List (K × V))) → AreCounts cmp is_above (points ∷ others) counts → AreCounts cmp is_above (left ∷ others) fewer
 
--- the same for a tally alone. The points that are left have the values that they have in the test
+-- likewise for a tally alone: it counts the other tests and the test with the points that are left. These have the values that
+-- they have in the test
 pub record IsTallying {K V : Type 0} (cmp : K → K → Ordering) (is_above : V → Bool) (points : List (K × V)) (counts : List (K × Tests)) (left : List (K × V)) (tally : KindTotals) : Type 0 where
   pub sorted : ArePairs cmp left
   pub values : (key : K) (value : V) → value_of cmp key left ≡ Some value → value_of cmp key points ≡ Some value
@@ -28,7 +29,7 @@ pub record IsTallying {K V : Type 0} (cmp : K → K → Ordering) (is_above : V 
 module _ {K V : Type 0} {cmp : K → K → Ordering} (o : IsExactOrder cmp) (is_above : V → Bool) (points : List (K × V)) (counts : List (K × Tests)) where
   -- ---- the counts
 
-  -- the next point, as the query and as its value was read
+  -- the next point of the test, the query that names it, and whether its value was read as above 0
   module _ (key : K) (value : V) (asked : K) (named : asked ≡ key) (above : Bool) (read : above ≡ is_above value) (left rest : List (K × V)) (first : left ≡ (key, value) ∷ rest) (fewer : List (K × Tests))
       (is : IsLosing cmp is_above points counts left fewer) where
     pub losing_can : AreWith cmp is_above points counts → CanLose above (value_of cmp asked fewer)

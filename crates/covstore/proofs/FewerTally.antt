@@ -56,7 +56,7 @@ falls_at : (is above : Bool) (tests hit : ℕ) → is_hit (cond is (Some (record
 falls_at true above tests hit e = lt-ltb 0 hit (omega (arith, ltb-true 0 (hit - one_if above) e))
 falls_at false above tests hit e = absurd (false≢true e)
 
--- no point is hit for the first time
+-- a point that is hit afterwards was hit before
 pub fewer_falls : (above : Bool) (before : Tests) → is_hit (fewer_tests above before) ≡ true → is_hit (Some before) ≡ true
 fewer_falls above before e = falls_at (nat_lt 1 before.tests) above (before.tests - 1) before.hit e
 

@@ -54,7 +54,7 @@ module _ (test : List ℕ) where
   abbrev points_found : Option TestData → Bool
   points_found found = not (has_no_points (points_or_none found))
 
-  -- in ascending tests, the name is there at most once
+  -- the first of ascending tests, and the later ones: if the first one has the name, no later one has it
   found_at : (same : Bool) (points : TestData) (rest : Bool) (later : Option TestData) → rest ≡ points_found later → (same ≡ true → later ≡ None)
       → (same && not (has_no_points points)) || rest ≡ points_found (cond same (Some points) later)
   found_at true points rest later e none = last (not (has_no_points points)) (e ∙ ap points_found (none refl))
@@ -85,12 +85,12 @@ module _ (test : List ℕ) where
 
 -- ---- from the code's values to plain data
 
--- the files of a map, seen as plain data
+-- a condition is true of some value of a map exactly if it is true of some of the values seen as plain data
 pub any_named : {K X Y : Type 0} (p : Y → Bool) (f : X → Y) (name : K → List ℕ) (pairs : List (K × X)) → list_any (λ x. p (f x)) (values_of pairs) ≡ list_any (λ pair. p pair.1) (names_with name f pairs)
 any_named p f name [] = refl
 any_named p f name (pair ∷ pairs) = ap (λ (b : Bool). p (f pair.1) || b) (any_named p f name pairs)
 
--- whether a list is empty
+-- a truth value that is true exactly if a list is empty is `has_none` of the list
 pub none_as : {X : Type 0} (xs : List X) (b : Bool) → IsTrue b ↔ (xs ≡ []) → b ≡ has_none xs
 none_as [] b is = is.1 refl
 none_as (x ∷ xs) true is = absurd (cons-nil x xs (is.0 refl))

@@ -14,7 +14,7 @@ use Rattle.covstore.proofs.StateMore.{file_more}
 use Rattle.covstore.proofs.Axis.{each_kind, totals_same}
 
 module _ (file : List ℕ) (files : List (List ℕ × FileData)) (ascending : ArePairs (slice_cmp nat_cmp) files) (none : value_of (slice_cmp nat_cmp) file files ≡ None) where
-  -- a file in which nothing is counted adds nothing
+  -- a file that adds 0 to a sum over the files leaves the sum as it is
   nothing_more : (f : List ℕ × FileData → ℕ) → f (file, no_file) ≡ 0 → sum_by f (put (slice_cmp nat_cmp) file no_file files) ≡ sum_by f files
   nothing_more f nothing =
       let moved : sum_by f (put (slice_cmp nat_cmp) file no_file files) + at_before f file (value_of (slice_cmp nat_cmp) file files) ≡ sum_by f files + f (file, no_file) = sum_by-put names_order f file no_file files ascending in

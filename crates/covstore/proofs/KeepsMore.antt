@@ -1,5 +1,5 @@
--- Changes of one file that leave the state as it is: a test without points is added, or texts of lines whose checksum no test
--- holds.
+-- Changes of one file that leave the state as it is. Either a test without points is added, or texts are added to lines of which
+-- no test holds a checksum.
 use Rattle.std.specs.Prelude.{if◌then◌else◌}
 use Rattle.std.proofs.Common.{◌≡◌, ℕ, true, false, Option, Some, None, List, [], map, refl, sym, ap, ◌∙◌, subst, arith, ⊎_elim}
 use Rattle.std.specs.Cmp.Lexicographic.{slice_cmp}
@@ -66,7 +66,7 @@ module _ (name test : List ℕ) (file : FileData) (files : List (List ℕ × Fil
 pub test_keeps : (test : List ℕ) (file : FileData) → KeepsIn file (with_test test file)
 test_keeps test file files name ascending is = with_test_keeps name test file files ascending is
 
--- the entry that is there afterwards
+-- the value that the key has afterwards: the one before, or the new one
 pub made_ready : {X : Type 0} (key : List ℕ) (new : X) (pairs : List (List ℕ × X))
     → (x : X) × (value_of (slice_cmp nat_cmp) key (if is_some (value_of (slice_cmp nat_cmp) key pairs) then pairs else put (slice_cmp nat_cmp) key new pairs) ≡ Some x)
 made_ready {X} key new pairs = at (value_of (slice_cmp nat_cmp) key pairs) refl
@@ -88,7 +88,7 @@ module _ (before after : FileData) (keeps : KeepsFile before after) where
   }
 
   module _ (name : List ℕ) (rows : List Row) (files : List (List ℕ × FileData)) (state : IsStateOf rows files) (is : value_of (slice_cmp nat_cmp) name files ≡ Some before) where
-    -- the file with such a test added, and the same index
+    -- the file's place in the state, after a test without points and with the empty name is added to the file
     its_place : IsIn rows (put (slice_cmp nat_cmp) name (with_test [] before) files) name [] (tests_with [] before.tests) (made_ready [] (test_of []) before.tests).0 before.index
     its_place = record {
       state = (test_keeps [] before files name state.ascending is).states rows state;

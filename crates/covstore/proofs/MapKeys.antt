@@ -19,7 +19,7 @@ reverse_eq Equal = refl
 reverse_eq Greater = refl
 
 module _ {K P V W : Type 0} {cmp : P → P → Ordering} (o : IsExactOrder cmp) (name : K → P) (f : V → W) where
-  -- an entry, and all of them, by name and as contracts see them
+  -- an entry as contracts see it: its name, and its value as plain data. `seen` gives all of them
   abbrev pub seen_pair : K × V → P × W
   seen_pair pair = (name pair.0, f pair.1)
 
@@ -61,7 +61,7 @@ module _ {K P V W : Type 0} {cmp : P → P → Ordering} (o : IsExactOrder cmp) 
 
   -- ---- the value of an entry is replaced
 
-  -- names that ascend
+  -- if the names of the keys ascend, so do the pairs that are seen
   pub seen_ascend : (pairs : List (K × V)) → IsStrictlySortedBy (λ a b. cmp (name a) (name b)) (keys_of pairs) → ArePairs cmp (seen pairs)
   unfolding IsStrictlySortedBy
   seen_ascend [] sorted = tt

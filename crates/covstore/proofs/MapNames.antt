@@ -17,7 +17,7 @@ use Rattle.std.proofs.lemmas.Slice.Eq.{bytes_eq-Decides}
 use Rattle.covmap.specs.Puts.{value_of}
 use Rattle.covstore.proofs.Orders.{names_order}
 
--- different names, by `bytes_eq`
+-- `bytes_eq` is false of different names
 pub bytes_apart : (a b : List ℕ) → (a ≡ b → ⊥) → bytes_eq a b ≡ false
 bytes_apart a b apart = false_from_ne_true (bytes_eq a b) (λ e. apart ((bytes_eq-Decides a b).0 e))
 
@@ -51,7 +51,7 @@ module _ {K : Type 0} (name : K → List ℕ) (key : List ℕ) where
     none_after k (next ∷ es) e following =
         (ap is_eq (ap (λ (n : List ℕ). slice_cmp nat_cmp n (name next.0)) (sym e) ∙ following.0), none_after k es e following.1)
 
-    -- what is true of all entries after a value is replaced
+    -- if a value is replaced, `Q` is true of all entries: of this one by `own`, and of those with other names by `other`
     All-written_at : (P Q : K × X → Type 0) (v w : X) (e : K × X) (es : List (K × X)) (here : Bool) → has_name e.0 ≡ here
         → AllByRecursion (λ next. slice_cmp nat_cmp (name e.0) (name next) ≡ Less) (keys_of es) → cond here (Some e.1) (lookup has_name es) ≡ Some v
         → ((k : K) → P (k, v) → name k ≡ key → Q (k, w)) → ((e : K × X) → P e → (name e.0 ≡ key → ⊥) → Q e) → AllByRecursion P (e ∷ es)
@@ -88,7 +88,7 @@ is_eq-flipped a b = ap is_eq (nat_list_cmp_total.antisymm a b) ∙ flipped (slic
     flipped Equal = refl
     flipped Greater = refl
 
--- what a look-up in the map finds, by names
+-- a look-up by name in these pairs finds `f` of what a look-up in the map finds
 pub value_of_named : {K X Y : Type 0} (name : K → List ℕ) (f : X → Y) (key : List ℕ) (pairs : List (K × X)) → value_of (slice_cmp nat_cmp) key (names_with name f pairs) ≡ option_map f (lookup (has_name name key) pairs)
 value_of_named name f key [] = refl
 value_of_named {K} {X} {Y} name f key (pair ∷ pairs) =

@@ -20,13 +20,14 @@ module _ (test : List ℕ) (pair : List ℕ × FileData) (files : List (List ℕ
 has_some : {X : Type 0} (xs : List X) (y : X) (ys : List X) → xs ++ y ∷ ys ≢ []
 has_some xs y ys e = let same = ap length e in omega (arith, same, length-append xs (y ∷ ys))
 
--- the names so far and those of the files that are left are all names, also after a file without points
+-- the names so far and those of the files that are left are all names. They still are after a file without points, which adds no
+-- name
 module _ {X : Type 0} (name : X → List ℕ) (test : List ℕ) (all left : List (List ℕ × FileData)) (pair : List ℕ × FileData) (files : List (List ℕ × FileData)) (steps : left ≡ pair ∷ files)
     (names : List X) (so_far : map name names ++ names_with test left ≡ names_with test all) where
   pub none_named : has_points_of test pair.1 ≡ false → map name names ++ names_with test files ≡ names_with test all
   none_named e = ap (λ (more : List (List ℕ)). map name names ++ more) (sym (unnamed test pair files e)) ∙ ap (λ (more : List (List ℕ × FileData)). map name names ++ names_with test more) (sym steps) ∙ so_far
 
-  -- and a file in which it has points gives a name
+  -- if the test has points in a file, there is at least one name
   pub some_named : has_points_of test pair.1 ≡ true → names_with test all ≢ []
   some_named e none =
       has_some (map name names) pair.0 (names_with test files)

@@ -1,4 +1,4 @@
--- The order of bytes: eight at a time as numbers, and the rest one by one.
+-- The order of byte lists, compared eight bytes at a time as numbers, and the rest byte by byte.
 use Rattle.std.proofs.Common.{◌≡◌, ℕ, zero, suc, ◌+◌, ◌*◌, ◌≤◌, ◌<◌, List, [], ◌∷◌, ◌++◌, length, take, drop, get_or, refl, sym, ap, ◌∙◌, subst, arith, take-append-drop, length-take-le, length-drop, get_or-drop, drop-drop, min}
 use Rattle.std.specs.declared.cmp.Ordering.{Ordering}
 use Rattle.std.specs.declared.cmp.Ordering.TheVariants.{Less, Equal, Greater}
@@ -7,7 +7,7 @@ use Rattle.std.specs.Cmp.Lexicographic.{slice_cmp}
 use Rattle.std.specs.Int.{from_be_bytes, w64}
 use Rattle.std.specs.Ordering.{MatchOrdering, nat_cmp, ordering_then}
 
--- each is a byte
+-- each number of the list is below 256
 abbrev pub AreBytes : List ℕ → Type 0
 AreBytes bytes = (k : ℕ) → get_or bytes k 0 < 256
 
@@ -20,7 +20,7 @@ above x y l = sym (nat_cmp_is x y Greater l)
 pub level : (x y : ℕ) → x ≡ y → nat_cmp x y ≡ Equal
 level x y e = sym (nat_cmp_is x y Equal e)
 
--- where two numbers differ, nothing after them counts
+-- two different numbers decide the order, whatever comes after them
 pub decided : (x y : ℕ) (rest : Ordering) → (x ≡ y → ⊥) → ordering_then (nat_cmp x y) rest ≡ nat_cmp x y
 decided x y rest apart = by (nat_cmp x y) (ranks x y)
   where
@@ -44,7 +44,7 @@ rises m n (x ∷ xs) (y ∷ ys) same bytes l =
     let small : x < 256 = bytes 0 in
     rises (m * 256 + x) (n * 256 + y) xs ys (omega arith) (λ k. bytes (suc k)) (omega arith)
 
--- their numbers compare as they do
+-- two lists of bytes of one length compare as their numbers do
 digits_order : (n : ℕ) (xs ys : List ℕ) → length xs ≡ length ys → AreBytes xs → AreBytes ys → nat_cmp (digits n xs) (digits n ys) ≡ slice_cmp nat_cmp xs ys
 digits_order n [] [] same bx by = level n n refl
 digits_order n [] (y ∷ ys) same bx by = absurd (omega arith)
@@ -58,7 +58,7 @@ digits_order n (x ∷ xs) (y ∷ ys) same bx by =
     cases Equal e h rest = ap (λ (z : ℕ). nat_cmp (digits (n * 256 + x) xs) (digits (n * 256 + z) ys)) (sym h) ∙ rest
     cases Greater e h rest = above (digits (n * 256 + x) xs) (digits (n * 256 + y) ys) (rises (n * 256 + y) (n * 256 + x) ys xs (omega arith) (λ k. by (suc k)) (let l : y < x = h in omega arith))
 
--- what stands after lists of one length counts where these are alike
+-- three comparisons, one after another: it doesn't matter which two of them are joined first
 then_assoc : (a b c : Ordering) → ordering_then (ordering_then a b) c ≡ ordering_then a (ordering_then b c)
 then_assoc Less b c = refl
 then_assoc Equal b c = refl
@@ -120,7 +120,7 @@ module _ (xs ys : List ℕ) (bx : AreBytes xs) (by : AreBytes ys) (at : ℕ) whe
       ∙ ap (λ (zs : List ℕ). ordering_then (nat_cmp (from_be_bytes w64 (take 8 (drop at xs))) (from_be_bytes w64 (take 8 (drop at ys)))) (slice_cmp nat_cmp zs (drop 8 (drop at ys)))) (drop-drop 8 at xs)
       ∙ ap (λ (zs : List ℕ). ordering_then (nat_cmp (from_be_bytes w64 (take 8 (drop at xs))) (from_be_bytes w64 (take 8 (drop at ys)))) (slice_cmp nat_cmp (drop (at + 8) xs) zs)) (drop-drop 8 at ys)
 
-  -- where the words differ, they tell
+  -- the next eight bytes of each list are a number. If the two numbers differ, they decide the order
   pub words_tell : (x y : ℕ) → at + 8 ≤ length xs → at + 8 ≤ length ys → x ≡ from_be_bytes w64 (take 8 (drop at xs)) → y ≡ from_be_bytes w64 (take 8 (drop at ys)) → (x ≡ y → ⊥)
       → nat_cmp x y ≡ slice_cmp nat_cmp (drop at xs) (drop at ys)
   words_tell x y long wide is also apart =
@@ -142,7 +142,7 @@ one_more x y = sym (nat_cmp_is (suc x) (suc y) (nat_cmp x y) (by (nat_cmp x y) (
     by Equal h = let e : x ≡ y = h in omega arith
     by Greater h = let l : y < x = h in omega arith
 
--- where one of them ends, the lengths tell
+-- at the end of the shorter list, the lengths decide the order
 pub ended : (at : ℕ) (xs ys : List ℕ) → at ≤ length xs → at ≤ length ys → min (length xs) (length ys) ≤ at → nat_cmp (length xs) (length ys) ≡ slice_cmp nat_cmp (drop at xs) (drop at ys)
 ended zero [] [] long wide all = level 0 0 refl
 ended zero [] (y ∷ ys) long wide all = below 0 (length (y ∷ ys)) (omega arith)

@@ -1,4 +1,4 @@
--- What is prepared: the committed rows with the rows of a submission.
+-- What `prepare` gives is right for any table that the store represents: the plan, its totals, or the clash.
 use Rattle.std.proofs.Common.{◌≡◌, ◌+◌, ◌*◌, ◌<◌, ◌≤◌, ◌^◌, None, [], ◌∷◌, ◌++◌, length, sym, ap, ◌∙◌, subst, arith}
 use Rattle.std.specs.List.{AllByRecursion}
 use Rattle.std.proofs.lemmas.List.{length-append}

@@ -1,4 +1,4 @@
--- Keys with values, ascending: the value of a key, what putting in a value changes, and that the values of all keys decide the
+-- Ascending keys with values: the value of a key, what putting in a value changes, and that the values of all keys decide the
 -- list.
 use Rattle.std.proofs.Common.{◌≡◌, ℕ, ◌+◌, Bool, true, false, cond, Option, Some, None, List, [], ◌∷◌, length, refl, sym, ap, ◌∙◌, subst, inl, inr, ⊎_elim, arith}
 use Rattle.std.specs.declared.cmp.Ordering.{Ordering}
@@ -18,7 +18,7 @@ use Rattle.covstore.proofs.Ascend.{IsExactOrder, All-match, All-weaker, flips, o
 use Rattle.covstore.proofs.Members.{In, All-in}
 use Rattle.covstore.proofs.TotalsCounts.{one_each}
 
--- a number for each pair, at a key; 0 if the key has no value
+-- what a key with this value, if any, adds to a sum over pairs; 0 if it has no value
 abbrev pub at_before : {K V : Type 0} → (K × V → ℕ) → K → Option V → ℕ
 at_before f key None = 0
 at_before f key (Some value) = f (key, value)
@@ -117,7 +117,7 @@ module _ {K V : Type 0} {cmp : K → K → Ordering} (o : IsExactOrder cmp) wher
   value_of-put_other key other value pairs differ =
       value_of-put_apart key other value pairs (false_from_ne_true (is_eq (cmp key other)) (λ e. differ (tells_apart o.exact key other e)))
 
-  -- both cases in one
+  -- after a value is put in, the value of any key: the new one if it is this key, else the one before
   pub value_of-put_any : (key other : K) (value : V) (pairs : List (K × V)) → value_of cmp other (put cmp key value pairs) ≡ cond (is_eq (cmp key other)) (Some value) (value_of cmp other pairs)
   value_of-put_any key other value pairs = ⊎_elim
       (λ (e : is_eq (cmp key other) ≡ true).
@@ -162,7 +162,7 @@ module _ {K V : Type 0} {cmp : K → K → Ordering} (o : IsExactOrder cmp) wher
       ap (at_before f key) (value_of_before key pairs (All-weaker (λ next. cmp pair.0 next.0 ≡ Less) (λ next. cmp key next.0 ≡ Less) pairs (λ next l. o.total.trans key pair.0 next.0 first l) following)) in
       omega (arith, sum_by-cons f (key, value) (pair ∷ pairs), sum_by-cons f pair pairs, none)
 
-  -- the key's old part is subtracted, and its new part added
+  -- in a sum over the pairs, what the key's old value adds is replaced by what its new one adds
   pub sum_by-put : (f : K × V → ℕ) (key : K) (value : V) (pairs : List (K × V)) → ArePairs cmp pairs
       → sum_by f (put cmp key value pairs) + at_before f key (value_of cmp key pairs) ≡ sum_by f pairs + f (key, value)
   sum_by-put f key value [] sorted = omega (arith, sum_by-cons f (key, value) [])

@@ -1,4 +1,4 @@
--- A file that is prepared first: what is then added to it is added to the file as it was.
+-- A file that is prepared before rows are added to it. What is added to the prepared file is added to the file as it was.
 use Rattle.std.proofs.Common.{◌≡◌, ℕ, Bool, true, false, List, [], ◌++◌, refl, ◌∙◌, subst}
 use Rattle.std.specs.Prelude.{if◌then◌else◌}
 use Rattle.std.specs.Cmp.Lexicographic.{slice_cmp}
@@ -68,7 +68,7 @@ module _ (file ready : FileData) (keeps : KeepsIn file ready) where
 
 -- ---- a test without points is added
 
--- another test stays
+-- the other tests stay
 pub other_test : (test other : List ℕ) (tests : List (List ℕ × TestData)) → (test ≡ other → ⊥) → value_of (slice_cmp nat_cmp) other (tests_with test tests) ≡ value_of (slice_cmp nat_cmp) other tests
 other_test test other tests apart = at (is_some (value_of (slice_cmp nat_cmp) test tests))
   where

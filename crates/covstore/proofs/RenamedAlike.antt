@@ -16,12 +16,12 @@ use Rattle.covstore.proofs.ContentsKinds.{same_ascending, map_same}
 use Rattle.covstore.proofs.Orders.{lines_order, names_order, branches_order}
 use Rattle.covstore.proofs.Axis.{same_test}
 
--- items have the same sums as others, if the lists of each kind are the same
+-- two lists of items add up to the same if they do for each kind
 pub same_sums : (xs ys : List ItemData) → map (line_sum xs) (lines_in xs) ≡ map (line_sum ys) (lines_in ys) → map (function_sum xs) (names_in xs) ≡ map (function_sum ys) (names_in ys)
     → map (branch_sum xs) (branches_in xs) ≡ map (branch_sum ys) (branches_in ys) → test_of xs ≡ test_of ys
 same_sums xs ys lines functions branches = same_test (test_of xs) (test_of ys) lines functions branches
 
--- one point's sum
+-- a line has the same sum in two lists of items if each part of the sum is the same. Likewise a function and a branch
 pub same_line_sum : (line : ℕ) (xs ys : List ItemData) → line_value line xs ≡ line_value line ys → is_some (line_checksum line xs) ≡ is_some (line_checksum line ys) → line_sum xs line ≡ line_sum ys line
 same_line_sum line xs ys count checksum = λ i. (line, record { count = count i; has_checksum = checksum i })
 
@@ -31,13 +31,13 @@ same_function_sum name xs ys line count = λ i. (name, record { line = line i; c
 pub same_branch_sum : (point : BranchPoint) (xs ys : List ItemData) → branch_value point xs ≡ branch_value point ys → branch_sum xs point ≡ branch_sum ys point
 same_branch_sum point xs ys times = λ i. (point, record { times = times i })
 
--- alike points, ascending, each with the same value
+-- alike lists of points, ascending, give the same list of values if each point has the same value
 pub same_mapped : {P V : Type 0} (cmp : P → P → Ordering) → IsExactOrder cmp → (some others : List P) (f g : P → V) → AreAlike some others → ((p : P) → f p ≡ g p)
     → map f (ascending cmp some) ≡ map g (ascending cmp others)
 same_mapped cmp order some others f g alike same =
     map_same f g (ascending cmp some) same ∙ ap (map g) (same_ascending cmp order some others alike.there alike.back)
 
--- whether there is a first member, if the members are the same
+-- of two alike lists, both have a first element, or neither has
 first_or_none : {X : Type 0} (xs ys : List X) → AreAlike xs ys → is_some (first_of xs) ≡ is_some (first_of ys)
 first_or_none [] [] alike = refl
 first_or_none [] (y ∷ ys) alike = absurd (alike.back y (inl refl))

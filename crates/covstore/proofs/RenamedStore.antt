@@ -1,4 +1,4 @@
--- A test's values under another name too, in a store's maps: the file that has the test is found and replaced.
+-- A test's values are copied under another name in a store's maps: the file that has the test is found and replaced.
 use Rattle.std.proofs.Common.{◌≡◌, ℕ, true, false, Option, Some, None, List, [], ◌∷◌, ◌++◌, Vec, refl, sym, ap, ◌∙◌, subst}
 use Rattle.std.specs.BTreeMap.{is_at}
 use Rattle.std.specs.Cmp.Lexicographic.{slice_cmp}
@@ -34,7 +34,7 @@ with_points : (found : Option TestData) → has_no_points (points_or_none found)
 with_points None e = absurd (false≢true (sym e))
 with_points (Some points) e = (points, refl)
 
--- and so is its file in the store
+-- a file in which the test has points is in the store
 file_with_points : (test : List ℕ) (found : Option FileData) → has_no_points (points_in found test) ≡ false → is_some found ≡ true
 file_with_points test None e = absurd (false≢true (sym e))
 file_with_points test (Some file) e = refl

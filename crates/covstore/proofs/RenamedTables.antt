@@ -60,7 +60,7 @@ rows_renamed old new (rows ∷ table) = ap (λ (rs : List Row). map (renamed_row
 pub agree_in_renamed : (old new : List ℕ) (table : Table) → Agree (checksums_in (all_rows table)) → Agree (checksums_in (all_rows (renamed old new table)))
 agree_in_renamed old new table agree = subst Agree (sym (ap checksums_in (rows_renamed old new table) ∙ agree_renamed old new (all_rows table))) agree
 
--- its members keep their number of rows
+-- each member of a table has as many rows after a rename as before, so still at most `max_items`
 pub small_renamed : (old new : List ℕ) (table : Table) → AllByRecursion (λ rows. length rows ≤ max_items) table → AllByRecursion (λ rows. length rows ≤ max_items) (renamed old new table)
 small_renamed old new [] all = tt
 small_renamed old new (rows ∷ table) all = (omega (arith, all.0, length-map rows (renamed_row old new)), small_renamed old new table all.1)
@@ -107,7 +107,7 @@ renamed_none old new (rows ∷ table) none =
     let parts = any_joined (is_of_test old) rows (all_rows table) none in
     ap (λ (rs : List Row). rs ∷ renamed old new table) (none_renamed old new rows parts.0) ∙ ap (λ (t : Table). rows ∷ t) (renamed_none old new table parts.1)
 
--- rows without a key are none
+-- if rows have no keys, there are no rows
 empty_by_keys : (rows : List Row) → length (keys_of rows) ≡ 0 → (row : Row) → In row rows → ⊥
 empty_by_keys rows none row i = by (keys_of rows) none (In-to_ascending keys_order.exact (key_of_row row) (map key_of_row rows) (In-map key_of_row rows row i))
   where
@@ -115,7 +115,7 @@ empty_by_keys rows none row i = by (keys_of rows) none (In-to_ascending keys_ord
     by [] none i = i
     by (key ∷ keys) none i = absurd (omega (arith, none))
 
--- and so does one in which no section is of the test
+-- a table without a section of the test stays, too
 pub renamed_none_counted : (old new : List ℕ) (table : Table) → sections_of_test old table ≡ 0 → renamed old new table ≡ table
 renamed_none_counted old new table none = renamed_none old new table (by (list_any (is_of_test old) (all_rows table)) refl)
   where
@@ -127,7 +127,7 @@ renamed_none_counted old new table none = renamed_none old new table (by (list_a
 
 -- ---- totals
 
--- picking from mapped rows, by tests that agree
+-- if two conditions agree, and `f` keeps items, picking from changed rows gives the same items as picking from the rows
 pub items_picked : (p q : Row → Bool) (f : Row → Row) → ((row : Row) → p (f row) ≡ q row) → ((row : Row) → (f row).item ≡ row.item) → (rows : List Row)
     → map (λ row. row.item) (filter p (map f rows)) ≡ map (λ row. row.item) (filter q rows)
 items_picked p q f same item [] = refl
@@ -160,7 +160,7 @@ module _ (old new : List ℕ) (rows : List Row) where
       (over_same (found_in branch_cmp branch_point))
       (over_same (hit_in branch_cmp branch_point hits_branch))
 
-  -- nor do those of what the rows add up to
+  -- nor do the totals of what the rows add up to
   pub content_totals_renamed : totals_of (content_of (map (renamed_row old new) rows)) ≡ totals_of (content_of rows)
   content_totals_renamed = totals_are (map (renamed_row old new) rows) ∙ totals_renamed ∙ sym (totals_are rows)
 

@@ -1,5 +1,5 @@
--- The rows of a test are copied under a new name, file by file: what is still to be copied stays, and all copies are the moved
--- rows.
+-- The rows of a test are copied under a new name, file by file. Copies don't change what is still to be copied. With all of them,
+-- the state is that of the rows and the moved rows.
 use Rattle.std.proofs.Common.{◌≡◌, ℕ, Bool, true, false, cond, not, ◌&&◌, Option, Some, None, List, [], ◌∷◌, ◌++◌, map, filter, refl, sym, ap, ◌∙◌, subst, append_assoc, inl, ⊎_elim}
 use Rattle.std.specs.Cmp.Lexicographic.{slice_cmp}
 use Rattle.std.specs.List.{flat_map}
@@ -29,7 +29,7 @@ use Rattle.covstore.proofs.RenamedTables.{agree_renamed, items_picked}
 use Rattle.covstore.proofs.StateSeen.{HasNone, some_points_of}
 use Rattle.covstore.proofs.WithoutContent.{passed_over, picked}
 
--- ---- lists and tests
+-- ---- lists and conditions
 
 never : (b : Bool) (items : List ItemData) → cond (b && false) items [] ≡ []
 never true items = refl
@@ -174,7 +174,8 @@ and_turned true b = by b
     by false = refl
 and_turned false b = sym (not_both b)
 
--- one name and others: the items of this name are there once
+-- the items that the first file gives a key, followed by those that the other files give it. If the first file is the key's, no
+-- other one is
 joined_at : (same has new rest : Bool) (own items others : List ItemData) → others ≡ cond (new && rest) items [] → (same ≡ true → own ≡ items) → (same ≡ true → rest ≡ false)
     → cond (has && (same && new)) own [] ++ others ≡ cond (new && cond same has rest) items []
 joined_at true has new rest own items others e is none =
@@ -192,7 +193,7 @@ has_none_of points e =
     let first = both (has_none points.lines) (has_none points.functions) last.0 in
     record { lines = none_is points.lines first.0; functions = none_is points.functions first.1; branches = none_is points.branches last.1 }
 
--- items without points are no items
+-- if items add up to no points, there are no items
 pub no_items : (items : List ItemData) → not (has_no_points (test_of items)) ≡ false → items ≡ []
 no_items [] e = refl
 no_items (item ∷ items) e = absurd (some_points_of (item ∷ items) item (inl refl) (has_none_of (test_of (item ∷ items)) (by (has_no_points (test_of (item ∷ items))) e)))
@@ -224,7 +225,7 @@ module _ (old new : List ℕ) (rows : List Row) where
   one_copied key pair files false e =
       ap (λ (ps : List (List ℕ × FileData)). items_at key (copies_of old new rows (map (λ p. p.0) ps))) (passed_over (λ (p : List ℕ × FileData). has_points_of old p.1) pair files e)
 
-  -- for the new name they are the old test's items, if the file has points of it
+  -- for the new name they are the old test's items, if the file has points of the old test
   pub copied_items : (key : Key) (files : List (List ℕ × FileData)) → ArePairs (slice_cmp nat_cmp) files
       → items_at key (copies_of old new rows (names_with old files))
       ≡ cond (bytes_eq new key.test && has_found (value_of (slice_cmp nat_cmp) key.file files)) (items_at (key_of key.file old) rows) []
@@ -240,7 +241,7 @@ module _ (old new : List ℕ) (rows : List Row) where
       ∙ ap (λ (b : Bool). cond (bytes_eq new key.test && b) (items_at (key_of key.file old) rows) [])
       (sym (has_at same pair.1 found) ∙ ap (λ (b : Bool). has_found (cond b (Some pair.1) found)) (sym (is_eq-slice_cmp pair.0 key.file)))
 
-  -- after all files with points of the old test are copied, the moved rows are there
+  -- after all files with points of the old test are copied, the state is that of the rows and the moved rows
   pub all_copied : (committed staged : List (List ℕ × FileData)) → IsStateOf rows committed → IsStateOf (rows ++ copies_of old new rows (names_with old committed)) staged
       → IsStateOf (rows ++ moved_rows old new rows) staged
   all_copied committed staged before state = record {

@@ -1,4 +1,4 @@
--- How many rows of a test are copied under a new name: no more than there are.
+-- At most as many rows of a test are copied under a new name as there are rows.
 use Rattle.std.proofs.Common.{◌≡◌, ℕ, ◌+◌, ◌*◌, ◌≤◌, suc, Bool, true, false, cond, not, ◌&&◌, List, [], ◌∷◌, ◌++◌, length, map, filter, refl, sym, ap, ◌∙◌, subst, arith}
 use Rattle.std.specs.Cmp.Lexicographic.{slice_cmp}
 use Rattle.std.specs.declared.cmp.Ordering.TheVariants.{Less}
@@ -94,7 +94,7 @@ module _ (old new : List ℕ) where
   few_copied : (file : List ℕ) (rows : List Row) → length (copied_rows file old new rows) ≡ length (items_at (key_of file old) rows)
   few_copied file rows = length-map (items_at (key_of file old) rows) (λ item. record { test = new; file = file; item = item })
 
-  -- for different files, no more rows are copied than there are
+  -- for files with different names, at most as many rows are copied as there are
   pub few_copies : (names : List (List ℕ)) → AreApart names → (rows : List Row) → length (copies_of old new rows names) ≤ length rows
   few_copies [] apart rows = omega arith
   few_copies (name ∷ names) apart rows =
@@ -102,11 +102,11 @@ module _ (old new : List ℕ) where
       subst (λ (rs : List Row). length rs ≤ length (rows_of_others name rows)) (other_copies name rows names apart.0) (few_copies names apart.1 (rows_of_others name rows)) in
       omega (arith, others, few_of_two name rows, few_copied name rows, length-append (copied_rows name old new rows) (copies_of old new rows names))
 
-  -- nor for the files with points of the test
+  -- so for all files with points of the test, at most as many rows are copied as there are
   pub copied_all_few : (rows : List Row) (files : List (List ℕ × FileData)) → ArePairs (slice_cmp nat_cmp) files → length (copies_of old new rows (names_with old files)) ≤ length rows
   copied_all_few rows files sorted = few_copies (names_with old files) (names_apart old files sorted) rows
 
-  -- and with one more file there are at most twice as many rows
+  -- the rows, the rows copied so far, and those of one more file together are at most twice as many as the rows
   pub copied_few : (rows : List Row) (files : List (List ℕ × FileData)) → ArePairs (slice_cmp nat_cmp) files → (some : List (List ℕ)) (file : List ℕ) (others : List (List ℕ))
       → names_with old files ≡ some ++ file ∷ others → length rows + length (copies_of old new rows some) + length (items_at (key_of file old) rows) ≤ 2 * length rows
   copied_few rows files sorted some file others parts =
@@ -123,7 +123,7 @@ module _ (old new : List ℕ) where
         length-append (copied_rows file old new rows) (copies_of old new rows others),
       )
 
-  -- the same, counted with the rows that are there by then
+  -- the same, with the rows and the rows copied so far as one list
   pub copied_room : (rows : List Row) (files : List (List ℕ × FileData)) → ArePairs (slice_cmp nat_cmp) files → (some : List (List ℕ)) (file : List ℕ) (others : List (List ℕ))
       → names_with old files ≡ some ++ file ∷ others → length (rows ++ copies_of old new rows some) + length (items_at (key_of file old) rows) ≤ 2 * length rows
   copied_room rows files sorted some file others parts = omega (arith, copied_few rows files sorted some file others parts, length-append rows (copies_of old new rows some))

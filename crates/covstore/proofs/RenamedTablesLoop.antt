@@ -85,7 +85,7 @@ named_has_points old files sorted file i =
 
 -- ---- the loop over the files
 
--- these of the files with points of the old test are copied, and those are still to be
+-- of the files with points of the old test, `some` are copied, and `rest` are still to be copied
 pub record HasCopied (old new : List ℕ) (some rest : List (List ℕ)) (before now : StoreData) : Type 0 where
   pub committed : SameCommitted before now
   pub names : names_with old before.committed ≡ some ++ rest
@@ -94,7 +94,7 @@ pub record HasCopied (old new : List ℕ) (some rest : List (List ℕ)) (before 
   pub few : 2 * length rows ≤ 2 ^ 47
   pub state : IsStateOf (rows ++ copies_of old new rows some) now.staged
 
--- at first none is copied
+-- at first no file is copied
 pub none_copied : (old new : List ℕ) (names : List (List ℕ)) (store : StoreData) (totals : Totals) → IsKept store totals → store.staged ≡ store.committed → names ≡ names_with old store.committed
     → HasCopied old new [] names store store
 none_copied old new names store totals kept still named =
@@ -127,7 +127,7 @@ module _ (old new : List ℕ) (apart : old ≡ new → ⊥) (some : List (List �
         same = points_still old new apart file copied.rows some now.committed now.staged (copied.committed.committed.states copied.rows copied.first) copied.state;
       }
 
-  -- and then it is copied too
+  -- after the next file is copied, it is the last of the copied ones
   pub one_file_copied : (file : List ℕ) (rest : List (List ℕ)) → HasCopied old new some (file ∷ rest) before now → (later : StoreData) → SameCommitted now later
       → Copies file old new now.staged later.staged → HasCopied old new (some ++ file ∷ []) rest before later
   one_file_copied file rest copied later committed copies = record {

@@ -53,7 +53,7 @@ state_alike rows others files alike state = record {
   whole = state.whole;
 }
 
--- items with one section add up to one test
+-- lists of items with the same section add up to the same test
 tests_by_section : (key : Key) (xs ys : List ItemData) → section_with key xs ≡ section_with key ys → test_of xs ≡ test_of ys
 tests_by_section key xs ys same =
     let line : LineValueData → ℕ × LineSum = λ v. (v.line, record { count = v.count; has_checksum = is_some v.checksum }) in
@@ -66,7 +66,7 @@ tests_by_section key xs ys same =
     (sym (map_of_map (branch_at xs) branch (branch_sum xs) (branches_in xs) (λ n. refl)) ∙ ap (λ (s : SectionData). map branch s.branches) same
     ∙ map_of_map (branch_at ys) branch (branch_sum ys) (branches_in ys) (λ n. refl))
 
--- the state of rows is that of all rows with the same content, whose checksums agree
+-- a state of rows is also a state of any other rows with the same content, if the checksums of these agree
 pub state_by_content : (rows others : List Row) (files : List (List ℕ × FileData)) → content_of rows ≡ content_of others → Agree (checksums_in others) → IsStateOf rows files → IsStateOf others files
 state_by_content rows others files same agree state = record {
   ascending = state.ascending;
@@ -124,7 +124,7 @@ module _ (old new : List ℕ) where
             let over : moved_rows old new (row ∷ rows) ≡ moved_rows old new rows = ap (map (renamed_row old new)) (passed_over (is_of_test old) row rows e) in
             ap (rows_without old) over ∙ rest ∙ sym over
 
-    -- without the old test, its moved rows and the others are the renamed rows, in another order
+    -- the rows and the moved rows, without the rows of the old test, are the renamed rows in another order
     pub left_alike : (rows : List Row) → AreAlike (rows_without old (rows ++ moved_rows old new rows)) (map (renamed_row old new) rows)
     left_alike rows =
         let parts : List Row = rows_without old rows ++ filter (is_of_test old) rows in
@@ -147,11 +147,11 @@ module _ (old new : List ℕ) where
 
 module _ (old new : List ℕ) (apart : old ≡ new → ⊥) (members : ℕ) (committed : Totals) (files staged after : List (List ℕ × FileData)) (is : IsStore members committed files)
     (moves : (rows : List Row) → IsStateOf rows files → IsStateOf (rows ++ moved_rows old new rows) staged) (are : AreWithoutTest old staged after) where
-  -- for any rows that the files are the state of: the files afterwards are the state of the renamed rows
+  -- if the files are the state of some rows, the files afterwards are the state of the renamed rows
   state_now : (rows : List Row) → IsStateOf rows files → IsStateOf (map (renamed_row old new) rows) after
   state_now rows state = renamed_state old new apart rows staged after (moves rows state) are
 
-  -- and likewise for any table
+  -- likewise for the rows of a table
   table_now : (table : Table) → IsStateOf (all_rows table) files → IsStateOf (all_rows (renamed old new table)) after
   table_now table state = subst (λ (rows : List Row). IsStateOf rows after) (sym (rows_renamed old new table)) (state_now (all_rows table) state)
 
@@ -176,7 +176,7 @@ module _ (old new : List ℕ) (apart : old ≡ new → ⊥) (members : ℕ) (com
     totals = totals_kept;
   }
 
-  -- if the store stands for a table, it then stands for the renamed table
+  -- if the store represents a table, it represents the renamed table afterwards
   pub stands_renamed : (staged_before staged_after : List (List ℕ × FileData)) (before later : Totals) (table : Table) → StandsFor (store_of members files staged_before before) table
       → StandsFor (store_of members after staged_after later) (renamed old new table)
   stands_renamed staged_before staged_after before later table stands =

@@ -1,5 +1,5 @@
--- The values of items as items, one for each point: they add up to the same, also after other items, and are no more than the
--- items.
+-- What items add up to, as items, one for each point (the values of the items). These add up to the same, also after other items,
+-- and are at most as many.
 use Rattle.std.proofs.Common.{◌≡◌, ℕ, ◌+◌, ◌≤◌, eqb, Option, Some, None, unwrap_or, List, [], ◌∷◌, ◌++◌, length, map, refl, ap, ap₂, ◌∙◌, inl, inr, arith}
 use Rattle.std.specs.Cmp.Lexicographic.{slice_cmp}
 use Rattle.std.specs.List.{flat_map, sum_by}
@@ -75,7 +75,7 @@ own_taken point (n ∷ numbers) =
 -- ---- the items by kind
 
 module _ (ys : List ItemData) where
-  -- what all items give is what those of the three kinds give
+  -- what all values give is what those of lines, functions and branches give, one kind after another
   said_kinds : {Y : Type 0} (g : ItemData → List Y)
       → flat_map g (values_of ys)
       ≡ flat_map (λ line. g (line_value_item ys line)) (lines_in ys)
@@ -88,7 +88,7 @@ module _ (ys : List ItemData) where
       split : (some others : List ItemData) (us vs : List Y) → flat_map g some ≡ us → flat_map g others ≡ vs → flat_map g (some ++ others) ≡ us ++ vs
       split some others us vs d e = flat_map-append g some others ∙ ap₂ (λ (us vs : List Y). us ++ vs) d e
 
-  -- and so is what they add
+  -- the sum over all values is the sum of those over lines, functions and branches
   added_kinds : (f : ItemData → ℕ)
       → sum_by f (values_of ys)
       ≡ sum_by (λ line. f (line_value_item ys line)) (lines_in ys)
@@ -107,7 +107,7 @@ module _ (ys : List ItemData) where
   skip_last : {Y : Type 0} (us vs : List Y) → vs ≡ [] → us ++ vs ≡ us
   skip_last {Y} us vs none = ap (λ (ws : List Y). us ++ ws) none ∙ append-nil us
 
-  -- if functions and branches give nothing, the lines give all
+  -- if the values of functions and branches give nothing, those of lines give all
   said_of_lines : {Y : Type 0} (g : ItemData → List Y) → ((name : List ℕ) → g (function_value_item ys name) ≡ []) → ((point : BranchPoint) → g (branch_value_item ys point) ≡ [])
       → flat_map g (values_of ys) ≡ flat_map (λ line. g (line_value_item ys line)) (lines_in ys)
   said_of_lines g functions branches =
@@ -130,7 +130,7 @@ module _ (ys : List ItemData) where
       ∙ skip (flat_map (λ line. g (line_value_item ys line)) (lines_in ys)) _ (flat_nothing (λ line. g (line_value_item ys line)) (lines_in ys) (λ line _. lines line))
       ∙ skip (flat_map (λ name. g (function_value_item ys name)) (names_in ys)) _ (flat_nothing (λ name. g (function_value_item ys name)) (names_in ys) (λ name _. functions name))
 
-  -- and if they add nothing, the lines add all
+  -- if the values of functions and branches add 0, those of lines add all
   added_by_lines : (f : ItemData → ℕ) → ((name : List ℕ) → f (function_value_item ys name) ≡ 0) → ((point : BranchPoint) → f (branch_value_item ys point) ≡ 0)
       → sum_by f (values_of ys) ≡ sum_by (λ line. f (line_value_item ys line)) (lines_in ys)
   added_by_lines f functions branches =
@@ -235,7 +235,7 @@ module _ (ys : List ItemData) where
 
 -- ---- after other items
 
--- two lists of items, in either order
+-- two lists of items add up to the same in either order
 pub tests_swapped : (xs ys : List ItemData) → test_of (xs ++ ys) ≡ test_of (ys ++ xs)
 tests_swapped xs ys = test_alike (xs ++ ys) (ys ++ xs) (alike_permuted (xs ++ ys) (ys ++ xs) (IsPermutation-append_comm xs ys))
 
@@ -256,7 +256,7 @@ points_as_items [] = refl
 points_as_items (item ∷ ys) =
     omega (arith, length-append (line_point item) (line_points ys), length-append (func_point item) (func_points ys), length-append (branch_point item) (branch_points ys), one_point item, points_as_items ys)
 
--- there are no more values than items
+-- there are at most as many values as items
 pub few_values : (ys : List ItemData) → length (values_of ys) ≤ length ys
 few_values ys =
     let lines = map (line_value_item ys) (lines_in ys) in

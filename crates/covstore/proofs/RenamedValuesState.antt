@@ -1,4 +1,4 @@
--- The values of a test of a file as items, and the state of their rows under another test's name.
+-- The values of a file's test as items, and the state with these items as rows of another test.
 use Rattle.std.proofs.Common.{◌≡◌, ℕ, Bool, true, false, ◌&&◌, cond, Option, Some, List, [], ◌∷◌, ◌++◌, map, filter, refl, sym, ap, ap₂, ◌∙◌, subst, inl, ⊎_elim}
 use Rattle.std.specs.Cmp.Lexicographic.{slice_cmp}
 use Rattle.std.specs.Option.{is_some}
@@ -27,7 +27,7 @@ use Rattle.covstore.proofs.StateSeen.{HasChecksums, map_of_map, text_as_said}
 
 -- ---- the items of a test
 
--- the items of a test are the values of the items that it adds up
+-- the items made from a test are the values of the items that add up to it
 pub items_as_values : (texts : List (ℕ × List ℕ)) (items : List ItemData) → HasChecksums texts items → items_of_test texts (test_of items) ≡ values_of items
 items_as_values texts items has =
     ap₂ (λ (ls others : List ItemData). ls ++ others)
@@ -43,7 +43,7 @@ pub source_is : (rows : List Row) (files : List (List ℕ × FileData)) → IsSt
 source_is rows files state name old file source its_file its_test =
     sym (points_there file old source its_test) ∙ ap (λ (found : Option FileData). points_in found old) (sym its_file) ∙ state.points (key_of name old)
 
--- the items of a test of a file are the values of the items of its rows
+-- the items made from a file's test are the values of the items of the test's rows in the file
 pub values_are : (rows : List Row) (files : List (List ℕ × FileData)) → IsStateOf rows files → (name old : List ℕ) (file : FileData) (source : TestData)
     → value_of (slice_cmp nat_cmp) name files ≡ Some file → value_of (slice_cmp nat_cmp) old file.tests ≡ Some source → items_of_test file.index.texts source ≡ values_of (items_at (key_of name old) rows)
 values_are rows files state name old file source its_file its_test =
@@ -55,7 +55,7 @@ values_are rows files state name old file source its_file its_test =
 abbrev row_with : List ℕ → List ℕ → ItemData → Row
 row_with name test item = record { test = test; file = name; item = item }
 
--- they are all of one file and one test
+-- the rows of items all have one file and one test, so any other key has none of the items
 pub items_of_rows : (key : Key) (name test : List ℕ) (items : List ItemData) (own : Bool) → (bytes_eq name key.file && bytes_eq test key.test) ≡ own
     → items_at key (rows_of_items name test items) ≡ cond own items []
 items_of_rows key name test [] true is = refl
@@ -73,7 +73,7 @@ stand_or_none : (xs ys : List ItemData) (own : Bool) → test_of (xs ++ cond own
 stand_or_none xs ys true = values_stand xs ys
 stand_or_none xs ys false = refl
 
--- the checksums of copied rows are those of the rows
+-- each checksum of the copied rows is a checksum of the rows
 pub checksums_copied : (rows : List Row) (name old new : List ℕ) (c : Checksum) → In c (checksums_in (copied_rows name old new rows)) → In c (checksums_in rows)
 checksums_copied rows name old new c i =
     let key = key_of name old in
@@ -102,7 +102,7 @@ module _ (rows : List Row) (name old new : List ℕ) where
       ⊎_elim {C = In c (checksums_in rows)} (λ j. j) (λ j. checksums_copied rows name old new c j)
       (In-parts (checksums_in rows) (checksums_in (copied_rows name old new rows)) c (subst (In c) (flat_map-append checksum_of_row rows (copied_rows name old new rows)) i))
 
-  -- a state of the rows and the values of a test of a file is a state of the rows and its copied rows
+  -- a state of the rows and of the old test's values as rows of the new test is a state of the rows and the copied rows
   pub copied_state : (after : List (List ℕ × FileData)) → IsStateOf (rows ++ rows_of_items name new (values_of (items_at (key_of name old) rows))) after → IsStateOf (rows ++ copied_rows name old new rows) after
   copied_state after state = record {
     ascending = state.ascending;
@@ -118,7 +118,7 @@ module _ (rows : List Row) (name old new : List ℕ) where
 
 -- ---- the lines with a checksum
 
--- each line of a test with a checksum has a held one
+-- if a line of the test has a checksum, the index holds a checksum of the line
 pub holders_are : (rows : List Row) (files : List (List ℕ × FileData)) → IsStateOf rows files → (name old : List ℕ) (file : FileData) (source : TestData)
     → value_of (slice_cmp nat_cmp) name files ≡ Some file → value_of (slice_cmp nat_cmp) old file.tests ≡ Some source
     → (line : ℕ) → is_above_at has_checksum (value_of nat_cmp line source.lines) ≡ true → is_some (value_of nat_cmp line file.index.holders) ≡ true

@@ -49,7 +49,7 @@ module _ (items : List ItemData) (runs : Each RunOf) (are : runs ≡ runs_of ite
       let all = is ∙ ap (λ (some : Each RunOf). with_runs some test) are ∙ runs_sum items test in
       items_add items test after index more all (plain_keep items plain test after index more all counts held) (λ item i. plain_text item more (plain item i)) (texts_kept index more held)
 
--- if none of the items has a checksum, none of some of them has one
+-- if none of the items has a checksum, none of the others, which are among them, has one
 pub all_plain : {D : Type 0} (f : D → ItemData) (items others : List D) → ((item : D) → In item others → In item items) → All (λ (item : D). HasNoChecksum (f item)) items
     → (item : ItemData) → In item (map f others) → HasNoChecksum item
 all_plain {D} f items others there plain item i =
@@ -100,7 +100,7 @@ module _ {A X : Type 0} (say : List X → List ItemData) (joins : (xs ys : List 
           (some_taken (say is.taken) (say some) (say later) test index test_now index_now before_some test_later index_later same keeps adds);
     }
 
-    -- a clash of these is the first of all
+    -- a clash of the next items is the clash of all
     pub next_clash : (stop : StageFault A) → Clashes (say some) (test_staged test_now) (index_staged index_now) stop → Clashes (say all) (test_staged test) (index_staged index) stop
     next_clash Memory clash = tt
     next_clash (Clash line held given) clash =
@@ -108,7 +108,7 @@ module _ {A X : Type 0} (say : List X → List ItemData) (joins : (xs ys : List 
         (clash_front (say is.taken ++ say some) (say later) (test_staged test) (index_staged index) line held given
         (clash_later (say is.taken) (say some) (test_staged test) (test_staged test_now) (index_staged index) (index_staged index_now) line held given is.so_far.adds clash))
 
-    -- what some say, all say
+    -- an item of the next ones is one of all
     said : (item : ItemData) → In item (say some) → In item (say all)
     said item i = subst (In item) (sym all_said) (In-joined (say is.taken ++ say some) (say later) item (inl (In-joined (say is.taken) (say some) item (inr i))))
 

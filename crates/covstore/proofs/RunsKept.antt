@@ -1,4 +1,4 @@
--- Items without a checksum: if the counts of each kind are kept with these items, so is the index.
+-- Items without a checksum are added. If the counts of each kind stay right, the index still counts its tests.
 use Rattle.std.proofs.Common.{◌≡◌, ℕ, Bool, false, Some, None, inl, inr, List, [], ◌∷◌, ◌++◌, length, map, refl, sym, ap, ◌∙◌, subst, arith}
 use Rattle.std.specs.declared.cmp.Ordering.{Ordering}
 use Rattle.covstore.specs.declared.sums.Tests.{Tests}
@@ -82,7 +82,7 @@ runs_have_room items test index room kind =
     run_at Function = refl
     run_at Branch = refl
 
--- the same for a run of this length
+-- the length of the run may be replaced by an equal one
 pub room_as_long : {K V : Type 0} {cmp : K → K → Ordering} {is_above : V → Bool} {points : List (K × V)} {counts : List (K × Tests)} (some run : ℕ) → some ≡ run → HasRoomForRun cmp is_above points counts run
     → HasRoomForRun cmp is_above points counts some
 room_as_long {cmp = cmp} {is_above} {points} {counts} some run same room = subst (HasRoomForRun cmp is_above points counts) (sym same) room

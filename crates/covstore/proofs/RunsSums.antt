@@ -1,4 +1,4 @@
--- Staged runs add up to what their items add up to, one after another.
+-- Adding the runs of items to a test gives the same as adding the items one after another.
 use Rattle.std.proofs.Common.{◌≡◌, ◌≤◌, Option, List, [], ◌∷◌, ◌++◌, length, map, refl, sym, ap, ◌∙◌, arith}
 use Rattle.std.specs.List.{flat_map}
 use Rattle.std.specs.Cmp.Lexicographic.{slice_cmp}
@@ -36,7 +36,7 @@ runs_more items item = same_each (runs_of (items ++ item ∷ [])) (runs_with ite
     by Function = of_kind Function
     by Branch = of_kind Branch
 
--- no run is longer than the items
+-- an item is at most once in the run of a kind
 one_at_most : (kind : Kind) (item : ItemData) → length (run_of kind item) ≤ 1
 one_at_most Line (LineItem line count checksum) = omega arith
 one_at_most Line (FuncItem name line count) = omega arith
@@ -54,7 +54,7 @@ run_few kind (item ∷ items) = omega (arith, length-append (run_of kind item) (
 
 -- ---- what the runs add up to
 
--- the run of one item
+-- adding the run of one item gives the same as adding the item
 one_run : (kind : Kind) (item : ItemData) (test : TestData) → points_with kind (run_of kind item) (at kind test) ≡ at kind (with_item item test)
 one_run Line (LineItem line count checksum) test = refl
 one_run Line (FuncItem name line count) test = refl
@@ -80,7 +80,7 @@ run_sums kind (item ∷ items) test = twice kind ∙ ap (points_with kind (flat_
     twice Function = summed_twice (slice_cmp nat_cmp) (λ key. key) (sum_of Function) (run_of Function item) (flat_map (run_of Function) items) test.functions
     twice Branch = summed_twice branch_cmp (λ key. key) (sum_of Branch) (run_of Branch item) (flat_map (run_of Branch) items) test.branches
 
--- the runs of items add up to what the items add up to
+-- adding the runs of items gives the same as adding the items
 pub runs_sum : (items : List ItemData) (test : TestData) → with_runs (runs_of items) test ≡ with_items items test
 runs_sum items test = λ i. record { lines = run_sums Line items test i; functions = run_sums Function items test i; branches = run_sums Branch items test i }
 
@@ -91,7 +91,7 @@ pub summed_named : {K V Q M : Type 0} (cmp : K → K → Ordering) (named : Q �
 summed_named cmp named sum [] pairs = refl
 summed_named cmp named sum (item ∷ run) pairs = summed_named cmp named sum run (summed cmp named sum (item ∷ []) pairs)
 
--- a run of the code, by its queries
+-- adding a run of queries gives the same as adding the run of the keys that they name
 pub summed_as : {K V Q M : Type 0} (cmp : K → K → Ordering) (named : Q → K) (sum : M → Option V → V) (run some : List (Q × M)) (pairs after : List (K × V)) → after ≡ summed cmp named sum some pairs → some ≡ run
     → after ≡ summed cmp (λ key. key) sum (map (λ pair. (named pair.0, pair.1)) run) pairs
 summed_as {Q = Q} {M = M} cmp named sum run some pairs after is same =

@@ -1,4 +1,4 @@
--- Each section of a store has few points.
+-- Each section of a store has fewer than 2^64 points of each kind.
 use Rattle.std.proofs.Common.{ℕ, ◌*◌, ◌^◌, ◌<◌, ◌≤◌, List, [], ◌∷◌, length, map, sym, subst, arith}
 use Rattle.std.specs.List.{AllByRecursion}
 use Rattle.std.proofs.lemmas.List.{length-append}
@@ -14,7 +14,7 @@ use Rattle.covstore.specs.Value.{Key, keys_of}
 use Rattle.covstore.proofs.Contents.{points_few}
 use Rattle.covstore.proofs.StateSections.{sections_are}
 
--- ---- each section has few points
+-- ---- each section has at most as many points of a kind as the store has rows
 
 rows_of_own : (own : Table) → AllByRecursion (λ rows. length rows ≤ max_items) own → length (all_rows own) ≤ length own * 67108864
 rows_of_own [] small = omega arith

@@ -33,7 +33,7 @@ pub all_last : {X : Type 0} (P : X → Type 0) (xs ys : List X) → AllByRecursi
 all_last P [] ys all = all
 all_last P (x ∷ xs) ys all = all_last P xs ys all.1
 
--- it is true of those of the next file
+-- what is true of all sections that are left is true of those of the next file
 pub all_of_next : {K A : Type 0} (P : SectionData → Type 0) (name : K → List ℕ) (current : Option (List SectionData)) (files : List (K × File A)) (all : List SectionData) (key : K) (file : File A) (rest : List (K × File A))
     → files ≡ (key, file) ∷ rest → sections_left name current files ≡ all → AllByRecursion P all → AllByRecursion P (sections_of_file (name key, file_committed file))
 all_of_next {K = K} {A = A} P name current files all key file rest is left holds =

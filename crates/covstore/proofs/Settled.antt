@@ -1,4 +1,4 @@
--- Nothing is staged in a file but in some tests, and in files but in some tests of theirs.
+-- Nothing is staged in a file but in some of its tests, and nothing in all files but in some of their tests.
 use Rattle.std.proofs.Common.{◌≡◌, ℕ, Bool, true, false, cond, ◌||◌, length, arith, Some, None, List, [], ◌∷◌, ◌++◌, map, filter, refl, sym, ap, ◌∙◌, subst, Vec}
 use Rattle.std.specs.Cmp.Lexicographic.{slice_cmp}
 use Rattle.std.specs.List.{AllByRecursion, list_any}
@@ -28,7 +28,7 @@ use Rattle.covstore.proofs.MapNames.{All-unfound, All-written, bytes_apart, map_
 abbrev among : List ℕ → List (List ℕ) → Bool
 among name tests = list_any (λ test. bytes_eq test name) tests
 
--- a name that isn't the last one, and isn't among those before it
+-- a name that isn't the last one and isn't among those before it isn't among all
 not_among_at : (b rest all : Bool) → (rest ≡ false → all ≡ false) → b || rest ≡ false → b || all ≡ false
 not_among_at true rest all more e = absurd cc
 not_among_at false rest all more e = more e
@@ -62,11 +62,11 @@ module _ {A : Type 0} (tests : List (List ℕ)) (test : List ℕ) (before after 
         (All-unfound (λ (k : Vec ℕ A). k.items) test (IsSettledTest (tests ++ test ∷ [])) (IsSettledTest tests) before.tests.entries none others_stay was.points);
   }
 
--- a file by its tests and its index
+-- files with equal tests and equal indexes are equal
 pub same_file : {tests others : List (List ℕ × TestData)} {index more : FileIndexData} → tests ≡ others → index ≡ more → file_with tests index ≡ file_with others more
 same_file {tests} {others} {index} {more} same equal = ap (λ (xs : List (List ℕ × TestData)). file_with xs index) same ∙ ap (λ (m : FileIndexData). file_with others m) equal
 
--- a test whose data stays may be replaced: the list of tests has the same data
+-- if a test is replaced by one with the same data, the list of tests has the same data
 pub tests_written : {A : Type 0} (seen : Test A → TestData) (test : List ℕ) (before after : List (Vec ℕ A × Test A)) (v w : Test A)
     → after ≡ set_value (λ (k : Vec ℕ A). is_eq (slice_cmp nat_cmp test k.items)) before w → lookup (λ (k : Vec ℕ A). is_eq (slice_cmp nat_cmp test k.items)) before ≡ Some v → seen w ≡ seen v
     → names_with (λ (k : Vec ℕ A). k.items) seen after ≡ names_with (λ (k : Vec ℕ A). k.items) seen before
@@ -75,7 +75,7 @@ tests_written {A} seen test before after v w written found same =
 
 -- ---- the files
 
--- the last one is of the file, or isn't
+-- the tests of a file, if one more test was touched: it is the last of them if it is a test of this file
 tests_of_last : (name : List ℕ) (front : List (List ℕ × List ℕ)) (file test : List ℕ) (same : Bool) → bytes_eq file name ≡ same → tests_of name (front ++ (file, test) ∷ []) ≡ tests_of name front ++ cond same (test ∷ []) []
 tests_of_last name front file test same e =
     ap (map (λ (t : List ℕ × List ℕ). t.1)) (filter-append (λ (t : List ℕ × List ℕ). bytes_eq t.0 name) front ((file, test) ∷ []))
@@ -98,7 +98,7 @@ pub record IsSettling {A : Type 0} (seen : File A → FileData) (touched : List 
   pub stays : names_with file_name seen now ≡ names_with file_name seen first
   pub settled : AreSettledBut file_name (touched_data touched) now
 
--- the last one, seen as plain data
+-- the data of the touched tests, after one more was touched
 pub touched_last : {A : Type 0} (touched more : List (Touched A)) (last : Touched A) → more ≡ touched ++ last ∷ [] → touched_data more ≡ touched_data touched ++ (last.file.items, last.test.items) ∷ []
 touched_last {A} touched more last same =
     ap (λ (all : List (Touched A)). touched_data all) same ∙ map_push touched_names touched last
@@ -106,7 +106,7 @@ touched_last {A} touched more last same =
     touched_names : Touched A → List ℕ × List ℕ
     touched_names t = (t.file.items, t.test.items)
 
--- there is one
+-- if the data has a last touched test, the list isn't empty
 pub last_there : {A : Type 0} (touched : List (Touched A)) (front : List (List ℕ × List ℕ)) (file test : List ℕ) → touched_data touched ≡ front ++ (file, test) ∷ [] → touched ≡ [] → ⊥
 last_there {A} touched front file test same none =
     let lengths : length (touched_data touched) ≡ 0 = ap (λ (all : List (Touched A)). length (touched_data all)) none in
@@ -199,7 +199,7 @@ files_with_more {A} front file test pairs all =
     with_more pair false e settled =
         subst (λ (tests : List (List ℕ)). IsSettledBut tests pair.1) (sym (tests_of_last pair.0.items front file test false e ∙ append-nil (tests_of pair.0.items front))) settled
 
--- the last one is removed
+-- the data of the touched tests is that of all but the last one, followed by that of the last one
 pub popped_as : {A : Type 0} (touched front : List (Touched A)) (last : Touched A) (file test : List ℕ) → touched ≡ front ++ last ∷ [] → file ≡ last.file.items → test ≡ last.test.items
     → touched_data touched ≡ touched_data front ++ (file, test) ∷ []
 popped_as touched front last file test same its_file its_test =

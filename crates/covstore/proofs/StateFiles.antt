@@ -50,7 +50,7 @@ own_none file files apart =
     keep_none (λ s. bytes_eq s.key.file file) (sections_of files)
     (λ section i. let pair = In-unflat sections_of_file files section i in not_own file pair.0 (apart pair.0 pair.1) section pair.2)
 
--- the sections of a file are those made from it
+-- the sections of a file, among those of all files, are the ones made from this file
 pub own_seen : (files : List (List ℕ × FileData)) → ArePairs (slice_cmp nat_cmp) files → (pair : List ℕ × FileData) → In pair files → own_sections pair.0 (sections_of files) ≡ sections_of_file pair
 own_seen [] sorted pair i = absurd i
 own_seen (first ∷ files) sorted pair (inl is) =
@@ -136,7 +136,7 @@ module _ (count : List SectionData → ℕ) (none : count [] ≡ 0) (files : Lis
   counted_once name [] e = sym none
   counted_once name (section ∷ sections) e = omega (arith, sum_by-cons own_count name [], ap count e)
 
-  -- what is counted in the sections of each file, over all files
+  -- if each file keeps the number that is counted in its sections, the sums over the files are equal
   pub over_all : (kept : FileData → ℕ) → ((pair : List ℕ × FileData) → In pair files → count (sections_of_file pair) ≡ kept pair.1) → over_files count (sections_of files) ≡ sum_by (λ pair. kept pair.1) files
   unfolding own_count
   over_all kept same =

@@ -26,7 +26,7 @@ use Rattle.covstore.proofs.Axis.{each_kind, map_between}
 
 -- ---- a key is put in where it wasn't
 
--- the list after has one more member, between a front and a back of the list before
+-- `after` has one element more than `before`, between a front and a back
 pub record HasOneMore {X : Type 0} (x : X) (before after : List X) : Type 0 where
   pub front : List X
   pub back : List X
@@ -70,7 +70,7 @@ file_more rows files state name none =
 abbrev pub with_test : List ℕ → FileData → FileData
 with_test test file = file_with (put (slice_cmp nat_cmp) test (test_of []) file.tests) file.index
 
--- a test without points isn't counted
+-- an index that counts some tests also counts them with one more test without points
 module _ (front back : List TestData) (index : FileIndexData) (kept : IsIndexOf (front ++ back) index) where
   counts_with_test : (kind : Kind) → AreCounts (cmp_of kind) (above_of kind) (map (at kind) (front ++ test_of [] ∷ back)) (at kind index.counts)
   counts_with_test kind =

@@ -36,7 +36,7 @@ pub sorted_one : {X : Type 0} (cmp : X → X → Ordering) (x : X) → IsStrictl
 unfolding IsStrictlySortedBy
 sorted_one cmp x = (tt, tt)
 
--- the parts of ascending pairs, each part ascending and before the next
+-- parts made from ascending pairs and joined are ascending, if each part is ascending and all of it comes before the later parts
 pub sorted_parts : {K V X : Type 0} (order : K → K → Ordering) (cmp : X → X → Ordering) (part : K × V → List X) (pairs : List (K × V)) → ArePairs order pairs
     → ((pair : K × V) → In pair pairs → IsStrictlySortedBy cmp (part pair))
     → ((pair next : K × V) (x y : X) → order pair.0 next.0 ≡ Less → In x (part pair) → In y (part next) → cmp x y ≡ Less) → IsStrictlySortedBy cmp (flat_map part pairs)
@@ -66,7 +66,7 @@ by_key a b k l left right less = ap (λ (key : Key). key_cmp key b.key) (sym lef
 test_first : (file one other : List ℕ) → slice_cmp nat_cmp one other ≡ Less → ◌≡◌ {A = Ordering} (key_cmp (record { file = file; test = one }) (record { file = file; test = other })) Less
 test_first file one other less = ap (λ (o : Ordering). ordering_then o (slice_cmp nat_cmp one other)) (tied_itself names_order.total file) ∙ less
 
--- other sections are ordered by their files
+-- sections of different files are ordered by their files
 file_first : (file next one other : List ℕ) → slice_cmp nat_cmp file next ≡ Less → ◌≡◌ {A = Ordering} (key_cmp (record { file = file; test = one }) (record { file = next; test = other })) Less
 file_first file next one other less = ap (λ (o : Ordering). ordering_then o (slice_cmp nat_cmp one other)) less
 

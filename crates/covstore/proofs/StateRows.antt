@@ -1,4 +1,4 @@
--- A state after rows of a file and a test are added, or a file, or a test in a file.
+-- A state after one file changes: with the same points and texts, or with more rows of one of its tests.
 use Rattle.std.proofs.Common.{◌≡◌, ℕ, false, Option, Some, List, [], ◌∷◌, ◌++◌, filter, map, refl, sym, ap, ◌∙◌, subst, inl, inr, ⊎_elim}
 use Rattle.std.specs.Prelude.{◌⊎◌, Contains}
 use Rattle.std.specs.Cmp.Lexicographic.{slice_cmp}
@@ -34,7 +34,8 @@ file_whole rows files state name file there = All-in (λ (pair : List ℕ × Fil
 
 -- ---- one file has changed, and the others haven't
 
--- the file is what its rows add up to, and the rows of other files are the same as before
+-- the changed file is what its rows in `more` add up to. In other files, `more` has the same items as `rows`, and no other
+-- checksums
 pub record IsChange (rows more : List Row) (name : List ℕ) (after : FileData) : Type 0 where
   pub whole : IsConsistentFile after
   pub points : (test : List ℕ) → points_in (Some after) test ≡ test_of (items_at (record { file = name; test = test }) more)
@@ -95,7 +96,7 @@ module _ (name test : List ℕ) where
   abbrev more_rows : List ItemData → List Row
   more_rows items = rows_of_sect (section_of_items name test items)
 
-  -- the rows have this key, and no other
+  -- these rows have no other key
   not_has_key : (key : Key) (item : ItemData) → (name ≡ key.file → test ≡ key.test → ⊥) → has_key key (row_with item) ≡ false
   not_has_key key item other =
       false_from_ne_true (has_key key (row_with item))
@@ -156,7 +157,7 @@ module _ (name test : List ℕ) where
         points_same after file other (ap (value_of (slice_cmp nat_cmp) other) more ∙ value_of-put_other names_order test other (with_items items points) file.tests apart)
         ∙ ap (λ (kept : Option FileData). points_in kept other) (sym in_files) ∙ state.points key ∙ ap test_of (sym (items_as_before key rows items (λ same is. apart is)))
 
-    -- the state with the file after the rows are added
+    -- with the rows added, the state is that of the files with this file replaced
     pub rows_more : IsStateOf rows files → value_of (slice_cmp nat_cmp) name files ≡ Some file → value_of (slice_cmp nat_cmp) test file.tests ≡ Some points
         → after.tests ≡ put (slice_cmp nat_cmp) test (with_items items points) file.tests → IsConsistentFile after
         → ((committed : Checksum) → Contains (checksums_in (rows ++ more_rows items)) committed → committed.file ≡ name → value_of nat_cmp committed.line after.index.texts ≡ Some committed.checksum)

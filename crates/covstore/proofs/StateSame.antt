@@ -1,4 +1,5 @@
--- Two lists of rows with the same state: after the same rows are added to both, they have the same state again.
+-- Two lists of rows with the same state: they have the same content and the same clashes, and again the same state after the same
+-- rows are added to both.
 use Rattle.std.proofs.Common.{◌≡◌, ℕ, List, [], ◌∷◌, ◌++◌, sym, ap, ◌∙◌, subst, append_assoc, inl, inr, ⊎_elim}
 use Rattle.std.proofs.lemmas.List.{append-nil}
 use Rattle.std.proofs.lemmas.List.Concat.{flat_map-append}
@@ -16,7 +17,7 @@ use Rattle.covstore.proofs.StateSections.{sections_are}
 use Rattle.covstore.proofs.SumsMore.{sums_more}
 use Rattle.covstore.proofs.ContentsSections.{items_at-append}
 
--- items that add up to the same still do after the same items are added
+-- two lists of items that add up to the same still do after the same items are added to both
 pub tests_with_more : (xs ys more : List ItemData) → test_of xs ≡ test_of ys → test_of (xs ++ more) ≡ test_of (ys ++ more)
 tests_with_more xs ys [] same = ap test_of (append-nil xs) ∙ same ∙ ap test_of (sym (append-nil ys))
 tests_with_more xs ys (item ∷ more) same =

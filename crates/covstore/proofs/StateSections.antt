@@ -77,7 +77,7 @@ module _ (rows : List Row) (files : List (List ℕ × FileData)) (state : IsStat
       let own = subst (λ (k : Key). has_key k row.0 ≡ true) row.2 (own_row row.0) in
       (row.0.item, In-map (λ (r : Row). r.item) (filter (has_key key) rows) row.0 (In-filter (has_key key) rows row.0 row.1 own))
 
-  -- if rows of a key have points, its file and its test can't be missing
+  -- a key with an item has points, so its file and its test can't be missing
   not_missing : (key : Key) (item : ItemData) → In item (items_at key rows) → test_of [] ≡ test_of (items_at key rows) → ⊥
   not_missing key item i e = some_points_of (items_at key rows) item i (subst HasNone e (record { lines = refl; functions = refl; branches = refl }))
 

@@ -1,4 +1,5 @@
--- What a test shows whose points are what items add up to: the section of these items, or none if there are no items.
+-- What contracts see of a test whose points are what items add up to: the section of these items, or no section if there are no
+-- items.
 use Rattle.std.proofs.Common.{◌≡◌, ℕ, Option, Some, None, List, [], ◌∷◌, map, refl, sym, ap, ◌∙◌, subst, inl, inr, ⊎_elim}
 use Rattle.std.specs.Prelude.{◌⊎◌}
 use Rattle.std.specs.Option.{is_some}
@@ -31,7 +32,7 @@ not_empty {X} x xs i e = subst (In x) e i
 points_from : List (ℕ × LineSum) → List (List ℕ × FunctionSum) → List (BranchPoint × BranchSum) → TestData
 points_from lines functions branches = record { lines = lines; functions = functions; branches = branches }
 
--- what a test shows: nothing if it has no points, else one section
+-- what is seen of a test: no section if it has no points, else one section
 abbrev pub IsSeen : List ℕ → List (ℕ × List ℕ) → List ℕ → TestData → Type 0
 IsSeen file texts test points =
     (HasNone points × (section_seen file texts test points ≡ [])) ⊎ ((HasNone points → ⊥) × (section_seen file texts test points ≡ section_with_points file texts test points ∷ []))
@@ -115,7 +116,7 @@ whole_as key texts items committed =
 
 -- ---- the section
 
--- if there are items, it is theirs
+-- if there are items, the section is theirs
 pub seen_as : (key : Key) (texts : List (ℕ × List ℕ)) (items : List ItemData) (item : ItemData) → HasChecksums texts items → In item items
     → section_seen key.file texts key.test (test_of items) ≡ section_with key items ∷ []
 seen_as key texts [] item committed i = absurd i
@@ -123,7 +124,7 @@ seen_as key texts (first ∷ others) item committed i =
     let items = first ∷ others in
     seen_whole key.file texts key.test (test_of items) (some_points items first others refl) ∙ ap (λ (s : SectionData). s ∷ []) (whole_as key texts items committed)
 
--- the section is that of some items
+-- if there is a section, it is that of the items, and there is an item
 pub seen_is : (key : Key) (texts : List (ℕ × List ℕ)) (items : List ItemData) (section : SectionData) → HasChecksums texts items → In section (section_seen key.file texts key.test (test_of items))
     → (section_with key items ≡ section) × (item : ItemData) × In item items
 seen_is key texts [] section committed i = absurd i

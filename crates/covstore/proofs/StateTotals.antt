@@ -99,7 +99,7 @@ kind_seen kind pair whole =
 -- ---- all kinds
 
 module _ (rows : List Row) (files : List (List ℕ × FileData)) (state : IsStateOf rows files) where
-  -- what is true of the sections that rows add up to for a file is true of those that the file shows
+  -- what is true of the sections of this file that rows add up to is true of those that are seen of the file
   of_seen : (P : SectionData → Type 0) (pair : List ℕ × FileData) → In pair files → AllByRecursion P (own_sections pair.0 (content_of rows)) → AllByRecursion P (sections_of_file pair)
   of_seen P pair i all =
       subst (AllByRecursion P) (own_seen files state.ascending pair i)

@@ -1,4 +1,4 @@
--- The code changes the numbers as one more item requires.
+-- The numbers change in the program as the definitions say for one more item.
 use Rattle.std.proofs.Common.{◌≡◌, ℕ, Bool, true, false, ◌||◌, if◌then◌else◌, Option, Some, None, List, refl}
 use Rattle.std.specs.declared.cmp.Ordering.{Ordering}
 use Rattle.covstore.specs.declared.sums.LineSum.{LineSum}

@@ -1,4 +1,5 @@
--- What staging an item requires: room for it.
+-- What staging an item with a checksum requires: a checksum that its test holds is held in the index, and one test more can be
+-- counted.
 use Rattle.std.proofs.Common.{◌≡◌, ℕ, ◌+◌, ◌≤◌, ◌^◌, Bool, true, false, cond, nat_lt, Some, None, List, ◌∷◌, ◌++◌, sym, ap, ◌∙◌, subst, arith}
 use Rattle.std.specs.Option.{IfSome, is_some}
 use Rattle.std.specs.Ordering.{nat_cmp}
@@ -32,7 +33,7 @@ module _ (test : TestData) (index : FileIndexData) (room : HasRoom test index) (
       ap is_some (room.kept.holders line)
       ∙ held_where (holding line tests) (holding line (room.front ++ room.back)) (count_by-between (is_holding line) room.front test room.back ∙ ap (λ (b : Bool). holding line (room.front ++ room.back) + one_if b) holds)
 
-  -- no more tests hold it than there are
+  -- no more tests hold a checksum of the line than there are tests
   pub holders_few : IfSome (value_of nat_cmp line index.holders) (λ committed. committed ≤ 2 ^ 63)
   holders_few =
       let few : holding line tests ≤ 2 ^ 63 = omega (arith, room.few_tests, count_by-le-length (is_holding line) tests) in

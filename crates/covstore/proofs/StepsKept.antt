@@ -86,7 +86,8 @@ module _ (front : List TestData) (before after : TestData) (back : List TestData
   other_holders line other true apart = refl
   other_holders line other false apart = value_of-put_apart lines_order line other (one_more (value_of nat_cmp line holders)) holders apart
 
-  -- a test holds a line's checksum from then on
+  -- if the test holds a checksum of this line afterwards, and of other lines as before, `held_more` gives the new numbers of
+  -- tests
   pub holders_more : (line : ℕ) → is_holding line after ≡ true → ((other : ℕ) → is_eq (nat_cmp line other) ≡ false → is_holding other after ≡ is_holding other before)
       → more ≡ held_more line (is_holding line before) holders → ((other : ℕ) → value_of nat_cmp other holders ≡ holders_at other (front ++ before ∷ back))
       → (other : ℕ) → value_of nat_cmp other more ≡ holders_at other (front ++ after ∷ back)
@@ -103,7 +104,7 @@ module _ (front : List TestData) (before after : TestData) (back : List TestData
 
 -- ---- one item more
 
--- the points of one kind change, and no test holds another checksum
+-- the points of one kind change, and the test holds checksums of the same lines as before
 pub keeps_point : (own : Kind) (after : PointsOf own) (counts : CountsOf own) (test : TestData) (index more : FileIndexData) → KeepsCountsOfKind (cmp_of own) (above_of own) (at own test) after (at own index.counts) counts
     → more.counts ≡ with_at own counts index.counts → ((line : ℕ) → is_holding line (with_at own after test) ≡ is_holding line test) → more.holders ≡ index.holders
     → KeepsCounts test (with_at own after test) index more
@@ -112,7 +113,7 @@ keeps_point own after counts test index more keeps moved same stay front back ar
   holders = holders_same front test (with_at own after test) back index.holders more.holders same stay are.holders;
 }
 
--- a line's item, with or without a checksum
+-- an item of a line is added, with or without a checksum
 module _ (line : ℕ) (value : LineSum) (after : List (ℕ × LineSum)) (counts : List (ℕ × Tests)) (test : TestData) (index more : FileIndexData) (puts : after ≡ put nat_cmp line value test.lines)
     (keeps : KeepsCountsOfKind nat_cmp line_above test.lines after index.counts.lines counts) (moved : more.counts ≡ with_at Line counts index.counts) where
   abbrev changed : TestData

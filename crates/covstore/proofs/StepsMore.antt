@@ -1,4 +1,4 @@
--- What is known after several items: the index still counts the tests, the texts stay, and there is room for the next item.
+-- If two steps, one after the other, keep what is committed in an index, both together keep it.
 use Rattle.std.proofs.Common.{ℕ, List, ap, ◌∙◌}
 use Rattle.std.specs.Option.{is_some}
 use Rattle.std.specs.Ordering.{nat_cmp}

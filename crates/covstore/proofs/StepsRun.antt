@@ -1,5 +1,5 @@
--- A run of items at points of a kind: what they report in their test is a run for the file's counts, which then count the tests
--- again.
+-- A run of addends is added to a test's points. What these report is a run for the file's counts. After it is added there, the
+-- counts are again those of the tests.
 use Rattle.std.proofs.Common.{◌≡◌, ◌+◌, ◌≤◌, ◌^◌, Bool, true, false, Option, Some, None, List, [], ◌∷◌, ◌++◌, length, refl, sym, ap, ◌∙◌, subst, arith}
 use Rattle.std.specs.declared.cmp.Ordering.{Ordering}
 use Rattle.std.specs.Option.{IfSome}
@@ -16,7 +16,7 @@ use Rattle.covstore.proofs.Puts.{length-put}
 use Rattle.covstore.proofs.StepsCounts.{changed_is}
 use Rattle.covstore.proofs.StepsKept.{numbers_few, put_keeps}
 
--- ---- what one item reports, before the rest of the run
+-- ---- what one addend reports, before the rest of the run
 
 module _ {K Q : Type 0} (cmp : K → K → Ordering) (named : Q → K) (query : Q) (rest : List (Q × TestsAddend)) (counts : List (K × Tests)) where
   pub summed_told : (change : Option TestsAddend) → summed cmp named tests_with (told_one query change ++ rest) counts ≡ summed cmp named tests_with rest (changed cmp (named query) change counts)
@@ -28,7 +28,7 @@ module _ {K Q : Type 0} (cmp : K → K → Ordering) (named : Q → K) (query : 
   fits_told None fits left = left
   fits_told (Some more) fits left = (fits, left)
 
--- what an item tells is of one point, so there is at most one more
+-- what an addend reports is about one point, so the counts have at most one point more
 pub length_changed : {K : Type 0} {cmp : K → K → Ordering} (o : IsExactOrder cmp) (key : K) (change : Option TestsAddend) (counts : List (K × Tests)) → ArePairs cmp counts
     → length (changed cmp key change counts) ≤ length counts + 1
 length_changed o key None counts sorted = omega arith
@@ -55,7 +55,7 @@ module _ {K V Q M : Type 0} {cmp : K → K → Ordering} (o : IsExactOrder cmp) 
       put_keeps is_above points counts o key after (sum_put cmp named sum item points) (changed cmp key (told_of item points) counts) refl (stays item.1 before)
       (ap (λ (change : Option TestsAddend). changed cmp key change counts) (tells item.1 before after) ∙ changed_is cmp is_above key counts before after)
 
-  -- the file's counts are those of the tests, one of which has the run's points
+  -- if the counts are those of the tests, they still are after the run is added to one test, and its reports to the counts
   pub run_keeps : (run : List (Q × M)) (points : List (K × V)) (counts : List (K × Tests))
       → KeepsCountsOfKind cmp is_above points (summed cmp named sum run points) counts (summed cmp named tests_with (told_run cmp named sum told run points) counts)
   run_keeps [] points counts front back are = are

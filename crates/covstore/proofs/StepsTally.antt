@@ -16,7 +16,7 @@ use Rattle.covstore.proofs.Ascend.{IsExactOrder}
 use Rattle.covstore.proofs.Puts.{ArePairs-put, count_by-put, length-put}
 
 module _ {K : Type 0} {cmp : K → K → Ordering} (o : IsExactOrder cmp) (key : K) (after : Tests) (counts : List (K × Tests)) (sorted : ArePairs cmp counts) where
-  -- the tally follows the point
+  -- if the tally changes as the point's numbers require, it is the tally of the new counts
   pub tally_put : (before : Option Tests) → before ≡ value_of cmp key counts → (tally more : KindTotals) → IsTallyOf counts tally → more.found ≡ tally.found + one_if (is_new before)
       → more.hit + one_if (is_above_at (λ committed. nat_lt 0 committed.hit) before) ≡ tally.hit + one_if (nat_lt 0 after.hit) → IsTallyOf (put cmp key after counts) more
   tally_put before e tally more is found hit =
@@ -27,7 +27,7 @@ module _ {K : Type 0} {cmp : K → K → Ordering} (o : IsExactOrder cmp) (key :
         hit = omega (arith, count_by-put o (λ pair. nat_lt 0 pair.1.hit) key after counts sorted, hit, is.hit, above);
       }
 
-  -- and so do both tallies of the code
+  -- likewise for the program's two tallies: the committed one stays, and the staged one changes
   pub tallies_put : (before : Option Tests) (old middle new : MapData K Tests) (committed staged more : KindTotals) → IsTallyOf old.committed committed × IsTallyOf old.staged staged → counts ≡ old.staged → middle ≡ old
       → new.committed ≡ middle.committed → new.staged ≡ put cmp key after middle.staged → before ≡ value_of cmp key old.staged → more.found ≡ staged.found + one_if (is_new before)
       → more.hit + one_if (is_above_at (λ committed. nat_lt 0 committed.hit) before) ≡ staged.hit + one_if (nat_lt 0 after.hit) → IsTallyOf new.committed committed × IsTallyOf new.staged more
@@ -49,7 +49,7 @@ told_hit true false query = refl
 told_hit false true query = refl
 told_hit false false query = refl
 
--- numbers only grow, so what is above 0 afterwards was so before, or is so for the first time
+-- what is above 0 stays above 0. So what is above 0 afterwards was above 0 before, or is so for the first time
 rises : (before after : Bool) → (before ≡ true → after ≡ true) → one_if after ≡ one_if before + one_if (after && not before)
 rises true true stays = refl
 rises true false stays = absurd (false≢true (stays refl))
@@ -65,7 +65,7 @@ abbrev pub told_of_counts : {K Q : Type 0} → (K → K → Ordering) → (Q →
 told_of_counts cmp named run counts = told_run cmp named tests_with (λ more before after. change_of is_hit_by_some before after) run counts
 
 module _ {K Q : Type 0} {cmp : K → K → Ordering} (o : IsExactOrder cmp) (named : Q → K) where
-  -- what the run reports from the file's counts
+  -- a run finds as many points more as it reports new ones
   pub found_run : (run : List (Q × TestsAddend)) (counts : List (K × Tests)) → ArePairs cmp counts
       → found_of (summed cmp named tests_with run counts) ≡ found_of counts + count_by (λ item. item.1.is_new) (told_of_counts cmp named run counts)
   found_run [] counts sorted = omega arith

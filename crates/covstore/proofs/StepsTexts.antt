@@ -1,4 +1,4 @@
--- The checksums' texts after one is inserted, and the held checksums after one more test holds one.
+-- The checksums' texts after one text is inserted, and the held checksums after one more test holds a line's checksum.
 use Rattle.std.proofs.Common.{◌≡◌, ℕ, Bool, true, false, cond, Option, Some, None, List, [], ◌∷◌, refl, sym, ap, ◌∙◌, subst, inl, inr, ⊎_elim}
 use Rattle.std.specs.Prelude.{◌⊎◌, Result, Ok, Err, OnOk}
 use Rattle.std.specs.BTreeMap.{insert_entry}
@@ -14,7 +14,7 @@ use Rattle.covstore.proofs.Ascend.{IsExactOrder}
 use Rattle.covstore.proofs.Orders.{lines_order}
 use Rattle.covstore.proofs.Puts.{value_of-put, value_of-put_any, value_of-put_other}
 
--- inserting into a map is putting in a value
+-- inserting an entry into a map gives what `put` gives
 module _ {K V : Type 0} {cmp : K → K → Ordering} (o : IsExactOrder cmp) (key : K) (value : V) where
   insert_at : (pair : K × V) (pairs rest : List (K × V)) (order : Ordering) → cmp pair.0 key ≡ order → rest ≡ put cmp key value pairs
       → match_ordering (ordering_reverse order) ((key, value) ∷ pair ∷ pairs) ((pair.0, value) ∷ pairs) (pair ∷ rest)
@@ -56,11 +56,11 @@ module _ (line : ℕ) (text : List ℕ) (holders : List (ℕ × ℕ)) (texts mor
       ap (value_of nat_cmp other) is_put
       ∙ value_of-put_other lines_order line other text texts (λ same. false≢true (sym (ap is_some none) ∙ ap (λ (l : ℕ). is_some (value_of nat_cmp l holders)) same ∙ e))
 
-  -- a text is inserted for a line without a held checksum: those of lines with one stay
+  -- if no checksum of the line is held, the texts of lines with a committed checksum stay
   pub stay_inserted : (committed : List (ℕ × ℕ)) → AreAmong committed holders → value_of nat_cmp line holders ≡ None → StayTexts committed texts more
   stay_inserted committed among none other e = other_text none other (among other e)
 
-  -- and then its checksum becomes held
+  -- if one test then holds the line's checksum, all held checksums stay, with their texts
   pub keeps_first : (others : List (ℕ × ℕ)) → value_of nat_cmp line holders ≡ None → others ≡ put nat_cmp line 1 holders → KeepsTexts holders texts others more
   keeps_first others none puts = record {
     committed = λ other e. ap (λ (pairs : List (ℕ × ℕ)). is_some (value_of nat_cmp other pairs)) puts ∙ some_after line other 1 holders e;
@@ -68,7 +68,7 @@ module _ (line : ℕ) (text : List ℕ) (holders : List (ℕ × ℕ)) (texts mor
   }
 
 module _ (line tests : ℕ) (holders others : List (ℕ × ℕ)) (puts : others ≡ put nat_cmp line tests holders) where
-  -- the line has a held checksum
+  -- afterwards, a checksum of the line is held
   pub held_is : is_some (value_of nat_cmp line others) ≡ true
   held_is = ap is_some (ap (value_of nat_cmp line) puts ∙ value_of-put lines_order line tests holders)
 
@@ -89,14 +89,14 @@ module _ (line tests : ℕ) (holders others : List (ℕ × ℕ)) (puts : others 
   pub among_held : (committed : List (ℕ × ℕ)) → AreAmong committed holders → AreAmong committed others
   among_held committed among other e = ap (λ (pairs : List (ℕ × ℕ)). is_some (value_of nat_cmp other pairs)) puts ∙ some_after line other tests holders (among other e)
 
-  -- one more test holds a line's checksum
+  -- after one more test holds the line's checksum, all held checksums are still held, with their texts
   pub keeps_committed : (texts : List (ℕ × List ℕ)) → KeepsTexts holders texts others texts
   keeps_committed texts = record {
     committed = λ other e. ap (λ (pairs : List (ℕ × ℕ)). is_some (value_of nat_cmp other pairs)) puts ∙ some_after line other tests holders e;
     texts_stay = λ other e. refl;
   }
 
--- what is true of a value, if there is no refusal
+-- if the result isn't an error, what `OnOk` says is true
 pub ok_unless : {T E P : Type 0} (r : Result T E) {b : Bool} → b ≡ is_err r → b ≡ false → OnOk r P → P
 ok_unless (Ok x) is without h = h
 ok_unless (Err e) is without h = absurd (false≢true (sym without ∙ is))

@@ -1,4 +1,4 @@
--- A store over maps: what it stands for, also after one more submission.
+-- A store over maps: what it represents, also after one more submission.
 use Rattle.std.proofs.Common.{◌≡◌, ℕ, ◌+◌, ◌≤◌, List, [], ◌∷◌, ◌++◌, length, refl, sym, ap, ◌∙◌, subst, arith}
 use Rattle.std.specs.Prelude.{None}
 use Rattle.std.specs.List.{AllByRecursion}
@@ -81,7 +81,7 @@ module _ (members : ℕ) (totals : Totals) (committed staged : List (List ℕ ×
     totals = p.planned ∙ p.totals;
   }
 
-  -- it is one more member in each table that the store stands for
+  -- the submission is one more member of each table that the store represents
   module _ (table : Table) (stands : StandsFor (store_of members committed staged after) table) where
     same_content : content_of (all_rows is.own) ≡ content_of (all_rows table)
     same_content = sym (store_sections members totals committed is) ∙ stands.content

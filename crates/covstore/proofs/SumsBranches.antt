@@ -21,7 +21,7 @@ use Rattle.covstore.proofs.SumsLast.{last_said, none_said}
 abbrev pub branch_held : List ItemData → BranchPoint → BranchSum
 branch_held items point = (branch_sum items point).1
 
--- an item without this branch leaves it as it is
+-- an item of another point leaves the branch's sum as it is
 branch_others : (items : List ItemData) (item : ItemData) (point : BranchPoint) → (In point (branch_point item) → ⊥) → branch_held (items ++ item ∷ []) point ≡ branch_held items point
 branch_others items item point none =
     let said = none_said (taken_said point) items item (taken_unsaid point item none) in
@@ -35,7 +35,7 @@ point_of line block branch = record { line = line; block = block; branch = branc
 all_true : (x y z : Bool) → x ≡ true → y ≡ true → z ≡ true → (x && y && z) ≡ true
 all_true x y z a b c = ap (λ (x : Bool). x && y && z) a ∙ ap (λ (y : Bool). y && z) b ∙ c
 
--- the numbers that the item gives its branch
+-- the numbers that an item gives its branch: at most one
 abbrev told : Option ℕ → List ℕ
 told None = []
 told (Some taken) = taken ∷ []

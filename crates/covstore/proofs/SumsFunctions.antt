@@ -24,11 +24,11 @@ use Rattle.covstore.proofs.SumsLast.{last_said, none_added, none_said, sum_first
 abbrev pub function_held : List ItemData → List ℕ → FunctionSum
 function_held items name = (function_sum items name).1
 
--- two sums with the same parts are the same
+-- two sums with equal parts are equal
 same_sum : (sum other : FunctionSum) → sum.line ≡ other.line → sum.count ≡ other.count → sum ≡ other
 same_sum sum other line count = λ i. record { line = line i; count = count i }
 
--- an item without this function leaves it as it is
+-- an item of another point leaves the function's sum as it is
 function_others : (items : List ItemData) (item : ItemData) (name : List ℕ) → (In name (func_point item) → ⊥) → function_held (items ++ item ∷ []) name ≡ function_held items name
 function_others items item name none =
     same_sum (function_held (items ++ item ∷ []) name) (function_held items name)

@@ -56,7 +56,7 @@ paired_some order value p [] i = absurd i
 paired_some {P} {V} {cmp} order value p (q ∷ ps) (inl is) = some_at order value p q (value_of cmp p (map (paired value) ps)) (cmp q p) refl (inl is)
 paired_some {P} {V} {cmp} order value p (q ∷ ps) (inr i) = some_at order value p q (value_of cmp p (map (paired value) ps)) (cmp q p) refl (inr (paired_some order value p ps i))
 
--- and any other point has none
+-- any other point has no value
 paired_none : {P V : Type 0} {cmp : P → P → Ordering} → IsExactOrder cmp → (value : P → V) (p : P) (ps : List P) → (In p ps → ⊥) → value_of cmp p (map (paired value) ps) ≡ None
 paired_none order value p [] none = refl
 paired_none {P} {V} {cmp} order value p (q ∷ ps) none =
@@ -107,7 +107,7 @@ module _ {P V : Type 0} {cmp : P → P → Ordering} (order : IsExactOrder cmp) 
         same_pairs order (sums cmp point value (items ++ item ∷ [])) (sums cmp point value items) (sums_pairs (items ++ item ∷ [])) (sums_pairs items)
         (λ p. sums_others p (λ i. subst (In p) nothing i))
 
-    -- an item with one point puts in a value made from the one before
+    -- an item with one point puts in a value that is made from the point's value before
     module _ (own : P) (with : Option V → V) (one : point item ≡ own ∷ []) (none : (In own (flat_map point items) → ⊥) → value (items ++ item ∷ []) own ≡ with None)
         (some : In own (flat_map point items) → value (items ++ item ∷ []) own ≡ with (Some (value items own))) where
       own_with : value (items ++ item ∷ []) own ≡ with (value_of cmp own (sums cmp point value items))
@@ -143,7 +143,7 @@ module _ {P V : Type 0} {cmp : P → P → Ordering} (order : IsExactOrder cmp) 
           same_pairs order (sums cmp point value (items ++ item ∷ [])) (put cmp own new (sums cmp point value items)) (sums_pairs (items ++ item ∷ []))
           (ArePairs-put order own new (sums cmp point value items) (sums_pairs items)) put_each
 
-  -- ---- which points have a value, and which
+  -- ---- which points have a value, and which value it is
 
   pub sums_held : (items : List ItemData) (p : P) (sum : V) → value_of cmp p (sums cmp point value items) ≡ Some sum → In p (flat_map point items) × (value items p ≡ sum)
   sums_held items p sum h =

@@ -20,11 +20,11 @@ use Rattle.covstore.proofs.SumsLast.{last_said, none_added, none_said, sum_first
 abbrev pub line_held : List ItemData → ℕ → LineSum
 line_held items line = (line_sum items line).1
 
--- two sums with the same parts are the same
+-- two sums with equal parts are equal
 same_sum : (sum other : LineSum) → sum.count ≡ other.count → sum.has_checksum ≡ other.has_checksum → sum ≡ other
 same_sum sum other count has_checksum = λ i. record { count = count i; has_checksum = has_checksum i }
 
--- an item without this line leaves it as it is
+-- an item of another point leaves the line's sum as it is
 line_others : (items : List ItemData) (item : ItemData) (line : ℕ) → (In line (line_point item) → ⊥) → line_held (items ++ item ∷ []) line ≡ line_held items line
 line_others items item line none =
     same_sum (line_held (items ++ item ∷ []) line) (line_held items line)

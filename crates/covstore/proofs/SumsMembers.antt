@@ -1,4 +1,5 @@
--- A line of the items has its value, which says whether an item has a checksum for it.
+-- The sum of a line in what items add up to: it is there if the items have the line, and it has a checksum exactly if an item
+-- gives one.
 use Rattle.std.proofs.Common.{◌≡◌, ℕ, Some, List, sym, ap}
 use Rattle.std.specs.Prelude.{Contains}
 use Rattle.std.specs.Option.{is_some}
@@ -16,7 +17,7 @@ use Rattle.covstore.proofs.SumsLines.{line_held}
 pub line_known : (items : List ItemData) (line : ℕ) → Contains (line_points items) line → value_of nat_cmp line (test_of items).lines ≡ Some (line_sum items line).1
 line_known items line there = sums_known lines_order line_point line_held items line there
 
--- the value of a line is the sum of its items
+-- the sum that is found for a line is what the items add up to there
 pub line_is : (items : List ItemData) (line : ℕ) (value : LineSum) → value_of nat_cmp line (test_of items).lines ≡ Some value → (line_sum items line).1 ≡ value
 line_is items line value h = (sums_held lines_order line_point line_held items line value h).1
 

@@ -63,7 +63,7 @@ module _ (items : List ItemData) (runs : Each RunOf) (are : runs ≡ runs_of ite
       } in
       items_add items test after index more all keeps (λ item i. text_stays item held more kept (texts.own item (Contains-from items item i))) (texts_both index held more texts.texts kept)
 
--- the same of a test of the code, which stays while the checksums are held
+-- the same for a test as the program has it. The test stays while the checksums are held
 module _ {A : Type 0} (items : List ItemData) (runs : Each RunOf) (are : runs ≡ runs_of items) (test test_held : Test A) (index index_held : FileIndex A) (stays : test_held ≡ test)
     (texts : HoldsTexts items (test_staged test) (index_staged index) (index_staged index_held)) where
   pub room_of_held_in : HasRoomFor items (test_staged test) (index_staged index) → HasRoomForRuns runs (test_staged test_held) (index_staged index_held)
@@ -81,7 +81,7 @@ module _ {A : Type 0} (items : List ItemData) (runs : Each RunOf) (are : runs �
 
 -- ---- items that agree
 
--- checksums of a section's items are of its file
+-- the checksums of a section's items are all of the section's file
 said_in : (file name : List ℕ) (items : List ItemData) (c : Checksum) → In c (checksums_in (rows_of_sect (section_of_items file name items))) → file ≡ c.file
 said_in file name items c i =
     let said = In-unflat checksum_of_row (rows_of_sect (section_of_items file name items)) c i in
@@ -125,7 +125,7 @@ module _ (taken : List ItemData) (item : ItemData) (left : List ItemData) (test 
   clashes_at : (told : ℕ) (held given : List ℕ) → IsClashAt item now told held given → ClashesAt (taken ++ item ∷ left) test index told held given
   clashes_at told held given clash rows files file name tests is = by item apart clash
     where
-      -- as the lines are apart, the other text was held before
+      -- the items before have no checksum of this line, so the other text was held before them
       before : (line : ℕ) (checksum : List ℕ) → value_of nat_cmp line now.holders ≡ value_of nat_cmp line index.holders → IsOtherText now line held checksum → IsOtherText index line held checksum
       before line checksum same other =
           let was = ap is_some (sym same) ∙ other.is_held in

@@ -11,7 +11,7 @@ use Rattle.covstore.proofs.Ascend.{All-weaker}
 less_of : (x y : ℕ) → x < y → nat_cmp x y ≡ Less
 less_of x y lt = cond-true _ Less _ (lt-ltb x y lt)
 
--- one line before others that ascend from the next
+-- a line, followed by lines that ascend from the number after it
 pub ascend_one : (line least next : ℕ) → least ≤ line → next ≡ line + 1 → (lines : List ℕ) → AscendFrom next lines → AscendFrom least (line ∷ lines)
 unfolding IsStrictlySortedBy
 ascend_one line least next from is lines ascend = record {
@@ -23,7 +23,7 @@ pub ascend_none : (least : ℕ) → AscendFrom least []
 unfolding IsStrictlySortedBy
 ascend_none least = record { above = tt; sorted = tt }
 
--- what is known so far: where the lines that are left ascend from the least, all do
+-- what is known so far: if the lines that are left ascend from `least`, all lines ascend
 abbrev pub AscendWith : List ItemData → List ItemData → ℕ → Type 0
 AscendWith all left least = AscendFrom least (checked_lines left) → IsStrictlySortedBy nat_cmp (checked_lines all)
 

@@ -1,4 +1,4 @@
--- The checksums of items, held one after the other: what the file's numbers tell then, and that other lines stay.
+-- The checksums of items are held one after another: how many tests then hold a checksum of each line, and that other lines stay.
 use Rattle.std.proofs.Common.{◌≡◌, ℕ, Bool, true, false, Some, None, List, [], ◌∷◌, ◌++◌, refl, sym, ap, ◌∙◌, subst, inl, inr}
 use Rattle.std.specs.Prelude.{◌⊎◌, ◌≤◌, ◌^◌}
 use Rattle.std.specs.declared.cmp.Ordering.TheVariants.{Less}
@@ -61,7 +61,7 @@ IsApartFrom items item = (line : ℕ) → In line (checked_line item) → AreApa
 pub lines_joined : (xs ys : List ItemData) → checked_lines (xs ++ ys) ≡ checked_lines xs ++ checked_lines ys
 lines_joined xs ys = flat_map-append checked_line xs ys
 
--- in an ascending list the numbers before one are others
+-- in an ascending list, the numbers before another one differ from it
 sorted_apart : (front : List ℕ) (line : ℕ) (back : List ℕ) → IsStrictlySortedBy nat_cmp (front ++ line ∷ back) → (other : ℕ) → In other front → is_eq (nat_cmp other line) ≡ false
 unfolding IsStrictlySortedBy
 sorted_apart [] line back sorted other i = absurd i

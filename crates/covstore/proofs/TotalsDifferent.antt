@@ -49,7 +49,7 @@ are_totals sections = record {
   branches = hit_le_found branches_found is_branch_hit sections;
 }
 
--- ---- lists without doubles
+-- ---- lists without repetitions
 
 pub All-from : {X : Type 0} (P : X → Type 0) (xs : List X) → ((x : X) → In x xs → P x) → AllByRecursion P xs
 All-from P [] each = tt
@@ -99,7 +99,7 @@ count_flat p f (x ∷ xs) =
 abbrev key_at : List ℕ → List ℕ → Key
 key_at file test = record { file = file; test = test }
 
--- ---- points of one kind, each hit by an item or not
+-- ---- points of one kind, if a point's value is above 0 exactly if an item hits it
 
 module _ {X : Type 0} {cmp : X → X → Ordering} (o : IsExactOrder cmp) (kind : Kind X) (decides : (a b : X) → Decides (kind.same a b) (a ≡ b)) (hits : X → ItemData → Bool)
     (above : (x : X) (items : List ItemData) → kind.is_above x items ≡ list_any (hits x) items) where
@@ -128,7 +128,7 @@ module _ {X : Type 0} {cmp : X → X → Ordering} (o : IsExactOrder cmp) (kind 
   abbrev all : List Row → List (List ℕ) → List (FilePoint X)
   all rows files = flat_map (λ file. map (in_file file) (own rows file)) files
 
-  -- ---- each is there once
+  -- ---- each point of a file is there once
 
   distinct_own : (file : List ℕ) (xs : List X) → IsStrictlySortedBy cmp xs → IsDistinct (is_same kind) (map (in_file file) xs)
   unfolding IsStrictlySortedBy IsDistinct
@@ -156,7 +156,7 @@ module _ {X : Type 0} {cmp : X → X → Ordering} (o : IsExactOrder cmp) (kind 
       (λ e. not_less names_order.total file other.0 (All-in (λ name. slice_cmp nat_cmp file name ≡ Less) files other.0 sorted.0 other.1)
       (ap (λ (r : FilePoint X). r.file) (here.2 ∙ same_is p q e ∙ sym there.2))))
 
-  -- ---- and they are the points of the rows
+  -- ---- the points of all files are the points of the rows
 
   to_rows : (rows : List Row) (p : FilePoint X) → In p (all rows (files_of rows)) → In p (points_of kind rows)
   to_rows rows p i =
@@ -183,7 +183,7 @@ module _ {X : Type 0} {cmp : X → X → Ordering} (o : IsExactOrder cmp) (kind 
       In-flat (λ name. map (in_file name) (own rows name)) (files_of rows) file p known
       (subst (λ (q : FilePoint X). In q (map (in_file file) (own rows file))) x.2 (In-map (in_file file) (own rows file) x.0 mine))
 
-  -- ---- a point is hit in a test if a row of its file hits it
+  -- ---- a point is hit in a test exactly if a row of its file hits it
 
   hit_in_test : (rows : List Row) (file : List ℕ) (x : X) → is_hit_in_a_test kind rows (in_file file x) ≡ is_hit_in hits (items_of_file file rows) x
   hit_in_test rows file x = same_truth (is_hit_in_a_test kind rows (in_file file x)) (is_hit_in hits (items_of_file file rows) x) to from

@@ -19,7 +19,7 @@ use Rattle.covstore.proofs.Members.{In}
 use Rattle.covstore.proofs.Orders.{lines_order, names_order, branches_order}
 use Rattle.covstore.proofs.TotalsRows.{files_are, points_found, hit_in_file, hit_in_section, sum_above, any_agree, any_flat}
 
--- what is made from each point can be read back
+-- if each point can be read back from what is made from it, the list of points can be read back
 read_back : {X Y : Type 0} (read : Y → X) (at : X → Y) → ((x : X) → read (at x) ≡ x) → (xs : List X) → map read (map at xs) ≡ xs
 read_back read at same [] = refl
 read_back {X} read at same (x ∷ xs) = ap (λ (y : X). y ∷ map read (map at xs)) (same x) ∙ ap (λ (ys : List X). x ∷ ys) (read_back read at same xs)

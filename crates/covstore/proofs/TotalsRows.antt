@@ -1,4 +1,4 @@
--- The totals of the content are counts over rows: what some test has in a file, some row of the file has.
+-- The totals of the content are counts over rows: what some test of a file has, some row of the file has.
 use Rattle.std.proofs.Common.{◌≡◌, ℕ, zero, suc, ◌+◌, Bool, true, false, cond, ◌||◌, nat_lt, List, [], ◌∷◌, map, filter, refl, sym, ap, ◌∙◌, subst, arith}
 use Rattle.std.specs.declared.cmp.Ordering.{Ordering}
 use Rattle.std.specs.List.{flat_map, list_any, sum_by}
@@ -20,7 +20,7 @@ use Rattle.covstore.proofs.TotalsWalks.{file_of_key, key_of_file}
 use Rattle.covstore.proofs.ContentsKinds.{same_ascending}
 use Rattle.covstore.proofs.ContentsLists.{In-filter, In-flat, In-unfilter, In-unflat, any_from_in, any_members, in_from_any, same_truth}
 
--- ---- lists of the same members
+-- ---- lists with the same elements
 
 abbrev pub SameMembers : {X : Type 0} → List X → List X → Type 0
 SameMembers {X} xs ys = ((x : X) → In x xs → In x ys) × ((x : X) → In x ys → In x xs)
@@ -146,7 +146,7 @@ module _ (is_hit : SectionData → Bool) (hits : ItemData → Bool) (reads : (ro
       ∙ ap (λ (b : Bool). list_any hits (items_at key rows) || b) (hit_in_keys keys)
       ∙ sym (list_any-append hits (items_at key rows) (items_of_keys rows keys))
 
-  -- a point is hit in some section of a file if some row of the file hits it
+  -- a point is hit in some section of a file exactly if some row of the file hits it
   pub hit_in_file : list_any is_hit (sections_of file (content_of rows)) ≡ list_any hits (items_of_file file rows)
   hit_in_file =
       ap (list_any is_hit) (sections_of_keys file rows) ∙ hit_in_keys (keys_of_file file rows)
@@ -166,7 +166,7 @@ module _ {X Y : Type 0} {cmp : X → X → Ordering} (o : IsExactOrder cmp) (poi
       any_from_in test (map at all) (at x)
       (In-map at all x (In-to_ascending o.exact x (flat_map point items) (In-flat point items item.0 x item.1 (speaks item.0 item.2)))) (tests h))
 
--- a sum is above 0 if one of its numbers is
+-- a sum is above 0 exactly if one of its numbers is
 above_either : (a b : ℕ) → nat_lt 0 (a + b) ≡ (nat_lt 0 a || nat_lt 0 b)
 above_either zero b = let is : 0 + b ≡ b = omega arith in ap (nat_lt 0) is
 above_either (suc a) b = lt-ltb 0 (suc a + b) (omega arith) ∙ sym (or_left (nat_lt 0 (suc a)) (nat_lt 0 b) (lt-ltb 0 (suc a) (omega arith)))

@@ -1,4 +1,4 @@
--- A walk over the keys of rows gives the items of a file over all tests, and the files of the rows.
+-- The files of rows are the files of the rows' keys.
 use Rattle.std.proofs.Common.{◌≡◌, ℕ, List, map, ap, subst}
 use Rattle.covline.specs.Row.{Row}
 use Rattle.covstore.specs.Value.{Key, key_of_row}

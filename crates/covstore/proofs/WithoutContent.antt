@@ -19,7 +19,7 @@ use Rattle.covstore.proofs.ContentsLists.{In-filter, In-unfilter}
 use Rattle.covstore.proofs.ContentsSections.{own_key}
 use Rattle.covstore.proofs.Orders.{keys_order}
 
--- ---- picked members of lists
+-- ---- elements picked from lists
 
 pub picked : {X : Type 0} (p : X → Bool) (x : X) (xs : List X) → p x ≡ true → filter p (x ∷ xs) ≡ x ∷ filter p xs
 picked p x xs e = cond-true (p x) (x ∷ filter p xs) (filter p xs) e
@@ -58,7 +58,7 @@ map_picked {X} {Y} f p (x ∷ xs) = by (p (f x)) (map_picked f p xs)
     by true rest = ap (λ (ys : List Y). f x ∷ ys) rest
     by false rest = rest
 
--- picking twice gives what the second test picks, if it is the stricter one
+-- picking by `p` and then by a stricter condition `a` gives what `a` alone picks
 picked_again : {X : Type 0} (a p : X → Bool) → ((x : X) → a x ≡ true → p x ≡ true) → (xs : List X) → filter a (filter p xs) ≡ filter a xs
 picked_again a p more [] = refl
 picked_again {X} a p more (x ∷ xs) = by (p x) refl (a x) refl (picked_again a p more xs)

@@ -54,7 +54,7 @@ module _ (test : List ℕ) where
   abbrev points_found : Option TestData → Bool
   points_found found = not (has_no_points (points_or_none found))
 
-  -- in ascending tests, the name is there at most once
+  -- the first of ascending tests, and the later ones: if the first one has the name, no later one has it
   found_at : (same : Bool) (points : TestData) (rest : ℕ) (later : Option TestData) → rest ≡ one_for (points_found later) → (same ≡ true → later ≡ None)
       → one_for (same && not (has_no_points points)) + rest ≡ one_for (points_found (cond same (Some points) later))
   found_at true points rest later e none = let nothing : rest ≡ 0 = e ∙ ap (λ (found : Option TestData). one_for (points_found found)) (none refl) in omega (arith, nothing)

@@ -31,7 +31,7 @@ use Rattle.covstore.proofs.WithoutContent.{items_of_others, items_of_test, rows_
 module _ (test : List ℕ) where
   -- ---- what is found at a name
 
-  -- both are there, or neither is
+  -- a file, and the same file without the test: both are there, or neither is
   abbrev IsFileWithout : Option FileData → Option FileData → Type 0
   IsFileWithout None None = Unit {0}
   IsFileWithout None (Some after) = ⊥

@@ -1,4 +1,4 @@
--- A store after a test is dropped: what it stands for, and its totals.
+-- A store after a test is dropped: what it represents, and its totals.
 use Rattle.std.proofs.Common.{◌≡◌, ℕ, ◌≤◌, ◌^◌, not, List, [], ◌∷◌, length, filter, map, refl, sym, ap, ◌∙◌, arith}
 use Rattle.std.specs.List.{AllByRecursion, count_by}
 use Rattle.std.specs.Str.{bytes_eq}
@@ -58,12 +58,12 @@ module _ (test : List ℕ) (members : ℕ) (committed : Totals) (files : List (L
           bh = omega (arith, few, most.bh);
         }
 
-    -- the totals are those of any table with this content, without the test
+    -- the totals are those of a table with this content, after the test is dropped from it
     pub totals_left : (table : Table) → sections_of files ≡ content_at table → totals_in after ≡ totals_of (content_at (without_test test table))
     totals_left table content =
         store_totals members (totals_in after) after left ∙ ap totals_of (sections_left ∙ ap of_others content ∙ sym (content_without test table))
 
-    -- the store without the test stands for the table without it
+    -- if the store represents a table, the store without the test represents the table without it
     pub stands_left : (staged after_staged : List (List ℕ × FileData)) (totals later : Totals) (table : Table) → StandsFor (store_of members files staged totals) table
         → StandsFor (store_of members after after_staged later) (without_test test table)
     stands_left staged after_staged totals later table stands = record {
@@ -74,16 +74,16 @@ module _ (test : List ℕ) (members : ℕ) (committed : Totals) (files : List (L
       small = fewer test table stands.small;
     }
 
-  -- there are files without the test
+  -- there are files that are these files without the test, and their totals fit in 64 bits
   pub some_left : (after : List (List ℕ × FileData)) × AreWithoutTest test files after × FitTotals (totals_in after)
   some_left = let found = files_without test files is.state.whole in (found.0, found.1, totals_fit found.0 found.1)
 
-  -- and the test has as many sections as there are files with points of it
+  -- the test has as many sections as there are files in which it has points
   pub sections_with : (table : Table) → sections_of files ≡ content_at table → count_by (λ pair. has_points_of test pair.1) files ≡ sections_of_test test table
   sections_with table content =
       count_in_files test files is.state.whole ∙ ap (count_by (λ s. bytes_eq s.key.test test)) content ∙ sym (sections_counted test table)
 
-  -- and as many as there are names of such files
+  -- the test has as many sections as there are names of such files
   pub sections_named : (table : Table) → sections_of files ≡ content_at table → length (names_with test files) ≡ sections_of_test test table
   sections_named table content =
       length-map (filter (λ pair. has_points_of test pair.1) files) (λ (pair : List ℕ × FileData). pair.0) ∙ length-filter (λ pair. has_points_of test pair.1) files ∙ sections_with table content
@@ -91,7 +91,7 @@ module _ (test : List ℕ) (members : ℕ) (committed : Totals) (files : List (L
   pub names_counted : {X : Type 0} (name : X → List ℕ) (names : List X) (n : ℕ) → n ≡ length names → map name names ≡ names_with test files → (table : Table) → sections_of files ≡ content_at table → n ≡ sections_of_test test table
   names_counted name names n same are table content = same ∙ sym (length-map names name) ∙ ap length are ∙ sections_named table content
 
--- a store with the same content stands for the same tables
+-- a store with the same content represents the same tables
 pub stands_too : (store other : StoreData) (table : Table) → other.sections ≡ store.sections → other.members ≡ store.members → StandsFor store table → StandsFor other table
 stands_too store other table sections members stands = record {
   content = sections ∙ stands.content;
@@ -101,7 +101,7 @@ stands_too store other table sections members stands = record {
   small = stands.small;
 }
 
--- consistent files, with or without their names
+-- if the files as contracts see them are consistent, so are those of the map
 pub whole_files : {K A : Type 0} (name : K → List ℕ) (pairs : List (K × File A)) → AllByRecursion (λ pair. IsConsistentFile pair.1) (files_committed name pairs) → AllByRecursion (λ pair. IsConsistentFile (file_committed pair.1)) pairs
 whole_files name [] whole = tt
 whole_files name (pair ∷ pairs) whole = (whole.0, whole_files name pairs whole.1)

@@ -1,5 +1,5 @@
--- When a submission clashes. Two different checksums of one line of a file come from two versions of its source. Their counts are
--- never mixed, even if the checksums are of different tests.
+-- When a submission clashes. Two different checksums of one line of a file come from two versions of the source. The counts of
+-- two versions are never added up, even if they are of different tests.
 use Rattle.std.specs.Prelude.{◌≡◌, ℕ, Bool, true, false, ◌==◌, ◌&&◌, not, List, [], ◌∷◌, ◌++◌, Option, Some, None, Contains}
 use Rattle.std.specs.Str.{bytes_eq}
 use Rattle.std.specs.List.{flat_map, find}
@@ -22,7 +22,7 @@ checksum_of_row row = checksum_of row.file row.item
 abbrev pub checksums_in : List Row → List Checksum
 checksums_in rows = flat_map checksum_of_row rows
 
--- two different checksums of one line of one file
+-- these are different checksums of the same line of the same file
 abbrev pub differs : Checksum → Checksum → Bool
 differs a b = bytes_eq a.file b.file && a.line == b.line && not (bytes_eq a.checksum b.checksum)
 
@@ -50,7 +50,7 @@ abbrev pub first_clash : List Checksum → List Checksum → Option ClashData
 first_clash held [] = None
 first_clash held (given ∷ others) = or_later given (find (differs given) held) (first_clash (held ++ given ∷ []) others)
 
--- the clash of the rows of a submission with the rows of a table
+-- the first clash of a submission's rows, which are `given`, with a table's rows; `None` if there is no clash
 abbrev pub clash_of : List Row → List Row → Option ClashData
 clash_of rows given = first_clash (checksums_in rows) (checksums_in given)
 

@@ -22,7 +22,7 @@ pub record LineValueData : Type 0 where
   pub count : ℕ
   pub checksum : Option (List ℕ)
 
--- the section of a file and a test: its functions by name, its branches and its lines, ascending
+-- the section of a file and a test: its functions, branches and lines, each in ascending order (functions by their names)
 pub record SectionData : Type 0 where
   pub key : Key
   pub functions : List FunctionValueData

@@ -18,10 +18,11 @@ pub record IsFewOf (section : SectionData) : Type 0 where
 abbrev pub tests_seen : {K A : Type 0} → (K → List ℕ) → List ℕ → List (ℕ × List ℕ) → List (K × Test A) → List SectionData
 tests_seen name file texts pairs = flat_map (λ pair. section_seen file texts (name pair.0) (test_committed pair.1)) pairs
 
--- the sections left of the current file, if there is one; and below, followed by those of the later files
+-- the sections that are left of the current file, or no sections if there is no current file
 abbrev pub or_none : Option (List SectionData) → List SectionData
 or_none None = []
 or_none (Some sections) = sections
 
+-- the sections that are left: those of the current file, and then those of the later files
 abbrev pub sections_left : {K A : Type 0} → (K → List ℕ) → Option (List SectionData) → List (K × File A) → List SectionData
 sections_left name current files = or_none current ++ sections_of (files_committed name files)

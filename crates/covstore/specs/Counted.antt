@@ -42,9 +42,10 @@ points_of kind rows = flat_map (λ row. map (in_file row.file) (kind.point row.i
 abbrev pub is_hit_in_a_test : {X : Type 0} → Kind X → List Row → FilePoint X → Bool
 is_hit_in_a_test kind rows p = list_any (λ test. kind.is_above p.point (items_at (record { file = p.file; test = test }) rows)) (map (λ row. row.test) rows)
 
--- how many different points of a kind the rows have, and how many of them are hit
+-- how many different points of a kind the rows have
 abbrev pub found : {X : Type 0} → Kind X → List Row → ℕ
 found kind rows = distinct_count (is_same kind) (points_of kind rows)
 
+-- how many of these points are hit in a test
 abbrev pub hit : {X : Type 0} → Kind X → List Row → ℕ
 hit kind rows = distinct_count (is_same kind) (filter (is_hit_in_a_test kind rows) (points_of kind rows))

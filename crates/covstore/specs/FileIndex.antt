@@ -1,4 +1,4 @@
--- The index of a file: numbers over all its tests, and its checksums.
+-- The index of a file: how many of its tests have each point, and the checksums of its lines.
 use Rattle.std.specs.Prelude.{◌≡◌, ℕ, true, List}
 use Rattle.std.specs.Option.{is_some}
 use Rattle.std.specs.Ordering.{nat_cmp}
@@ -7,14 +7,14 @@ use Rattle.covmap.specs.Puts.{value_of}
 use Rattle.covstore.specs.PointIndexCounts.{found_of, hit_of}
 use Rattle.covstore.specs.Kinds.{CountsOf, Each}
 
--- for each point, how many tests have it; for each line with a checksum, how many tests hold the checksum; and the checksums'
--- texts, including some that no test holds any more
+-- `counts` has for each point how many tests have it, and how many have it above 0. `holders` has for each line with a checksum
+-- how many tests hold the checksum. `texts` has the checksums themselves. Some of them may not be held by any test any more
 pub record FileIndexData : Type 0 where
   pub counts : Each CountsOf
   pub holders : List (ℕ × ℕ)
   pub texts : List (ℕ × List ℕ)
 
--- the numbers stay, and so does the text of each held checksum. Texts that no test holds may be added
+-- the numbers stay, and so does each held checksum. A checksum that no test holds may be added or replaced
 pub record KeepsIndex (before after : FileIndexData) : Type 0 where
   pub counts : after.counts ≡ before.counts
   pub holders : after.holders ≡ before.holders

@@ -20,6 +20,6 @@ index_staged index = record {
   texts = index.checksums.texts;
 }
 
--- what is committed stays
+-- the committed numbers stay, and so does each committed checksum that a test holds
 abbrev pub KeepsCommitted : {A : Type 0} → FileIndex A → FileIndex A → Type 0
 KeepsCommitted before after = KeepsIndex (index_committed before) (index_committed after)

@@ -1,4 +1,4 @@
--- What staging a section's items does to the files that their file is one of.
+-- What staging a section's items does to their file, whatever the other files of the store are.
 use Rattle.std.specs.Prelude.{◌≡◌, ℕ, ◌+◌, ◌≤◌, ◌^◌, Some, None, List, ◌++◌, length}
 use Rattle.std.specs.Cmp.Lexicographic.{slice_cmp}
 use Rattle.std.specs.Ordering.{nat_cmp}
@@ -11,7 +11,8 @@ use Rattle.covmap.specs.Puts.{ArePairs, put, value_of}
 use Rattle.covstore.specs.State.{FileData, IsStateOf}
 use Rattle.covstore.specs.Store.{KeepsState}
 
--- whatever the other files are: with the file replaced by the second one, the files are still the state of the same rows
+-- whatever the other files are: if `before` is replaced by `after`, the files are still the state of the same rows, with the same
+-- totals
 abbrev pub KeepsIn : FileData → FileData → Type 0
 KeepsIn before after =
     (files : List (List ℕ × FileData)) (name : List ℕ) → ArePairs (slice_cmp nat_cmp) files → value_of (slice_cmp nat_cmp) name files ≡ Some before → KeepsState files (put (slice_cmp nat_cmp) name after files)
@@ -22,21 +23,21 @@ pub record HasFile (rows : List Row) (files : List (List ℕ × FileData)) (name
   pub agree : Agree (checksums_in rows)
   pub there : value_of (slice_cmp nat_cmp) name files ≡ Some file
 
--- whatever the other files are: the second file is the first one with these items of the test added, and they clash with nothing
+-- whatever the other files are: `after` is `before` with these items of the test added, and the items clash with nothing
 abbrev pub AddsItems : List ItemData → List ℕ → FileData → FileData → Type 0
 AddsItems items test before after =
     (rows : List Row) (files : List (List ℕ × FileData)) (name : List ℕ) → HasFile rows files name before
     → (clash_of rows (rows_of_sect (section_of_items name test items)) ≡ None)
     × HasFile (rows ++ rows_of_sect (section_of_items name test items)) (put (slice_cmp nat_cmp) name after files) name after
 
--- whatever the other files are: these items clash, and this is their first clash
+-- if the fault is a clash, it is the first clash of these items, whatever the other files are
 abbrev pub ClashesIn : {A : Type 0} → List ItemData → List ℕ → FileData → StageFault A → Type 0
 ClashesIn items test file Memory = Unit {0}
 ClashesIn items test file (Clash line held given) =
     (rows : List Row) (files : List (List ℕ × FileData)) (name : List ℕ) → HasFile rows files name file
     → clash_of rows (rows_of_sect (section_of_items name test items)) ≡ Some (clash_told name line held given)
 
--- the file is one of the files of some rows, which leave room for these items
+-- the file is one of the files that some rows add up to, and the number of these rows leaves room for the items
 pub record HasRoomIn (items : List ItemData) (file : FileData) : Type 0 where
   pub rows : List Row
   pub files : List (List ℕ × FileData)

@@ -1,4 +1,4 @@
--- A file of the code, seen as plain data: committed, and staged.
+-- A `File`, seen as plain data: committed, and staged.
 use Rattle.std.specs.Prelude.{◌≡◌, ℕ, if◌then◌else◌, List, [], map}
 use Rattle.std.specs.Cmp.Lexicographic.{slice_cmp}
 use Rattle.std.specs.Option.{is_some}
@@ -21,14 +21,14 @@ file_staged file = file_with (map (λ pair. (pair.0.items, test_staged pair.1)) 
 abbrev pub no_file : FileData
 no_file = file_with [] empty_index
 
--- the tests with this one added, without points, unless it is there already
+-- the tests as they are if this one is among them; else with this one added, without points
 abbrev pub tests_with : List ℕ → List (List ℕ × TestData) → List (List ℕ × TestData)
 tests_with test tests = if is_some (value_of (slice_cmp nat_cmp) test tests) then tests else put (slice_cmp nat_cmp) test (test_of []) tests
 
 abbrev pub with_test : List ℕ → FileData → FileData
 with_test test file = file_with (tests_with test file.tests) file.index
 
--- the tests and the numbers stay, and so does the text of each held checksum
+-- the tests stay. So do the numbers of the index, and each held checksum
 pub record KeepsFile (before after : FileData) : Type 0 where
   pub tests : after.tests ≡ before.tests
   pub index : KeepsIndex before.index after.index

@@ -17,7 +17,7 @@ use Rattle.covstore.specs.Sums.{TestData}
 
 -- ---- one kind of points, of any keys and sums
 
--- the counts are those of some tests, at most 2^63, one of which has these points; there is room for one more point
+-- the counts are those of at most 2^63 tests, and one of these tests has these points. There is room for one more point
 pub record HasRoomOfKind {K V : Type 0} (cmp : K → K → Ordering) (is_above : V → Bool) (points : List (K × V)) (counts : List (K × Tests)) : Type 0 where
   pub front : List (List (K × V))
   pub back : List (List (K × V))
@@ -25,7 +25,7 @@ pub record HasRoomOfKind {K V : Type 0} (cmp : K → K → Ordering) (is_above :
   pub few_tests : length (front ++ points ∷ back) ≤ 2 ^ 63
   pub few : length counts < 2 ^ 63
 
--- the counts are those of some tests, at most 2^63, one of which has these points; there is room for this many items
+-- the counts are those of at most 2^63 tests, and one of these tests has these points. There is room for this many items
 pub record HasRoomForRun {K V : Type 0} (cmp : K → K → Ordering) (is_above : V → Bool) (points : List (K × V)) (counts : List (K × Tests)) (items : ℕ) : Type 0 where
   pub front : List (List (K × V))
   pub back : List (List (K × V))
@@ -33,13 +33,14 @@ pub record HasRoomForRun {K V : Type 0} (cmp : K → K → Ordering) (is_above :
   pub few_tests : length (front ++ points ∷ back) ≤ 2 ^ 63
   pub few : length counts + items ≤ 2 ^ 63
 
--- whatever the other tests are: if the counts before were those of the tests, the counts after are those with the changed test
+-- one test's points change from `before` to `after`. Whatever the other tests are: if `counts` are those of all tests before this
+-- change, `more` are those after it
 abbrev pub KeepsCountsOfKind : {K V : Type 0} → (K → K → Ordering) → (V → Bool) → List (K × V) → List (K × V) → List (K × Tests) → List (K × Tests) → Type 0
 KeepsCountsOfKind {K} {V} cmp is_above before after counts more = (front back : List (List (K × V))) → AreCounts cmp is_above (front ++ before ∷ back) counts → AreCounts cmp is_above (front ++ after ∷ back) more
 
 -- ---- all kinds
 
--- the index counts some tests, at most 2^63, one of which is this test; there is room for one more point of each kind
+-- the index counts at most 2^63 tests, and this is one of them. There is room for one more point of each kind
 pub record HasRoom (test : TestData) (index : FileIndexData) : Type 0 where
   pub front : List TestData
   pub back : List TestData
@@ -47,35 +48,37 @@ pub record HasRoom (test : TestData) (index : FileIndexData) : Type 0 where
   pub few_tests : length (front ++ test ∷ back) ≤ 2 ^ 63
   pub few : (kind : Kind) → length (at kind index.counts) < 2 ^ 63
 
--- whatever the other tests are: if the index before counted the tests, the index after counts them with the changed test
+-- one test changes from `before` to `after`. Whatever the other tests are: if `index` counts all tests before this change, `more`
+-- counts them after it
 abbrev pub KeepsCounts : TestData → TestData → FileIndexData → FileIndexData → Type 0
 KeepsCounts before after index more = (front back : List TestData) → IsIndexOf (front ++ before ∷ back) index → IsIndexOf (front ++ after ∷ back) more
 
 -- ---- the checksums
 
--- each line with a held checksum keeps it, and keeps its text
+-- each line with a held checksum still has one, and it is the same
 abbrev pub KeepsTextsOf : FileIndexData → FileIndexData → Type 0
 KeepsTextsOf before after = KeepsTexts before.holders before.texts after.holders after.texts
 
--- the line's checksum is held, and is this text
+-- some test holds the line's checksum, and the checksum is `text`
 pub record IsTextAt (line : ℕ) (text : List ℕ) (index : FileIndexData) : Type 0 where
   pub is_held : is_some (value_of nat_cmp line index.holders) ≡ true
   pub is_kept : value_of nat_cmp line index.texts ≡ Some text
 
--- if the item has a checksum, it is the one that its line holds
+-- if the item has a checksum, it is the one that is held of its line
 abbrev pub IsTextOf : ItemData → FileIndexData → Type 0
 IsTextOf (LineItem line count (Some checksum)) index = IsTextAt line checksum index
 IsTextOf (LineItem line count None) index = Unit {0}
 IsTextOf (FuncItem name line count) index = Unit {0}
 IsTextOf (BranchItem line block branch taken) index = Unit {0}
 
--- the line holds another checksum than the given one
+-- the checksum that is held of the line is `held`, and it differs from `given`
 pub record IsOtherText (index : FileIndexData) (line : ℕ) (held given : List ℕ) : Type 0 where
   pub is_held : is_some (value_of nat_cmp line index.holders) ≡ true
   pub is_kept : value_of nat_cmp line index.texts ≡ Some held
   pub other : held ≡ given → ⊥
 
--- a clash is reported only for a line's item whose line holds another checksum, and then that one is reported
+-- a clash of this item is reported rightly: `told` is the item's line, `given` is the item's checksum, and `held` is another
+-- checksum, which is held of the line
 abbrev pub IsClashAt : ItemData → FileIndexData → ℕ → List ℕ → List ℕ → Type 0
 IsClashAt (LineItem line count (Some checksum)) index told held given = (told ≡ line) × (given ≡ checksum) × IsOtherText index line held checksum
 IsClashAt (LineItem line count None) index told held given = ⊥

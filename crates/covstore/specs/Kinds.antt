@@ -66,15 +66,16 @@ at Branch each = each.branches
 abbrev pub of_each : {T : Kind → Type 0} → ((kind : Kind) → T kind) → Each T
 of_each f = record { lines = f Line; functions = f Function; branches = f Branch }
 
--- the same, with another value for one kind
+-- what `each` has, but with this value for this kind
 abbrev pub with_at : {T : Kind → Type 0} → (kind : Kind) → T kind → Each T → Each T
 with_at Line value each = record { lines = value; functions = each.functions; branches = each.branches }
 with_at Function value each = record { lines = each.lines; functions = value; branches = each.branches }
 with_at Branch value each = record { lines = each.lines; functions = each.functions; branches = value }
 
--- the points of a kind with their sums; and below, with their numbers of tests
+-- the points of a kind, each with its sum
 abbrev pub PointsOf : Kind → Type 0
 PointsOf kind = List (KeyOf kind × SumOf kind)
 
+-- the points of a kind, each with how many tests have it, and how many have it above 0
 abbrev pub CountsOf : Kind → Type 0
 CountsOf kind = List (KeyOf kind × Tests)

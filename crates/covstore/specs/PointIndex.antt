@@ -7,12 +7,12 @@ use Rattle.covstore.specs.declared.sums.TestsAddend.{TestsAddend}
 use Rattle.covstore.specs.PointIndexCounts.{found_of, hit_of, tests_with}
 use Rattle.covmap.specs.Puts.{put, value_of}
 
--- the counts after a test adds this to the point's numbers, if it adds anything
+-- the counts after a test adds this to the numbers of a point. At `None` it adds nothing
 abbrev pub changed : {K : Type 0} → (K → K → Ordering) → K → Option TestsAddend → List (K × Tests) → List (K × Tests)
 changed cmp key None counts = counts
 changed cmp key (Some more) counts = put cmp key (tests_with more (value_of cmp key counts)) counts
 
--- the tally of these points: how many are found, and how many are hit
+-- the tally is right for these counts: it says how many points are found, and how many of them are hit
 pub record IsTallyOf {K : Type 0} (counts : List (K × Tests)) (tally : KindTotals) : Type 0 where
   pub found : tally.found ≡ found_of counts
   pub hit : tally.hit ≡ hit_of counts

@@ -11,19 +11,20 @@ abbrev pub is_above_at : {V : Type 0} → (V → Bool) → Option V → Bool
 is_above_at is_above None = false
 is_above_at is_above (Some value) = is_above value
 
--- how many of the tests have the point, and how many have it above 0. A test is given by its points and their values
+-- how many of the tests have the point. A test is given by its points and their values
 abbrev pub count_with : {K V : Type 0} → (K → K → Ordering) → K → List (List (K × V)) → ℕ
 count_with cmp key tests = count_by (λ pairs. is_some (value_of cmp key pairs)) tests
 
+-- how many of the tests have the point above 0
 abbrev pub count_above : {K V : Type 0} → (K → K → Ordering) → (V → Bool) → K → List (List (K × V)) → ℕ
 count_above cmp is_above key tests = count_by (λ pairs. is_above_at is_above (value_of cmp key pairs)) tests
 
--- the numbers of a point, or none if no test has it
+-- the numbers of a point, or `None` if no test has it
 abbrev pub tests_at : {K V : Type 0} → (K → K → Ordering) → (V → Bool) → K → List (List (K × V)) → Option Tests
 tests_at cmp is_above key tests =
     if nat_lt 0 (count_with cmp key tests) then Some (record { tests = count_with cmp key tests; hit = count_above cmp is_above key tests }) else None
 
--- the counts are those of these tests: each point that a test has is there with its numbers
+-- the counts are those of these tests: they have each point that some test has, with its numbers, and no other point
 pub record AreCounts {K V : Type 0} (cmp : K → K → Ordering) (is_above : V → Bool) (tests : List (List (K × V))) (counts : List (K × Tests)) : Type 0 where
   pub ascending : ArePairs cmp counts
   pub counted : (key : K) → value_of cmp key counts ≡ tests_at cmp is_above key tests
@@ -32,16 +33,17 @@ pub record AreCounts {K V : Type 0} (cmp : K → K → Ordering) (is_above : V �
 abbrev pub is_hit_by_some : Tests → Bool
 is_hit_by_some numbers = nat_lt 0 numbers.hit
 
--- how many points there are, and how many of them some test has above 0
+-- how many points there are
 abbrev pub found_of : {K : Type 0} → List (K × Tests) → ℕ
 found_of counts = length counts
 
+-- how many of the points some test has above 0
 abbrev pub hit_of : {K : Type 0} → List (K × Tests) → ℕ
 hit_of counts = count_by (λ pair. nat_lt 0 pair.1.hit) counts
 
 -- ---- a value changes in one test
 
--- the addend for a condition: 1 if it is true, else 0
+-- 1 if the condition is true, else 0
 abbrev pub one_if : Bool → ℕ
 one_if true = 1
 one_if false = 0
@@ -50,10 +52,11 @@ abbrev pub tests_more : Bool → Bool → Option Tests → Tests
 tests_more is_new is_newly_hit None = record { tests = one_if is_new; hit = one_if is_newly_hit }
 tests_more is_new is_newly_hit (Some numbers) = record { tests = numbers.tests + one_if is_new; hit = numbers.hit + one_if is_newly_hit }
 
--- the point had no value before; and below, it is above 0 now and wasn't before
+-- the point had no value before
 abbrev pub is_new : {V : Type 0} → Option V → Bool
 is_new before = not (is_some before)
 
+-- the point's value is above 0 now, and wasn't before
 abbrev pub is_newly_hit : {V : Type 0} → (V → Bool) → Option V → V → Bool
 is_newly_hit is_above before after = is_above after && not (is_above_at is_above before)
 
@@ -75,6 +78,7 @@ tests_fit more before = IfSome before (λ numbers. (numbers.tests ≤ 2 ^ 63) ×
 abbrev pub change_by : Bool → Bool → Option TestsAddend
 change_by is_new is_hit = if is_new || is_hit then Some (record { is_new = is_new; is_hit = is_hit }) else None
 
--- what a test adds to a point's numbers: nothing if it had the point before, and doesn't have it above 0 for the first time
+-- what a test adds to a point's numbers when its value there changes from `before` to `after`. `None` if the test already had the
+-- point, and doesn't newly have it above 0
 abbrev pub change_of : {V : Type 0} → (V → Bool) → Option V → V → Option TestsAddend
 change_of is_above before after = change_by (is_new before) (is_newly_hit is_above before after)

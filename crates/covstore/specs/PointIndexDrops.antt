@@ -14,7 +14,7 @@ use Rattle.covmap.specs.Puts.{ArePairs, value_of}
 use Rattle.covstore.specs.State.{holders_at}
 use Rattle.covstore.specs.Sums.{TestData}
 
--- the point's numbers without one test that had it; none if it was the only test. `was_above` tells whether the test had the
+-- the point's numbers without one test that had the point, or `None` if no other test has it. `was_above`: that test had the
 -- point above 0
 abbrev pub fewer_tests : Bool → Tests → Option Tests
 fewer_tests was_above numbers = if nat_lt 1 numbers.tests then Some (record { tests = numbers.tests - 1; hit = numbers.hit - one_if was_above }) else None
@@ -27,7 +27,8 @@ fewer_of was_above (Some numbers) = fewer_tests was_above numbers
 abbrev pub counts_without : {K : Type 0} → (K → K → Ordering) → K → Bool → List (K × Tests) → List (K × Tests)
 counts_without cmp key was_above counts = assigned cmp key (fewer_of was_above (value_of cmp key counts)) counts
 
--- some test has the point: above 0 if `was_above`, else not. No more tests have it above 0 than have it
+-- the numbers count a test that has the point above 0 if `was_above`, else one that has it, but not above 0. No more tests have
+-- the point above 0 than have it
 abbrev pub HaveOne : Bool → Tests → Type 0
 HaveOne was_above numbers = (one_if was_above ≤ numbers.hit) × (numbers.hit < numbers.tests + one_if was_above)
 
@@ -39,16 +40,18 @@ CanLose was_above (Some numbers) = HaveOne was_above numbers
 abbrev pub AreWith : {K V : Type 0} → (K → K → Ordering) → (V → Bool) → List (K × V) → List (K × Tests) → Type 0
 AreWith {K} {V} cmp is_above points counts = (others : List (List (K × V))) × AreCounts cmp is_above (points ∷ others) counts
 
--- whatever the other tests are: `fewer` are the counts without that test
+-- whatever the other tests are: if `counts` are those of a test with these points and of the others, `fewer` are those of the
+-- others
 abbrev pub LosesTest : {K V : Type 0} → (K → K → Ordering) → (V → Bool) → List (K × V) → List (K × Tests) → List (K × Tests) → Type 0
 LosesTest {K} {V} cmp is_above points counts fewer = (others : List (List (K × V))) → AreCounts cmp is_above (points ∷ others) counts → AreCounts cmp is_above others fewer
 
--- whatever the other tests are: the tally is that of the counts without that test
+-- whatever the other tests are: if `counts` are those of a test with these points and of the others, the tally is that of the
+-- others' counts
 abbrev pub IsTallyWithout : {K V : Type 0} → (K → K → Ordering) → (V → Bool) → List (K × V) → List (K × Tests) → KindTotals → Type 0
 IsTallyWithout {K} {V} cmp is_above points counts tally =
     (others : List (List (K × V))) (rest : List (K × Tests)) → AreCounts cmp is_above (points ∷ others) counts → AreCounts cmp is_above others rest → IsTallyOf rest tally
 
--- the tally is that of other counts, which have the same numbers for this point
+-- the tally is that of `others`, which have the same numbers for this point as `counts`
 pub record IsTallyAt {K : Type 0} (cmp : K → K → Ordering) (key : K) (counts others : List (K × Tests)) (tally : KindTotals) : Type 0 where
   pub ascending : ArePairs cmp others
   pub same : value_of cmp key others ≡ value_of cmp key counts
@@ -62,7 +65,8 @@ totals_by lines functions branches = record { lf = lines.found; lh = lines.hit; 
 abbrev pub is_hit : Option Tests → Bool
 is_hit numbers = is_above_at (λ tests. nat_lt 0 tests.hit) numbers
 
--- the tally after a point's numbers fall: the point is no longer found, or no longer hit, if it was
+-- `less` is the tally after a point's numbers fall from `before` to `after`. One point less is found if no test has the point any
+-- more. One less is hit if the point was hit and isn't any more
 pub record IsLess (tally : KindTotals) (before : Tests) (after : Option Tests) (less : KindTotals) : Type 0 where
   pub found : less.found + 1 ≡ tally.found + one_if (is_some after)
   pub hit : less.hit + one_if (is_hit (Some before)) ≡ tally.hit + one_if (is_hit after)
@@ -72,7 +76,7 @@ pub record CanBeLess (tally : KindTotals) (before : Tests) (after : Option Tests
   pub hit : one_if (is_hit (Some before)) ≤ tally.hit + one_if (is_hit after)
   pub falls : is_hit after ≡ true → is_hit (Some before) ≡ true
 
--- the number of tests that hold a line's checksum, with one less; none if it was the only one
+-- this number of tests less one, or `None` if no test is left
 abbrev pub one_less : ℕ → Option ℕ
 one_less tests = if nat_lt 1 tests then Some (tests - 1) else None
 
@@ -83,7 +87,7 @@ less_of (Some tests) = one_less tests
 abbrev pub held_less : ℕ → List (ℕ × ℕ) → List (ℕ × ℕ)
 held_less line holders = assigned nat_cmp line (less_of (value_of nat_cmp line holders)) holders
 
--- the number of each line is how many of these tests hold a checksum of it
+-- for each line, `holders` has how many of these tests hold a checksum of it
 abbrev pub AreHolders : List TestData → List (ℕ × ℕ) → Type 0
 AreHolders tests holders = (line : ℕ) → value_of nat_cmp line holders ≡ holders_at line tests
 
@@ -91,10 +95,11 @@ AreHolders tests holders = (line : ℕ) → value_of nat_cmp line holders ≡ ho
 abbrev pub with_lines : List (ℕ × LineSum) → TestData
 with_lines lines = record { lines = lines; functions = []; branches = [] }
 
--- the numbers are those of a test with these lines and of some other tests
+-- `holders` are those of a test with these lines and of some other tests
 abbrev pub AreHoldersWith : List (ℕ × LineSum) → List (ℕ × ℕ) → Type 0
 AreHoldersWith lines holders = (others : List TestData) × AreHolders (with_lines lines ∷ others) holders
 
--- whatever the other tests are: `fewer` are the numbers without that test
+-- whatever the other tests are: if `holders` are those of a test with these lines and of the others, `fewer` are those of the
+-- others
 abbrev pub LosesHolders : List (ℕ × LineSum) → List (ℕ × ℕ) → List (ℕ × ℕ) → Type 0
 LosesHolders lines holders fewer = (others : List TestData) → AreHolders (with_lines lines ∷ others) holders → AreHolders others fewer

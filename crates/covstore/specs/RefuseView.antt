@@ -1,4 +1,4 @@
--- The refusal of the code, seen as plain data, and its number.
+-- A `Refuse`, seen as plain data, and its number.
 use Rattle.std.specs.Prelude.{ℕ}
 use Rattle.covstore.specs.declared.refuse.Refuse.{Refuse}
 use Rattle.covstore.specs.declared.refuse.Refuse.TheVariants as refusals

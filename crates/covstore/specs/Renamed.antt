@@ -5,7 +5,7 @@ use Rattle.covline.specs.Row.{Row}
 use Rattle.covstore.specs.Table.{Table}
 use Rattle.covstore.specs.Without.{is_of_test}
 
--- the row with the new test's name if it is of the old test; else the row as it is
+-- the row under the new name if it is of the old test, else the row as it is
 abbrev pub renamed_row : List ℕ → List ℕ → Row → Row
 renamed_row old new row = record { test = if bytes_eq row.test old then new else row.test; file = row.file; item = row.item }
 

@@ -20,7 +20,7 @@ use Rattle.covstore.specs.Table.{Table}
 use Rattle.covstore.specs.Value.{Key, items_at}
 use Rattle.covstore.specs.PointIndexCounts.{is_above_at}
 
--- a rename: in how many sections the old test is, and the test that the commit drops, if any
+-- a rename: in how many sections the old test is, and the test that the commit drops, if it drops one
 pub record RenamingData : Type 0 where
   pub sections : ℕ
   pub leaves : Option (List ℕ)
@@ -31,7 +31,7 @@ pub record IsMoving (store : StoreData) (old new leaves : List ℕ) : Type 0 whe
   pub apart : old ≢ new
   pub moves : (rows : List Row) → IsStateOf rows store.committed → IsStateOf (rows ++ moved_rows old new rows) store.staged
 
--- if no test is dropped, the rename leaves the table as it is
+-- if the commit drops no test, the rename leaves the table as it is. If it drops one, `IsMoving` holds
 abbrev pub IsMovingIfAny : StoreData → List ℕ → List ℕ → Option (List ℕ) → Type 0
 IsMovingIfAny store old new None = (table : Table) → StandsFor store table → renamed old new table ≡ table
 IsMovingIfAny store old new (Some leaves) = IsMoving store old new leaves
@@ -60,7 +60,8 @@ CopiesIn old new before after =
     (rows : List Row) (files : List (List ℕ × FileData)) (name : List ℕ) → HasFile rows files name before
     → HasFile (rows ++ copied_rows name old new rows) (put (slice_cmp nat_cmp) name after files) name after
 
--- the file has the old test. It is one of the files of some rows, which leave room for the copied rows
+-- the file has the old test. It is one of the files that some rows add up to, and the number of these rows leaves room for the
+-- copied rows
 pub record HasRoomToCopyIn (old : List ℕ) (file : FileData) : Type 0 where
   pub source : TestData
   pub its_source : value_of (slice_cmp nat_cmp) old file.tests ≡ Some source
@@ -70,8 +71,9 @@ pub record HasRoomToCopyIn (old : List ℕ) (file : FileData) : Type 0 where
   pub stands : HasFile rows files name file
   pub few : length rows + length (items_at (key_of name old) rows) ≤ 2 ^ 47
 
--- the staged files are the state of some rows, which leave room for the rows that are copied in this file. The old test has
--- points in it, the same committed as staged. The committed files are the state of some rows too
+-- the staged files are the state of some rows, and the number of these rows leaves room for those that are copied in this file.
+-- In this file, the old test has points, and its staged points are its committed ones. The committed files are the state of some
+-- rows too
 pub record HasRoomToCopy (file old : List ℕ) (store : StoreData) : Type 0 where
   pub own : List Row
   pub stands : IsStateOf own store.committed
@@ -96,10 +98,10 @@ function_item pair = FuncItem pair.0 pair.1.line pair.1.count
 abbrev pub branch_item : BranchPoint × BranchSum → ItemData
 branch_item pair = BranchItem pair.0.line pair.0.block pair.0.branch pair.1.times
 
--- one item for each point, with its value. `texts` has the checksums' texts
+-- one item for each point of the test, with the point's value. `texts` has the checksums of the file's lines
 abbrev pub items_of_test : List (ℕ × List ℕ) → TestData → List ItemData
 items_of_test texts test = map (line_item texts) test.lines ++ (map function_item test.functions ++ map branch_item test.branches)
 
--- each line with a checksum is one whose checksum the index holds
+-- for each of these lines that has a checksum, the index counts a test that holds it
 abbrev pub HasHolders : List (ℕ × LineSum) → FileIndexData → Type 0
 HasHolders lines index = (line : ℕ) → is_above_at has_checksum (value_of nat_cmp line lines) ≡ true → is_some (value_of nat_cmp line index.holders) ≡ true

@@ -75,11 +75,12 @@ with_items (item ∷ items) test = with_items items (with_item item test)
 abbrev pub HasRoomForRuns : Each RunOf → TestData → FileIndexData → Type 0
 HasRoomForRuns runs test index = (kind : Kind) → HasRoomForRun (cmp_of kind) (above_of kind) (at kind test) (at kind index.counts) (length (at kind runs))
 
--- for each kind: if the counts before were those of the tests, the counts after are those with the changed test
+-- one test changes from `before` to `after`. For each kind, and whatever the other tests are: if the counts in `index` are those
+-- of all tests before this change, the counts in `more` are those after it
 abbrev pub KeepsCountsOfKinds : TestData → TestData → FileIndexData → FileIndexData → Type 0
 KeepsCountsOfKinds before after index more = (kind : Kind) → KeepsCountsOfKind (cmp_of kind) (above_of kind) (at kind before) (at kind after) (at kind index.counts) (at kind more.counts)
 
--- the held checksums and their texts stay
+-- the checksums stay, and so do the numbers of tests that hold them
 pub record KeepsHeld (before after : FileIndexData) : Type 0 where
   pub holders : after.holders ≡ before.holders
   pub texts : after.texts ≡ before.texts

@@ -1,4 +1,4 @@
--- The runs of the code, seen as plain data.
+-- `Runs`, seen as plain data.
 use Rattle.std.specs.Prelude.{map}
 use Rattle.covline.specs.PointView.{branch_point_data}
 use Rattle.covstore.specs.declared.runs.Runs.{Runs}

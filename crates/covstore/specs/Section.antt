@@ -1,4 +1,4 @@
--- What staging a section's items does to their test and their file, among all files, and when the items clash.
+-- What staging a section's items does to their test and their file, whatever the other files are; and when the items clash.
 use Rattle.std.specs.Prelude.{◌≡◌, ℕ, ◌+◌, ◌≤◌, ◌^◌, Some, None, List, ◌++◌, length}
 use Rattle.std.specs.Cmp.Lexicographic.{slice_cmp}
 use Rattle.std.specs.Ordering.{nat_cmp}
@@ -11,8 +11,8 @@ use Rattle.covmap.specs.Puts.{put, value_of}
 use Rattle.covstore.specs.State.{FileData, IsStateOf, file_with}
 use Rattle.covstore.specs.Sums.{TestData}
 
--- the files are the state of rows whose checksums agree. The file of this name has these tests and this index, and the test of
--- this name has these points
+-- the files are the state of rows whose checksums agree. The file `file` has these tests and this index, and the test `name` of
+-- this file has the points `test`
 pub record IsIn (rows : List Row) (files : List (List ℕ × FileData)) (file : List ℕ) (name : List ℕ) (tests : List (List ℕ × TestData)) (test : TestData) (index : FileIndexData) : Type 0 where
   pub state : IsStateOf rows files
   pub agree : Agree (checksums_in rows)
@@ -22,11 +22,12 @@ pub record IsIn (rows : List Row) (files : List (List ℕ × FileData)) (file : 
 abbrev pub section_of_items : List ℕ → List ℕ → List ItemData → SectData
 section_of_items file name items = record { test = name; file = file; items = items }
 
--- the files after a test of a file gets these points, and the file this index
+-- these files, but the file `file` has these tests and this index, and the test `name` of this file has the points `test`
 abbrev pub files_with : List ℕ → List ℕ → List (List ℕ × TestData) → TestData → FileIndexData → List (List ℕ × FileData) → List (List ℕ × FileData)
 files_with file name tests test index files = put (slice_cmp nat_cmp) file (file_with (put (slice_cmp nat_cmp) name test tests) index) files
 
--- whatever the other files are: the test and the index afterwards are those with these items added, and they clash with nothing
+-- whatever the other files are: the test and the index afterwards are those with these items added, and the items clash with
+-- nothing
 abbrev pub Adds : List ItemData → TestData → FileIndexData → TestData → FileIndexData → Type 0
 Adds items test index test_after index_after =
     (rows : List Row) (files : List (List ℕ × FileData)) (file name : List ℕ) (tests : List (List ℕ × TestData)) → IsIn rows files file name tests test index
@@ -47,7 +48,8 @@ abbrev pub Clashes : {A : Type 0} → List ItemData → TestData → FileIndexDa
 Clashes items test index Memory = Unit {0}
 Clashes items test index (Clash line held given) = ClashesAt items test index line held given
 
--- the test and the index are in the files of some rows, which leave room for these items; and there are at most 2^63 tests
+-- the test and the index are those of one of the files that some rows add up to. The number of these rows leaves room for the
+-- items. The file has at most 2^63 tests
 pub record HasRoomFor (items : List ItemData) (test : TestData) (index : FileIndexData) : Type 0 where
   pub rows : List Row
   pub files : List (List ℕ × FileData)

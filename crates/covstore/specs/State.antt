@@ -44,7 +44,8 @@ holding line tests = count_by (λ test. is_above_at has_checksum (value_of nat_c
 abbrev pub holders_at : ℕ → List TestData → Option ℕ
 holders_at line tests = if nat_lt 0 (holding line tests) then Some (holding line tests) else None
 
--- the index counts these tests: for each point, how many have it; for each line, how many hold a checksum of it
+-- the index counts these tests: for each point, how many have it, and how many have it above 0; for each line, how many hold a
+-- checksum of it
 pub record IsIndexOf (tests : List TestData) (index : FileIndexData) : Type 0 where
   pub counts : (kind : Kind) → AreCounts (cmp_of kind) (above_of kind) (map (at kind) tests) (at kind index.counts)
   pub holders : (line : ℕ) → value_of nat_cmp line index.holders ≡ holders_at line tests
@@ -57,7 +58,7 @@ file_totals file = index_totals file.index
 
 -- ---- what contracts see of a file
 
--- the text of a line's checksum, if the test holds one
+-- a line's checksum, if the test holds one
 abbrev pub text_at : List (ℕ × List ℕ) → ℕ → Bool → Option (List ℕ)
 text_at texts line true = value_of nat_cmp line texts
 text_at texts line false = None
@@ -99,10 +100,11 @@ sections_of_file pair = flat_map (λ test. section_seen pair.0 pair.1.index.text
 abbrev pub sections_of : List (List ℕ × FileData) → List SectionData
 sections_of files = flat_map sections_of_file files
 
--- how many points of a kind a file has, and how many of them are hit
+-- how many points of a kind a file has
 abbrev pub found_at : Kind → List ℕ × FileData → ℕ
 found_at kind pair = found_of (at kind pair.1.index.counts)
 
+-- how many of these points are hit
 abbrev pub hit_at : Kind → List ℕ × FileData → ℕ
 hit_at kind pair = hit_of (at kind pair.1.index.counts)
 
@@ -116,15 +118,17 @@ totals_in files = record {
   bh = sum_by (hit_at Branch) files;
 }
 
--- the points of a test of a file; no points if the file or the test isn't there
+-- the points of a test, or no points if there is no test
 abbrev pub points_or_none : Option TestData → TestData
 points_or_none None = test_of []
 points_or_none (Some points) = points
 
+-- the points of a test in a file, or no points if there is no file, or no such test in it
 abbrev pub points_in : Option FileData → List ℕ → TestData
 points_in None test = test_of []
 points_in (Some file) test = points_or_none (value_of (slice_cmp nat_cmp) test file.tests)
 
+-- the points of a test in one of these files, or no points if the file or the test isn't there
 abbrev pub points_at : Key → List (List ℕ × FileData) → TestData
 points_at key files = points_in (value_of (slice_cmp nat_cmp) key.file files) key.test
 
@@ -132,7 +136,7 @@ points_at key files = points_in (value_of (slice_cmp nat_cmp) key.file files) ke
 abbrev pub has_points_of : List ℕ → FileData → Bool
 has_points_of test file = not (has_no_points (points_in (Some file) test))
 
--- the text that is kept for a line's checksum in a file
+-- the checksum that a file keeps for a line. It may be one that no test holds any more
 abbrev pub text_in : Option FileData → ℕ → Option (List ℕ)
 text_in None line = None
 text_in (Some file) line = value_of nat_cmp line file.index.texts
@@ -142,8 +146,8 @@ pub record IsConsistentFile (file : FileData) : Type 0 where
   pub ascending : ArePairs (slice_cmp nat_cmp) file.tests
   pub kept : AreKept (tests_in file) file
 
--- the files are what the rows add up to. Each test of a file has the points of its items, with their values; the texts are those
--- of the rows' checksums; and the index of each file counts its tests
+-- the files are what the rows add up to. Each test of a file has the points of its items, with their values. Each checksum of the
+-- rows is kept for its line. The index of each file counts the file's tests. Files and tests without points may be there too
 pub record IsStateOf (rows : List Row) (files : List (List ℕ × FileData)) : Type 0 where
   pub ascending : ArePairs (slice_cmp nat_cmp) files
   pub points : (key : Key) → points_at key files ≡ test_of (items_at key rows)

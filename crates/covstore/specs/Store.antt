@@ -1,4 +1,4 @@
--- What a store is to its callers: its content, the tables that it stands for, and what is staged.
+-- What a store is to its callers: its content, the tables that it represents, and what is staged.
 use Rattle.std.specs.Prelude.{◌≡◌, ℕ, ◌+◌, ◌<◌, ◌≤◌, ◌^◌, List, ◌++◌, Some, None, length}
 use Rattle.std.specs.List.{AllByRecursion}
 use Rattle.covline.specs.Row.{Row, SubmissionData, rows_of}
@@ -26,7 +26,8 @@ pub record SameContent (before after : StoreData) : Type 0 where
   pub sections : after.sections ≡ before.sections
   pub members : after.members ≡ before.members
 
--- the files before and after are the state of the same rows, and have the same totals. Entries without values may be added
+-- if the files before are the state of some rows, the files after are their state too. The totals of both are the same. Files and
+-- tests without points may be added
 pub record KeepsState (before after : List (List ℕ × FileData)) : Type 0 where
   pub states : (rows : List Row) → IsStateOf rows before → IsStateOf rows after
   pub totals : totals_in after ≡ totals_in before
@@ -37,7 +38,9 @@ pub record SameCommitted (before after : StoreData) : Type 0 where
   pub members : after.members ≡ before.members
   pub committed : KeepsState before.committed after.committed
 
--- the store's content is the value of all rows of the table, and the table has no two different checksums of one line of a file
+-- the store represents the table: its content is the value of all rows of the table, and it holds as many submissions as the
+-- table has members. The table has no two different checksums of one line of a file. It has at most `max_members` members, each
+-- with at most `max_items` rows
 pub record StandsFor (store : StoreData) (table : Table) : Type 0 where
   pub content : store.sections ≡ content_at table
   pub members : store.members ≡ length table
@@ -49,8 +52,8 @@ pub record StandsFor (store : StoreData) (table : Table) : Type 0 where
 pub record PlanData : Type 0 where
   pub after : Totals
 
--- if the files before are the state of some rows, the files after are the state of these rows and the added ones, which clash
--- with nothing
+-- if the files before are the state of some rows whose checksums agree, the files after are the state of these rows and the added
+-- ones. The added rows clash neither with these nor with each other
 abbrev pub AddsTo : List Row → List (List ℕ × FileData) → List (List ℕ × FileData) → Type 0
 AddsTo added before after =
     (rows : List Row) → IsStateOf rows before → Agree (checksums_in rows)
@@ -71,19 +74,19 @@ pub data RefuseData : Type 0 where
   ClashRefuse : (clash : ClashData) → RefuseData
   MemoryRefuse : RefuseData
 
--- a clash is reported only if the submission clashes with the table, and then this clash is reported
+-- if the refusal is a clash, it is the first clash of the submission with the table
 abbrev pub IsRefusedAt : Table → SubmissionData → RefuseData → Type 0
 IsRefusedAt table submission (ClashRefuse clash) = clash_at table submission ≡ Some clash
 IsRefusedAt table submission MemoryRefuse = Unit {0}
 
 -- ---- staging rows
 
--- rows are staged, and the totals follow them
+-- the rows are added to what is staged. If the totals after the next commit were those of the staged files, they still are
 pub record AddsRows (added : List Row) (before after : StoreData) : Type 0 where
   pub adds : AddsTo added before.staged after.staged
   pub totals : before.after ≡ totals_in before.staged → after.after ≡ totals_in after.staged
 
--- a clash is reported only if the rows clash with those of the files, and then their first clash is reported
+-- if the refusal is a clash, it is the first clash of the added rows with the rows that the files are the state of
 abbrev pub ClashesAmong : List Row → List (List ℕ × FileData) → RefuseData → Type 0
 ClashesAmong added files MemoryRefuse = Unit {0}
 ClashesAmong added files (ClashRefuse clash) = (rows : List Row) → IsStateOf rows files → Agree (checksums_in rows) → clash_of rows added ≡ Some clash
@@ -91,7 +94,7 @@ ClashesAmong added files (ClashRefuse clash) = (rows : List Row) → IsStateOf r
 abbrev pub ClashesWith : List Row → StoreData → RefuseData → Type 0
 ClashesWith added store refusal = ClashesAmong added store.staged refusal
 
--- the staged files are the state of some rows, which leave room for the added ones
+-- the staged files are the state of some rows, whose number leaves room for the added ones
 pub record HasRoomForRows (added : List Row) (store : StoreData) : Type 0 where
   pub rows : List Row
   pub state : IsStateOf rows store.staged

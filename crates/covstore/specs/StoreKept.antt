@@ -5,7 +5,7 @@ use Rattle.covstore.specs.Store.{StoreData}
 use Rattle.covstore.specs.StoreView.{IsStore}
 use Rattle.covstore.specs.State.{sections_of}
 
--- the committed files are the state of a table's rows, with these totals, and the sections are those of these files
+-- the committed files are the state of a table's rows, and have these totals. The store's sections are those of these files
 pub record IsKept (store : StoreData) (committed : Totals) : Type 0 where
   pub is : IsStore store.members committed store.committed
   pub seen : store.sections ≡ sections_of store.committed

@@ -1,4 +1,4 @@
--- What the files of a store need for a section's items, and when the items are refused.
+-- When a store's files have room for a section's items, and when the items are refused.
 use Rattle.std.specs.Prelude.{◌≡◌, ℕ, ◌+◌, ◌≤◌, ◌^◌, Some, List, length}
 use Rattle.covline.specs.Row.{ItemData, Row, rows_of_sect}
 use Rattle.covstore.specs.Section.{section_of_items}
@@ -11,13 +11,13 @@ use Rattle.covstore.specs.Store.{RefuseData, ClashRefuse, MemoryRefuse}
 abbrev pub rows_of_items : List ℕ → List ℕ → List ItemData → List Row
 rows_of_items name test items = rows_of_sect (section_of_items name test items)
 
--- whatever the other files are: these items clash in the file of this name, and this is their first clash
+-- if the refusal is a clash, it is the first clash of these items in the file of this name, whatever the other files are
 abbrev pub RefusedIn : List ItemData → List ℕ → List ℕ → FileData → RefuseData → Type 0
 RefusedIn items name test file MemoryRefuse = Unit {0}
 RefusedIn items name test file (ClashRefuse clash) =
     (rows : List Row) (files : List (List ℕ × FileData)) → HasFile rows files name file → clash_of rows (rows_of_items name test items) ≡ Some clash
 
--- the files are the state of some rows, which leave room for the added ones
+-- the files are the state of some rows, whose number leaves room for the added ones
 pub record HasRoomAmong (added : List Row) (files : List (List ℕ × FileData)) : Type 0 where
   pub rows : List Row
   pub state : IsStateOf rows files

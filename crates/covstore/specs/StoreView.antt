@@ -21,7 +21,8 @@ files_committed name pairs = map (λ pair. (name pair.0, file_committed pair.1))
 abbrev pub files_staged : {K A : Type 0} → (K → List ℕ) → List (K × File A) → List (List ℕ × FileData)
 files_staged name pairs = map (λ pair. (name pair.0, file_staged pair.1)) pairs
 
--- the files are the state of the rows of some table with this number of members, whose checksums agree; the totals are theirs
+-- the files are the state of the rows of some table, whose checksums agree. The table has this number of members, at most
+-- `max_members`, each with at most `max_items` rows. The totals are those of the files
 pub record IsStore (members : ℕ) (committed : Totals) (files : List (List ℕ × FileData)) : Type 0 where
   pub own : Table
   pub state : IsStateOf (all_rows own) files

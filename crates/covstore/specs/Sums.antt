@@ -12,7 +12,7 @@ use Rattle.covstore.specs.Kinds.{Branch, Each, Function, KeyOf, Kind, Line, Poin
 use Rattle.covmap.specs.Puts.{put, value_of}
 use Rattle.covstore.specs.Value.{bounded, branch_cmp, branch_value, branches_in, function_count, function_start, line_checksum, line_value, lines_in, names_in}
 
--- the lines, functions and branches of a test, each with what its items add up to
+-- the lines, functions and branches of a test. Each point has what the test's items add up to there
 abbrev pub TestData : Type 0
 TestData = Each PointsOf
 
@@ -48,7 +48,7 @@ abbrev pub function_with : ℕ → ℕ → Option FunctionSum → FunctionSum
 function_with line count None = record { line = line; count = bounded count }
 function_with line count (Some before) = record { line = min before.line line; count = bounded (before.count + count) }
 
--- the sum of two numbers that may be missing; none if both are missing
+-- the sum of two numbers, each of which may be missing. `None` if both are missing
 abbrev pub sum_taken : Option ℕ → Option ℕ → Option ℕ
 sum_taken None None = None
 sum_taken None (Some taken) = Some (bounded taken)

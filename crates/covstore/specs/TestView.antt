@@ -1,4 +1,4 @@
--- A test of the code, seen as plain data: committed, and staged.
+-- A `Test`, seen as plain data: committed, and staged.
 use Rattle.covstore.specs.declared.test.Test.{Test}
 use Rattle.covstore.specs.Sums.{TestData}
 

@@ -1,4 +1,4 @@
--- Items whose checksums are held at once for their test: of which lines they are, and what is kept of the file then.
+-- What it does to a file's index that a test holds the checksums of several items at once, and which lines these are of.
 use Rattle.std.specs.Prelude.{◌≡◌, ℕ, ◌≤◌, ◌^◌, true, Some, None, List, [], ◌∷◌, ◌++◌, Contains}
 use Rattle.std.specs.List.{AllByRecursion, flat_map}
 use Rattle.std.specs.List.Sorted.{IsStrictlySortedBy}
@@ -26,21 +26,22 @@ checked_line (BranchItem line block branch taken) = []
 abbrev pub checked_lines : List ItemData → List ℕ
 checked_lines items = flat_map checked_line items
 
--- they ascend, and none is below the least
+-- the lines strictly ascend, and none is below `least`
 pub record AscendFrom (least : ℕ) (lines : List ℕ) : Type 0 where
   pub above : AllByRecursion (λ line. least ≤ line) lines
   pub sorted : IsStrictlySortedBy nat_cmp lines
 
 -- ---- one item
 
--- how many tests hold a checksum of each line, where the test holds that of an item
+-- for each line, how many tests hold a checksum of it after this test holds the item's checksum
 abbrev pub holders_with : ItemData → TestData → List (ℕ × ℕ) → List (ℕ × ℕ)
 holders_with (LineItem line count (Some checksum)) test holders = held_more line (is_above_at has_checksum (value_of nat_cmp line test.lines)) holders
 holders_with (LineItem line count None) test holders = holders
 holders_with (FuncItem name line count) test holders = holders
 holders_with (BranchItem line block branch taken) test holders = holders
 
--- where the test holds a checksum of the item's line, one is held; and one test more can be counted
+-- for an item with a checksum: if the test already holds one of the item's line, the index counts a test that holds it. There is
+-- room to count one more test
 abbrev pub HasRoomToHold : ItemData → TestData → FileIndexData → Type 0
 HasRoomToHold (LineItem line count (Some checksum)) test index =
     (is_above_at has_checksum (value_of nat_cmp line test.lines) ≡ true → is_some (value_of nat_cmp line index.holders) ≡ true)
@@ -49,7 +50,7 @@ HasRoomToHold (LineItem line count None) test index = Unit {0}
 HasRoomToHold (FuncItem name line count) test index = Unit {0}
 HasRoomToHold (BranchItem line block branch taken) test index = Unit {0}
 
--- the test holds the item's checksum, and all else that is kept stays
+-- the index afterwards: the test holds the item's checksum, and nothing else that the index counts or holds changes
 pub record HoldsText (item : ItemData) (test : TestData) (before after : FileIndexData) : Type 0 where
   pub counts : after.counts ≡ before.counts
   pub holders : after.holders ≡ holders_with item test before.holders
@@ -58,13 +59,14 @@ pub record HoldsText (item : ItemData) (test : TestData) (before after : FileInd
 
 -- ---- several items
 
--- whatever the other tests are: numbers that told how many of them hold a checksum of each line do so with the changed one
+-- one test changes from `before` to `after`. Whatever the other tests are: if `holders` counts for each line the tests that hold
+-- a checksum of it before this change, `more` counts them after it
 abbrev pub KeepsHolders : TestData → TestData → List (ℕ × ℕ) → List (ℕ × ℕ) → Type 0
 KeepsHolders before after holders more =
     (front back : List TestData) → ((line : ℕ) → value_of nat_cmp line holders ≡ holders_at line (front ++ before ∷ back))
     → (line : ℕ) → value_of nat_cmp line more ≡ holders_at line (front ++ after ∷ back)
 
--- the test holds the items' checksums, and all else that is kept stays
+-- the index afterwards: the test holds the items' checksums, and nothing else that the index counts or holds changes
 pub record HoldsTexts (items : List ItemData) (test : TestData) (before after : FileIndexData) : Type 0 where
   pub counts : after.counts ≡ before.counts
   pub holders : KeepsHolders test (with_items items test) before.holders after.holders

@@ -18,29 +18,32 @@ files_in sections = ascending (slice_cmp nat_cmp) (map (λ s. s.key.file) sectio
 abbrev pub sections_of : List ℕ → List SectionData → List SectionData
 sections_of file sections = filter (λ s. bytes_eq s.key.file file) sections
 
--- the lines of a file's sections, each once; a line is hit if some section has it above 0
+-- the lines of a file's sections, each once
 abbrev pub lines_found : List SectionData → List ℕ
 lines_found sections = ascending nat_cmp (flat_map (λ s. map (λ l. l.line) s.lines) sections)
 
+-- some section has the line with a count above 0
 abbrev pub is_line_hit : List SectionData → ℕ → Bool
 is_line_hit sections line = list_any (λ s. list_any (λ l. l.line == line && nat_lt 0 l.count) s.lines) sections
 
--- likewise the functions, by their names
+-- the names of the functions of a file's sections, each once
 abbrev pub functions_found : List SectionData → List (List ℕ)
 functions_found sections = ascending (slice_cmp nat_cmp) (flat_map (λ s. map (λ f. f.name) s.functions) sections)
 
+-- some section has the function with a count above 0
 abbrev pub is_function_hit : List SectionData → List ℕ → Bool
 is_function_hit sections name = list_any (λ s. list_any (λ f. bytes_eq f.name name && nat_lt 0 f.count) s.functions) sections
 
--- and the branches
+-- the branches of a file's sections, each once
 abbrev pub branches_found : List SectionData → List BranchPoint
 branches_found sections = ascending branch_cmp (flat_map (λ s. map (λ b. b.point) s.branches) sections)
 
+-- some section has the branch, taken at least once
 abbrev pub is_branch_hit : List SectionData → BranchPoint → Bool
 is_branch_hit sections point =
     list_any (λ s. list_any (λ b. is_branch point b.point.line b.point.block b.point.branch && is_taken b.taken) s.branches) sections
 
--- the sum over the files of what is counted in the sections of each
+-- a number is counted for each file, from the file's sections. This is the sum of these numbers
 abbrev pub over_files : (List SectionData → ℕ) → List SectionData → ℕ
 over_files count sections = sum_by (λ file. count (sections_of file sections)) (files_in sections)
 

@@ -11,7 +11,7 @@ pub record IsAmong (part whole : Totals) : Type 0 where
   pub bf : part.bf ≤ whole.bf
   pub bh : part.bh ≤ whole.bh
 
--- the sums of both fit in 64 bits
+-- each number of `a` and that of `b` have a sum that fits in 64 bits
 pub record FitTogether (a b : Totals) : Type 0 where
   pub lf : b.lf + a.lf < 2 ^ 64
   pub lh : b.lh + a.lh < 2 ^ 64
@@ -30,7 +30,7 @@ exchanged whole before after = record {
   bh = whole.bh - before.bh + after.bh;
 }
 
--- in the whole, the part `before` is replaced by `after`, which gives `later`
+-- if the part `before` of the whole is replaced by `after`, the result is `later`
 pub record IsExchange (before after whole later : Totals) : Type 0 where
   pub part : IsAmong before whole
   pub fits : FitTogether after whole
@@ -39,7 +39,7 @@ pub record IsExchange (before after whole later : Totals) : Type 0 where
 abbrev pub no_totals : Totals
 no_totals = record { lf = 0; lh = 0; ff = 0; fh = 0; bf = 0; bh = 0 }
 
--- the sums of both
+-- each number of `a` added to that of `b`
 abbrev pub together : Totals → Totals → Totals
 together a b = record { lf = a.lf + b.lf; lh = a.lh + b.lh; ff = a.ff + b.ff; fh = a.fh + b.fh; bf = a.bf + b.bf; bh = a.bh + b.bh }
 

@@ -1,4 +1,4 @@
--- Totals over rows: the items of one file over all tests, its points that are hit, and what is counted of them.
+-- The totals, counted from rows: for each file from the items of all its tests.
 use Rattle.std.specs.Prelude.{ℕ, Bool, false, nat_lt, ◌==◌, ◌&&◌, List, length, map, filter, count_by}
 use Rattle.std.specs.declared.cmp.Ordering.{Ordering}
 use Rattle.std.specs.Ordering.{nat_cmp}
@@ -30,12 +30,12 @@ abbrev pub hits_line : ℕ → ItemData → Bool
 hits_line line (LineItem at count checksum) = at == line && nat_lt 0 count
 hits_line line item = false
 
--- likewise this function
+-- the item has this function with a count above 0
 abbrev pub hits_function : List ℕ → ItemData → Bool
 hits_function name (FuncItem other line count) = bytes_eq other name && nat_lt 0 count
 hits_function name item = false
 
--- and this branch
+-- the item has this branch, taken at least once
 abbrev pub hits_branch : BranchPoint → ItemData → Bool
 hits_branch point (BranchItem line block branch taken) = is_branch point line block branch && is_taken taken
 hits_branch point item = false
@@ -44,10 +44,11 @@ hits_branch point item = false
 abbrev pub is_hit_in : {X : Type 0} → (X → ItemData → Bool) → List ItemData → X → Bool
 is_hit_in hits items point = list_any (hits point) items
 
--- how many points of a kind the items have, and how many of them are hit
+-- how many different points of a kind the items have
 abbrev pub found_in : {X : Type 0} → (X → X → Ordering) → (ItemData → List X) → List ItemData → ℕ
 found_in cmp point items = length (ascending cmp (flat_map point items))
 
+-- how many of these points some item hits
 abbrev pub hit_in : {X : Type 0} → (X → X → Ordering) → (ItemData → List X) → (X → ItemData → Bool) → List ItemData → ℕ
 hit_in cmp point hits items = count_by (is_hit_in hits items) (ascending cmp (flat_map point items))
 

@@ -14,14 +14,14 @@ pub record Key : Type 0 where
   pub file : List ℕ
   pub test : List ℕ
 
--- by file and then by test, each by its bytes
+-- the order of keys: by file and then by test, both byte by byte
 abbrev pub key_cmp : Key → Key → Ordering
 key_cmp a b = ordering_then (slice_cmp nat_cmp a.file b.file) (slice_cmp nat_cmp a.test b.test)
 
 abbrev pub key_of_row : Row → Key
 key_of_row row = record { file = row.file; test = row.test }
 
--- the files and tests with a row, ascending
+-- the keys of the rows, each once, ascending
 abbrev pub keys_of : List Row → List Key
 keys_of rows = ascending key_cmp (map key_of_row rows)
 
@@ -76,7 +76,7 @@ abbrev pub start_said : List ℕ → ItemData → List ℕ
 start_said name (FuncItem other line count) = if bytes_eq other name then line ∷ [] else []
 start_said name item = []
 
--- the value of a function: its least start line (0 if no item gives one), and the sum of its counts
+-- the start line of a function: the least one that an item gives, or 0 if none gives one
 abbrev pub function_start : List ℕ → List ItemData → ℕ
 function_start name items = unwrap_or (least (flat_map (start_said name) items)) 0
 
@@ -84,12 +84,13 @@ abbrev pub function_added : List ℕ → ItemData → ℕ
 function_added name (FuncItem other line count) = if bytes_eq other name then count else 0
 function_added name item = 0
 
+-- the count of a function: the sum of its counts
 abbrev pub function_count : List ℕ → List ItemData → ℕ
 function_count name items = bounded (sum_by (function_added name) items)
 
 -- ---- branches
 
--- by line, block and number
+-- the order of branches: by line, then by block, then by number
 abbrev pub branch_cmp : BranchPoint → BranchPoint → Ordering
 branch_cmp a b = ordering_then (nat_cmp a.line b.line) (ordering_then (nat_cmp a.block b.block) (nat_cmp a.branch b.branch))
 
@@ -100,17 +101,17 @@ branches_in items = ascending branch_cmp (branch_points items)
 abbrev pub is_branch : BranchPoint → ℕ → ℕ → ℕ → Bool
 is_branch point line block branch = line == point.line && block == point.block && branch == point.branch
 
--- the number of times taken that an item gives for this branch
+-- how often this branch was taken, if the item gives a number
 abbrev pub taken_said : BranchPoint → ItemData → List ℕ
 taken_said point (BranchItem line block branch (Some taken)) = if is_branch point line block branch then taken ∷ [] else []
 taken_said point item = []
 
--- none if there are no numbers, else their sum
+-- the sum of the numbers, or `None` if there are no numbers
 abbrev pub sum_if_any : List ℕ → Option ℕ
 sum_if_any [] = None
 sum_if_any (n ∷ ns) = Some (bounded (sum_by (λ m. m) (n ∷ ns)))
 
--- the value of a branch: none if no item gives a number for it, else the sum of the numbers
+-- the value of a branch: the sum of the numbers that items give for it, or `None` if no item gives one
 abbrev pub branch_value : BranchPoint → List ItemData → Option ℕ
 branch_value point items = sum_if_any (flat_map (taken_said point) items)
 

@@ -1,4 +1,4 @@
--- Points of the code with their values, seen as plain data.
+-- A `FunctionValue`, a `BranchValue` and a `LineValue`, seen as plain data.
 use Rattle.std.specs.Prelude.{option_map}
 use Rattle.covstore.specs.declared.values.FunctionValue.{FunctionValue}
 use Rattle.covstore.specs.declared.values.BranchValue.{BranchValue}

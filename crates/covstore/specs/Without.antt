@@ -12,6 +12,6 @@ is_of_test test row = bytes_eq row.test test
 abbrev pub without_test : List ℕ → Table → Table
 without_test test table = map (filter (λ row. not (is_of_test test row))) table
 
--- the number of different files and tests with a row of this test
+-- in how many sections the test is: the number of different files that have a row of it
 abbrev pub sections_of_test : List ℕ → Table → ℕ
 sections_of_test test table = length (keys_of (filter (is_of_test test) (all_rows table)))

@@ -1,4 +1,4 @@
-//! The sections of a store, one after another, and the points of a section. They take no memory.
+//! Iterators over the sections of a store, and over the points of a section. They take no memory.
 
 ghost use Rattle.std.specs.Iterator.{YieldsFirstBy};
 ghost use Rattle.covstore.specs.ContentView.{or_none};
@@ -15,7 +15,7 @@ use std::alloc::{Allocator, Global};
 use std::collections::btree_map::Iter;
 use std::marker::Model;
 
-/// The tests of a file that are left. Contracts see their sections.
+/// An iterator over the sections of a file. Contracts see the sections that are left.
 #[derive(Drop)]
 pub(crate) struct FileSections<'a, A: Allocator> {
     file: &'a [u8],
@@ -100,7 +100,7 @@ impl<'a, A: Allocator> Section<'a, A> {
         self.test
     }
 
-    /// The functions, ascending by the bytes of their names. There are fewer than 2^64, as of branches and lines.
+    /// The functions, ascending by the bytes of their names. There are fewer than 2^64 functions, branches and lines each.
     pub fn functions(&self) -> Functions<'a, A>
         ensures value { result ≡ self.now.functions }
         ensures few { length result < 2 ^ 64 }
@@ -130,7 +130,7 @@ impl<'a, A: Allocator> FileSections<'a, A> {
     ghost use Rattle.std.specs.List.{AllByRecursion};
     ghost use Rattle.covstore.specs.ContentView.{IsFewOf, tests_seen};
 
-    /// The sections of these tests of a file.
+    /// An iterator over the sections of these tests, which are those of the file.
     pub(crate) fn of(
         file: &'a [u8],
         index: &'a FileIndex<A>,
@@ -170,7 +170,7 @@ impl<'a, A: Allocator> Sections<'a, A> {
     ghost use Rattle.covstore.specs.ContentView.{IsFewOf};
     ghost use Rattle.covstore.specs.State.{sections_of};
 
-    /// The sections of these files.
+    /// An iterator over the sections of these files.
     pub(crate) fn of(files: Iter<'a, Path<A>, Boxed<File<A>, A>>) -> Sections<'a, A>
         requires { AllByRecursion IsFewOf (sections_of (files_committed (λ name. name.items) files)) }
         ensures { result ≡ sections_of (files_committed (λ name. name.items) files.entry) }
@@ -182,7 +182,7 @@ impl<'a, A: Allocator> Sections<'a, A> {
     }
 }
 
-/// The next section of the current file.
+/// The next section of the current file, or `None` if no section of it is left or there is no current file.
 fn next_of_file<'a, A: Allocator>(
     current: &mut Option<FileSections<'a, A>>,
 ) -> Option<Section<'a, A>>

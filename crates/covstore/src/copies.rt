@@ -58,7 +58,7 @@ fn add_lines<A: Allocator + Copy>(
     Ok(())
 }
 
-/// Stages the value of a line. Copies its checksum into this text first, since the index can't lend it while it changes.
+/// Stages the value of a line. Copies the line's checksum into `text` first, since the index can't lend it while it is changed.
 fn add_line_value<A: Allocator + Copy>(
     test: &mut Test<A>,
     index: &mut FileIndex<A>,
@@ -83,7 +83,7 @@ fn add_line_value<A: Allocator + Copy>(
     }
 }
 
-/// Copies a line's checksum into this text, if there is one.
+/// Copies a line's checksum into `text` and returns the copy, or `None` if the line has no checksum.
 fn copied_text<'t, A: Allocator>(
     index: &FileIndex<A>,
     line: u64,

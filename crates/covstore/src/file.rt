@@ -29,7 +29,7 @@ impl<A: Allocator> File<A> {
     ghost use Rattle.covstore.specs.FileView.{file_committed};
     ghost use Rattle.covstore.specs.State.{sections_of_file};
 
-    /// The sections of the file, whose name this is.
+    /// An iterator over the sections of the file. `name` is the file's name.
     pub(crate) fn sections<'a>(&'a self, name: &'a [u8]) -> FileSections<'a, A>
         requires { AllByRecursion IsFewOf (sections_of_file (name.now, file_committed self.now)) }
         ensures { result ≡ sections_of_file (name.now, file_committed self.now) }
@@ -56,7 +56,7 @@ impl<A: Allocator + Copy> File<A> {
     ghost use Rattle.covstore.specs.StoreSection.{RefusedIn};
     ghost use Rattle.covstore.specs.State.{FileData, IsConsistentFile, file_totals, has_points_of};
 
-    /// No tests.
+    /// A file without tests.
     pub(crate) fn new(alloc: A) -> File<A>
         ensures committed { file_committed result ≡ no_file }
         ensures staged { file_staged result ≡ no_file }
@@ -68,7 +68,7 @@ impl<A: Allocator + Copy> File<A> {
         }
     }
 
-    /// Stages the items of a test, in order, up to the first that clashes. Adds the test if the file doesn't have it.
+    /// Stages the items of a test, and ends at the first item that clashes. Adds the test if the file doesn't have it.
     fn add(&mut self, alloc: A, test: &[u8], items: &[Item<A>]) -> Result<(), StageFault<A>>
         requires { HasRoomIn (map item_data items.now) (file_staged self.old) }
         ensures committed { KeepsIn (file_committed self.old) (file_committed self.new) }
@@ -174,7 +174,7 @@ impl<A: Allocator + Copy> File<A> {
         let Some(place) = self.tests.get_mut(new) else {
             unreachable!();
         };
-        // Taken out of the map while the other test is borrowed.
+        // The new test is taken out of the map, since the old test is borrowed from the map below.
         let mut points = mem::replace(place, empty);
         let Some(source) = self.tests.get(old) else {
             unreachable!();
@@ -244,7 +244,7 @@ impl<A: Allocator + Copy> File<A> {
         }
     }
 
-    /// Whether the test has committed points, and the file's totals without the test.
+    /// Whether the test has committed points, and the file's committed totals without the test.
     pub(crate) fn without_test(&self, test: &[u8]) -> (bool, Totals)
         requires { IsConsistentFile (file_committed self.now) }
         ensures has_points { result.0 ≡ has_points_of test.now (file_committed self.now) }

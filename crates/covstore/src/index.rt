@@ -1,4 +1,4 @@
-//! The index of a file: numbers over all its tests, and its checksums.
+//! The index of a file: how many of its tests have each point, and the checksums of its lines.
 
 ghost use Rattle.std.specs.Prelude.{◌≡◌};
 ghost use Rattle.covstore.specs.PointIndexDrops.{totals_by};
@@ -13,7 +13,7 @@ use crate::test::Test;
 use crate::totals::Totals;
 use std::alloc::Allocator;
 
-/// For each point of a file, how many tests have it; and the checksums of the file's lines.
+/// For each point of a file, how many tests have it, and how many have it above 0; and the checksums of the file's lines.
 #[derive(Drop)]
 pub(crate) struct FileIndex<A: Allocator> {
     pub lines: PointIndex<u64, A>,
@@ -76,7 +76,7 @@ impl<A: Allocator + Copy> FileIndex<A> {
         )
     }
 
-    /// Removes a test with these points. Nothing is staged afterwards.
+    /// Stops counting a test that has these points. Nothing is staged afterwards.
     pub(crate) fn drop_points(&mut self, points: &Test<A>)
         requires { (others : List TestData) × IsIndexOf (test_committed points.now ∷ others) (index_committed self.old) }
         ensures committed { (others : List TestData) → IsIndexOf (test_committed points.now ∷ others) (index_committed self.old) → IsIndexOf others (index_committed self.new) }
@@ -100,7 +100,7 @@ impl<A: Allocator + Copy> FileIndex<A> {
         )
     }
 
-    /// The file's totals without a test that has these points.
+    /// The file's committed totals without a test that has these points.
     pub(crate) fn totals_without(&self, points: &Test<A>) -> Totals
         requires { (others : List TestData) × IsIndexOf (test_committed points.now ∷ others) (index_committed self.now) }
         ensures { (others : List TestData) (rest : FileIndexData) → IsIndexOf (test_committed points.now ∷ others) (index_committed self.now) → IsIndexOf others rest → result ≡ index_totals rest }

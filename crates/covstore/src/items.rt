@@ -19,7 +19,7 @@ use covline::{BranchPoint, Item};
 use covmap::{Key, Query, StagedMap};
 use std::alloc::{AllocError, Allocator};
 
-/// Stages an item.
+/// Stages an item of any kind.
 #[inline(always)]
 pub(crate) fn stage_item<A: Allocator + Copy>(
     test: &mut Test<A>,

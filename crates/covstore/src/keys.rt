@@ -15,9 +15,9 @@ use std::alloc::{AllocError, Allocator};
 use std::cmp::Ordering;
 use std::marker::Model;
 
-/// A key of the points of a kind.
+/// A key of a map of points, such as the number of a line.
 pub(crate) trait PointKey<'a, A: Allocator>: Key {
-    /// The query for a key of this type.
+    /// The type of queries for keys of this type.
     type Name: Query<Self, A>;
 
     /// The query for this key.
@@ -87,7 +87,7 @@ impl<A: Allocator> Query<FunctionName<A>, A> for &[u8] {
     }
 }
 
-/// Compares two names. Both have one lifetime: only this form of the call has a contract.
+/// Compares two names. They have the same lifetime, since `cmp` has a contract only for that case.
 fn compare_names<'a>(name: &'a [u8], other: &'a [u8]) -> Ordering
     ensures { result ≡ slice_cmp nat_cmp name.now other.now }
 {

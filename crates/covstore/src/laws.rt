@@ -30,7 +30,7 @@ pub fn points_stand_in_order()
     ensures lines { (items : List ItemData) → IsAscendingOf nat_cmp (line_points items) (lines_in items) }
 {}
 
-/// There is at most one strictly ascending list of given members: of files and tests, of functions by the bytes of their names,
+/// There is at most one strictly ascending list of given elements: of keys of sections, of functions by the bytes of their names,
 /// of branches, or of lines.
 pub fn order_is_unique()
     ensures keys { (all some others : List Key) → IsAscendingOf key_cmp all some → IsAscendingOf key_cmp all others → some ≡ others }
@@ -39,9 +39,9 @@ pub fn order_is_unique()
     ensures lines { (all some others : List ℕ) → IsAscendingOf nat_cmp all some → IsAscendingOf nat_cmp all others → some ≡ others }
 {}
 
-/// If the held checksums agree with each other, a clash is reported exactly if it is the first one: that of the first given
-/// checksum that differs from a held one or from an earlier given one, while those agree with each other. No clash is reported
-/// exactly if no two of all the checksums differ.
+/// Let the held checksums agree with each other. Then `first_clash` is a clash exactly if this is the first one. The first clash
+/// is that of the first given checksum that differs from a held one or from an earlier given one; all checksums before it agree
+/// with each other. There is no clash exactly if no two of all the checksums differ.
 pub fn the_first_clash_is_told()
     ensures first { (held given : List Checksum) (clash : ClashData) → Agree held → first_clash held given ≡ Some clash ↔ IsFirstClash held given clash }
     ensures none { (held given : List Checksum) → Agree held → first_clash held given ≡ None ↔ Agree (held ++ given) }

@@ -1,4 +1,5 @@
-//! The items of a section in the order of their lines: a walk along lines costs no search, and moves no points.
+//! Stages items without checksums, in the order of their lines if these often fall. In this order, points are found without a
+//! search, and a new point that comes after all others moves none of them.
 
 ghost use Rattle.std.specs.Prelude.{◌≡◌, ◌↔◌, map, IfOk, IsTrue, OnOk};
 ghost use Rattle.std.specs.List.{All};
@@ -19,10 +20,10 @@ use std::alloc::{AllocError, Allocator};
 /// The smallest number of items for which a section is sorted.
 const MIN_SORTED: usize = 1024;
 
-/// One item of this many is sampled to see whether the lines ascend.
+/// One of this many items is sampled, to see whether the lines of the items ascend.
 const SAMPLE_STRIDE: usize = 16;
 
-/// Items are sorted if the lines fall at more than one of this many samples.
+/// Items are sorted if more than one in this many samples has a lower line than the sample before it.
 const SAMPLES_PER_FALL: usize = 4;
 
 /// Where an item is in its section. Spots ascend by line, and on one line by the items' order in the section.
@@ -32,7 +33,8 @@ struct Spot {
     index: usize,
 }
 
-/// Stages the items, none of which has a checksum: in the order of their lines if these fall often, else in the section's order.
+/// Stages the items, none of which has a checksum. They are staged in the order of their lines if there are many items and their
+/// lines often fall, else in the section's order.
 pub(crate) fn stage_without_checksums<A: Allocator + Copy>(
     test: &mut Test<A>,
     index: &mut FileIndex<A>,
@@ -51,7 +53,7 @@ pub(crate) fn stage_without_checksums<A: Allocator + Copy>(
     stage_as_they_are(test, index, alloc, items)
 }
 
-/// Whether the lines of the items fall often.
+/// Whether the lines of the items often fall: whether many of the sampled items have a lower line than the sample before.
 fn falls_often<A: Allocator>(items: &[Item<A>]) -> bool {
     let most = items.len() / SAMPLE_STRIDE / SAMPLES_PER_FALL;
     let mut falls = 0;
@@ -151,7 +153,7 @@ fn runs_at<'a, A: Allocator + Copy>(
     Ok(runs)
 }
 
-/// The spots of items, ascending.
+/// The spots of the items, in ascending order.
 fn sorted_spots<A: Allocator + Copy>(
     alloc: A,
     items: &[Item<A>],

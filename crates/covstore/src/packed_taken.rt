@@ -1,4 +1,4 @@
-//! How often a branch was taken, which may be missing, in 20 bytes. An `Option<u128>` takes 32, and an option of that takes 48.
+//! How often a branch was taken, or `None`, in 20 bytes. An `Option<u128>` takes 32 bytes, and an option of that takes 48.
 
 ghost use Rattle.std.specs.Prelude.{◌≡◌, None};
 ghost use Rattle.covstore.specs.Sums.{sum_taken};
@@ -7,7 +7,7 @@ ghost use Rattle.covstore.specs.Value.{is_taken};
 use crate::packed_u128::PackedU128;
 use std::marker::Model;
 
-/// A number below 2^128, or none. Contracts see an option.
+/// A number below 2^128, or `None`. Contracts see an option.
 #[derive(Drop)]
 pub(crate) struct PackedTaken {
     count: PackedU128,
@@ -23,7 +23,7 @@ impl Model for PackedTaken {
 }
 
 impl PackedTaken {
-    /// This number, or none.
+    /// This number, or `None`.
     pub(crate) fn of(times: Option<u128>) -> PackedTaken
         ensures { result ≡ times }
     {
@@ -49,7 +49,7 @@ impl PackedTaken {
         }
     }
 
-    /// The sum with another number that may be missing. It stops at the largest number of 128 bits.
+    /// The sum of this number and another, each of which may be missing. It stops at the largest number of 128 bits.
     pub(crate) fn plus(&self, times: Option<u128>) -> PackedTaken
         ensures { result ≡ sum_taken self.now times }
     {

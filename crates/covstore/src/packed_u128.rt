@@ -1,4 +1,4 @@
-//! A number of 128 bits in four words of 32. A struct lays out these words without gaps, which a `u128` would leave.
+//! A number of 128 bits in four words of 32 bits. A struct has no gaps around these words. Around a `u128` it would have some.
 
 ghost use Rattle.std.specs.Prelude.{◌≡◌, ◌+◌, nat_lt};
 ghost use Rattle.covstore.specs.Value.{bounded};
@@ -42,7 +42,7 @@ impl PackedU128 {
         }
     }
 
-    /// The sum with another number. It stops at the largest number of 128 bits.
+    /// The sum of this number and another. It stops at the largest number of 128 bits.
     pub(crate) fn plus(&self, number: u128) -> PackedU128
         ensures { result ≡ bounded (self.now + number) }
     {

@@ -10,8 +10,8 @@ use std::alloc::{AllocError, Allocator};
 use std::cmp::Ordering;
 use std::marker::Model;
 
-/// The path of a source file. Paths are ordered byte by byte, as byte strings are, but faster where they begin alike.
-/// Contracts see the bytes in their vector.
+/// The path of a source file. Paths are ordered byte by byte, like slices of bytes, but two paths that begin alike are compared
+/// faster. Contracts see the vector of the bytes.
 #[derive(Drop)]
 pub(crate) struct Path<A: Allocator> {
     bytes: Vec<u8, A>,
@@ -80,8 +80,8 @@ impl<A: Allocator> Ord for Path<A> {
     }
 }
 
-/// The order of two paths, byte by byte. Paths of one source tree begin alike, so that eight bytes at a time are compared,
-/// as numbers.
+/// The order of two paths, byte by byte. Paths of one source tree begin alike, so eight bytes at a time are compared, as one
+/// number.
 fn order_bytes(a: &[u8], b: &[u8]) -> Ordering
     ensures { result ≡ slice_cmp nat_cmp a.now b.now }
 {
@@ -98,19 +98,19 @@ fn order_bytes(a: &[u8], b: &[u8]) -> Ordering
     order_rest(a, b, at)
 }
 
-/// The number whose digits in base 256 are the eight bytes from here on, the highest first.
+/// The number whose digits in base 256 are the eight bytes from place `at` on, the highest digit first.
 fn word_at(bytes: &[u8], at: usize) -> u64
     requires { at + 8 ≤ length bytes.now }
     ensures { result ≡ from_be_bytes w64 (take 8 (drop at bytes.now)) }
 {
-    // With a length that is known, the eight places are read at once.
+    // The compiler knows that this slice has eight bytes, so it reads them at once.
     let word = &bytes[at..at + 8];
     u64::from_be_bytes([
         word[0], word[1], word[2], word[3], word[4], word[5], word[6], word[7],
     ])
 }
 
-/// The order from these places on.
+/// The order of what the two paths have from place `start` on.
 fn order_rest(a: &[u8], b: &[u8], start: usize) -> Ordering
     requires { (start ≤ length a.now) × (start ≤ length b.now) }
     ensures { result ≡ slice_cmp nat_cmp (drop start a.now) (drop start b.now) }

@@ -1,4 +1,4 @@
-//! For each point of a kind, how many tests of a file have it; and the tally of all these points.
+//! For each point of a kind, how many tests of a file have it, and how many have it above 0; and the tally of all these points.
 
 ghost use Rattle.std.specs.Prelude.{◌≡◌, ◌+◌, ◌<◌, ◌≤◌, ◌^◌, [], IfSome, OnOk, length};
 ghost use Rattle.covstore.specs.PointIndex.{changed};
@@ -40,7 +40,7 @@ impl KindTotals {
         }
     }
 
-    /// The tally after the numbers of a run of points grow. `told` says of each point whether it is newly found or newly hit.
+    /// The tally after the numbers of a run of points grow. `told` lists the points that are newly found, newly hit, or both.
     fn with_told<Q>(self, told: &[(Q, TestsAddend)]) -> KindTotals
         requires found { self.found + length told.now ≤ 2 ^ 63 }
         requires hit { self.hit + length told.now ≤ 2 ^ 63 }
@@ -55,13 +55,13 @@ impl KindTotals {
         tally
     }
 
-    /// The tally after a point's numbers fall: without the point, if it isn't found any more, and without its hit, if it isn't
-    /// hit any more.
+    /// The tally after a point's numbers fall. One point less is found if no test has the point any more. One less is hit if the
+    /// point was hit and isn't any more.
     fn less(self, before: &Tests, after: &Option<Tests>) -> KindTotals
         requires { CanBeLess self before.now after.now }
         ensures { IsLess self before.now after.now result }
     {
-        // A fall never makes a point hit. So if the two differ, the point isn't hit any more.
+        // A point never becomes hit when its numbers fall. So if `stays_hit` is false, it was hit and isn't any more.
         let stays = after.is_some();
         let stays_hit = (before.hit.get() > 0) == Tests::is_hit(after);
         KindTotals {
@@ -71,14 +71,16 @@ impl KindTotals {
     }
 }
 
-/// A walk over the points of a test: the tally without the points passed so far, and the place of the last of them.
+/// A walk over the points of a test. It has the tally as if the test didn't have the points passed so far, and the place to look
+/// at first for the next point.
 #[derive(Clone, Copy)]
 pub(crate) struct TallyWalk {
     pub tally: KindTotals,
     place: SlotIndex,
 }
 
-/// For each point of a kind, how many tests of a file have it, committed and staged. Contracts see the points with these numbers.
+/// For each point of a kind, how many tests of a file have it, and how many have it above 0, committed and staged. Contracts see
+/// the points with these numbers.
 #[derive(Drop)]
 pub(crate) struct PointIndex<K: Key, A: Allocator> {
     counts: StagedMap<K, Tests, A>,
@@ -99,7 +101,7 @@ impl<K: Key, A: Allocator> Model for PointIndex<K, A> {
 }
 
 impl<K: Key + Drop, A: Allocator + Copy> PointIndex<K, A> {
-    /// No points.
+    /// An index without points.
     pub(crate) fn new(alloc: A) -> PointIndex<K, A>
         ensures committed { result.committed ≡ [] }
         ensures staged { result.staged ≡ [] }
@@ -112,8 +114,9 @@ impl<K: Key + Drop, A: Allocator + Copy> PointIndex<K, A> {
         }
     }
 
-    /// Adds a test's change, if there is one, to a point's numbers. Costs no search if the guess is the point's place. This is so
-    /// while no other test of the file has other points, since the pages of both maps are then split alike.
+    /// Adds a test's change, if there is one, to a point's numbers. The guess is the point's place in the test's map. Costs no
+    /// search if the point has the same place in this index. That is usual while the test has all points of the file, since both
+    /// maps then have the same keys.
     pub(crate) fn add<Q: Query<K, A>>(
         &mut self,
         alloc: A,
@@ -184,7 +187,7 @@ impl<K: Key + Drop, A: Allocator + Copy> PointIndex<K, A> {
         self.staged_totals = self.totals;
     }
 
-    /// How many points are staged, and how many of them hit.
+    /// The staged tally: how many points are found, and how many of them are hit.
     pub(crate) fn staged(&self) -> KindTotals
         ensures found { result.found ≡ found_of self.now.staged }
         ensures hit { result.hit ≡ hit_of self.now.staged }
@@ -192,7 +195,7 @@ impl<K: Key + Drop, A: Allocator + Copy> PointIndex<K, A> {
         self.staged_totals
     }
 
-    /// How many points are committed, and how many of them hit.
+    /// The committed tally: how many points are found, and how many of them are hit.
     pub(crate) fn committed(&self) -> KindTotals
         ensures found { result.found ≡ found_of self.now.committed }
         ensures hit { result.hit ≡ hit_of self.now.committed }
@@ -207,8 +210,7 @@ impl<K: Key, A: Allocator> PointIndex<K, A> {
     ghost use Rattle.covstore.specs.PointIndex.{IsTallyOf};
     ghost use Rattle.covstore.specs.PointIndexDrops.{CanLose, IsTallyAt, counts_without};
 
-    /// Takes one test off a point's numbers. `was_above` tells whether the test had the point above 0. Nothing is staged
-    /// afterwards.
+    /// Takes one test off a point's committed numbers. `was_above`: the test had the point above 0. Nothing is staged afterwards.
     pub(crate) fn remove<Q: Query<K, A>>(&mut self, query: Q, was_above: bool)
         requires { CanLose was_above (value_of K.cmp (Q.named query) self.old.committed) }
         ensures committed { self.new.committed ≡ counts_without K.cmp (Q.named query) was_above self.old.committed }
@@ -222,7 +224,7 @@ impl<K: Key, A: Allocator> PointIndex<K, A> {
         }
     }
 
-    /// A walk that hasn't passed any point.
+    /// A walk that hasn't passed any point. Its tally is the committed one.
     pub(crate) fn walk(&self) -> TallyWalk
         ensures { IsTallyOf self.now.committed result.tally }
     {
@@ -232,8 +234,8 @@ impl<K: Key, A: Allocator> PointIndex<K, A> {
         }
     }
 
-    /// Passes a point: from then on the walk's tally is without one test that has the point. Reads the numbers that the point has
-    /// now.
+    /// Passes a point: takes one test that has the point off the walk's tally. The index stays as it is: its committed numbers of
+    /// the point still count the test.
     pub(crate) fn subtract<Q: Query<K, A>>(
         &self,
         walk: TallyWalk,

@@ -37,7 +37,7 @@ pub(crate) fn stage_whole_run<
     kept.add_run(alloc, changes.as_slice())
 }
 
-/// Stages a run of items of one kind, one by one. That pays if the items aren't in the order of their points.
+/// Stages a run of items of one kind, one by one. This is faster if the items aren't in the order of their points.
 pub(crate) fn stage_one_by_one<
     K: Key + Drop,
     S: PointSum,

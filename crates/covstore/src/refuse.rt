@@ -6,8 +6,8 @@ use std::alloc::{AllocError, AllocFailed, Allocator, Global};
 /// Why a store refuses a submission.
 #[derive(Drop)]
 pub enum Refuse<A: Allocator = Global> {
-    /// Refusal 1: for this line of this file, the submission has another checksum than the held one, or than an earlier one of
-    /// its own. So the two come from two versions of the source.
+    /// Refusal 1: for this line of this file, the submission gives a checksum that differs from the held one, or from an earlier
+    /// one of the submission. So the two checksums come from two versions of the source.
     Clash {
         file: Bytes<A>,
         line: u64,

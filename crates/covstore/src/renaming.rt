@@ -3,8 +3,8 @@
 use std::alloc::{Allocator, Global};
 use std::marker::Model;
 
-/// In how many sections the old test is, and its name if the commit drops it. Its values are staged in the store under the new
-/// name. Contracts see both.
+/// In how many sections the old test is, and the old test's name if the commit drops that test. The test's values are staged in
+/// the store, under the new name. Contracts see the number and the name.
 #[derive(Drop)]
 pub struct Renaming<A: Allocator = Global> {
     sections: u64,
@@ -23,7 +23,7 @@ impl<A: Allocator> Model for Renaming<A> {
 impl<A: Allocator> Renaming<A> {
     ghost use Rattle.std.specs.Prelude.{◌≡◌, Some, None, option_map};
 
-    /// The table stays as it is: no row is of the old test, or the new name is the same.
+    /// A rename that leaves the table as it is, since no row is of the old test, or both names are the same.
     pub(crate) fn none(sections: u64) -> Renaming<A>
         ensures sections { result.sections ≡ sections }
         ensures leaves { result.leaves ≡ None }
@@ -34,7 +34,7 @@ impl<A: Allocator> Renaming<A> {
         }
     }
 
-    /// The commit drops the old test; its values are then under the new name.
+    /// A rename whose commit drops the old test, `leaves`. The test's values are then under the new name.
     pub(crate) fn of(sections: u64, leaves: Vec<u8, A>) -> Renaming<A>
         ensures sections { result.sections ≡ sections }
         ensures leaves { result.leaves ≡ Some leaves.items }
@@ -52,7 +52,7 @@ impl<A: Allocator> Renaming<A> {
         self.sections
     }
 
-    /// The test that the commit drops, if any.
+    /// The name of the test that the commit drops, if it drops one.
     pub(crate) fn leaves(&self) -> Option<&[u8]>
         ensures { option_map (λ name. name.now) result ≡ self.now.leaves }
     {

@@ -1,4 +1,4 @@
-//! The items of a section as runs: all items of one kind of points are staged at once.
+//! Splits the items of a section by kind into runs, and stages these. Runs of lines and of branches are staged at once.
 
 ghost use Rattle.std.specs.Prelude.{◌≡◌, [], map, IfOk, OnOk};
 ghost use Rattle.std.specs.List.{All};
@@ -29,7 +29,7 @@ pub(crate) struct Runs<'a, A: Allocator> {
 }
 
 impl<'a, A: Allocator + Copy> Runs<'a, A> {
-    /// No items, and room for this many lines: most items count lines.
+    /// Empty runs, with room for this many items of lines, since most items are of lines.
     pub(crate) fn with_room(alloc: A, lines: usize) -> Result<Runs<'a, A>, AllocError>
         ensures { IfOk result (λ runs. runs_seen runs ≡ runs_of []) }
     {
@@ -81,7 +81,7 @@ impl<'a, A: Allocator + Copy> Runs<'a, A> {
     }
 }
 
-/// The runs of items.
+/// The runs that these items are split into.
 pub(crate) fn runs_in<'a, A: Allocator + Copy>(
     alloc: A,
     items: &'a [Item<A>],
@@ -110,7 +110,7 @@ pub(crate) fn stage_runs<'a, A: Allocator + Copy>(
     ensures held { OnOk result (KeepsHeld (index_staged index.old) (index_staged index.new)) }
 {
     stage_whole_run(&mut test.lines, &mut index.lines, alloc, &runs.lines)?;
-    // Functions come in the order of their lines, but their points are in the order of the names.
+    // A tracefile usually has functions in the order of their lines, but the map has them in the order of their names.
     stage_one_by_one(
         &mut test.functions,
         &mut index.functions,

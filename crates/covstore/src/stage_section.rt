@@ -19,8 +19,8 @@ use crate::texts::{checked_lines_ascend, hold_texts};
 use covline::Item;
 use std::alloc::Allocator;
 
-/// Stages the items, up to the first that clashes: some at once, and in the order of their lines where none has a checksum
-/// and the lines fall often.
+/// Stages the items of a section, and ends at the first that clashes. Items are staged some at a time. If no item has a checksum
+/// and the lines often fall, the items are staged in the order of their lines.
 pub(crate) fn stage_items<A: Allocator + Copy>(
     test: &mut Test<A>,
     index: &mut FileIndex<A>,
@@ -43,8 +43,8 @@ pub(crate) fn stage_items<A: Allocator + Copy>(
     Ok(())
 }
 
-/// Stages some of a section's items, up to the first that clashes: at once where their lines with a checksum ascend, as they
-/// do in what geninfo writes.
+/// Stages some of a section's items, and ends at the first that clashes. The items are staged at once if their lines with a
+/// checksum ascend, as they do in what geninfo writes, else one by one.
 fn stage_some<A: Allocator + Copy>(
     test: &mut Test<A>,
     index: &mut FileIndex<A>,
@@ -63,7 +63,7 @@ fn stage_some<A: Allocator + Copy>(
     stage_each(test, index, alloc, items)
 }
 
-/// Stages items at once, up to the first that clashes: first their checksums, then runs of items of one kind.
+/// Stages first the items' checksums, up to the first that clashes. If none clashes, then stages the items as runs.
 fn stage_at_once<A: Allocator + Copy>(
     test: &mut Test<A>,
     index: &mut FileIndex<A>,

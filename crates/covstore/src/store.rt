@@ -1,4 +1,4 @@
-//! The store.
+//! The store of all submissions, with the calls that callers make.
 
 ghost use Rattle.std.specs.Prelude.{◌≡◌, ◌+◌, ◌≤◌, ◌++◌, ℕ, List, None, [], ◌∷◌, map, IfErr, IfOk, OnOk};
 ghost use Rattle.std.specs.BTreeMap.{is_at};
@@ -27,7 +27,7 @@ use std::alloc::{Allocator, Global};
 use std::collections::BTreeMap;
 use std::marker::Model;
 
-/// A test of a file of which something is staged.
+/// A test in which something is staged, and the test's file.
 #[derive(Drop)]
 pub(crate) struct Touched<A: Allocator> {
     file: Path<A>,
@@ -38,7 +38,7 @@ impl<A: Allocator + Copy> Touched<A> {
     ghost use Rattle.std.specs.Prelude.{◌≡◌, ◌≢◌, ℕ, List, ◌++◌, [], ◌∷◌, OnErr, OnOk};
     ghost use Rattle.covstore.specs.StoreView.{touched_data};
 
-    /// Adds a test to those of which something is staged.
+    /// Appends a test to the list of tests in which something is staged.
     fn push(
         touched: &mut Vec<Touched<A>, A>,
         alloc: A,
@@ -68,7 +68,7 @@ impl<A: Allocator + Copy> Touched<A> {
     }
 }
 
-/// Commits what is staged in each of these tests, and empties the list of them.
+/// Commits what is staged in each of these tests and in their files' indexes, and empties the list of tests.
 fn commit_staged<A: Allocator + Copy>(
     files: &mut BTreeMap<Path<A>, Boxed<File<A>, A>, A>,
     touched: &mut Vec<Touched<A>, A>,
@@ -109,7 +109,7 @@ fn stage_in_files<A: Allocator + Copy>(
     stage_in_new_file(files, alloc, name, test, items)
 }
 
-/// The same for a file that isn't there.
+/// The same for a file that isn't there yet.
 fn stage_in_new_file<A: Allocator + Copy>(
     files: &mut BTreeMap<Path<A>, Boxed<File<A>, A>, A>,
     alloc: A,
@@ -188,14 +188,14 @@ impl<A: Allocator + Copy> Store<A> {
     }
 
     /// Prepares to add the submission. The content stays as it is. What a plan consists of is private. Callers know three things
-    /// of it: the submission clashes with no table that the store stands for; the plan has the totals after the submission; and
-    /// it is a plan of the store as this call leaves it, which `commit` requires.
+    /// if they get one: the submission doesn't clash with a table that the store represents; the plan has the totals after the
+    /// submission; and it is a plan of the store as this call leaves it, which `commit` requires.
     ///
     /// # Errors
     ///
-    /// `Clash` with the first checksum that differs from a held one. `Memory` if memory was refused: no contract can promise that
-    /// memory suffices, so a submission that clashes may get `Memory` too. A submission without a row is never refused, since it
-    /// allocates nothing.
+    /// `Clash` with the first checksum that differs from a held one, or from an earlier one of the submission. `Memory` if memory
+    /// was refused: no contract can promise that memory suffices, so a submission that clashes may get `Memory` too. A submission
+    /// without a row is never refused, since it allocates nothing.
     pub fn prepare(&mut self, alloc: A, submission: &Submission<A>) -> Result<Plan, Refuse<A>>
         requires { self.old.members < max_members }
         ensures content { SameContent self.old self.new }
@@ -230,10 +230,10 @@ impl<A: Allocator + Copy> Store<A> {
         self.members += 1;
     }
 
-    /// Prepares to give the rows of one test another name, which can be any. The content stays as it is. What a renaming consists
-    /// of is private. Callers know two things of it: in how many sections the old test is; and that it is a renaming of the store
-    /// as this call leaves it, which `commit_rename` requires. If no row is of the old test, or both names are the same, it does
-    /// nothing. The call takes a look-up in each file, and time for each point of the old test.
+    /// Prepares to give the rows of one test another name, which may be that of another test. The content stays as it is. What a
+    /// renaming consists of is private. Callers know two things of it: in how many sections the old test is; and that it is a
+    /// renaming of the store as this call leaves it, which `commit_rename` requires. If no row is of the old test, or both names
+    /// are the same, the rename does nothing. The call looks the old test up in each file, and stages each of the test's points.
     ///
     /// # Errors
     ///
@@ -325,7 +325,7 @@ impl<A: Allocator + Copy> Store<A> {
         Ok(())
     }
 
-    /// Stages the items of a section. For a section without items nothing grows.
+    /// Stages the items of a section. A section without items takes no memory.
     fn add_section(&mut self, alloc: A, sect: &Sect<A>) -> Result<(), Refuse<A>>
         requires { HasRoomForRows (rows_of_sect (sect_data sect.now)) self.old }
         ensures committed { SameCommitted self.old self.new }
@@ -340,7 +340,7 @@ impl<A: Allocator + Copy> Store<A> {
         self.stage_items(alloc, sect.file.get(), sect.test.get(), items)
     }
 
-    /// Stages the items of a test, and notes that the test has something staged.
+    /// Stages the items of a test of a file, and lists the test as one in which something is staged.
     fn stage_items(
         &mut self,
         alloc: A,
@@ -382,7 +382,7 @@ impl<A: Allocator + Copy> Store<A> {
         Ok(())
     }
 
-    /// The same in one file, in which the old test has values. Notes that the new test has something staged.
+    /// The same in one file, in which the old test has points. Lists the new test as one in which something is staged.
     fn copy_file(&mut self, alloc: A, file: &[u8], old: &[u8], new: &[u8]) -> Result<(), Memory>
         requires apart { old.now ≢ new.now }
         requires room { HasRoomToCopy file.now old.now self.old }
@@ -415,8 +415,7 @@ impl<A: Allocator + Copy> Store<A> {
         count_without(&self.files, test)
     }
 
-    /// Drops all rows of a test: its points go, and what other tests have stays. Returns in how many sections it was. Takes no
-    /// memory.
+    /// Drops all rows of a test. The points of other tests stay. Returns in how many sections the test was. Takes no memory.
     pub fn drop_test(&mut self, test: &[u8]) -> u64
         ensures sections { (table : Table) → StandsFor self.old table → result ≡ sections_of_test test.now table }
         ensures stands { (table : Table) → StandsFor self.old table → StandsFor self.new (without_test test.now table) }

@@ -13,16 +13,17 @@ use crate::packed_u64::PackedU64;
 use crate::packed_u128::PackedU128;
 use covmap::{Addend, ReportingAddend, Value};
 
-/// What the items of a test add up to at a point.
+/// A value of a point that may be above 0: what the items of a test add up to there, or how many tests have the point (`Tests`).
 pub(crate) trait PointSum: Value {
     ghost above: { Self → Bool };
 
-    /// Whether it is above 0.
+    /// Whether the value is above 0.
     fn is_above(&self) -> bool
         ensures { result ≡ above self.now };
 }
 
-/// What an item adds to the sum at a point. A sum above 0 stays above 0. Reports what the test then adds to the point's numbers.
+/// What an item adds to the sum at a point. A sum above 0 stays above 0. The report is what the test then adds to the point's
+/// numbers in the index.
 pub(crate) trait PointAddend<S: PointSum>: ReportingAddend<S, TestsAddend> {
     ghost always_fits: { (more : Self) (before : Option S) → Self.fits more before };
 
@@ -55,7 +56,7 @@ pub(crate) struct FunctionSum {
     pub count: PackedU128,
 }
 
-/// A branch: how often it was taken; none if its block was never executed (geninfo(1): `BRDA:`).
+/// A branch: how often it was taken, or `None` if its block was never executed (geninfo(1): `BRDA:`).
 #[derive(Drop)]
 pub(crate) struct BranchSum {
     pub times: PackedTaken,
@@ -156,7 +157,7 @@ impl PointAddend<FunctionSum> for FunctionAddend {
     ghost tells = { λ more before after. refl };
 }
 
-/// A branch's item: how often it was taken; none if its block was never executed.
+/// A branch's item: how often the branch was taken, or `None` if its block was never executed.
 #[derive(Clone, Copy)]
 pub(crate) struct BranchAddend {
     pub times: Option<u128>,
@@ -203,8 +204,8 @@ pub(crate) struct TestsAddend {
 }
 
 impl TestsAddend {
-    /// What a test adds when its sum at a point changes; none if it had the point before, and doesn't have it above 0 for the
-    /// first time.
+    /// What a test adds when its sum at a point changes. `None` if the test already had the point, and doesn't have it above 0
+    /// for the first time.
     pub(crate) fn of<S: PointSum>(before: &Option<S>, after: &S) -> Option<TestsAddend>
         ensures { result ≡ change_of S.above before.now after.now }
     {
@@ -267,7 +268,7 @@ impl Tests {
         }
     }
 
-    /// The numbers without one test; none if it was the only one. `was_above` tells whether the test had the point above 0.
+    /// The numbers without one test, or `None` if it was the only one. `was_above`: the test had the point above 0.
     pub(crate) fn fewer(&self, was_above: bool) -> Option<Tests>
         requires { HaveOne was_above self.now }
         ensures { result ≡ fewer_tests was_above self.now }
@@ -359,7 +360,7 @@ impl PointSum for Tests {
 }
 
 impl LineSum {
-    /// Whether the line has a sum, with a checksum.
+    /// Whether the line has a sum, and the sum has a checksum.
     pub(crate) fn is_checked(value: &Option<LineSum>) -> bool
         ensures { result ≡ is_above_at has_checksum value.now }
     {

@@ -1,4 +1,4 @@
-//! A test of a file: its points of each kind, with what its items add up to.
+//! A test of a file: its points of each kind, each with what the test's items add up to there.
 
 ghost use Rattle.std.specs.Prelude.{◌≡◌, []};
 
@@ -19,7 +19,7 @@ impl<A: Allocator + Copy> Test<A> {
     ghost use Rattle.covstore.specs.TestView.{test_staged, test_committed};
     ghost use Rattle.covstore.specs.Sums.{test_of};
 
-    /// No points.
+    /// A test without points.
     pub(crate) fn new(alloc: A) -> Test<A>
         ensures committed { test_committed result ≡ test_of [] }
         ensures staged { test_staged result ≡ test_of [] }

@@ -1,4 +1,4 @@
-//! The checksums of a section's items, held at once for their test, before what the items add up to is staged.
+//! Stages that a test holds the checksums of a section's items. This is done before the items' sums are staged.
 
 ghost use Rattle.std.specs.Prelude.{◌≡◌, List, ◌++◌, ◌∷◌, map, IfErr, IfSome, IsTrue, OnOk, ℕ};
 ghost use Rattle.std.specs.List.Sorted.{IsStrictlySortedBy};
@@ -17,7 +17,7 @@ use crate::test::Test;
 use covline::Item;
 use std::alloc::Allocator;
 
-/// Whether the lines of the items with a checksum ascend, each once.
+/// Whether the lines of the items with a checksum strictly ascend, and none of them is the greatest `u64`.
 pub(crate) fn checked_lines_ascend<A: Allocator>(items: &[Item<A>]) -> bool
     ensures { IsTrue result → IsStrictlySortedBy nat_cmp (checked_lines (map item_data items.now)) }
 {
@@ -77,7 +77,7 @@ pub(crate) fn hold_texts<A: Allocator + Copy>(
     Ok(())
 }
 
-/// Stages that the test holds the checksum of an item, where the item has one.
+/// Stages that the test holds the checksum of an item, if the item has one.
 fn hold_text<A: Allocator + Copy>(
     test: &mut Test<A>,
     index: &mut FileIndex<A>,

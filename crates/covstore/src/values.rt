@@ -9,7 +9,7 @@ pub struct FunctionValue<'a> {
     pub count: u128,
 }
 
-/// A branch, and how often it was taken; none if its block was never executed (geninfo(1): `BRDA:`).
+/// A branch, and how often it was taken, or `None` if its block was never executed (geninfo(1): `BRDA:`).
 #[derive(Clone, Copy)]
 pub struct BranchValue {
     pub line: u64,

@@ -1,4 +1,4 @@
-//! The functions, branches and lines of a section, each with its value.
+//! Iterators over the functions, branches and lines of a section, each with its value.
 
 use crate::checksums::Checksums;
 use crate::keys::{Branch, FunctionName};
@@ -28,7 +28,7 @@ impl<'a, A: Allocator> Functions<'a, A> {
     ghost use Rattle.std.specs.Prelude.{◌≡◌, map};
     ghost use Rattle.covstore.specs.State.{function_seen};
 
-    /// These functions.
+    /// An iterator over these functions.
     pub(super) fn of(rest: Entries<'a, FunctionName<A>, FunctionSum, A>) -> Functions<'a, A>
         ensures { result ≡ map function_seen rest.entry }
     {
@@ -76,7 +76,7 @@ impl<'a, A: Allocator> Branches<'a, A> {
     ghost use Rattle.std.specs.Prelude.{◌≡◌, map};
     ghost use Rattle.covstore.specs.State.{branch_seen};
 
-    /// These branches.
+    /// An iterator over these branches.
     pub(super) fn of(rest: Entries<'a, Branch, BranchSum, A>) -> Branches<'a, A>
         ensures { result ≡ map branch_seen rest.entry }
     {
@@ -127,7 +127,7 @@ impl<'a, A: Allocator> Lines<'a, A> {
     ghost use Rattle.std.specs.Prelude.{◌≡◌, map};
     ghost use Rattle.covstore.specs.State.{line_seen};
 
-    /// These lines, with their checksums.
+    /// An iterator over these lines. `checksums` are those of the file's lines.
     pub(super) fn of(
         rest: Entries<'a, u64, LineSum, A>,
         checksums: &'a Checksums<A>,

@@ -10,7 +10,7 @@ use crate::sums::{LineSum, PointSum};
 use covmap::StagedMap;
 use std::alloc::Allocator;
 
-/// Removes the test that has these points. Nothing is staged afterwards.
+/// Stops counting the test that has these points of one kind. Nothing is staged afterwards.
 pub(super) fn drop_kind<'a, K: PointKey<'a, A> + Drop, S: PointSum, A: Allocator + Copy>(
     kept: &mut PointIndex<K, A>,
     points: &'a StagedMap<K, S, A>,
@@ -26,7 +26,7 @@ pub(super) fn drop_kind<'a, K: PointKey<'a, A> + Drop, S: PointSum, A: Allocator
     }
 }
 
-/// Removes the test that has these lines, so that it holds no checksums. Nothing is staged afterwards.
+/// Stops counting the test that has these lines as a holder of their checksums. Nothing is staged afterwards.
 pub(super) fn drop_checksums<A: Allocator + Copy>(
     checksums: &mut Checksums<A>,
     lines: &StagedMap<u64, LineSum, A>,

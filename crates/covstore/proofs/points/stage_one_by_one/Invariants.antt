@@ -3,7 +3,7 @@ use Rattle.covmap.specs.Run.{summed}
 use Rattle.covstore.specs.Items.{HasRoomForRun, KeepsCountsOfKind}
 use Rattle.covstore.proofs.points.stage_one_by_one.Given as goal
 
--- the items that are left take the points to those of the whole run
+-- adding the rest of the run to the points gives what adding the whole run to the first points gives
 abbrev pub invariant-loop-item : goal.invariant-loop-item
 invariant-loop-item g l = (l.points.committed ≡ l.fn.points.committed)
     × (l.kept.committed ≡ l.fn.kept.committed)

@@ -15,7 +15,7 @@ use Rattle.covstore.proofs.Settled.{file_name}
 use Rattle.covstore.proofs.WithoutStores.{names_counted, sections_named, sections_with}
 use Rattle.covstore.proofs.store.Store.prepare_rename.Goals as goal
 
--- the names are the same
+-- the old and the new name are the same
 
 pub returns-then-eq-clause-planned : goal.returns-then-eq-clause-planned
 returns-then-eq-clause-planned g c =
@@ -31,7 +31,7 @@ returns-then-eq-clause-sections g c = λ table stands.
     ∙ sections_with c.args.old.now inside.members inside.totals (files_committed file_name inside.files.entries) c.self.invariant.0 table
     (ap (λ (store : StoreData). store.sections) c.self.view_is ∙ c.rollback.ensures.sections ∙ stands.content)
 
--- there are as many names as sections of the test
+-- there are as many names of files as sections of the test
 
 pub returns-in_err-names-clause-some : goal.returns-in_err-names-clause-some
 returns-in_err-names-clause-some g c =

@@ -64,7 +64,7 @@ returns-clause-committed g c =
     held_kept inside.members inside.totals (files_committed file_name files) (files_committed file_name later) (files_staged file_name files) (files_staged file_name later) inside.totals_after c.exchanged-self-inside.result c.args.self.now
     c.self.invariant.0 c.stage_in_files.ensures.committed c.self.view_is
 
--- the rows and the totals
+-- what the call ensures of the rows and the totals
 
 pub returns-in_err-totals-clause-clash : goal.returns-in_err-totals-clause-clash
 returns-in_err-totals-clause-clash g c =
